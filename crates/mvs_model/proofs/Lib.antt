@@ -1,0 +1,4 @@
+pub mod Keyed
+pub mod NameText
+pub mod Orders
+pub mod Tables

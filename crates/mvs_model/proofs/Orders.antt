@@ -1,0 +1,38 @@
+-- The orders of names and of entries are total, and what they call equal is the same.
+use Rattle.std.proofs.Common.{◌≡◌, ℕ, Bool, true, List, ap, arith, ◌∙◌, sym}
+use Rattle.std.proofs.lemmas.Cmp.{then_total, on_total, nat_list_cmp_total, tied_itself}
+use Rattle.std.specs.declared.cmp.Ordering.{Ordering}
+use Rattle.std.specs.declared.cmp.Ordering.TheVariants.{Equal}
+use Rattle.std.specs.Ordering.{nat_cmp, eq_by_cmp, is_eq, ordering_then}
+use Rattle.std.specs.Cmp.{IsTotalOrder, nat_cmp_total, Equal-is}
+use Rattle.std.specs.FinMap.{IsAntisymmetric, nat_cmp-IsAntisymmetric, slice_cmp-IsAntisymmetric}
+use Rattle.mvs_model.specs.Name.{name_cmp, same_name}
+use Rattle.mvs_model.specs.Owners.{entry_cmp}
+
+pub name_cmp_total : IsTotalOrder name_cmp
+name_cmp_total = nat_list_cmp_total
+
+pub name_cmp-IsAntisymmetric : IsAntisymmetric name_cmp
+name_cmp-IsAntisymmetric = slice_cmp-IsAntisymmetric nat_cmp-IsAntisymmetric
+
+pub entry_cmp_total : IsTotalOrder entry_cmp
+entry_cmp_total = then_total (on_total (λ e. e.0) name_cmp_total) (on_total (λ e. e.1) nat_cmp_total)
+
+both_equal : (a b : Ordering) → ordering_then a b ≡ Equal → (a ≡ Equal) × (b ≡ Equal)
+both_equal a b e = grind arith
+
+pub entry_cmp-IsAntisymmetric : IsAntisymmetric entry_cmp
+entry_cmp-IsAntisymmetric x y e =
+    let parts : (name_cmp x.0 y.0 ≡ Equal) × (nat_cmp x.1 y.1 ≡ Equal) = both_equal (name_cmp x.0 y.0) (nat_cmp x.1 y.1) e in
+    λ i. (name_cmp-IsAntisymmetric x.0 y.0 parts.0 i, nat_cmp-IsAntisymmetric x.1 y.1 parts.1 i)
+
+module _ {K : Type 0} {R : K → K → Ordering} (same : IsAntisymmetric R) where
+  pub equal_keys : (a b : K) → eq_by_cmp R a b ≡ true → a ≡ b
+  equal_keys a b e = same a b ((Equal-is (R a b)).0 e)
+
+-- two names are the same exactly where the test says so
+pub same_name_is : (a b : List ℕ) → same_name a b ≡ true → a ≡ b
+same_name_is a b e = equal_keys name_cmp-IsAntisymmetric a b e
+
+pub same_name_self : (a : List ℕ) → same_name a a ≡ true
+same_name_self a = ap is_eq (tied_itself nat_list_cmp_total a)

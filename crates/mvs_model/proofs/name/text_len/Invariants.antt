@@ -1,0 +1,7 @@
+use Rattle.std.proofs.Common.{◌≡◌, ◌+◌, drop}
+use Rattle.std.specs.Prelude.{◌==◌}
+use Rattle.std.specs.List.{position_or_len}
+use Rattle.mvs_model.proofs.name.text_len.Given as goal
+
+abbrev pub invariant-loop-i : goal.invariant-loop-i
+invariant-loop-i l = l.i + position_or_len (λ b. b == 32) (drop l.i l.bytes) ≡ position_or_len (λ b. b == 32) l.bytes

@@ -1,0 +1,11 @@
+pub mod Card
+pub mod Name
+pub mod Presents
+pub mod Span
+pub mod Subpool
+pub mod Wanted
+pub mod Finite
+pub mod Table
+pub mod Storage
+pub mod Owners
+pub mod Keyed

@@ -1,0 +1,21 @@
+-- Bytes that follow one another.
+use Rattle.std.specs.Prelude.{ℕ, ◌+◌, ◌*◌, ◌/◌, ◌^◌, ◌<◌, ◌≤◌}
+
+-- The address of the first byte, and how many there are.
+pub record Span : Type 0 where
+  pub addr : ℕ
+  pub len : ℕ
+
+-- The address has 31 bits, and there is a byte. (Assembler Services Guide, 31-bit addressing)
+pub record IsSpan (p : Span) : Type 0 where
+  pub addr : p.addr < 2 ^ 31
+  pub some : 1 ≤ p.len
+  pub most : p.len ≤ 2 ^ 31
+
+-- the next multiple of 8: lengths are rounded up to doublewords. (Assembler Services Reference, GETMAIN)
+abbrev pub round8 : ℕ → ℕ
+round8 n = 8 * ((n + 7) / 8)
+
+-- so many bytes from an address on
+abbrev pub span : ℕ → ℕ → Span
+span a n = record { addr = a; len = n }

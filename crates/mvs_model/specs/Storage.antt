@@ -1,0 +1,156 @@
+-- Regions, what is held, and what an obtain and a release do.
+use Rattle.std.specs.Prelude.{◌≡◌, ℕ, ◌+◌, ◌-◌, ◌*◌, ◌/◌, ◌%◌, ◌^◌, ◌<◌, ◌≤◌, ◌⊎◌, ◌==◌, not, Bool, Option, Some, None, nat_lt, nat_le, ◌&&◌, IfSome, is_some, refl}
+use Rattle.std.specs.Ordering.{nat_cmp}
+use Rattle.std.specs.FinMap.{FinMap, get, code}
+use Rattle.std.specs.Coded.{Coded, code_by, coded×, coded_ℕ}
+use Rattle.mvs_model.specs.Span.{Span, span}
+use Rattle.mvs_model.specs.Wanted.{Wanted}
+use Rattle.mvs_model.specs.declared.want.Side.TheVariants.{Below}
+use Rattle.mvs_model.specs.Finite.{Changes, Keeps, has}
+
+-- The pages of the two regions of a step, and the byte that a grant leaves. (Assembler Services Guide, private area; that
+-- a grant leaves one byte everywhere is this project's choice)
+pub record Regions : Type 0 where
+  pub below : ℕ
+  pub above : ℕ
+  pub fill : ℕ
+
+-- all of the place lies from one address up to another
+abbrev pub LiesIn : ℕ → ℕ → Span → Type 0
+LiesIn from to p = (from ≤ p.addr) × (p.addr + p.len ≤ to)
+
+-- the place lies inside one region. (the first addresses are this project's choice)
+abbrev pub InRegion : Regions → Span → Type 0
+InRegion r p = LiesIn 0x6000 (0x6000 + 4096 * r.below) p ⊎ LiesIn 0x1000000 (0x1000000 + 4096 * r.above) p
+
+-- the place begins below 16 megabytes
+abbrev pub IsBelow : Span → Type 0
+IsBelow p = p.addr < 0x1000000
+
+-- whether the place has a byte of the doubleword; whether it has the address
+abbrev pub covers : Span → ℕ → Bool
+covers p d = nat_lt p.addr (8 * d + 8) && nat_lt (8 * d) (p.addr + p.len)
+
+abbrev pub has_address : Span → ℕ → Bool
+has_address p a = nat_le p.addr a && nat_lt a (p.addr + p.len)
+
+-- the place has a byte of the doubleword
+abbrev pub Covers : Span → ℕ → Type 0
+Covers p d = (p.addr < 8 * d + 8) × (8 * d < p.addr + p.len)
+
+-- the place is of whole doublewords
+abbrev pub IsWhole : Span → Type 0
+IsWhole p = (p.addr % 8 ≡ 0) × (p.len % 8 ≡ 0)
+
+-- No doublewords of one page are held by two subpools. (Assembler Services Guide, subpools)
+abbrev pub PageRule : (ℕ → Option ℕ) → Type 0
+PageRule holder = (d e s t : ℕ) → d / 512 ≡ e / 512 → holder d ≡ Some s → holder e ≡ Some t → s ≡ t
+
+-- Nothing holds the doubleword, and no other subpool than s holds a doubleword of its page. (Assembler Services Guide,
+-- subpools)
+pub record MayTake (holder : ℕ → Option ℕ) (s d : ℕ) : Type 0 where
+  pub free : holder d ≡ None
+  pub page : (e t : ℕ) → e / 512 ≡ d / 512 → holder e ≡ Some t → t ≡ s
+
+-- The place lies inside one region, and s may take each of its doublewords. (Assembler Services Guide, subpools)
+pub record Open (r : Regions) (holder : ℕ → Option ℕ) (s : ℕ) (p : Span) : Type 0 where
+  pub inside : InRegion r p
+  pub each : (d : ℕ) → Covers p d → MayTake holder s d
+
+-- Whole doublewords that follow one another, all below 16 megabytes or all from there on.
+pub record IsRun (run : Span) : Type 0 where
+  pub whole : IsWhole run
+  pub some : 8 ≤ run.len
+  pub short : run.addr + run.len ≤ 2 ^ 31
+  pub one_side : run.addr < 0x1000000 → run.addr + run.len ≤ 0x1000000
+
+-- all of the place lies in the run
+abbrev pub InRun : Span → Span → Type 0
+InRun run p = LiesIn run.addr (run.addr + run.len) p
+
+-- The place begins on the boundary that is wanted, lies within the one that is wanted, and is on the side that is wanted.
+-- (Assembler Services Reference, GETMAIN: BNDRY, STARTBDY, CONTBDY, LOC)
+pub record Meets (want : Wanted) (p : Span) : Type 0 where
+  pub on_doubleword : p.addr % 8 ≡ 0
+  pub start : p.addr % 2 ^ want.start ≡ 0
+  pub within : IfSome want.within (λ k. p.addr / 2 ^ k ≡ (p.addr + p.len - 1) / 2 ^ k)
+  pub side : want.side ≡ Below → IsBelow p
+
+-- The length is whole and in the range that is wanted.
+pub record IsLength (want : Wanted) (n : ℕ) : Type 0 where
+  pub least : want.least ≤ n
+  pub most : n ≤ want.most
+  pub whole : n % 8 ≡ 0
+
+-- the addresses at which s has an open place of length n that meets what is wanted
+abbrev pub Places : Regions → (ℕ → Option ℕ) → ℕ → Wanted → ℕ → ℕ → Type 0
+Places r holder s want n a = Open r holder s (span a n) × Meets want (span a n)
+
+-- The place is of the greatest length for which there are places, and above if one of them is above. (Assembler Services
+-- Reference, GETMAIN, variable requests and LOC; that the greatest length over both regions wins, and above on a tie, is
+-- this project's choice)
+pub record Chosen (r : Regions) (holder : ℕ → Option ℕ) (s : ℕ) (want : Wanted) (p : Span) : Type 0 where
+  pub length : IsLength want p.len
+  pub placed : Places r holder s want p.len p.addr
+  pub greatest : (n a : ℕ) → p.len < n → IsLength want n → Places r holder s want n a → ⊥
+  pub above : (a : ℕ) → Places r holder s want p.len a → 0x1000000 ≤ a → 0x1000000 ≤ p.addr
+
+-- There is no place of the least length.
+abbrev pub NoPlace : Regions → (ℕ → Option ℕ) → ℕ → Wanted → Type 0
+NoPlace r holder s want = (a : ℕ) → Places r holder s want want.least a → ⊥
+
+-- Storage: which subpool holds a doubleword, and which byte stands at an address.
+pub record Storage : Type 0 where
+  pub regions : Regions
+  pub held : FinMap nat_cmp ℕ
+  pub bytes : FinMap nat_cmp ℕ
+
+abbrev pub storage_code : Coded Storage
+storage_code =
+    code_by ((ℕ × (ℕ × ℕ)) × (FinMap nat_cmp ℕ × FinMap nat_cmp ℕ))
+    (coded× (coded× coded_ℕ (coded× coded_ℕ coded_ℕ)) (coded× (code coded_ℕ coded_ℕ) (code coded_ℕ coded_ℕ)))
+    (λ s. ((s.regions.below, (s.regions.above, s.regions.fill)), (s.held, s.bytes)))
+    (λ p. record { regions = record { below = p.0.0; above = p.0.1.0; fill = p.0.1.1 }; held = p.1.0; bytes = p.1.1 })
+    (λ _. refl)
+
+-- which subpool holds a doubleword
+abbrev pub holder : Storage → ℕ → Option ℕ
+holder st d = get st.held d
+
+-- whether s holds the doubleword
+abbrev pub holds : Storage → ℕ → ℕ → Bool
+holds st s d = has (λ t. t == s) (holder st d)
+
+-- each doubleword of the place is held by s
+abbrev pub HeldBy : Storage → ℕ → Span → Type 0
+HeldBy st s p = (d : ℕ) → Covers p d → holder st d ≡ Some s
+
+-- Each page is of one subpool, what is held lies in the regions, and there are bytes just where something is held.
+pub record IsStorage (st : Storage) : Type 0 where
+  pub pages : PageRule (holder st)
+  pub inside : (d s : ℕ) → holder st d ≡ Some s → InRegion st.regions (span (8 * d) 8)
+  pub bytes : (a : ℕ) → is_some (get st.bytes a) ≡ is_some (holder st (a / 8))
+
+-- A place as wanted is given to s: its doublewords are now of s and its bytes the fill byte, and all else is as before.
+-- (Assembler Services Reference, GETMAIN; the fill byte is this project's choice)
+pub record Grant (old : Storage) (s : ℕ) (want : Wanted) (p : Span) (new : Storage) : Type 0 where
+  pub chosen : Chosen old.regions (holder old) s want p
+  pub regions : new.regions ≡ old.regions
+  pub held : Changes (get old.held) (covers p) (Some s) (get new.held)
+  pub bytes : Changes (get old.bytes) (has_address p) (Some old.regions.fill) (get new.bytes)
+
+-- The doublewords of the place, which s held, are free now and their bytes are gone; all else is as before. (Assembler
+-- Services Reference, FREEMAIN)
+pub record Release (old : Storage) (s : ℕ) (p : Span) (new : Storage) : Type 0 where
+  pub whole : IsWhole p
+  pub was_held : HeldBy old s p
+  pub regions : new.regions ≡ old.regions
+  pub held : Changes (get old.held) (covers p) None (get new.held)
+  pub bytes : Changes (get old.bytes) (has_address p) None (get new.bytes)
+
+-- All that s holds is free now and its bytes are gone; all else is as before. (Assembler Services Reference, FREEMAIN,
+-- subpool release)
+pub record ReleaseAll (old : Storage) (s : ℕ) (new : Storage) : Type 0 where
+  pub regions : new.regions ≡ old.regions
+  pub held : Keeps (get old.held) (λ _ t. not (t == s)) (get new.held)
+  pub bytes : Changes (get old.bytes) (λ a. holds old s (a / 8)) None (get new.bytes)

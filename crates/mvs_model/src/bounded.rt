@@ -1,0 +1,72 @@
+//! Numbers that keep to a range.
+
+ghost use Rattle.std.specs.Prelude.{◌≡◌, ◌<◌, ◌≤◌};
+
+use std::marker::Model;
+
+/// A number from `LOW` to `HIGH`.
+#[derive(Clone, Copy, Debug, PartialEq, Eq)]
+pub struct Bounded<const LOW: u32, const HIGH: u32> {
+    value: u32,
+}
+
+impl<const LOW: u32, const HIGH: u32> Model for Bounded<LOW, HIGH> {
+    ghost use Rattle.std.specs.Prelude.{ℕ, ◌≤◌};
+
+    ghost Value = { ℕ };
+
+    ghost view = { λ n. n.value };
+
+    ghost invariant = { λ n. (LOW ≤ n.value) × (n.value ≤ HIGH) };
+
+    ghost inverse = { λ n. record { value = n } };
+}
+
+impl<const LOW: u32, const HIGH: u32> Bounded<LOW, HIGH> {
+    pub fn new(value: u32) -> Self
+        requires low { LOW ≤ value }
+        requires high { value ≤ HIGH }
+        ensures { result ≡ value }
+    {
+        Bounded { value }
+    }
+
+    pub fn get(&self) -> u32
+        ensures value { result ≡ self.now }
+        ensures low { LOW ≤ result }
+        ensures high { result ≤ HIGH }
+    {
+        self.value
+    }
+}
+
+/// A length in bytes as a statement writes it, before it is rounded up to doublewords (Assembler Services
+/// Reference, GETMAIN).
+pub type Length = Bounded<1, 0x7FFF_FFFF>;
+
+/// The power of two of a boundary: STARTBDY and CONTBDY (Assembler Services Reference, GETMAIN).
+pub type Exponent = Bounded<3, 31>;
+
+/// The bytes of a cell of a cell pool. The upper limit is this project's choice.
+pub type CellSize = Bounded<4, 65_536>;
+
+/// How many cells a part of a cell pool has. The upper limit is this project's choice.
+pub type CellCount = Bounded<1, 65_536>;
+
+/// A user completion code (Assembler Services Reference, ABEND).
+pub type UserCode = Bounded<0, 4_095>;
+
+/// How many bytes SHOW prints. SHOW is this project's own statement.
+pub type ShowLength = Bounded<1, 4_096>;
+
+/// How many bytes MOVE copies. MOVE is this project's own statement.
+pub type MoveLength = Bounded<1, 65_536>;
+
+/// What is added to the address of a named area, in bytes: this project's notation.
+pub type Offset = Bounded<0, 33_554_431>;
+
+/// The pages of the region below 16 megabytes. The limits are this project's choice.
+pub type PagesBelow = Bounded<1, 2_048>;
+
+/// The pages of the region above 16 megabytes. The limits are this project's choice.
+pub type PagesAbove = Bounded<0, 8_192>;

@@ -1,0 +1,17 @@
+//! The storage machine: plain types, definitions and laws.
+#![tactic(auto)]
+
+pub mod bounded;
+pub mod card;
+pub mod code;
+pub mod error;
+pub mod gifts;
+pub mod line;
+pub mod name;
+pub mod place;
+pub mod report;
+pub mod request;
+pub mod short_list;
+pub mod subpool;
+pub mod want;
+pub mod watched;

@@ -1,0 +1,80 @@
+//! Subpools and their numbers.
+
+ghost use Rattle.std.specs.Prelude.{◌≡◌, ◌<◌, ◌≤◌, SomeIff};
+ghost use Rattle.mvs_model.specs.Subpool.{IsSubpoolNumber};
+
+use std::marker::Model;
+
+/// The number of a subpool that a program may name: 0 to 127 (Assembler Services Guide, virtual storage
+/// management). Subpools 131 and 132 are not built yet.
+#[derive(Clone, Copy, Debug, PartialEq, Eq, PartialOrd, Ord)]
+pub struct SubNo {
+    value: u8,
+}
+
+impl Model for SubNo {
+    ghost use Rattle.std.specs.Prelude.{ℕ};
+    ghost use Rattle.mvs_model.specs.Subpool.{IsSubpoolNumber};
+
+    ghost Value = { ℕ };
+
+    ghost view = { λ n. n.value };
+
+    ghost invariant = { λ n. IsSubpoolNumber n.value };
+
+    ghost inverse = { λ n. record { value = n } };
+}
+
+impl SubNo {
+    /// The number of a subpool; None where a request that names it is refused as naming an invalid subpool.
+    pub fn new(value: u8) -> Option<SubNo>
+        ensures { SomeIff result (IsSubpoolNumber value) value }
+    {
+        if value < 128 {
+            Some(SubNo { value })
+        } else {
+            None
+        }
+    }
+
+    pub fn get(&self) -> u8
+        ensures value { result ≡ self.now }
+        ensures valid { IsSubpoolNumber result }
+    {
+        self.value
+    }
+}
+
+/// A subpool of the step, by a bare number that nothing prints, below 4,096.
+#[derive(Clone, Copy, Debug, PartialEq, Eq)]
+pub struct SubpoolId {
+    value: u16,
+}
+
+impl Model for SubpoolId {
+    ghost use Rattle.std.specs.Prelude.{ℕ, ◌<◌};
+
+    ghost Value = { ℕ };
+
+    ghost view = { λ s. s.value };
+
+    ghost invariant = { λ s. s.value < 4096 };
+
+    ghost inverse = { λ n. record { value = n } };
+}
+
+impl SubpoolId {
+    pub fn new(value: u16) -> SubpoolId
+        requires { value < 4096 }
+        ensures { result ≡ value }
+    {
+        SubpoolId { value }
+    }
+
+    pub fn get(&self) -> u16
+        ensures value { result ≡ self.now }
+        ensures low { result < 4096 }
+    {
+        self.value
+    }
+}

@@ -1,0 +1,192 @@
+//! What an obtaining request wants.
+
+ghost use Rattle.std.specs.Prelude.{◌≡◌, ◌≤◌, ◌<◌};
+ghost use Rattle.mvs_model.specs.Wanted.{Wanted, IsWanted, Asking, IsAsking, wanted_of, fixed_want};
+
+use crate::bounded::{Exponent, Length};
+use std::marker::Model;
+
+/// Where a grant may lie: below 16 megabytes only, or above if a place is there and else below.
+#[derive(Clone, Copy, Debug, PartialEq, Eq)]
+pub enum Side {
+    Below,
+    Either,
+}
+
+/// Where a task's program resides (Assembler Services Reference, GETMAIN, LOC=RES).
+#[derive(Clone, Copy, Debug, PartialEq, Eq)]
+pub enum Residence {
+    Below,
+    Above,
+}
+
+/// The operand LOC: BELOW and 24 are `Below`, ANY and 31 are `Any`, RES is `Res` (Assembler Services Reference,
+/// GETMAIN).
+#[derive(Clone, Copy, Debug, PartialEq, Eq)]
+pub enum Loc {
+    Below,
+    Any,
+    Res,
+}
+
+/// Which of the places that serve is taken: the lowest. This project's choice.
+#[derive(Clone, Copy, Debug, PartialEq, Eq)]
+pub enum Placement {
+    Low,
+}
+
+/// What a grant has to meet: its least and its greatest length in bytes, both whole doublewords, the power of
+/// two of the boundary that it begins on, that of the boundary that it lies within, and its side.
+#[derive(Clone, Copy, Debug, PartialEq, Eq)]
+pub struct Want {
+    least: u32,
+    most: u32,
+    start: u8,
+    within: Option<u8>,
+    side: Side,
+}
+
+impl Model for Want {
+    ghost use Rattle.mvs_model.specs.Wanted.{Wanted, IsWanted};
+
+    ghost Value = { Wanted };
+
+    ghost view = { λ w. record { least = w.least; most = w.most; start = w.start; within = w.within; side = w.side } };
+
+    ghost invariant = { λ w. IsWanted (record { least = w.least; most = w.most; start = w.start; within = w.within; side = w.side }) };
+
+    ghost inverse = { λ w. record { least = w.least; most = w.most; start = w.start; within = w.within; side = w.side } };
+}
+
+impl Want {
+    /// A place of one length, rounded up to doublewords.
+    pub fn fixed(len: Length, start: Exponent, side: Side) -> Want
+        ensures { result ≡ fixed_want len start side }
+    {
+        let len = len.get().div_ceil(8) * 8;
+        Want {
+            least: len,
+            most: len,
+            start: start.get() as u8,
+            within: None,
+            side,
+        }
+    }
+
+    /// The least length in bytes.
+    pub fn least(&self) -> u32
+        ensures least { result ≡ self.now.least }
+        ensures wanted { IsWanted self.now }
+    {
+        self.least
+    }
+
+    /// The greatest length in bytes.
+    pub fn most(&self) -> u32
+        ensures most { result ≡ self.now.most }
+        ensures wanted { IsWanted self.now }
+    {
+        self.most
+    }
+
+    /// The power of two of the boundary that the place begins on.
+    pub fn start(&self) -> u8
+        ensures start { result ≡ self.now.start }
+        ensures wanted { IsWanted self.now }
+    {
+        self.start
+    }
+
+    /// The power of two of the boundary that the place lies within.
+    pub fn within(&self) -> Option<u8>
+        ensures within { result ≡ self.now.within }
+        ensures wanted { IsWanted self.now }
+    {
+        self.within
+    }
+
+    pub fn side(&self) -> Side
+        ensures { result ≡ self.now.side }
+    {
+        self.side
+    }
+}
+
+/// What an obtaining request asks for, as written: its least and greatest length in bytes, the power of two of
+/// the boundary that it begins on, that of the boundary that it lies within, and its location.
+#[derive(Clone, Copy, Debug, PartialEq, Eq)]
+pub struct Ask {
+    least: u32,
+    most: u32,
+    start: u8,
+    within: Option<u8>,
+    loc: Loc,
+}
+
+impl Model for Ask {
+    ghost use Rattle.mvs_model.specs.Wanted.{Asking, IsAsking};
+
+    ghost Value = { Asking };
+
+    ghost view = { λ a. record { least = a.least; most = a.most; start = a.start; within = a.within; loc = a.loc } };
+
+    ghost invariant = { λ a. IsAsking (record { least = a.least; most = a.most; start = a.start; within = a.within; loc = a.loc }) };
+
+    ghost inverse = { λ a. record { least = a.least; most = a.most; start = a.start; within = a.within; loc = a.loc } };
+}
+
+impl Ask {
+    /// A request for one length on a boundary.
+    pub fn fixed(len: Length, start: Exponent, loc: Loc) -> Ask
+        ensures { result ≡ record { least = len; most = len; start = start; within = None; loc = loc } }
+    {
+        let len = len.get();
+        Ask {
+            least: len,
+            most: len,
+            start: start.get() as u8,
+            within: None,
+            loc,
+        }
+    }
+
+    /// The same request for the greatest length that has a place, from a least one on.
+    pub fn at_least(self, least: Length) -> Ask
+        requires { least ≤ self.most }
+        ensures { result ≡ record self { least = least } }
+    {
+        Ask {
+            least: least.get(),
+            ..self
+        }
+    }
+
+    /// The same request within a boundary.
+    pub fn within(self, within: Exponent) -> Ask
+        ensures { result ≡ record self { within = Some within } }
+    {
+        Ask {
+            within: Some(within.get() as u8),
+            ..self
+        }
+    }
+
+    pub fn loc(&self) -> Loc
+        ensures { result ≡ self.now.loc }
+    {
+        self.loc
+    }
+
+    /// What is wanted on a side, the lengths rounded up to doublewords.
+    pub fn want(&self, side: Side) -> Want
+        ensures { result ≡ wanted_of self.now side }
+    {
+        Want {
+            least: self.least.div_ceil(8) * 8,
+            most: self.most.div_ceil(8) * 8,
+            start: self.start,
+            within: self.within,
+            side,
+        }
+    }
+}
