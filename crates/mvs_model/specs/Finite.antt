@@ -1,5 +1,5 @@
 -- Changes of finite maps, key by key, and tests below a bound.
-use Rattle.std.specs.Prelude.{◌≡◌, ℕ, zero, suc, Bool, ◌&&◌, ◌||◌, true, false, Option, Some, None, if◌then◌else◌}
+use Rattle.std.specs.Prelude.{◌≡◌, ℕ, zero, suc, ◌+◌, Bool, ◌&&◌, ◌||◌, true, false, Option, Some, None, if◌then◌else◌}
 
 -- new is old, but with v at each key that passes the test
 abbrev pub Changes : {K X : Type 0} → (K → Option X) → (K → Bool) → Option X → (K → Option X) → Type 0
@@ -27,3 +27,8 @@ all_below test (suc n) = test n && all_below test n
 unfoldable pub any_below : (ℕ → Bool) → ℕ → Bool
 any_below test zero = false
 any_below test (suc n) = test n || any_below test n
+
+-- how many numbers below n pass the test
+unfoldable pub count_below : ℕ → (ℕ → Bool) → ℕ
+count_below zero test = 0
+count_below (suc n) test = (if test n then 1 else 0) + count_below n test

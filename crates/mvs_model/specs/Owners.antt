@@ -1,14 +1,16 @@
 -- Tasks, the subpools that they have under numbers, and who owns a subpool.
-use Rattle.std.specs.Prelude.{◌≡◌, ◌↔◌, ℕ, suc, ◌<◌, Bool, true, false, not, ◌&&◌, ◌||◌, ◌==◌, List, Option, Some, None, if◌then◌else◌, IsSome, MatchOption, refl}
+use Rattle.std.specs.Prelude.{◌≡◌, ◌↔◌, ℕ, suc, ◌<◌, Bool, true, false, not, ◌&&◌, ◌||◌, ◌==◌, nat_le, List, Option, Some, None, if◌then◌else◌, IsSome, MatchOption, refl}
 use Rattle.std.specs.List.{list_any, Contains}
 use Rattle.std.specs.List.Sorted.{IsStrictlySortedBy}
 use Rattle.std.specs.declared.cmp.Ordering.{Ordering}
 use Rattle.std.specs.Ordering.{nat_cmp, then_cmp, on}
-use Rattle.std.specs.FinMap.{FinMap, get, contains_key, keys, code}
+use Rattle.std.specs.FinMap.{FinMap, get, contains_key, keys, len, code}
 use Rattle.std.specs.Coded.{Coded, code_by, coded×, coded_ℕ, coded_bool, coded_option}
 use Rattle.mvs_model.specs.declared.name.Name.{Name}
 use Rattle.mvs_model.specs.declared.want.Residence.{Residence}
 use Rattle.mvs_model.specs.declared.want.Residence.TheVariants.{Below, Above}
+use Rattle.mvs_model.specs.declared.code.Code.{Code}
+use Rattle.mvs_model.specs.declared.code.Code.TheVariants.{User}
 use Rattle.mvs_model.specs.Name.{name_cmp, same_name, name_code}
 use Rattle.mvs_model.specs.Finite.{Changes, Keeps, has, any_below}
 use Rattle.mvs_model.specs.Presents.{Presents, gives, shares}
@@ -117,6 +119,15 @@ pub data EntersBelow (old : Owners) (t : Name) (wanted : ℕ → Bool) : ℕ →
 -- whether the mother gives a number whose subpool she does not own. (this project's choice)
 abbrev pub gives_shared : Owners → Name → Presents → Bool
 gives_shared o mother gifts = any_below (λ n. gives gifts n && has (λ s. not (owns o mother s)) (entry o mother n)) 128
+
+-- why an ATTACH is refused, if it is: the name is active, 32 tasks are active, or a number is given whose subpool the
+-- mother does not own. (this project's choice)
+abbrev pub attach_refusal : Owners → Name → Name → Presents → Option Code
+attach_refusal o mother name gifts =
+    if is_active o name then Some (User 4009)
+    else (if nat_le 32 (len o.tasks) then Some (User 4005)
+    else (if gives_shared o mother gifts then Some (User 4003)
+    else None))
 
 -- whether the subpool is one that the mother has under a number that she gives
 abbrev pub is_given : Owners → Name → Presents → ℕ → Bool

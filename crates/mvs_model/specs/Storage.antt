@@ -1,12 +1,12 @@
 -- Regions, what is held, and what an obtain and a release do.
-use Rattle.std.specs.Prelude.{◌≡◌, ℕ, ◌+◌, ◌-◌, ◌*◌, ◌/◌, ◌%◌, ◌^◌, ◌<◌, ◌≤◌, ◌⊎◌, ◌==◌, not, Bool, Option, Some, None, nat_lt, nat_le, ◌&&◌, IfSome, is_some, refl}
+use Rattle.std.specs.Prelude.{◌≡◌, ℕ, ◌+◌, ◌-◌, ◌*◌, ◌/◌, ◌%◌, ◌^◌, ◌<◌, ◌≤◌, ◌⊎◌, ◌==◌, not, Bool, Option, Some, None, nat_lt, nat_le, ◌&&◌, IfSome, IsSome, MatchOption, is_some, refl}
 use Rattle.std.specs.Ordering.{nat_cmp}
 use Rattle.std.specs.FinMap.{FinMap, get, code}
 use Rattle.std.specs.Coded.{Coded, code_by, coded×, coded_ℕ}
 use Rattle.mvs_model.specs.Span.{Span, span}
 use Rattle.mvs_model.specs.Wanted.{Wanted}
 use Rattle.mvs_model.specs.declared.want.Side.TheVariants.{Below}
-use Rattle.mvs_model.specs.Finite.{Changes, Keeps, has}
+use Rattle.mvs_model.specs.Finite.{Changes, Keeps, has, count_below}
 
 -- The pages of the two regions of a step, and the byte that a grant leaves. (Assembler Services Guide, private area; that
 -- a grant leaves one byte everywhere is this project's choice)
@@ -124,6 +124,25 @@ holds st s d = has (λ t. t == s) (holder st d)
 -- each doubleword of the place is held by s
 abbrev pub HeldBy : Storage → ℕ → Span → Type 0
 HeldBy st s p = (d : ℕ) → Covers p d → holder st d ≡ Some s
+
+-- each doubleword of the place is held by some subpool
+abbrev pub AllHeld : Storage → Span → Type 0
+AllHeld st p = (d : ℕ) → Covers p d → IsSome (holder st d)
+
+-- the first doubleword behind the regions
+abbrev pub end_of : Regions → ℕ
+end_of r = 0x200000 + 512 * r.above
+
+-- how many bytes s holds
+abbrev pub held_bytes : Storage → ℕ → ℕ
+held_bytes st s = 8 * count_below (end_of st.regions) (holds st s)
+
+-- The subpool is the one that the page of an address is assigned to: a page is assigned exactly while a doubleword of it is
+-- held. (this project's choice)
+abbrev pub IsPageOwner : Storage → ℕ → Option ℕ → Type 0
+IsPageOwner st a owner = MatchOption owner
+    ((d : ℕ) → d / 512 ≡ a / 4096 → holder st d ≡ None)
+    (λ s. (d : ℕ) × (d / 512 ≡ a / 4096) × (holder st d ≡ Some s))
 
 -- Each page is of one subpool, what is held lies in the regions, and there are bytes just where something is held.
 pub record IsStorage (st : Storage) : Type 0 where
