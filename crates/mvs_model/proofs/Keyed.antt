@@ -11,7 +11,7 @@ use Rattle.std.specs.FinMap.{FinMap, get, find, insert, empty, get-insert, get-e
 use Rattle.mvs_model.specs.Keyed.{put_in, keyed, pairs_below}
 use Rattle.mvs_model.specs.Name.{name_cmp}
 use Rattle.mvs_model.specs.Owners.{entry_cmp}
-use Rattle.mvs_model.proofs.Orders.{equal_keys}
+use Rattle.mvs_model.proofs.Orders.{equal_keys, tied_pair}
 
 module _ {K X : Type 0} {R : K → K → Ordering} (o : IsTotalOrder R) (same : IsAntisymmetric R) where
   at_first : (b c : Bool) (u v : Option X) → (b ≡ true → v ≡ u) → cond b u (cond c v None) ≡ cond (b || c) v None
@@ -39,11 +39,6 @@ module _ {K X : Type 0} {R : K → K → Ordering} (o : IsTotalOrder R) (same : 
     by : (b : Bool) → (b ≡ false → f q ≡ None) → cond b (f q) None ≡ f q
     by true e = refl
     by false e = sym (e refl)
-
-tied_pair : (a : Ordering) (m n : ℕ) → is_eq (ordering_then a (nat_cmp m n)) ≡ (is_eq a && eqb m n)
-tied_pair Less m n = refl
-tied_pair Equal m n = grind (arith, nat_tests)
-tied_pair Greater m n = refl
 
 both_or : (a b c : Bool) → ((a && c) || (b && c)) ≡ ((a || b) && c)
 both_or true b true = refl

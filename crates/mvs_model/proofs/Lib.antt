@@ -1,4 +1,15 @@
+pub mod Asked
+pub mod Decide
+pub mod Falling
+pub mod Going
 pub mod Keyed
+pub mod Kept
+pub mod Made
 pub mod NameText
 pub mod Orders
+pub mod Owning
+pub mod Pages
+pub mod Search
+pub mod Sized
+pub mod Stuck
 pub mod Tables

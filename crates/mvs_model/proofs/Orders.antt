@@ -1,10 +1,12 @@
 -- The orders of names and of entries are total, and what they call equal is the same.
-use Rattle.std.proofs.Common.{◌≡◌, ℕ, Bool, true, List, ap, arith, ◌∙◌, sym}
+use Rattle.std.proofs.Common.{◌≡◌, ℕ, Bool, true, List, eqb, ap, arith, refl, ◌∙◌, sym}
+use Rattle.std.specs.Prelude.{◌&&◌, ◌==◌}
+use Rattle.std.proofs.lemmas.Bool.Decides.{nat_tests}
 use Rattle.std.proofs.lemmas.Cmp.{then_total, on_total, nat_list_cmp_total, tied_itself}
 use Rattle.std.specs.declared.cmp.Ordering.{Ordering}
-use Rattle.std.specs.declared.cmp.Ordering.TheVariants.{Equal}
+use Rattle.std.specs.declared.cmp.Ordering.TheVariants.{Less, Equal, Greater}
 use Rattle.std.specs.Ordering.{nat_cmp, eq_by_cmp, is_eq, ordering_then}
-use Rattle.std.specs.Cmp.{IsTotalOrder, nat_cmp_total, Equal-is}
+use Rattle.std.specs.Cmp.{IsTotalOrder, nat_cmp_total, Equal-is, eq_by_cmp_equiv}
 use Rattle.std.specs.FinMap.{IsAntisymmetric, nat_cmp-IsAntisymmetric, slice_cmp-IsAntisymmetric}
 use Rattle.mvs_model.specs.Name.{name_cmp, same_name}
 use Rattle.mvs_model.specs.Owners.{entry_cmp}
@@ -36,3 +38,15 @@ same_name_is a b e = equal_keys name_cmp-IsAntisymmetric a b e
 
 pub same_name_self : (a : List ℕ) → same_name a a ≡ true
 same_name_self a = ap is_eq (tied_itself nat_list_cmp_total a)
+
+pub same_name_sym : (a b : List ℕ) → same_name a b ≡ same_name b a
+same_name_sym a b = (eq_by_cmp_equiv name_cmp_total).symm a b
+
+pub tied_pair : (a : Ordering) (m n : ℕ) → is_eq (ordering_then a (nat_cmp m n)) ≡ (is_eq a && eqb m n)
+tied_pair Less m n = refl
+tied_pair Equal m n = grind (arith, nat_tests)
+tied_pair Greater m n = refl
+
+-- two entries are the same where their names and their numbers are
+pub same_entry_is : (e d : List ℕ × ℕ) → eq_by_cmp entry_cmp e d ≡ (same_name e.0 d.0 && (e.1 == d.1))
+same_entry_is e d = tied_pair (name_cmp e.0 d.0) e.1 d.1

@@ -6,6 +6,7 @@ pub mod card;
 pub mod code;
 pub mod error;
 pub mod gifts;
+pub mod laws;
 pub mod line;
 pub mod name;
 pub mod outcome;

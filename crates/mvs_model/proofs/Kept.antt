@@ -1,0 +1,165 @@
+-- What each of a few changes keeps, each step of the machine keeps.
+use Rattle.std.proofs.Common.{◌≡◌, ℕ, ◌≤◌, ◌⊎◌, inl, inr, Bool, true, false, List, [], ◌∷◌, map, length, Option, Some, None, refl, sym, subst}
+use Rattle.std.specs.Prelude.{not, ◌&&◌, nat_le, ◌==◌}
+use Rattle.std.specs.Bool.{MatchBool}
+use Rattle.std.specs.List.{list_all}
+use Rattle.std.specs.FinMap.{get, contains_key, len}
+use Rattle.std.specs.FinSet as set
+use Rattle.mvs_model.specs.declared.name.Name.{Name}
+use Rattle.mvs_model.specs.declared.want.Side.{Side}
+use Rattle.mvs_model.specs.declared.want.Side.TheVariants.{Below}
+use Rattle.mvs_model.specs.declared.want.Residence.{Residence}
+use Rattle.mvs_model.specs.declared.code.Form.{Form}
+use Rattle.mvs_model.specs.declared.code.Family.TheVariants.{X}
+use Rattle.mvs_model.specs.declared.code.Code.{Code}
+use Rattle.mvs_model.specs.declared.request.Request.{Request}
+use Rattle.mvs_model.specs.declared.request.Request.TheVariants.{Obtain, ObtainList, Release, ReleaseList, ReleaseWhole, Build, Get, Free, Delete, Attach, Return, Abend, Show, Put, Move}
+use Rattle.mvs_model.specs.declared.request.Reply.{Reply}
+use Rattle.mvs_model.specs.declared.request.Reply.TheVariants.{NotRun, Rc0, NoCell}
+use Rattle.mvs_model.specs.Span.{Span, span}
+use Rattle.mvs_model.specs.Wanted.{Wanted, wanted_of, fixed_want, side_of}
+use Rattle.mvs_model.specs.Presents.{Presents}
+use Rattle.mvs_model.specs.Storage.{NoPlace}
+use Rattle.mvs_model.specs.Owners.{Owners, is_active, entry, SubpoolOf, Enters, attach_refusal, has_subtask}
+use Rattle.mvs_model.specs.Pools.{Pool, part_want, IsCellOf, IsFreeCell}
+use Rattle.mvs_model.specs.State.{State, holder}
+use Rattle.mvs_model.specs.Codes.{family, is_conditional, short, not_held}
+use Rattle.mvs_model.specs.Changes.{with_part, GrantTo, ShortOf, ListGrant, Releasable, Frees, Empties, End, Extends, TakesCell, GivesCell, DropsPool, Writes}
+use Rattle.mvs_model.specs.Steps.{Plan, Abends, Fails, Refuses, is_invalid, side_for, residence_of, ObtainStep, ObtainListStep, whole, on_doubleword, MayRelease, ReleaseStep, EmptiesEntry, ReleaseWholeStep, new_pool, Builds, BuildStep, Gets, GetsMore, GetsNone, GetStep, FreeStep, DeleteStep, Attaches, AttachCase, ReturnStep, all_granted, Accesses, bytes_from, moved_from, Acts, Step, IsRequest}
+
+-- what a plan of a pool has in its ranges
+abbrev pub IsPlan : Plan → Type 0
+IsPlan plan = (4 ≤ plan.cell_size) × (1 ≤ plan.primary) × (1 ≤ plan.secondary)
+
+-- The property stays through each change that a request can make.
+pub record Closed (P : State → Type 0) : Type 0 where
+  pub granted : (old : State) (t : Name) (number : ℕ) (want : Wanted) (p : Span) (new : State) → GrantTo old t number want p new → P old → P new
+  pub freed : (old : State) (s : ℕ) (ps : List Span) (new : State) → Releasable old s ps → Frees old ps new → P old → P new
+  pub emptied : (old : State) (s : ℕ) (new : State) → Empties old s new → P old → P new
+  pub ended : (old : State) (t : Name) (new : State) → End old t new → P old → P new
+  pub built : (old : State) (t name : Name) (number s : ℕ) (plan : Plan) (p : Span) (o : Owners) (new : State) → contains_key old.pools name ≡ false → IsPlan plan → SubpoolOf old.owners t number s → Enters old.owners t number s o → Extends old name (new_pool s plan) plan.primary p o new → P old → P new
+  pub grown : (old : State) (name : Name) (pool : Pool) (p : Span) (mid : State) (c : ℕ) (new : State) → get old.pools name ≡ Some pool → Extends old name pool pool.secondary p old.owners mid → IsCellOf pool.cell_size (record { place = p; count = pool.secondary }) c → TakesCell mid name (with_part pool pool.secondary p) c new → P old → P new
+  pub taken : (old : State) (name : Name) (pool : Pool) (c : ℕ) (new : State) → get old.pools name ≡ Some pool → IsFreeCell pool c → TakesCell old name pool c new → P old → P new
+  pub given : (old : State) (name : Name) (pool : Pool) (c : ℕ) (new : State) → get old.pools name ≡ Some pool → set.contains pool.taken c ≡ true → GivesCell old name pool c new → P old → P new
+  pub dropped : (old : State) (name : Name) (pool : Pool) (new : State) → get old.pools name ≡ Some pool → DropsPool old name pool new → P old → P new
+  pub attached : (old : State) (t name : Name) (gifts : Presents) (residence : Residence) (new : State) → attach_refusal old.owners t name gifts ≡ None → Attaches old t name gifts residence new → P old → P new
+  pub written : (old : State) (p : Span) (value : ℕ → Option ℕ) (new : State) → all_granted old p ≡ true → Writes old p value new → P old → P new
+
+-- by cases on a test
+chosen : {P Q R : Type 0} (b : Bool) → MatchBool b P Q → (b ≡ true → P → R) → (b ≡ false → Q → R) → R
+chosen true h p q = p refl h
+chosen false h p q = q refl h
+
+is_so : (b : Bool) → not b ≡ false → b ≡ true
+is_so true e = refl
+is_so false e = absurd (let f : true ≡ false = e in cc)
+
+left : (a b : Bool) → (a && b) ≡ true → a ≡ true
+left true b e = refl
+left false b e = e
+
+module _ (P : State → Type 0) (closed : Closed P) where
+  abends : (old : State) (t : Name) (code : Code) (reply : Reply) (new : State) → Abends old t code reply new → P old → P new
+  abends old t code reply new h p = closed.ended old t new h.0 p
+
+  refuses : (old : State) (answer reply : Reply) (new : State) → Refuses old answer reply new → P old → P new
+  refuses old answer reply new h p = subst P (sym h.1) p
+
+  fails : (b : Bool) (old : State) (t : Name) (code : Code) (reply : Reply) (new : State) → Fails b old t code reply new → P old → P new
+  fails true old t code reply new h p = subst P (sym h.1) p
+  fails false old t code reply new h p = closed.ended old t new h.0 p
+
+  obtains : (old : State) (t : Name) (form : Form) (number : ℕ) (want : Wanted) (reply : Reply) (new : State) → ObtainStep old t form number want reply new → P old → P new
+  obtains old t form number want reply new h p =
+      chosen (is_invalid number) h (λ _ a. abends old t _ reply new a p) (λ _ k. elim k [ inl f ↦ fails _ old t _ reply new f.1 p | inr g ↦ closed.granted old t number want g.0 new g.2 p ])
+
+  lists : (t : Name) (number : ℕ) (wants : List Wanted) (ps : List Span) (old new : State) → ListGrant old t number wants ps new → P old → P new
+  lists t number [] [] old new h p = subst P (sym h) p
+  lists t number [] (q ∷ ps) old new h p = absurd h
+  lists t number (want ∷ wants) [] old new h p = absurd h
+  lists t number (want ∷ wants) (q ∷ ps) old new h p = lists t number wants ps h.0 new h.2 (closed.granted old t number want q h.0 h.1 p)
+
+  obtains_list : (old : State) (t : Name) (form : Form) (number : ℕ) (wants : List Wanted) (reply : Reply) (new : State) → ObtainListStep old t form number wants reply new → P old → P new
+  obtains_list old t form number wants reply new h p =
+      chosen (is_invalid number) h (λ _ a. abends old t _ reply new a p) (λ _ k. elim k [ inl f ↦ fails _ old t _ reply new f.1 p | inr g ↦ lists t number wants g.0 old new g.2 p ])
+
+  frees : (o : Option ℕ) (old : State) (ps : List Span) (new : State) → MayRelease old o ps → Frees old ps new → P old → P new
+  frees None old ps new m f p = absurd m
+  frees (Some s) old ps new m f p = closed.freed old s ps new m f p
+
+  releases : (old : State) (t : Name) (form : Form) (number : ℕ) (ps : List Span) (reply : Reply) (new : State) → ReleaseStep old t form number ps reply new → P old → P new
+  releases old t form number ps reply new h p =
+      chosen (is_invalid number) h (λ _ a. abends old t _ reply new a p) (λ _ k. chosen (not (list_all on_doubleword ps)) k (λ _ a. abends old t _ reply new a p) (λ _ m. choice m)) where
+        choice : (((MayRelease old (entry old.owners t number) (map whole ps) → ⊥) × Fails (is_conditional form) old t (not_held (family form)) reply new) ⊎ (MayRelease old (entry old.owners t number) (map whole ps) × (reply ≡ Rc0) × Frees old (map whole ps) new)) → P new
+        choice (inl f) = fails _ old t _ reply new f.1 p
+        choice (inr g) = frees (entry old.owners t number) old (map whole ps) new g.0 g.2 p
+
+  empties : (o : Option ℕ) (old new : State) → EmptiesEntry old o new → P old → P new
+  empties None old new h p = subst P (sym h) p
+  empties (Some s) old new h p = closed.emptied old s new h p
+
+  releases_whole : (old : State) (t : Name) (form : Form) (number : ℕ) (reply : Reply) (new : State) → ReleaseWholeStep old t form number reply new → P old → P new
+  releases_whole old t form number reply new h p =
+      chosen (is_invalid number) h (λ _ a. abends old t _ reply new a p) (λ _ k. chosen (number == 0) k (λ _ a. abends old t _ reply new a p) (λ _ e. empties (entry old.owners t number) old new e.1 p))
+
+  builds : (old : State) (t name : Name) (number : ℕ) (plan : Plan) (reply : Reply) (new : State) → IsPlan plan → BuildStep old t name number plan reply new → P old → P new
+  builds old t name number plan reply new r h p =
+      chosen (is_invalid number) h (λ _ a. abends old t _ reply new a p)
+      (λ _ k. chosen (contains_key old.pools name) k (λ _ a. abends old t _ reply new a p)
+      (λ fresh l. chosen (nat_le 64 (len old.pools)) l (λ _ a. abends old t _ reply new a p) (λ _ m. choice fresh m))) where
+        choice : contains_key old.pools name ≡ false → ((ShortOf old t number (part_want plan.cell_size plan.primary plan.side) × Abends old t (short X) reply new) ⊎ (Builds old t name number plan new × (reply ≡ Rc0))) → P new
+        choice fresh (inl f) = abends old t _ reply new f.1 p
+        choice fresh (inr g) = let b = g.0 in closed.built old t name number b.0 plan b.2.0 b.2.1 new fresh r b.1 b.2.2 b.2.3 p
+
+  frees_cell : (o : Option Pool) (old : State) (t name : Name) (c : ℕ) (reply : Reply) (new : State) → get old.pools name ≡ o → FreeStep old t name c o reply new → P old → P new
+  frees_cell None old t name c reply new e h p = abends old t _ reply new h p
+  frees_cell (Some pool) old t name c reply new e h p =
+      chosen (not (set.contains pool.taken c)) h (λ _ a. abends old t _ reply new a p) (λ has g. closed.given old name pool c new e (is_so (set.contains pool.taken c) has) g.1 p)
+
+  deletes : (o : Option Pool) (old : State) (t name : Name) (reply : Reply) (new : State) → get old.pools name ≡ o → DeleteStep old t name o reply new → P old → P new
+  deletes None old t name reply new e h p = abends old t _ reply new h p
+  deletes (Some pool) old t name reply new e h p = closed.dropped old name pool new e h.1 p
+
+  attaches : (refusal : Option Code) (old : State) (t name : Name) (gifts : Presents) (residence : Residence) (reply : Reply) (new : State) → attach_refusal old.owners t name gifts ≡ refusal → AttachCase old t name gifts residence refusal reply new → P old → P new
+  attaches (Some code) old t name gifts residence reply new e h p = abends old t code reply new h p
+  attaches None old t name gifts residence reply new e h p = closed.attached old t name gifts residence new e h.1 p
+
+  returns : (old : State) (t : Name) (reply : Reply) (new : State) → ReturnStep old t reply new → P old → P new
+  returns old t reply new h p = chosen (has_subtask old.owners t) h (λ _ a. abends old t _ reply new a p) (λ _ e. closed.ended old t new e.1 p)
+
+  gets_none : (old : State) (t name : Name) (conditional : Bool) (pool : Pool) (reply : Reply) (new : State) → get old.pools name ≡ Some pool → GetsNone old t name conditional pool reply new → P old → P new
+  gets_none old t name conditional pool reply new e h p = chosen conditional h (λ _ r. refuses old NoCell reply new r p) (λ _ m. choice m) where
+    choice : ((NoPlace old.regions (holder old) pool.subpool (part_want pool.cell_size pool.secondary pool.side) × Abends old t (short X) reply new) ⊎ GetsMore old name pool reply new) → P new
+    choice (inl f) = abends old t _ reply new f.1 p
+    choice (inr g) = let c = g.3 in closed.grown old name pool g.0 g.1 c.0 new e g.2 c.1 c.2.0 p
+
+  gets : (o : Option Pool) (old : State) (t name : Name) (conditional : Bool) (reply : Reply) (new : State) → get old.pools name ≡ o → GetStep old t name conditional o reply new → P old → P new
+  gets None old t name conditional reply new e h p = abends old t _ reply new h p
+  gets (Some pool) old t name conditional reply new e (inl g) p = closed.taken old name pool g.0 new e g.1 g.2.0 p
+  gets (Some pool) old t name conditional reply new e (inr f) p = gets_none old t name conditional pool reply new e f.1 p
+
+  accesses : (old : State) (t : Name) (allowed : Bool) (done : Type 0) (reply : Reply) (new : State) → Accesses old t allowed done reply new → (allowed ≡ true → done → P old → P new) → P old → P new
+  accesses old t allowed done reply new h f p = chosen (not allowed) h (λ _ a. abends old t _ reply new a p) (λ e d. f (is_so allowed e) d.1 p)
+
+  acts : (old : State) (t : Name) (request : Request) (reply : Reply) (new : State) → IsRequest request → Acts old t request reply new → P old → P new
+  acts old t (Obtain form number ask) reply new r h p = obtains old t form number (wanted_of ask (side_for old t form ask.loc)) reply new h p
+  acts old t (ObtainList form number lengths start) reply new r h p = obtains_list old t form number (map (λ n. fixed_want n start Below) lengths) reply new h p
+  acts old t (Release form number q) reply new r h p = releases old t form number (q ∷ []) reply new h p
+  acts old t (ReleaseList form number ps) reply new r h p = releases old t form number ps reply new h p
+  acts old t (ReleaseWhole form number) reply new r h p = releases_whole old t form number reply new h p
+  acts old t (Build name number size primary secondary loc) reply new r h p =
+      builds old t name number (record { cell_size = size; primary = primary; secondary = secondary; side = side_of loc (residence_of old.owners t) }) reply new r h p
+  acts old t (Get name conditional) reply new r h p = gets (get old.pools name) old t name conditional reply new refl h p
+  acts old t (Free name c) reply new r h p = frees_cell (get old.pools name) old t name c reply new refl h p
+  acts old t (Delete name) reply new r h p = deletes (get old.pools name) old t name reply new refl h p
+  acts old t (Attach name gifts residence) reply new r h p = attaches (attach_refusal old.owners t name gifts) old t name gifts residence reply new refl h p
+  acts old t Return reply new r h p = returns old t reply new h p
+  acts old t (Abend n) reply new r h p = abends old t _ reply new h p
+  acts old t (Show a n) reply new r h p = accesses old t (all_granted old (span a n)) (new ≡ old) reply new h (λ _ e k. subst P (sym e) k) p
+  acts old t (Put a bytes) reply new r h p = accesses old t (all_granted old (span a (length bytes))) _ reply new h (λ e w k. closed.written old (span a (length bytes)) (bytes_from a bytes) new e w k) p
+  acts old t (Move to from n) reply new r h p =
+      accesses old t (all_granted old (span to n) && all_granted old (span from n)) _ reply new h (λ e w k. closed.written old (span to n) (moved_from old to from) new (left _ _ e) w k) p
+
+  -- what stays through each of the changes stays through each step
+  pub step_keeps : (old : State) (t : Name) (request : Request) (reply : Reply) (new : State) → IsRequest request → Step old t request reply new → P old → P new
+  step_keeps old t request reply new r h p = chosen (not (is_active old.owners t)) h (λ _ k. refuses old NotRun reply new k p) (λ _ k. acts old t request reply new r k p)

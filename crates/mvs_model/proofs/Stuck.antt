@@ -1,0 +1,375 @@
+-- The machine is never stuck: each request has a step in each state.
+use Rattle.std.proofs.Common.{◌≡◌, ℕ, zero, suc, ◌+◌, ◌-◌, ◌*◌, ◌/◌, ◌%◌, ◌<◌, ◌≤◌, ◌⊎◌, inl, inr, Bool, true, false, List, [], ◌∷◌, map, length, get_or, Option, Some, None, arith, refl, ap, sym, subst, ◌∙◌}
+use Rattle.std.specs.Prelude.{not, ◌&&◌, nat_le, ◌==◌}
+use Rattle.std.specs.Bool.{MatchBool}
+use Rattle.std.specs.List.{Contains, AllByRecursion, list_all}
+use Rattle.std.proofs.lemmas.Bool.Decides.{nat_tests}
+use Rattle.std.specs.FinMap.{get, insert, nat_cmp-IsAntisymmetric, contains_key, len}
+use Rattle.std.specs.FinSet as set
+use Rattle.mvs_model.specs.declared.name.Name.{Name}
+use Rattle.mvs_model.specs.declared.want.Side.{Side}
+use Rattle.mvs_model.specs.declared.want.Side.TheVariants.{Below}
+use Rattle.mvs_model.specs.declared.want.Residence.{Residence}
+use Rattle.mvs_model.specs.declared.code.Form.{Form}
+use Rattle.mvs_model.specs.declared.code.Family.TheVariants.{X}
+use Rattle.mvs_model.specs.declared.code.Code.{Code}
+use Rattle.mvs_model.specs.declared.code.Code.TheVariants.{System, User}
+use Rattle.mvs_model.specs.declared.request.Request.{Request}
+use Rattle.mvs_model.specs.declared.request.Request.TheVariants.{Obtain, ObtainList, Release, ReleaseList, ReleaseWhole, Build, Get, Free, Delete, Attach, Return, Abend, Show, Put, Move}
+use Rattle.mvs_model.specs.declared.request.Reply.{Reply}
+use Rattle.mvs_model.specs.declared.request.Reply.TheVariants.{NotRun, Rc0, Rc4, Granted, Listed, Cell, NoCell, Attached, Ended, Done, Abended}
+use Rattle.mvs_model.specs.Span.{Span, span, round8}
+use Rattle.mvs_model.specs.Wanted.{Wanted, wanted_of, fixed_want}
+use Rattle.mvs_model.specs.Presents.{Presents}
+use Rattle.mvs_model.specs.Storage.{Chosen, NoPlace, covers, Covers, has_address}
+use Rattle.mvs_model.specs.Owners.{Owners, is_active, entry, SubpoolOf, Enters, IsFallen, Ends, ends_with, attach_refusal, has_subtask}
+use Rattle.mvs_model.specs.Pools.{Pool, Part, part_want, part_length, first_cell, IsCellOf, IsCell, IsFreeCell, cell_at, in_parts, in_taken}
+use Rattle.mvs_model.specs.State.{State, Holding, plain, pooled, subpool_in, holder, granted}
+use Rattle.mvs_model.specs.Codes.{family, is_conditional, short, bad_subpool, bad_address, not_held}
+use Rattle.mvs_model.specs.Changes.{with_part, GrantTo, ShortOf, ListGrant, ListShort, HeldPlain, Misses, Disjoint, Frees, Drops, Empties, End, Extends, TakesCell, GivesCell, DropsPool, Writes, any_covers, any_has}
+use Rattle.mvs_model.specs.Steps.{Plan, Abends, Refuses, Fails, side_for, is_invalid, ObtainStep, ObtainListStep, whole, on_doubleword, MayRelease, ReleaseStep, EmptiesEntry, ReleaseWholeStep, new_pool, Builds, BuildStep, Gets, GetsMore, GetsNone, GetStep, FreeStep, DeleteStep, AttachCase, ReturnStep, all_granted, Accesses, bytes_from, moved_from, Acts, Step, IsRequest}
+use Rattle.mvs_model.specs.WellFormed.{PoolsSized}
+use Rattle.mvs_model.proofs.Decide.{Decided, decided_and, decided_implies, decided_like, decided_lt, decided_all, decided_some, decided_eq}
+use Rattle.mvs_model.proofs.Search.{chosen_or_none}
+use Rattle.mvs_model.proofs.Made.{made_values, made_changes, made_without, made_keeps, made_at, made_gone}
+use Rattle.mvs_model.proofs.Orders.{name_cmp-IsAntisymmetric}
+use Rattle.mvs_model.proofs.Falling.{fallen_some}
+use Rattle.mvs_model.proofs.Owning.{subpool_some, enters_some, ends_some, attach_some}
+
+-- A doubleword that a place covers, and an address in it, are below a bound.
+covers_low : (p : Span) (d : ℕ) → covers p d ≡ true → d < p.addr + p.len
+covers_low p d e = grind (arith, nat_tests)
+
+has_low : (p : Span) (a : ℕ) → has_address p a ≡ true → a < p.addr + p.len
+has_low p a e = grind (arith, nat_tests)
+
+-- a place that is chosen can be granted
+granted_some : (old : State) (t : Name) (number : ℕ) (want : Wanted) (s : ℕ) (p : Span) → SubpoolOf old.owners t number s → Chosen old.regions (holder old) s want p → (new : State) × GrantTo old t number want p new
+granted_some old t number want s p is c =
+    let held = made_changes old.held (p.addr + p.len) (covers p) (plain s) (covers_low p) in
+    let bytes = made_changes old.bytes (p.addr + p.len) (has_address p) old.regions.fill (has_low p) in
+    let owners = enters_some old.owners t number s in (
+      record { regions = old.regions; held = held.0; bytes = bytes.0; owners = owners.0; pools = old.pools },
+      record { subpool = s; is_subpool = is; chosen = c; regions = refl; held = held.1; bytes = bytes.1; owners = owners.1; pools = refl },
+    )
+
+-- what some subpools hold can go
+drops_some : (old : State) (test : ℕ → Bool) (owners : Owners) → (new : State) × (Drops old test new × (new.owners ≡ owners))
+drops_some old test owners =
+    let held = made_keeps nat_cmp-IsAntisymmetric old.held (λ _ h. not (test h.subpool)) in
+    let pools = made_keeps name_cmp-IsAntisymmetric old.pools (λ _ p. not (test p.subpool)) in
+    let mid : State = record { regions = old.regions; held = held.0; bytes = old.bytes; owners = owners; pools = pools.0 } in
+    let bytes = made_keeps nat_cmp-IsAntisymmetric old.bytes (λ a _. granted mid a) in (
+      record { regions = old.regions; held = held.0; bytes = bytes.0; owners = owners; pools = pools.0 },
+      (record { regions = refl; held = held.1; pools = pools.1; bytes = bytes.1 }, refl),
+    )
+
+-- a task can end
+end_some : (old : State) (t : Name) → (new : State) × End old t new
+end_some old t =
+    let fallen = fallen_some old.owners t in
+    let owners = ends_some old.owners t fallen.0 in
+    let d = drops_some old (ends_with old.owners t fallen.0) owners.0 in
+    (d.0, record { fallen = fallen.0; is_fallen = fallen.1; drops = d.1.0; owners = subst (λ o. Ends old.owners t fallen.0 o) (sym d.1.1) owners.1 })
+
+empties_some : (old : State) (s : ℕ) → (new : State) × Empties old s new
+empties_some old s = let d = drops_some old (λ u. u == s) old.owners in (d.0, record { drops = d.1.0; owners = d.1.1 })
+
+frees_some : (old : State) (ps : List Span) → (new : State) × Frees old ps new
+frees_some old ps =
+    let held = made_without nat_cmp-IsAntisymmetric old.held (any_covers ps) in
+    let bytes = made_without nat_cmp-IsAntisymmetric old.bytes (any_has ps) in (
+      record { regions = old.regions; held = held.0; bytes = bytes.0; owners = old.owners; pools = old.pools },
+      record { regions = refl; held = held.1; bytes = bytes.1; owners = refl; pools = refl },
+    )
+
+-- a reply and a state that a relation allows
+abbrev pub Some2 : (Reply → State → Type 0) → Type 0
+Some2 P = (reply : Reply) × ((new : State) × P reply new)
+
+abends_some : (old : State) (t : Name) (code : Code) → Some2 (Abends old t code)
+abends_some old t code = let e = end_some old t in (Abended code e.1.fallen, (e.0, (e.1, refl)))
+
+refuses_some : (old : State) (answer : Reply) → Some2 (Refuses old answer)
+refuses_some old answer = (answer, (old, (refl, refl)))
+
+fails_some : (b : Bool) (old : State) (t : Name) (code : Code) → Some2 (Fails b old t code)
+fails_some true old t code = refuses_some old Rc4
+fails_some false old t code = abends_some old t code
+
+-- by cases on a test
+either_some : {P Q : Reply → State → Type 0} (b : Bool) → (b ≡ true → Some2 P) → (b ≡ false → Some2 Q) → Some2 (λ reply new. MatchBool b (P reply new) (Q reply new))
+either_some true p q = p refl
+either_some false p q = q refl
+
+round8_whole : (n : ℕ) → round8 n % 8 ≡ 0
+round8_whole n = omega arith
+
+round8_rises : (m n : ℕ) → m ≤ n → round8 m ≤ round8 n
+round8_rises m n l = omega arith
+
+part_whole : (size count : ℕ) → part_length size count % 8 ≡ 0
+part_whole size count = at ((count + 63) / 64) ((count * size + 7) / 8) where
+  at : (x y : ℕ) → (16 + 8 * x + 8 * y) % 8 ≡ 0
+  at x y = omega arith
+
+-- a grant, or shortage
+area_some : (old : State) (t : Name) (number : ℕ) (want : Wanted) → want.least % 8 ≡ 0 → want.least ≤ want.most → ShortOf old t number want ⊎ ((p : Span) × (new : State) × GrantTo old t number want p new)
+area_some old t number want even ordered =
+    let s = subpool_some old.owners t number in
+    elim (chosen_or_none old.regions (holder old) s.0 want even ordered) [
+      | inl c ↦ let g = granted_some old t number want s.0 c.0 s.1 c.1 in inr (c.0, g.0, g.1)
+      | inr none ↦ inl (s.0, s.1, none)
+    ]
+
+obtain_some : (old : State) (t : Name) (form : Form) (number : ℕ) (want : Wanted) → want.least % 8 ≡ 0 → want.least ≤ want.most → Some2 (ObtainStep old t form number want)
+obtain_some old t form number want even ordered = either_some (is_invalid number) (λ _. abends_some old t (bad_subpool (family form) true)) (λ _. choice) where
+  choice : Some2 (λ reply new. (ShortOf old t number want × Fails (is_conditional form) old t (short (family form)) reply new) ⊎ ((p : Span) × (reply ≡ Granted p) × GrantTo old t number want p new))
+  choice = elim (area_some old t number want even ordered) [
+    | inl short_of ↦ let f = fails_some (is_conditional form) old t (short (family form)) in (f.0, (f.1.0, inl (short_of, f.1.1)))
+    | inr g ↦ (Granted g.0, (g.1, inr (g.0, refl, g.2)))
+  ]
+
+list_some : (t : Name) (number start : ℕ) (lengths : List ℕ) (old : State) → ListShort old t number (map (λ n. fixed_want n start Below) lengths) ⊎ ((ps : List Span) × (new : State) × ListGrant old t number (map (λ n. fixed_want n start Below) lengths) ps new)
+list_some t number start [] old = inr ([], old, refl)
+list_some t number start (n ∷ ns) old =
+    elim (area_some old t number (fixed_want n start Below) (round8_whole n) (omega arith)) [
+      | inl short_of ↦ inl (inl short_of)
+      | inr g ↦ elim (list_some t number start ns g.1) [
+        | inl s ↦ inl (inr (g.0, g.1, g.2, s))
+        | inr r ↦ inr (g.0 ∷ r.0, r.1, (g.1, g.2, r.2))
+      ]
+    ]
+
+obtain_list_some : (old : State) (t : Name) (form : Form) (number start : ℕ) (lengths : List ℕ) → Some2 (ObtainListStep old t form number (map (λ n. fixed_want n start Below) lengths))
+obtain_list_some old t form number start lengths = either_some (is_invalid number) (λ _. abends_some old t (bad_subpool (family form) true)) (λ _. choice) where
+  choice : Some2 (λ reply new. (ListShort old t number (map (λ n. fixed_want n start Below) lengths) × Fails (is_conditional form) old t (short (family form)) reply new) ⊎ ((ps : List Span) × (reply ≡ Listed ps) × ListGrant old t number (map (λ n. fixed_want n start Below) lengths) ps new))
+  choice = elim (list_some t number start lengths old) [
+    | inl s ↦ let f = fails_some (is_conditional form) old t (short (family form)) in (f.0, (f.1.0, inl (s, f.1.1)))
+    | inr g ↦ (Listed g.0, (g.1, inr (g.0, refl, g.2)))
+  ]
+
+pooled_in : Option Holding → Option Bool
+pooled_in None = None
+pooled_in (Some h) = Some h.pooled
+
+-- whether a place may be released
+decided_is : (o : Option Holding) (s : ℕ) → Decided (o ≡ Some (plain s))
+unfolding pooled_in
+decided_is None s = inr (λ e. cc)
+decided_is (Some h) s = decided_like there back (decided_and (decided_eq h.subpool s) (decided_false h.pooled)) where
+  decided_false : (b : Bool) → Decided (b ≡ false)
+  decided_false false = inl refl
+  decided_false true = inr (λ e. let f : true ≡ false = e in cc)
+
+  there : (h.subpool ≡ s) × (h.pooled ≡ false) → Some h ≡ Some (plain s)
+  there e = λ i. Some (record { subpool = e.0 i; pooled = e.1 i })
+
+  back : Some h ≡ Some (plain s) → (h.subpool ≡ s) × (h.pooled ≡ false)
+  back e = (let u : Some h.subpool ≡ Some s = ap subpool_in e in cc, let u : Some h.pooled ≡ Some false = ap pooled_in e in cc)
+
+decided_covers : (p : Span) (d : ℕ) → Decided (Covers p d)
+decided_covers p d = decided_and (decided_lt p.addr (8 * d + 8)) (decided_lt (8 * d) (p.addr + p.len))
+
+decided_held : (st : State) (s : ℕ) (p : Span) → Decided (HeldPlain st s p)
+decided_held st s p =
+    decided_like (λ h d c. h d (let l : 8 * d < p.addr + p.len = c.1 in omega arith) c) (λ h d l c. h d c)
+    (decided_all (λ d. Covers p d → get st.held d ≡ Some (plain s)) (λ d. decided_implies (decided_covers p d) (decided_is (get st.held d) s)) (p.addr + p.len))
+
+decided_misses : (p q : Span) → Decided (Misses p q)
+decided_misses p q =
+    decided_like (λ h d c e. h d (let l : 8 * d < p.addr + p.len = c.1 in omega arith) c e) (λ h d l c e. h d c e)
+    (decided_all (λ d. Covers p d → Covers q d → ⊥) (λ d. decided_implies (decided_covers p d) (decided_implies (decided_covers q d) (inr (λ f. f)))) (p.addr + p.len))
+
+decided_each : {X : Type 0} → (P : X → Type 0) → ((x : X) → Decided (P x)) → (xs : List X) → Decided (AllByRecursion P xs)
+decided_each P decide [] = inl tt
+decided_each P decide (x ∷ xs) = decided_and (decide x) (decided_each P decide xs)
+
+decided_disjoint : (ps : List Span) → Decided (Disjoint ps)
+decided_disjoint [] = inl tt
+decided_disjoint (p ∷ ps) = decided_and (decided_each (Misses p) (decided_misses p) ps) (decided_disjoint ps)
+
+decided_may_release : (st : State) (o : Option ℕ) (ps : List Span) → Decided (MayRelease st o ps)
+decided_may_release st None ps = inr (λ h. h)
+decided_may_release st (Some s) ps = decided_and (decided_each (HeldPlain st s) (decided_held st s) ps) (decided_disjoint ps)
+
+release_some : (old : State) (t : Name) (form : Form) (number : ℕ) (ps : List Span) → Some2 (ReleaseStep old t form number ps)
+release_some old t form number ps =
+    either_some (is_invalid number) (λ _. abends_some old t (bad_subpool (family form) false)) (λ _. either_some (not (list_all on_doubleword ps)) (λ _. abends_some old t (bad_address (family form))) (λ _. choice)) where
+      choice : Some2 (λ reply new. ((MayRelease old (entry old.owners t number) (map whole ps) → ⊥) × Fails (is_conditional form) old t (not_held (family form)) reply new) ⊎ (MayRelease old (entry old.owners t number) (map whole ps) × (reply ≡ Rc0) × Frees old (map whole ps) new))
+      choice = elim (decided_may_release old (entry old.owners t number) (map whole ps)) [
+        | inl h ↦ let f = frees_some old (map whole ps) in (Rc0, (f.0, inr (h, refl, f.1)))
+        | inr n ↦ let f = fails_some (is_conditional form) old t (not_held (family form)) in (f.0, (f.1.0, inl (n, f.1.1)))
+      ]
+
+empties_entry_some : (old : State) (o : Option ℕ) → (new : State) × EmptiesEntry old o new
+empties_entry_some old None = (old, refl)
+empties_entry_some old (Some s) = empties_some old s
+
+release_whole_some : (old : State) (t : Name) (form : Form) (number : ℕ) → Some2 (ReleaseWholeStep old t form number)
+release_whole_some old t form number =
+    either_some (is_invalid number) (λ _. abends_some old t (bad_subpool (family form) false))
+    (λ _. either_some (number == 0) (λ _. abends_some old t (User 4006)) (λ _. let e = empties_entry_some old (entry old.owners t number) in (Rc0, (e.0, (refl, e.1)))))
+
+extends_some : (old : State) (name : Name) (pool : Pool) (count : ℕ) (p : Span) (owners : Owners) → Chosen old.regions (holder old) pool.subpool (part_want pool.cell_size count pool.side) p → (new : State) × Extends old name pool count p owners new
+extends_some old name pool count p owners c =
+    let held = made_changes old.held (p.addr + p.len) (covers p) (pooled pool.subpool) (covers_low p) in (
+      record { regions = old.regions; held = held.0; bytes = old.bytes; owners = owners; pools = insert old.pools name (with_part pool count p) },
+      record { chosen = c; regions = refl; held = held.1; bytes = refl; owners_are = refl; pools = made_at old.pools name (with_part pool count p) },
+    )
+
+takes_some : (old : State) (name : Name) (pool : Pool) (c : ℕ) → (new : State) × TakesCell old name pool c new
+takes_some old name pool c =
+    let bytes = made_changes old.bytes (c + pool.cell_size) (has_address (cell_at pool c)) old.regions.fill (has_low (cell_at pool c)) in (
+      record { regions = old.regions; held = old.held; bytes = bytes.0; owners = old.owners; pools = insert old.pools name (record pool { taken = set.insert pool.taken c }) },
+      record { regions = refl; held = refl; bytes = bytes.1; owners = refl; pools = made_at old.pools name (record pool { taken = set.insert pool.taken c }) },
+    )
+
+gives_some : (old : State) (name : Name) (pool : Pool) (c : ℕ) → (new : State) × GivesCell old name pool c new
+gives_some old name pool c =
+    let bytes = made_without nat_cmp-IsAntisymmetric old.bytes (has_address (cell_at pool c)) in (
+      record { regions = old.regions; held = old.held; bytes = bytes.0; owners = old.owners; pools = insert old.pools name (record pool { taken = set.remove pool.taken c }) },
+      record { regions = refl; held = refl; bytes = bytes.1; owners = refl; pools = made_at old.pools name (record pool { taken = set.remove pool.taken c }) },
+    )
+
+drops_pool_some : (old : State) (name : Name) (pool : Pool) → (new : State) × DropsPool old name pool new
+drops_pool_some old name pool =
+    let held = made_without nat_cmp-IsAntisymmetric old.held (in_parts pool) in
+    let pools = made_gone old.pools name in
+    let bytes = made_without nat_cmp-IsAntisymmetric old.bytes (in_taken pool) in (
+      record { regions = old.regions; held = held.0; bytes = bytes.0; owners = old.owners; pools = pools.0 },
+      record { regions = refl; held = held.1; bytes = bytes.1; owners = refl; pools = pools.1 },
+    )
+
+writes_some : (old : State) (p : Span) (value : ℕ → Option ℕ) → (new : State) × Writes old p value new
+writes_some old p value =
+    let bytes = made_values old.bytes (p.addr + p.len) (has_address p) value (has_low p) in (
+      record { regions = old.regions; held = old.held; bytes = bytes.0; owners = old.owners; pools = old.pools },
+      record { regions = refl; held = refl; bytes = bytes.1; owners = refl; pools = refl },
+    )
+
+-- a part for a pool, or shortage
+part_some : (old : State) (s size count : ℕ) (side : Side) → ((p : Span) × Chosen old.regions (holder old) s (part_want size count side) p) ⊎ NoPlace old.regions (holder old) s (part_want size count side)
+part_some old s size count side = chosen_or_none old.regions (holder old) s (part_want size count side) (part_whole size count) (omega arith)
+
+build_some : (old : State) (t name : Name) (number : ℕ) (plan : Plan) → Some2 (BuildStep old t name number plan)
+build_some old t name number plan =
+    either_some (is_invalid number) (λ _. abends_some old t (bad_subpool X true))
+    (λ _. either_some (contains_key old.pools name) (λ _. abends_some old t (User 4008))
+    (λ _. either_some (nat_le 64 (len old.pools)) (λ _. abends_some old t (User 4007)) (λ _. choice))) where
+      choice : Some2 (λ reply new. (ShortOf old t number (part_want plan.cell_size plan.primary plan.side) × Abends old t (short X) reply new) ⊎ (Builds old t name number plan new × (reply ≡ Rc0)))
+      choice =
+          let s = subpool_some old.owners t number in
+          elim (part_some old s.0 plan.cell_size plan.primary plan.side) [
+            | inl c ↦ let o = enters_some old.owners t number s.0 in let e = extends_some old name (new_pool s.0 plan) plan.primary c.0 o.0 c.1 in (Rc0, (e.0, inr ((s.0, s.1, (c.0, o.0, o.1, e.1)), refl)))
+            | inr none ↦ let f = abends_some old t (short X) in (f.0, (f.1.0, inl ((s.0, s.1, none), f.1.1)))
+          ]
+
+-- an element of a longer list, and of a shorter one
+later : {Y : Type 0} (x y : Y) (ys : List Y) → Contains ys x → Contains (y ∷ ys) x
+later x y ys h = (suc h.0, (let l : h.0 < length ys = h.1 in omega arith), h.2)
+
+first_or_later : {Y : Type 0} (x y : Y) (ys : List Y) → Contains (y ∷ ys) x → (y ≡ x) ⊎ Contains ys x
+first_or_later x y ys h = at h.0 h.1 h.2 where
+  at : (k : ℕ) → k < length (y ∷ ys) → get_or (y ∷ ys) k x ≡ x → (y ≡ x) ⊎ Contains ys x
+  at zero l e = inl e
+  at (suc k) l e = inr (k, omega arith, e)
+
+decided_taken : (pool : Pool) (c : ℕ) → Decided (set.contains pool.taken c ≡ false)
+decided_taken pool c = at (set.contains pool.taken c) where
+  at : (b : Bool) → Decided (b ≡ false)
+  at true = inr (λ e. let f : true ≡ false = e in cc)
+  at false = inl refl
+
+-- a cell of some parts that is not taken, or none
+FreeIn : Pool → List Part → ℕ → Type 0
+FreeIn pool parts c = ((part : Part) × Contains parts part × IsCellOf pool.cell_size part c) × (set.contains pool.taken c ≡ false)
+
+free_in_part : (pool : Pool) (part : Part) → ((c : ℕ) × IsCellOf pool.cell_size part c × (set.contains pool.taken c ≡ false)) ⊎ ((c : ℕ) → IsCellOf pool.cell_size part c → set.contains pool.taken c ≡ false → ⊥)
+free_in_part pool part =
+    elim (decided_some (λ i. (i < part.count) × (set.contains pool.taken (first_cell pool.cell_size part + i * pool.cell_size) ≡ false))
+    (λ i. decided_and (decided_lt i part.count) (decided_taken pool (first_cell pool.cell_size part + i * pool.cell_size))) part.count (λ i h. h.0)) [
+      | inl f ↦ inl (first_cell pool.cell_size part + f.0 * pool.cell_size, (f.0, f.1.0, refl), f.1.1)
+      | inr none ↦ inr (λ c is out. none (is.0, (is.1, ap (set.contains pool.taken) (sym is.2) ∙ out)))
+    ]
+
+free_in : (pool : Pool) (parts : List Part) → ((c : ℕ) × FreeIn pool parts c) ⊎ ((c : ℕ) → FreeIn pool parts c → ⊥)
+unfolding FreeIn
+free_in pool [] = inr (λ c h. let l : h.0.1.0 < 0 = h.0.1.1 in absurd (omega arith))
+free_in pool (part ∷ parts) =
+    elim (free_in_part pool part) [
+      | inl f ↦ inl (f.0, ((part, (0, omega arith, refl), f.1), f.2))
+      | inr none ↦ elim (free_in pool parts) [
+        | inl f ↦ inl (f.0, ((f.1.0.0, later f.1.0.0 part parts f.1.0.1, f.1.0.2), f.1.1))
+        | inr none_later ↦ inr (λ c h. elim (first_or_later h.0.0 part parts h.0.1) [ inl e ↦ none c (rw e h.0.2) h.1 | inr m ↦ none_later c ((h.0.0, m, h.0.2), h.1) ])
+      ]
+    ]
+
+free_cell_or_none : (pool : Pool) → ((c : ℕ) × IsFreeCell pool c) ⊎ ((c : ℕ) → IsFreeCell pool c → ⊥)
+unfolding FreeIn
+free_cell_or_none pool = free_in pool pool.parts
+
+gets_some : (old : State) (name : Name) (pool : Pool) (c : ℕ) → Some2 (Gets old name pool c)
+gets_some old name pool c = let k = takes_some old name pool c in (Cell (cell_at pool c), (k.0, (k.1, refl)))
+
+gets_none_some : (old : State) (t name : Name) (conditional : Bool) (pool : Pool) → 1 ≤ pool.secondary → Some2 (GetsNone old t name conditional pool)
+gets_none_some old t name conditional pool counts = either_some conditional (λ _. refuses_some old NoCell) (λ _. choice) where
+  choice : Some2 (λ reply new. (NoPlace old.regions (holder old) pool.subpool (part_want pool.cell_size pool.secondary pool.side) × Abends old t (short X) reply new) ⊎ GetsMore old name pool reply new)
+  choice = elim (part_some old pool.subpool pool.cell_size pool.secondary pool.side) [
+    | inr none ↦ let f = abends_some old t (short X) in (f.0, (f.1.0, inl (none, f.1.1)))
+    | inl p ↦
+        let e = extends_some old name pool pool.secondary p.0 old.owners p.1 in
+        let part : Part = record { place = p.0; count = pool.secondary } in
+        let c = first_cell pool.cell_size part + 0 * pool.cell_size in
+        let g = gets_some e.0 name (with_part pool pool.secondary p.0) c in
+        (g.0, (g.1.0, inr (p.0, e.0, e.1, (c, (0, counts, refl), g.1.1))))
+  ]
+
+get_some : (old : State) (t name : Name) (conditional : Bool) (o : Option Pool) → ((pool : Pool) → o ≡ Some pool → 1 ≤ pool.secondary) → Some2 (GetStep old t name conditional o)
+get_some old t name conditional None counts = abends_some old t (User 4002)
+get_some old t name conditional (Some pool) counts =
+    elim (free_cell_or_none pool) [
+      | inl f ↦ let g = gets_some old name pool f.0 in (g.0, (g.1.0, inl (f.0, f.1, g.1.1)))
+      | inr none ↦ let g = gets_none_some old t name conditional pool (counts pool refl) in (g.0, (g.1.0, inr (none, g.1.1)))
+    ]
+
+free_some : (old : State) (t name : Name) (c : ℕ) (o : Option Pool) → Some2 (FreeStep old t name c o)
+free_some old t name c None = abends_some old t (User 4002)
+free_some old t name c (Some pool) = either_some (not (set.contains pool.taken c)) (λ _. abends_some old t (User 4001)) (λ _. let g = gives_some old name pool c in (Rc0, (g.0, (refl, g.1))))
+
+delete_some : (old : State) (t name : Name) (o : Option Pool) → Some2 (DeleteStep old t name o)
+delete_some old t name None = abends_some old t (User 4002)
+delete_some old t name (Some pool) = let d = drops_pool_some old name pool in (Rc0, (d.0, (refl, d.1)))
+
+attach_case_some : (old : State) (t name : Name) (gifts : Presents) (residence : Residence) (refusal : Option Code) → Some2 (AttachCase old t name gifts residence refusal)
+attach_case_some old t name gifts residence (Some code) = abends_some old t code
+attach_case_some old t name gifts residence None =
+    let o = attach_some old.owners t name gifts residence in
+    (Attached, (record { regions = old.regions; held = old.held; bytes = old.bytes; owners = o.0; pools = old.pools }, (refl, record { regions = refl; held = refl; bytes = refl; owners = o.1; pools = refl })))
+
+return_some : (old : State) (t : Name) → Some2 (ReturnStep old t)
+return_some old t = either_some (has_subtask old.owners t) (λ _. abends_some old t (System 0xA03)) (λ _. let e = end_some old t in (Ended, (e.0, (refl, e.1))))
+
+access_some : (old : State) (t : Name) (allowed : Bool) (done : State → Type 0) → ((new : State) × done new) → Some2 (λ reply new. Accesses old t allowed (done new) reply new)
+access_some old t allowed done d = either_some (not allowed) (λ _. abends_some old t (System 0x0C4)) (λ _. (Done, (d.0, (refl, d.1))))
+
+acts_some : (old : State) (t : Name) (request : Request) → PoolsSized old → IsRequest request → Some2 (Acts old t request)
+acts_some old t (Obtain form number ask) w r = obtain_some old t form number (wanted_of ask (side_for old t form ask.loc)) (round8_whole ask.least) (round8_rises ask.least ask.most r.ordered)
+acts_some old t (ObtainList form number lengths start) w r = obtain_list_some old t form number start lengths
+acts_some old t (Release form number p) w r = release_some old t form number (p ∷ [])
+acts_some old t (ReleaseList form number ps) w r = release_some old t form number ps
+acts_some old t (ReleaseWhole form number) w r = release_whole_some old t form number
+acts_some old t (Build name number size primary secondary loc) w r = build_some old t name number _
+acts_some old t (Get name conditional) w r = get_some old t name conditional (get old.pools name) (λ pool e. (w name pool e).secondary)
+acts_some old t (Free name c) w r = free_some old t name c (get old.pools name)
+acts_some old t (Delete name) w r = delete_some old t name (get old.pools name)
+acts_some old t (Attach name gifts residence) w r = attach_case_some old t name gifts residence (attach_refusal old.owners t name gifts)
+acts_some old t Return w r = return_some old t
+acts_some old t (Abend n) w r = abends_some old t (User n)
+acts_some old t (Show a n) w r = access_some old t (all_granted old (span a n)) (λ new. new ≡ old) (old, refl)
+acts_some old t (Put a bytes) w r = access_some old t (all_granted old (span a (length bytes))) (Writes old (span a (length bytes)) (bytes_from a bytes)) (writes_some old (span a (length bytes)) (bytes_from a bytes))
+acts_some old t (Move to from n) w r = access_some old t (all_granted old (span to n) && all_granted old (span from n)) (Writes old (span to n) (moved_from old to from)) (writes_some old (span to n) (moved_from old to from))
+
+-- Each request has a reply and a new state, where each pool has some cells in a part.
+pub step_some : (old : State) (t : Name) (request : Request) → PoolsSized old → IsRequest request → Some2 (Step old t request)
+step_some old t request w r = either_some (not (is_active old.owners t)) (λ _. refuses_some old NotRun) (λ _. acts_some old t request w r)

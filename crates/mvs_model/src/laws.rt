@@ -1,0 +1,13 @@
+//! Laws of the machine, over every run: each function has an empty body, and its contract is the law.
+
+ghost use Rattle.mvs_model.specs.Laws.{PagesKept, NeverStuck};
+
+/// In every state of a run each page is of one subpool.
+pub fn page_rule()
+    ensures { PagesKept }
+{}
+
+/// In every state of a run each request has a step.
+pub fn never_stuck()
+    ensures { NeverStuck }
+{}
