@@ -11,5 +11,7 @@ pub mod Owning
 pub mod Pages
 pub mod Search
 pub mod Sized
+pub mod SmallLaws
+pub mod StorageLaws
 pub mod Stuck
 pub mod Tables

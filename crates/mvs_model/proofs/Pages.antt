@@ -11,23 +11,8 @@ use Rattle.mvs_model.specs.Storage.{PageRule, MayTake, Chosen, covers, Covers}
 use Rattle.mvs_model.specs.State.{State, Holding, subpool_in, holder}
 use Rattle.mvs_model.specs.Changes.{Drops}
 use Rattle.mvs_model.specs.Steps.{Step, IsRequest}
-use Rattle.mvs_model.proofs.Kept.{Closed, step_keeps}
-
--- what holds less keeps the rule
-fewer : (old new : ℕ → Option ℕ) → ((d s : ℕ) → new d ≡ Some s → old d ≡ Some s) → PageRule old → PageRule new
-fewer old new less rule d e s t page hd he = rule d e s t page (less d s hd) (less e t he)
-
-covers_is : (p : Span) (d : ℕ) → covers p d ≡ true → Covers p d
-covers_is p d e = grind (arith, nat_tests)
-
--- s takes what it may take
-taken : (old new : ℕ → Option ℕ) (test : ℕ → Bool) (s : ℕ) → ((d : ℕ) → new d ≡ cond (test d) (Some s) (old d)) → ((d : ℕ) → test d ≡ true → MayTake old s d) → PageRule old → PageRule new
-taken old new test s changed may rule d e u v page hd he = at (test d) (test e) (may d) (may e) (sym (changed d) ∙ hd) (sym (changed e) ∙ he) where
-  at : (a b : Bool) → (a ≡ true → MayTake old s d) → (b ≡ true → MayTake old s e) → cond a (Some s) (old d) ≡ Some u → cond b (Some s) (old e) ≡ Some v → u ≡ v
-  at true true m n x y = cc
-  at true false m n x y = let k : v ≡ s = (m refl).page e v (sym page) y in cc
-  at false true m n x y = let k : u ≡ s = (n refl).page d u page x in cc
-  at false false m n x y = rule d e u v page x y
+use Rattle.mvs_model.proofs.Kept.{Closed}
+use Rattle.mvs_model.proofs.StorageLaws.{covers_is, fewer_keep_pages, taking_keeps_pages}
 
 subpool_of_cond : (b : Bool) (h : Holding) (o : Option Holding) → subpool_in (cond b (Some h) o) ≡ cond b (Some h.subpool) (subpool_in o)
 subpool_of_cond true h o = refl
@@ -46,15 +31,15 @@ less_kept test (Some h) s e = at (test h) e where
 
 pages_chosen : (old new : State) (s : ℕ) (h : Holding) (want : Wanted) (p : Span) → Chosen old.regions (holder old) s want p → h.subpool ≡ s → Changes (get old.held) (covers p) (Some h) (get new.held) → PageRule (holder old) → PageRule (holder new)
 pages_chosen old new s h want p c e held rule =
-    taken (holder old) (holder new) (covers p) s
+    taking_keeps_pages (holder old) (holder new) (covers p) s
     (λ d. ap subpool_in (held d) ∙ subpool_of_cond (covers p d) h (get old.held d) ∙ ap (λ u. cond (covers p d) (Some u) (holder old d)) e)
     (λ d t. c.placed.0.each d (covers_is p d t)) rule
 
 pages_less : (old new : State) (test : ℕ → Bool) → Changes (get old.held) test None (get new.held) → PageRule (holder old) → PageRule (holder new)
-pages_less old new test held rule = fewer (holder old) (holder new) (λ d s e. less_cond (test d) (get old.held d) s (sym (ap subpool_in (held d)) ∙ e)) rule
+pages_less old new test held rule = fewer_keep_pages (holder old) (holder new) (λ d s e. less_cond (test d) (get old.held d) s (sym (ap subpool_in (held d)) ∙ e)) rule
 
 pages_drops : (old new : State) (test : ℕ → Bool) → Drops old test new → PageRule (holder old) → PageRule (holder new)
-pages_drops old new test drops rule = fewer (holder old) (holder new) (λ d s e. less_kept _ (get old.held d) s (sym (ap subpool_in (drops.held d)) ∙ e)) rule
+pages_drops old new test drops rule = fewer_keep_pages (holder old) (holder new) (λ d s e. less_kept _ (get old.held d) s (sym (ap subpool_in (drops.held d)) ∙ e)) rule
 
 pages_same : (old new : State) → new.held ≡ old.held → PageRule (holder old) → PageRule (holder new)
 pages_same old new e rule = subst (λ m. PageRule (λ d. subpool_in (get m d))) (sym e) rule

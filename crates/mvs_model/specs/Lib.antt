@@ -20,3 +20,4 @@ pub mod Texts
 pub mod Reports
 pub mod Runs
 pub mod Laws
+pub mod Checks
