@@ -1,8 +1,7 @@
 -- Runs go on, and keep what each step keeps.
-use Rattle.std.proofs.Common.{◌≡◌, ℕ, ◌+◌, ◌⊎◌, inl, inr, Bool, true, false, List, [], ◌∷◌, ◌++◌, append_assoc, append-nil, take, drop, Option, Some, None, Result, Ok, Err, refl, sym, ap, ◌∙◌, subst}
+use Rattle.std.proofs.Common.{◌≡◌, ℕ, ◌+◌, ◌⊎◌, inl, inr, Bool, true, false, List, [], ◌∷◌, ◌++◌, append_assoc, append-nil, Option, Some, None, Result, Ok, Err, refl, sym, ap, ◌∙◌, subst}
 use Rattle.std.specs.Prelude.{◌||◌, not, codes}
 use Rattle.std.specs.Bool.{MatchBool}
-use Rattle.std.proofs.lemmas.List.{take-append-drop}
 use Rattle.std.specs.FinMap.{get, empty, gets}
 use Rattle.std.specs.Ordering.{nat_cmp}
 use Rattle.mvs_model.specs.declared.name.Name.{Name}
@@ -186,19 +185,18 @@ module _ (read : Reader) (is : IsReader read) (all : List (List ℕ)) where
   pub front_so_far : (text : List ℕ) (number : ℕ) (old : Stage) (lines : List (List ℕ)) → Reaches read all text number old lines → Front text
   front_so_far text number old lines r = let p = prints_some read is number lines old r.sized in (p.0, p.1, r.on p.0 p.1 p.2)
 
-  shorter : (n : ℕ) (text more rest : List ℕ) → (text ++ take n more) ++ (drop n more ++ rest) ≡ (text ++ more) ++ rest
-  shorter n text more rest =
-      append_assoc text (take n more) (drop n more ++ rest) ∙ ap (λ x. text ++ x) (sym (append_assoc (take n more) (drop n more) rest) ∙ ap (λ x. x ++ rest) (take-append-drop n more)) ∙ sym (append_assoc text more rest)
+  regrouped : (text front back rest : List ℕ) → (text ++ front) ++ (back ++ rest) ≡ (text ++ (front ++ back)) ++ rest
+  regrouped text front back rest = append_assoc text front (back ++ rest) ∙ ap (λ x. text ++ x) (sym (append_assoc front back rest)) ∙ sym (append_assoc text (front ++ back) rest)
 
-  front_of : (n : ℕ) (text more rest : List ℕ) (outcome : Outcome) → Prints read 1 Before all ((text ++ more) ++ rest) outcome → Front (text ++ take n more)
-  front_of n text more rest outcome p = (drop n more ++ rest, outcome, rw (shorter n text more rest) p)
+  front_of : (text more front back rest : List ℕ) (outcome : Outcome) → more ≡ front ++ back → Prints read 1 Before all ((text ++ more) ++ rest) outcome → Front (text ++ front)
+  front_of text more front back rest outcome e p = (back ++ rest, outcome, rw (regrouped text front back rest, ← e) p)
 
   -- and so is what ends in the middle of a line's text, of a fault's, or of the end's
-  pub front_in_line : (text first : List ℕ) (n number : ℕ) (old new : Stage) (l : List ℕ) (lines : List (List ℕ)) → Reaches read all text number old (l ∷ lines) → ServesRead number old (read l (is_before old)) first new → Front (text ++ take n first)
-  front_in_line text first n number old new l lines r s = let f = front_so_far (text ++ first) (number + 1) new lines (reaches_next text first number old new l lines r s) in front_of n text first f.0 f.1 f.2
+  pub front_in_line : (text first front back : List ℕ) (number : ℕ) (old new : Stage) (l : List ℕ) (lines : List (List ℕ)) → first ≡ front ++ back → Reaches read all text number old (l ∷ lines) → ServesRead number old (read l (is_before old)) first new → Front (text ++ front)
+  front_in_line text first front back number old new l lines e r s = let f = front_so_far (text ++ first) (number + 1) new lines (reaches_next text first number old new l lines r s) in front_of text first front back f.0 f.1 e f.2
 
-  pub front_in_fault : (text last : List ℕ) (n number : ℕ) (old : Stage) (l : List ℕ) (lines : List (List ℕ)) → Reaches read all text number old (l ∷ lines) → Faults number (read l (is_before old)) last → Front (text ++ take n last)
-  front_in_fault text last n number old l lines r f = front_of n text last [] ScriptFault (rw (append-nil (text ++ last)) (reaches_fault text last number old l lines r f))
+  pub front_in_fault : (text last front back : List ℕ) (number : ℕ) (old : Stage) (l : List ℕ) (lines : List (List ℕ)) → last ≡ front ++ back → Reaches read all text number old (l ∷ lines) → Faults number (read l (is_before old)) last → Front (text ++ front)
+  front_in_fault text last front back number old l lines e r f = front_of text last front back [] ScriptFault e (rw (append-nil (text ++ last)) (reaches_fault text last number old l lines r f))
 
-  pub front_at_end : (text last : List ℕ) (n number : ℕ) (old : Stage) (outcome : Outcome) → Reaches read all text number old [] → Closes number old last outcome → Front (text ++ take n last)
-  front_at_end text last n number old outcome r c = front_of n text last [] outcome (rw (append-nil (text ++ last)) (reaches_end text last number old outcome r c))
+  pub front_at_end : (text last front back : List ℕ) (number : ℕ) (old : Stage) (outcome : Outcome) → last ≡ front ++ back → Reaches read all text number old [] → Closes number old last outcome → Front (text ++ front)
+  front_at_end text last front back number old outcome e r c = front_of text last front back [] outcome e (rw (append-nil (text ++ last)) (reaches_end text last number old outcome r c))

@@ -9,6 +9,7 @@ pub mod NameText
 pub mod Orders
 pub mod Owning
 pub mod Pages
+pub mod Printed
 pub mod Search
 pub mod Sized
 pub mod SmallLaws

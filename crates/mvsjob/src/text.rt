@@ -1,0 +1,106 @@
+//! A line of text in a fixed array.
+
+ghost use Rattle.std.specs.Prelude.{◌≡◌, ◌<◌, ◌≤◌, ◌+◌, ◌++◌, ◌∷◌, [], List, ℕ, length, take, decimal};
+ghost use Rattle.mvs_model.specs.Texts.{last_digits, glyph};
+
+use std::marker::Model;
+
+/// The most bytes that a printed line has.
+pub const ROOM: usize = 160;
+
+/// Text of at most 160 bytes.
+#[derive(Drop)]
+pub struct Text {
+    bytes: [u8; ROOM],
+    len: usize,
+}
+
+impl Model for Text {
+    ghost Value = { List ℕ };
+
+    ghost view = { λ t. take t.len t.bytes };
+
+    ghost invariant = { λ t. t.len ≤ 160 };
+}
+
+impl Text {
+    pub fn new() -> Text
+        ensures { result ≡ [] }
+    {
+        Text {
+            bytes: [0; ROOM],
+            len: 0,
+        }
+    }
+
+    pub fn as_slice(&self) -> &[u8]
+        ensures { result.now ≡ self.now }
+    {
+        &self.bytes[..self.len]
+    }
+
+    pub fn push(&mut self, byte: u8)
+        requires { length self.old < 160 }
+        ensures text { self.new ≡ self.old ++ byte ∷ [] }
+        ensures len { length self.new ≡ length self.old + 1 }
+    {
+        self.bytes[self.len] = byte;
+        self.len += 1;
+    }
+
+    pub fn push_all(&mut self, bytes: &[u8])
+        requires { length self.old + length bytes.now ≤ 160 }
+        ensures text { self.new ≡ self.old ++ bytes.now }
+        ensures len { length self.new ≡ length self.old + length bytes.now }
+    {
+        for byte in bytes {
+            self.push(*byte);
+        }
+    }
+
+    /// A number in decimal, without leading zeros.
+    pub fn push_decimal(&mut self, number: u32)
+        requires { length self.old + 10 ≤ 160 }
+        ensures text { self.new ≡ self.old ++ decimal number }
+        ensures len { length self.new ≤ length self.old + 10 }
+    {
+        self.push_digits(number);
+    }
+
+    // The digits of a number, the high ones first.
+    fn push_digits(&mut self, number: u32)
+        requires { length self.old + length (decimal number) ≤ 160 }
+        ensures { self.new ≡ self.old ++ decimal number }
+    {
+        if number >= 10 {
+            self.push_digits(number / 10);
+        }
+        self.push(b'0' + (number % 10) as u8);
+    }
+
+    /// The last digits of a number in a base of at most sixteen, as many as are asked for.
+    pub fn push_last(&mut self, base: u32, digits: u32, number: u32)
+        requires some { 2 ≤ base }
+        requires most { base ≤ 16 }
+        requires room { length self.old + digits ≤ 160 }
+        ensures text { self.new ≡ self.old ++ last_digits base digits number }
+        ensures len { length self.new ≡ length self.old + digits }
+    {
+        if digits > 0 {
+            self.push_last(base, digits - 1, number / base);
+            self.push(digit_glyph((number % base) as u8));
+        }
+    }
+}
+
+// The glyph of a digit below sixteen.
+fn digit_glyph(digit: u8) -> u8
+    requires { digit < 16 }
+    ensures { result ≡ glyph digit }
+{
+    if digit < 10 {
+        b'0' + digit
+    } else {
+        b'A' + (digit - 10)
+    }
+}
