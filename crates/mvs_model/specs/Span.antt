@@ -1,5 +1,6 @@
 -- Bytes that follow one another.
-use Rattle.std.specs.Prelude.{ℕ, ◌+◌, ◌*◌, ◌/◌, ◌^◌, ◌<◌, ◌≤◌}
+use Rattle.std.specs.Prelude.{ℕ, ◌+◌, ◌*◌, ◌/◌, ◌^◌, ◌<◌, ◌≤◌, refl}
+use Rattle.std.specs.Coded.{Coded, code_by, coded×, coded_ℕ}
 
 -- The address of the first byte, and how many there are.
 pub record Span : Type 0 where
@@ -19,3 +20,7 @@ round8 n = 8 * ((n + 7) / 8)
 -- so many bytes from an address on
 abbrev pub span : ℕ → ℕ → Span
 span a n = record { addr = a; len = n }
+
+-- a code, for a model's value
+abbrev pub span_code : Coded Span
+span_code = code_by (ℕ × ℕ) (coded× coded_ℕ coded_ℕ) (λ p. (p.addr, p.len)) (λ p. record { addr = p.0; len = p.1 }) (λ _. refl)

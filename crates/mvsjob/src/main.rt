@@ -1,6 +1,7 @@
 //! Simulates the storage services of MVS.
 #![tactic(auto)]
 
+mod names;
 mod print;
 mod text;
 

@@ -1,0 +1,60 @@
+//! The names of areas and cells.
+
+ghost use Rattle.std.specs.Prelude.{◌≡◌, OnOk, OnErr};
+ghost use Rattle.std.specs.FinMap as map;
+ghost use Rattle.mvs_model.specs.Name.{name_cmp};
+
+use mvs_model::error::OutOfMemory;
+use mvs_model::name::Name;
+use mvs_model::place::Place;
+use std::alloc::Global;
+use std::collections::BTreeMap;
+use std::marker::Model;
+
+/// The places of the names that a step has set.
+#[derive(Drop)]
+pub struct Names {
+    places: BTreeMap<Name, Place>,
+}
+
+impl Model for Names {
+    ghost use Rattle.std.specs.FinMap as map;
+    ghost use Rattle.std.specs.Coded.{coded_ℕ};
+    ghost use Rattle.mvs_model.specs.Span.{Span, span_code};
+    ghost use Rattle.mvs_model.specs.Name.{name_cmp, name_code};
+
+    ghost Value = { map.FinMap name_cmp Span };
+
+    ghost coded = { map.code name_code span_code };
+
+    ghost view = { λ n. map.from_entries n.places.entries };
+}
+
+impl Names {
+    /// No name is set. This takes no memory.
+    pub fn new(alloc: Global) -> Names
+        ensures { result ≡ map.empty }
+    {
+        Names {
+            places: BTreeMap::new(alloc),
+        }
+    }
+
+    /// Sets a name to a place, anew where it was set.
+    pub fn set(&mut self, name: Name, place: Place) -> Result<(), OutOfMemory>
+        ensures ok { OnOk result (self.new ≡ map.insert self.old name place) }
+        ensures err { OnErr result (self.new ≡ self.old) }
+    {
+        match self.places.insert(name, place) {
+            Ok(_) => Ok(()),
+            Err(_) => Err(OutOfMemory),
+        }
+    }
+
+    /// The place that a name was last set to.
+    pub fn get(&self, name: &Name) -> Option<Place>
+        ensures { result ≡ map.get self.now name.now }
+    {
+        self.places.get(name).copied()
+    }
+}
