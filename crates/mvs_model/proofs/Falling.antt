@@ -118,19 +118,19 @@ fewer_left : (old new : Name → Bool) → ((x : Name) → old x ≡ true → ne
 unfolding left
 fewer_left old new grows y out now [] m = absurd (let f : false ≡ true = m in cc)
 fewer_left old new grows y out now (x ∷ names) m = elim (or_true (same_name y x) (among y names) m) [
-    | inl s ↦ here (old x) (new x) (ap old (sym (same_name_is y x s)) ∙ out) (ap new (sym (same_name_is y x s)) ∙ now) (no_more_left old new grows names)
-    | inr r ↦ later (old x) (new x) (grows x) (fewer_left old new grows y out now names r)
-  ] where
-    here : (a b : Bool) → a ≡ false → b ≡ true → left new names ≤ left old names → cond b 0 1 + left new names < cond a 0 1 + left old names
-    here true b e f l = absurd (let g : true ≡ false = e in cc)
-    here false true e f l = omega arith
-    here false false e f l = absurd (let g : false ≡ true = f in cc)
+  | inl s ↦ here (old x) (new x) (ap old (sym (same_name_is y x s)) ∙ out) (ap new (sym (same_name_is y x s)) ∙ now) (no_more_left old new grows names)
+  | inr r ↦ later (old x) (new x) (grows x) (fewer_left old new grows y out now names r)
+] where
+  here : (a b : Bool) → a ≡ false → b ≡ true → left new names ≤ left old names → cond b 0 1 + left new names < cond a 0 1 + left old names
+  here true b e f l = absurd (let g : true ≡ false = e in cc)
+  here false true e f l = omega arith
+  here false false e f l = absurd (let g : false ≡ true = f in cc)
 
-    later : (a b : Bool) → (a ≡ true → b ≡ true) → left new names < left old names → cond b 0 1 + left new names < cond a 0 1 + left old names
-    later true true h l = omega arith
-    later true false h l = absurd (let g : false ≡ true = h refl in cc)
-    later false true h l = omega arith
-    later false false h l = omega arith
+  later : (a b : Bool) → (a ≡ true → b ≡ true) → left new names < left old names → cond b 0 1 + left new names < cond a 0 1 + left old names
+  later true true h l = omega arith
+  later true false h l = absurd (let g : false ≡ true = h refl in cc)
+  later false true h l = omega arith
+  later false false h l = omega arith
 
 module _ (o : Owners) (t : Name) where
   -- whether a name's mother is the task or passes the test
@@ -187,9 +187,9 @@ module _ (o : Owners) (t : Name) where
   sound_more : (test : Name → Bool) → Sound test → (y : Name) → follows test y ≡ true → Sound (with_name y test)
   unfolding with_name
   sound_more test sound y f x h = elim (or_true (same_name x y) (test x) h) [
-      | inl s ↦ subst (λ z. Descends o t z) (sym (same_name_is x y s)) (sound_next test sound y f)
-      | inr r ↦ sound x r
-    ]
+    | inl s ↦ subst (λ z. Descends o t z) (sym (same_name_is x y s)) (sound_next test sound y f)
+    | inr r ↦ sound x r
+  ]
 
   fewer_more : (test : Name → Bool) (y : Name) → test y ≡ false → among y (keys o.tasks) ≡ true → left (with_name y test) (keys o.tasks) < left test (keys o.tasks)
   unfolding with_name
@@ -201,13 +201,13 @@ module _ (o : Owners) (t : Name) where
   grown : (n : ℕ) (test : Name → Bool) → Sound test → left test (keys o.tasks) ≤ n → Found
   unfolding wanted
   grown zero test sound few = elim (searched (wanted test) (keys o.tasks)) [
-      | inl f ↦ absurd (let l : left (with_name f.0 test) (keys o.tasks) < left test (keys o.tasks) = fewer_more test f.0 (not_yet _ _ f.2) f.1 in omega arith)
-      | inr none ↦ (test, sound, λ x m f. nothing_new _ _ (none x m) f)
-    ]
+    | inl f ↦ absurd (let l : left (with_name f.0 test) (keys o.tasks) < left test (keys o.tasks) = fewer_more test f.0 (not_yet _ _ f.2) f.1 in omega arith)
+    | inr none ↦ (test, sound, λ x m f. nothing_new _ _ (none x m) f)
+  ]
   grown (suc n) test sound few = elim (searched (wanted test) (keys o.tasks)) [
-      | inl f ↦ grown n (with_name f.0 test) (sound_more test sound f.0 (second _ _ f.2)) (let l : left (with_name f.0 test) (keys o.tasks) < left test (keys o.tasks) = fewer_more test f.0 (not_yet _ _ f.2) f.1 in omega arith)
-      | inr none ↦ (test, sound, λ x m f. nothing_new _ _ (none x m) f)
-    ]
+    | inl f ↦ grown n (with_name f.0 test) (sound_more test sound f.0 (second _ _ f.2)) (let l : left (with_name f.0 test) (keys o.tasks) < left test (keys o.tasks) = fewer_more test f.0 (not_yet _ _ f.2) f.1 in omega arith)
+    | inr none ↦ (test, sound, λ x m f. nothing_new _ _ (none x m) f)
+  ]
 
   found : Found
   found = grown (left (λ _. false) (keys o.tasks)) (λ _. false) (λ x e. absurd (let f : false ≡ true = e in cc)) (omega arith)

@@ -10,10 +10,9 @@ use Rattle.mvs_model.specs.declared.line.Line.TheVariants as line
 use Rattle.mvs_model.specs.declared.line.Statement.{Statement}
 use Rattle.mvs_model.specs.declared.line.Statement.TheVariants as says
 use Rattle.mvs_model.specs.declared.line.Fault.{Fault}
-use Rattle.mvs_model.specs.declared.line.Fault.TheVariants.{OutOfPlace}
 use Rattle.mvs_model.specs.declared.line.Asked.{Asked}
 use Rattle.mvs_model.specs.declared.outcome.Outcome.{Outcome}
-use Rattle.mvs_model.specs.declared.outcome.Outcome.TheVariants.{Clean, SomeAbend, ScriptFault}
+use Rattle.mvs_model.specs.declared.outcome.Outcome.TheVariants.{ScriptFault}
 use Rattle.mvs_model.specs.declared.request.Request.{Request}
 use Rattle.mvs_model.specs.Card.{StepCard}
 use Rattle.mvs_model.specs.Name.{name_cmp}
@@ -23,9 +22,9 @@ use Rattle.mvs_model.specs.State.{State, Holding, subpool_in}
 use Rattle.mvs_model.specs.Start.{start}
 use Rattle.mvs_model.specs.Steps.{IsRequest}
 use Rattle.mvs_model.specs.WellFormed.{PoolsSized}
-use Rattle.mvs_model.specs.Texts.{reply_line, fault_text, region_text}
-use Rattle.mvs_model.specs.Runs.{Job, Stage, Before, In, is_before, card_of, first_job, resolved, all_set, names_set, places_in, is_abend, reply_text, Makes, Tells, Asks, Says, Does, Begins, Serves, ServesRead, Faults, end_text, outcome_of, Closes, Reader, Prints, IsPrinting, IsPrintingFront, lines_of, Runs, IsAsked, IsStatement, IsLine, IsReader}
-use Rattle.mvs_model.specs.Laws.{IsRunning, PagesKept, NeverStuck}
+use Rattle.mvs_model.specs.Texts.{fault_text}
+use Rattle.mvs_model.specs.Runs.{Job, Stage, Before, In, is_before, card_of, resolved, all_set, names_set, places_in, is_abend, Tells, Asks, Says, Does, Begins, Serves, ServesRead, Faults, Closes, Reader, Prints, Runs, IsStatement, IsLine, IsReader}
+use Rattle.mvs_model.specs.Laws.{PagesKept, NeverStuck}
 use Rattle.mvs_model.proofs.Asked.{is_request}
 use Rattle.mvs_model.proofs.Kept.{Closed, step_keeps}
 use Rattle.mvs_model.proofs.Pages.{Pages, pages_closed}

@@ -6,7 +6,6 @@ use Rattle.std.specs.List.{list_all}
 use Rattle.std.specs.FinMap.{get, contains_key, len}
 use Rattle.std.specs.FinSet as set
 use Rattle.mvs_model.specs.declared.name.Name.{Name}
-use Rattle.mvs_model.specs.declared.want.Side.{Side}
 use Rattle.mvs_model.specs.declared.want.Side.TheVariants.{Below}
 use Rattle.mvs_model.specs.declared.want.Residence.{Residence}
 use Rattle.mvs_model.specs.declared.code.Form.{Form}
@@ -25,7 +24,7 @@ use Rattle.mvs_model.specs.Pools.{Pool, part_want, IsCellOf, IsFreeCell}
 use Rattle.mvs_model.specs.State.{State, holder}
 use Rattle.mvs_model.specs.Codes.{family, is_conditional, short, not_held}
 use Rattle.mvs_model.specs.Changes.{with_part, GrantTo, ShortOf, ListGrant, Releasable, Frees, Empties, End, Extends, TakesCell, GivesCell, DropsPool, Writes}
-use Rattle.mvs_model.specs.Steps.{Plan, Abends, Fails, Refuses, is_invalid, side_for, residence_of, ObtainStep, ObtainListStep, whole, on_doubleword, MayRelease, ReleaseStep, EmptiesEntry, ReleaseWholeStep, new_pool, Builds, BuildStep, Gets, GetsMore, GetsNone, GetStep, FreeStep, DeleteStep, Attaches, AttachCase, ReturnStep, all_granted, Accesses, bytes_from, moved_from, Acts, Step, IsRequest}
+use Rattle.mvs_model.specs.Steps.{Plan, Abends, Fails, Refuses, is_invalid, side_for, residence_of, ObtainStep, ObtainListStep, whole, on_doubleword, MayRelease, ReleaseStep, EmptiesEntry, ReleaseWholeStep, new_pool, Builds, BuildStep, GetsMore, GetsNone, GetStep, FreeStep, DeleteStep, Attaches, AttachCase, ReturnStep, all_granted, Accesses, bytes_from, moved_from, Acts, Step, IsRequest}
 
 -- what a plan of a pool has in its ranges
 abbrev pub IsPlan : Plan → Type 0

@@ -1,5 +1,5 @@
 -- The orders of names and of entries are total, and what they call equal is the same.
-use Rattle.std.proofs.Common.{◌≡◌, ℕ, Bool, true, List, eqb, ap, arith, refl, ◌∙◌, sym}
+use Rattle.std.proofs.Common.{◌≡◌, ℕ, true, List, eqb, ap, arith, refl}
 use Rattle.std.specs.Prelude.{◌&&◌, ◌==◌}
 use Rattle.std.proofs.lemmas.Bool.Decides.{nat_tests}
 use Rattle.std.proofs.lemmas.Cmp.{then_total, on_total, nat_list_cmp_total, tied_itself}

@@ -1,21 +1,21 @@
 -- Each change of tasks, tables and owners that is asked for can be made.
 use Rattle.std.proofs.Common.{◌≡◌, ℕ, zero, suc, ◌+◌, ◌<◌, ◌≤◌, ◌⊎◌, inl, inr, Bool, true, false, cond, List, [], ◌∷◌, ◌++◌, map, Option, Some, None, eqb, arith, refl, sym, ap, ◌∙◌, subst}
-use Rattle.std.specs.Prelude.{not, ◌&&◌, ◌||◌, ◌==◌, is_some, IsSome, MatchOption, if◌then◌else◌}
+use Rattle.std.specs.Prelude.{not, ◌&&◌, ◌||◌, ◌==◌, is_some, IsSome, MatchOption}
 use Rattle.std.proofs.lemmas.Bool.Decides.{nat_tests}
 use Rattle.std.proofs.lemmas.List.Folds.{list_any-append}
 use Rattle.std.specs.List.{list_any}
 use Rattle.std.specs.Ordering.{nat_cmp, eq_by_cmp}
 use Rattle.std.specs.Cmp.{nat_cmp_total}
-use Rattle.std.specs.FinMap.{FinMap, get, insert, keys, contains_key, contains_key-keys, get-insert, nat_cmp-IsAntisymmetric}
+use Rattle.std.specs.FinMap.{FinMap, get, insert, keys, contains_key-keys, get-insert, nat_cmp-IsAntisymmetric}
 use Rattle.mvs_model.specs.declared.name.Name.{Name}
 use Rattle.mvs_model.specs.declared.want.Residence.{Residence}
-use Rattle.mvs_model.specs.Name.{name_cmp, same_name}
+use Rattle.mvs_model.specs.Name.{same_name}
 use Rattle.mvs_model.specs.Presents.{Presents, gives, shares}
-use Rattle.mvs_model.specs.Finite.{Changes, has, any_below}
+use Rattle.mvs_model.specs.Finite.{has, any_below}
 use Rattle.mvs_model.specs.Keyed.{keyed}
-use Rattle.mvs_model.specs.Owners.{Owners, Task, entry_cmp, entry, IsSpare, SubpoolOf, Binds, Enters, EntersBelow, none, passed, entered, is_given, handed, Attach, goes, ends_with, Ends}
+use Rattle.mvs_model.specs.Owners.{Owners, Task, entry_cmp, entry, IsSpare, SubpoolOf, Binds, Enters, EntersBelow, none, passed, entered, handed, Attach, goes, ends_with, Ends}
 use Rattle.mvs_model.proofs.Decide.{Decided, decided_eq}
-use Rattle.mvs_model.proofs.Orders.{name_cmp_total, name_cmp-IsAntisymmetric, entry_cmp_total, entry_cmp-IsAntisymmetric, same_entry_is, same_name_is, same_name_self, same_name_sym}
+use Rattle.mvs_model.proofs.Orders.{name_cmp-IsAntisymmetric, entry_cmp_total, entry_cmp-IsAntisymmetric, same_entry_is, same_name_is, same_name_self, same_name_sym}
 use Rattle.mvs_model.proofs.Tables.{eq_by_cmp_is}
 use Rattle.mvs_model.proofs.Keyed.{get-keyed_all}
 use Rattle.mvs_model.proofs.Made.{made_at, made_keeps}

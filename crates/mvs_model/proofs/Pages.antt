@@ -1,16 +1,12 @@
 -- No step lets two subpools hold doublewords of one page.
-use Rattle.std.proofs.Common.{◌≡◌, ℕ, Bool, true, false, cond, Option, Some, None, arith, refl, sym, ap, ◌∙◌, subst}
-use Rattle.std.proofs.lemmas.Bool.Decides.{nat_tests}
+use Rattle.std.proofs.Common.{◌≡◌, ℕ, Bool, true, false, cond, Option, Some, None, refl, sym, ap, ◌∙◌, subst}
 use Rattle.std.specs.FinMap.{get}
-use Rattle.mvs_model.specs.declared.request.Request.{Request}
-use Rattle.mvs_model.specs.declared.request.Reply.{Reply}
 use Rattle.mvs_model.specs.Span.{Span}
 use Rattle.mvs_model.specs.Wanted.{Wanted}
 use Rattle.mvs_model.specs.Finite.{Changes, kept}
-use Rattle.mvs_model.specs.Storage.{PageRule, MayTake, Chosen, covers, Covers}
+use Rattle.mvs_model.specs.Storage.{PageRule, Chosen, covers}
 use Rattle.mvs_model.specs.State.{State, Holding, subpool_in, holder}
 use Rattle.mvs_model.specs.Changes.{Drops}
-use Rattle.mvs_model.specs.Steps.{Step, IsRequest}
 use Rattle.mvs_model.proofs.Kept.{Closed}
 use Rattle.mvs_model.proofs.StorageLaws.{covers_is, fewer_keep_pages, taking_keeps_pages}
 

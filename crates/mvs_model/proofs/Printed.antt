@@ -1,5 +1,5 @@
 -- The digits of a number.
-use Rattle.std.proofs.Common.{◌≡◌, ℕ, zero, suc, ◌+◌, ◌-◌, ◌/◌, ◌%◌, ◌<◌, List, [], ◌∷◌, ◌++◌, length, length-append, refl, ap, ◌∙◌, arith}
+use Rattle.std.proofs.Common.{◌≡◌, ℕ, zero, suc, ◌-◌, ◌/◌, ◌%◌, ◌<◌, [], ◌∷◌, ◌++◌, length, length-append, refl, ◌∙◌, arith}
 use Rattle.mvs_model.specs.Texts.{glyph, last_digits}
 
 pub last_digits_none : (base k n : ℕ) → k ≡ 0 → last_digits base k n ≡ []

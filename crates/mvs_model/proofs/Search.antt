@@ -5,7 +5,7 @@ use Rattle.mvs_model.specs.Wanted.{Wanted}
 use Rattle.mvs_model.specs.declared.want.Side.{Side}
 use Rattle.mvs_model.specs.declared.want.Side.TheVariants.{Below, Either}
 use Rattle.mvs_model.specs.Span.{Span, span}
-use Rattle.mvs_model.specs.Storage.{Regions, LiesIn, IsBelow, Covers, MayTake, Open, Meets, IsLength, Places, Chosen, NoPlace}
+use Rattle.mvs_model.specs.Storage.{Regions, LiesIn, IsBelow, Covers, MayTake, Open, Meets, Places, Chosen, NoPlace}
 use Rattle.mvs_model.proofs.Decide.{Decided, decided_and, decided_or, decided_implies, decided_like, decided_lt, decided_le, decided_eq, decided_some, decided_all, greatest_below}
 
 decided_none : (o : Option ℕ) → Decided (o ≡ None)

@@ -1,15 +1,12 @@
 -- Each step keeps that the pools have sizes and counts.
 use Rattle.std.proofs.Common.{◌≡◌, ◌≤◌, arith, Bool, true, false, cond, Option, Some, None, sym, ap, ◌∙◌, subst}
 use Rattle.std.specs.FinMap.{get}
-use Rattle.mvs_model.specs.declared.request.Request.{Request}
-use Rattle.mvs_model.specs.declared.request.Reply.{Reply}
 use Rattle.mvs_model.specs.Finite.{Changes, Keeps, kept}
 use Rattle.mvs_model.specs.declared.name.Name.{Name}
 use Rattle.mvs_model.specs.Pools.{Pool}
 use Rattle.mvs_model.specs.State.{State}
-use Rattle.mvs_model.specs.Steps.{Step, IsRequest}
 use Rattle.mvs_model.specs.WellFormed.{IsSized, PoolsSized}
-use Rattle.mvs_model.proofs.Kept.{Closed, step_keeps}
+use Rattle.mvs_model.proofs.Kept.{Closed}
 
 sized_put : (old new : State) (test : Name → Bool) (pool : Pool) → Changes (get old.pools) test (Some pool) (get new.pools) → IsSized pool → PoolsSized old → PoolsSized new
 sized_put old new test pool changes sized all name q e = at (test name) (sym (changes name) ∙ e) where

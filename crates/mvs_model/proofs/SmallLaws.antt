@@ -1,5 +1,5 @@
 -- The small laws that show what the definitions mean.
-use Rattle.std.proofs.Common.{◌≡◌, ◌≢◌, ◌↔◌, ◌⊎◌, inl, inr, ℕ, zero, suc, ◌+◌, ◌-◌, ◌*◌, ◌/◌, ◌%◌, ◌^◌, ◌<◌, ◌≤◌, Bool, true, false, cond, eqb, Option, Some, None, refl, sym, ap, ◌∙◌, subst, arith}
+use Rattle.std.proofs.Common.{◌≡◌, ◌≢◌, ◌⊎◌, inl, inr, ℕ, zero, suc, ◌+◌, ◌-◌, ◌*◌, ◌/◌, ◌%◌, ◌^◌, ◌<◌, ◌≤◌, Bool, true, false, cond, Option, Some, None, refl, sym, ap, ◌∙◌, subst, arith}
 use Rattle.std.specs.Prelude.{not, ◌&&◌, ◌||◌, ◌==◌, MatchOption}
 use Rattle.std.proofs.lemmas.Bool.{cases_lt}
 use Rattle.std.proofs.lemmas.Bool.Decides.{nat_tests}
@@ -7,21 +7,19 @@ use Rattle.std.proofs.lemmas.Nat.{div-mul-add, pow-add, pow_pos}
 use Rattle.std.proofs.Math.Nat.{mul_assoc, mul_comm, add-mul}
 use Rattle.std.specs.FinMap.{get, nat_cmp-IsAntisymmetric}
 use Rattle.mvs_model.specs.declared.name.Name.{Name}
-use Rattle.mvs_model.specs.declared.want.Residence.{Residence}
 use Rattle.mvs_model.specs.declared.want.Side.TheVariants.{Below, Either}
 use Rattle.mvs_model.specs.Span.{Span, span}
 use Rattle.mvs_model.specs.Name.{same_name}
-use Rattle.mvs_model.specs.Wanted.{Wanted, IsExponent}
-use Rattle.mvs_model.specs.Presents.{Presents, gives, shares}
-use Rattle.mvs_model.specs.Finite.{Changes, kept, has, any_below}
-use Rattle.mvs_model.specs.Storage.{Regions, Open, Meets, IsLength, Places, Chosen, Storage, holder, covers, Covers, has_address, Grant, Release}
-use Rattle.mvs_model.specs.Owners.{Owners, entry, Enters, Binds, EntersBelow, none, passed, entered, is_given, handed, goes, ends_with, Attach, Ends}
-use Rattle.mvs_model.specs.Pools.{Part, IsCellOf}
-use Rattle.mvs_model.specs.Checks.{AcrossPages, BoundaryEdges, AboveOnATie, ReleasesJoin, PartsReleased, GivesAndShares, SharersKeep, SmallPart, two_pages, one_held, two_held, within_want, start_want, nothing_held, pages, most_want}
+use Rattle.mvs_model.specs.Presents.{gives, shares}
+use Rattle.mvs_model.specs.Finite.{kept, has, any_below}
+use Rattle.mvs_model.specs.Storage.{Regions, Open, Places, Chosen, holder, covers, Covers, has_address}
+use Rattle.mvs_model.specs.Owners.{Owners, entry, Binds, EntersBelow, none, passed, entered, is_given, goes, ends_with}
+use Rattle.mvs_model.specs.Pools.{IsCellOf}
+use Rattle.mvs_model.specs.Checks.{AcrossPages, BoundaryEdges, AboveOnATie, ReleasesJoin, PartsReleased, GivesAndShares, SharersKeep, SmallPart, two_pages, one_held, two_held, nothing_held, pages, most_want}
 use Rattle.mvs_model.proofs.Decide.{decided_eq}
 use Rattle.mvs_model.proofs.Orders.{same_name_is, same_name_self}
 use Rattle.mvs_model.proofs.Made.{made_without}
-use Rattle.mvs_model.proofs.StorageLaws.{covers_is, covers_from}
+use Rattle.mvs_model.proofs.StorageLaws.{covers_from}
 
 -- a place across an own page and a free one
 own_open : Open two_pages one_held 1 (span 0x6008 0x1000)
@@ -46,10 +44,13 @@ foreign_closed e d other c same o =
       held e other = grind (arith, nat_tests)
 
 pub across_pages : AcrossPages
-across_pages = (own_open, λ e other page o. elim page [
+across_pages = (
+  own_open,
+  λ e other page o. elim page [
     | inl six ↦ foreign_closed e 0xC01 other (omega arith, omega arith) (omega arith) o
     | inr seven ↦ foreign_closed e 0xE00 other (omega arith, omega arith) (omega arith) o
-  ])
+  ],
+)
 
 -- the boundaries
 eighths : (k : ℕ) → 3 ≤ k → (m : ℕ) × (2 ^ k ≡ 8 * m)
@@ -147,9 +148,9 @@ releases_join old mid new s a m n one two = record {
 
   held : (d : ℕ) → Covers (span a (m + n)) d → holder old d ≡ Some s
   held d c = elim (cases_lt (8 * d) (a + m)) [
-      | inl low ↦ one.was_held d (c.0, low)
-      | inr high ↦ kept (covers (span a m) d) (get old.held d) (sym (one.held d) ∙ two.was_held d ((omega arith), (let l : 8 * d < a + (m + n) = c.1 in omega arith)))
-    ]
+    | inl low ↦ one.was_held d (c.0, low)
+    | inr high ↦ kept (covers (span a m) d) (get old.held d) (sym (one.held d) ∙ two.was_held d ((omega arith), (let l : 8 * d < a + (m + n) = c.1 in omega arith)))
+  ]
 
 pub parts_released : PartsReleased
 parts_released old mid s want p a n g even whole low high =
@@ -170,16 +171,16 @@ pub any_below_from : (test : ℕ → Bool) (n k : ℕ) → k < n → test k ≡ 
 unfolding any_below
 any_below_from test zero k l e = absurd (omega arith)
 any_below_from test (suc n) k l e = elim (decided_eq k n) [
-    | inl same ↦ first (test n) _ (subst (λ j. test j ≡ true) same e)
-    | inr d ↦ second (test n) _ (any_below_from test n k (let f : k ≡ n → ⊥ = d in omega arith) e)
-  ] where
-    first : (a b : Bool) → a ≡ true → (a || b) ≡ true
-    first true b f = refl
-    first false b f = absurd (let g : false ≡ true = f in cc)
+  | inl same ↦ first (test n) _ (subst (λ j. test j ≡ true) same e)
+  | inr d ↦ second (test n) _ (any_below_from test n k (let f : k ≡ n → ⊥ = d in omega arith) e)
+] where
+  first : (a b : Bool) → a ≡ true → (a || b) ≡ true
+  first true b f = refl
+  first false b f = absurd (let g : false ≡ true = f in cc)
 
-    second : (a b : Bool) → b ≡ true → (a || b) ≡ true
-    second true b f = refl
-    second false b f = f
+  second : (a b : Bool) → b ≡ true → (a || b) ≡ true
+  second true b f = refl
+  second false b f = f
 
 differ : (a b : Name) → a ≢ b → same_name a b ≡ false
 differ a b ne = at (same_name a b) refl where
@@ -267,9 +268,9 @@ pub small_part : SmallPart
 small_part = (refl, λ a c. (forth a c, back a c)) where
   forth : (a c : ℕ) → IsCellOf 12 (record { place = span a 48; count = 2 }) c → (c ≡ a + 24) ⊎ (c ≡ a + 36)
   forth a c h = elim (cases_lt h.0 1) [
-      | inl low ↦ inl (let e : c ≡ a + 48 - 24 + h.0 * 12 = h.2 in omega arith)
-      | inr high ↦ inr (let e : c ≡ a + 48 - 24 + h.0 * 12 = h.2 in let l : h.0 < 2 = h.1 in omega arith)
-    ]
+    | inl low ↦ inl (let e : c ≡ a + 48 - 24 + h.0 * 12 = h.2 in omega arith)
+    | inr high ↦ inr (let e : c ≡ a + 48 - 24 + h.0 * 12 = h.2 in let l : h.0 < 2 = h.1 in omega arith)
+  ]
 
   back : (a c : ℕ) → (c ≡ a + 24) ⊎ (c ≡ a + 36) → IsCellOf 12 (record { place = span a 48; count = 2 }) c
   back a c (inl e) = (0, omega arith, omega arith)

@@ -1,12 +1,12 @@
 -- Laws over grants and releases.
-use Rattle.std.proofs.Common.{◌≡◌, ℕ, ◌+◌, ◌-◌, ◌*◌, ◌/◌, ◌%◌, ◌^◌, ◌<◌, ◌≤◌, ◌⊎◌, inl, inr, Bool, true, false, cond, Option, Some, None, refl, sym, ap, ◌∙◌, subst, arith}
+use Rattle.std.proofs.Common.{◌≡◌, ℕ, ◌+◌, ◌-◌, ◌*◌, ◌/◌, ◌^◌, ◌<◌, ◌≤◌, inl, inr, Bool, true, false, cond, Option, Some, None, refl, sym, ap, ◌∙◌, arith}
 use Rattle.std.specs.Prelude.{IfSome, is_some}
 use Rattle.std.proofs.Math.Pow.{shr_mono}
 use Rattle.std.proofs.lemmas.Bool.Decides.{nat_tests}
 use Rattle.std.specs.FinMap.{get}
 use Rattle.mvs_model.specs.Span.{Span, span}
 use Rattle.mvs_model.specs.Wanted.{Wanted}
-use Rattle.mvs_model.specs.Storage.{Covers, covers, has_address, MayTake, Open, Meets, Places, PageRule, Storage, Regions, holder, IsStorage, Grant, Release}
+use Rattle.mvs_model.specs.Storage.{Covers, covers, has_address, MayTake, Meets, Places, PageRule, Storage, Regions, holder, IsStorage, Grant, Release}
 use Rattle.mvs_model.proofs.Tables.{same_maps}
 
 pub covers_is : (p : Span) (d : ℕ) → covers p d ≡ true → Covers p d
@@ -47,16 +47,16 @@ taken_back old mid new s want p is one two =
     let bytes = same_maps new.bytes old.bytes (λ a. two.bytes a ∙ ap (cond (has_address p a) None) (one.bytes a) ∙ back (has_address p a) old.regions.fill (get old.bytes a) (λ e. no_byte a (free (a / 8) (has_covers p a e)))) in
     let regions = two.regions ∙ one.regions in
     λ i. record { regions = regions i; held = held i; bytes = bytes i } where
-  back : (b : Bool) (x : ℕ) (o : Option ℕ) → (b ≡ true → o ≡ None) → cond b None (cond b (Some x) o) ≡ o
-  back true x o none = sym (none refl)
-  back false x o none = refl
+      back : (b : Bool) (x : ℕ) (o : Option ℕ) → (b ≡ true → o ≡ None) → cond b None (cond b (Some x) o) ≡ o
+      back true x o none = sym (none refl)
+      back false x o none = refl
 
-  nothing : (o : Option ℕ) → is_some o ≡ false → o ≡ None
-  nothing None e = refl
-  nothing (Some x) e = absurd (let f : true ≡ false = e in cc)
+      nothing : (o : Option ℕ) → is_some o ≡ false → o ≡ None
+      nothing None e = refl
+      nothing (Some x) e = absurd (let f : true ≡ false = e in cc)
 
-  no_byte : (a : ℕ) → get old.held (a / 8) ≡ None → get old.bytes a ≡ None
-  no_byte a e = nothing (get old.bytes a) (is.bytes a ∙ ap is_some e)
+      no_byte : (a : ℕ) → get old.held (a / 8) ≡ None → get old.bytes a ≡ None
+      no_byte a e = nothing (get old.bytes a) (is.bytes a ∙ ap is_some e)
 
 -- what holds less keeps the page rule
 pub fewer_keep_pages : (old new : ℕ → Option ℕ) → ((d s : ℕ) → new d ≡ Some s → old d ≡ Some s) → PageRule old → PageRule new

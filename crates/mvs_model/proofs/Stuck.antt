@@ -1,5 +1,5 @@
 -- The machine is never stuck: each request has a step in each state.
-use Rattle.std.proofs.Common.{◌≡◌, ℕ, zero, suc, ◌+◌, ◌-◌, ◌*◌, ◌/◌, ◌%◌, ◌<◌, ◌≤◌, ◌⊎◌, inl, inr, Bool, true, false, List, [], ◌∷◌, map, length, get_or, Option, Some, None, arith, refl, ap, sym, subst, ◌∙◌}
+use Rattle.std.proofs.Common.{◌≡◌, ℕ, zero, suc, ◌+◌, ◌*◌, ◌/◌, ◌%◌, ◌<◌, ◌≤◌, ◌⊎◌, inl, inr, Bool, true, false, List, [], ◌∷◌, map, length, get_or, Option, Some, None, arith, refl, ap, sym, subst, ◌∙◌}
 use Rattle.std.specs.Prelude.{not, ◌&&◌, nat_le, ◌==◌}
 use Rattle.std.specs.Bool.{MatchBool}
 use Rattle.std.specs.List.{Contains, AllByRecursion, list_all}
@@ -22,8 +22,8 @@ use Rattle.mvs_model.specs.Span.{Span, span, round8}
 use Rattle.mvs_model.specs.Wanted.{Wanted, wanted_of, fixed_want}
 use Rattle.mvs_model.specs.Presents.{Presents}
 use Rattle.mvs_model.specs.Storage.{Chosen, NoPlace, covers, Covers, has_address}
-use Rattle.mvs_model.specs.Owners.{Owners, is_active, entry, SubpoolOf, Enters, IsFallen, Ends, ends_with, attach_refusal, has_subtask}
-use Rattle.mvs_model.specs.Pools.{Pool, Part, part_want, part_length, first_cell, IsCellOf, IsCell, IsFreeCell, cell_at, in_parts, in_taken}
+use Rattle.mvs_model.specs.Owners.{Owners, is_active, entry, SubpoolOf, Ends, ends_with, attach_refusal, has_subtask}
+use Rattle.mvs_model.specs.Pools.{Pool, Part, part_want, part_length, first_cell, IsCellOf, IsFreeCell, cell_at, in_parts, in_taken}
 use Rattle.mvs_model.specs.State.{State, Holding, plain, pooled, subpool_in, holder, granted}
 use Rattle.mvs_model.specs.Codes.{family, is_conditional, short, bad_subpool, bad_address, not_held}
 use Rattle.mvs_model.specs.Changes.{with_part, GrantTo, ShortOf, ListGrant, ListShort, HeldPlain, Misses, Disjoint, Frees, Drops, Empties, End, Extends, TakesCell, GivesCell, DropsPool, Writes, any_covers, any_has}

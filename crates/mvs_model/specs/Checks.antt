@@ -1,6 +1,5 @@
 -- Small laws that show what the definitions mean.
-use Rattle.std.specs.Prelude.{◌≡◌, ◌≢◌, ◌↔◌, ◌⊎◌, ℕ, ◌+◌, ◌/◌, ◌%◌, ◌^◌, ◌<◌, ◌≤◌, ◌==◌, true, false, Option, Some, None, if◌then◌else◌, List, [], ◌∷◌}
-use Rattle.std.specs.List.{Contains}
+use Rattle.std.specs.Prelude.{◌≡◌, ◌≢◌, ◌↔◌, ◌⊎◌, ℕ, ◌+◌, ◌/◌, ◌%◌, ◌^◌, ◌<◌, ◌≤◌, ◌==◌, true, false, Option, Some, None, if◌then◌else◌, List}
 use Rattle.std.specs.FinMap.{get}
 use Rattle.mvs_model.specs.declared.name.Name.{Name}
 use Rattle.mvs_model.specs.declared.want.Residence.{Residence}
@@ -9,8 +8,8 @@ use Rattle.mvs_model.specs.Span.{Span, span}
 use Rattle.mvs_model.specs.Wanted.{Wanted, IsExponent}
 use Rattle.mvs_model.specs.Presents.{Presents, gives, shares}
 use Rattle.mvs_model.specs.Storage.{Regions, Open, Meets, Places, Chosen, Storage, holder, PageRule, Grant, Release, IsStorage}
-use Rattle.mvs_model.specs.Owners.{Owners, entry, goes, ends_with, Attach, IsFallen, Ends}
-use Rattle.mvs_model.specs.Pools.{Part, part_length, IsCellOf}
+use Rattle.mvs_model.specs.Owners.{Owners, entry, goes, ends_with, Attach, Ends}
+use Rattle.mvs_model.specs.Pools.{part_length, IsCellOf}
 
 -- two pages below and none above
 abbrev pub two_pages : Regions
@@ -90,7 +89,7 @@ GivesAndShares =
     → g < 128 → gives gifts g ≡ true → entry old mother g ≡ Some s
     → m < 128 → gives gifts m ≡ false → shares gifts m ≡ true → entry old mother m ≡ Some r
     → (entry new name g ≡ Some s) × (entry new mother g ≡ None) × (get new.owner s ≡ Some name)
-      × (entry new name m ≡ Some r) × (entry new mother m ≡ Some r)
+    × (entry new name m ≡ Some r) × (entry new mother m ≡ Some r)
 
 -- When a task ends, the others keep what it only shared and lose what it owned.
 abbrev pub SharersKeep : Type 0

@@ -1,5 +1,5 @@
 -- Laws over whole runs.
-use Rattle.std.specs.Prelude.{◌≡◌, ℕ, List}
+use Rattle.std.specs.Prelude.{ℕ, List}
 use Rattle.mvs_model.specs.declared.name.Name.{Name}
 use Rattle.mvs_model.specs.declared.request.Request.{Request}
 use Rattle.mvs_model.specs.declared.request.Reply.{Reply}
@@ -7,7 +7,7 @@ use Rattle.mvs_model.specs.Storage.{PageRule}
 use Rattle.mvs_model.specs.State.{State, holder}
 use Rattle.mvs_model.specs.Steps.{Step, IsRequest}
 use Rattle.mvs_model.specs.WellFormed.{Apart}
-use Rattle.mvs_model.specs.Runs.{Job, Stage, Before, In, Reader, IsReader, Runs}
+use Rattle.mvs_model.specs.Runs.{Job, Before, In, Reader, IsReader, Runs}
 
 -- The job is in a run of some lines, by some reader.
 pub record IsRunning (job : Job) : Type 0 where

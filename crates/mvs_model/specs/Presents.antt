@@ -1,5 +1,5 @@
 -- What a mother gives to a subtask and shares with it.
-use Rattle.std.specs.Prelude.{◌≡◌, ℕ, ◌/◌, ◌%◌, ◌^◌, ◌<◌, ◌==◌, ◌&&◌, ◌||◌, Bool, true, false, bit_and}
+use Rattle.std.specs.Prelude.{◌≡◌, ℕ, ◌/◌, ◌%◌, ◌^◌, ◌==◌, ◌&&◌, ◌||◌, Bool, bit_and}
 
 -- Two sets of subpool numbers, a bit for each number, and whether subpool 0 is shared.
 pub record Presents : Type 0 where

@@ -1,11 +1,9 @@
 -- The state of the machine.
-use Rattle.std.specs.Prelude.{ℕ, ◌/◌, Bool, true, false, ◌||◌, not, ◌&&◌, Option, Some, None, refl}
+use Rattle.std.specs.Prelude.{ℕ, ◌/◌, Bool, true, false, ◌||◌, not, Option, Some, None, refl}
 use Rattle.std.specs.List.{list_any}
 use Rattle.std.specs.Ordering.{nat_cmp}
-use Rattle.std.specs.Option.{option_map}
 use Rattle.std.specs.FinMap.{FinMap, get, keys, code}
 use Rattle.std.specs.Coded.{Coded, code_by, coded×, coded_ℕ, coded_bool}
-use Rattle.mvs_model.specs.declared.name.Name.{Name}
 use Rattle.mvs_model.specs.Name.{name_cmp, name_code}
 use Rattle.mvs_model.specs.Finite.{has}
 use Rattle.mvs_model.specs.Storage.{Regions}

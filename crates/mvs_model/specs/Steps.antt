@@ -1,7 +1,7 @@
 -- The steps of the machine: what each request may be answered, and which state it leaves.
-use Rattle.std.specs.Prelude.{◌≡◌, ◌⊎◌, ℕ, ◌+◌, ◌-◌, ◌%◌, ◌<◌, ◌≤◌, ◌^◌, Bool, true, false, not, ◌&&◌, ◌==◌, nat_le, List, [], ◌∷◌, length, map, Option, Some, None, slice_get}
+use Rattle.std.specs.Prelude.{◌≡◌, ◌⊎◌, ℕ, ◌+◌, ◌-◌, ◌%◌, ◌≤◌, Bool, true, false, not, ◌&&◌, ◌==◌, nat_le, List, [], ◌∷◌, length, map, Option, Some, None, slice_get}
 use Rattle.std.specs.Bool.{MatchBool}
-use Rattle.std.specs.List.{list_all, AllByRecursion}
+use Rattle.std.specs.List.{list_all}
 use Rattle.std.specs.Option.{option_map, unwrap_or}
 use Rattle.std.specs.FinMap.{get, len, contains_key}
 use Rattle.std.specs.FinSet as set
@@ -21,13 +21,13 @@ use Rattle.mvs_model.specs.declared.request.Reply.{Reply}
 use Rattle.mvs_model.specs.declared.request.Reply.TheVariants.{NotRun, Rc0, Rc4, Granted, Listed, Cell, NoCell, Attached, Ended, Done, Abended}
 use Rattle.mvs_model.specs.Span.{Span, span, round8}
 use Rattle.mvs_model.specs.Subpool.{is_subpool_number}
-use Rattle.mvs_model.specs.Wanted.{Wanted, Asking, IsAsking, wanted_of, fixed_want, side_of}
+use Rattle.mvs_model.specs.Wanted.{Wanted, IsAsking, wanted_of, fixed_want, side_of}
 use Rattle.mvs_model.specs.Presents.{Presents, IsPresents}
 use Rattle.mvs_model.specs.Finite.{all_below}
 use Rattle.mvs_model.specs.Storage.{NoPlace}
 use Rattle.mvs_model.specs.Owners as owners
 use Rattle.mvs_model.specs.Owners.{Owners, Task, is_active, entry, SubpoolOf, Enters, has_subtask, attach_refusal}
-use Rattle.mvs_model.specs.Pools.{Pool, Part, part_want, IsCellOf, IsFreeCell, cell_at}
+use Rattle.mvs_model.specs.Pools.{Pool, part_want, IsCellOf, IsFreeCell, cell_at}
 use Rattle.mvs_model.specs.State.{State, holder, granted}
 use Rattle.mvs_model.specs.Codes.{family, form_side, is_conditional, short, bad_subpool, bad_address, not_held}
 use Rattle.mvs_model.specs.Changes.{GrantTo, ShortOf, ListGrant, ListShort, Releasable, Frees, Empties, End, Extends, with_part, TakesCell, GivesCell, DropsPool, Writes}

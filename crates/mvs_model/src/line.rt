@@ -1,15 +1,7 @@
 //! The lines of a script.
 
 use crate::bounded::{
-    CellCount,
-    CellSize,
-    Exponent,
-    Length,
-    MoveLength,
-    Offset,
-    PagesAbove,
-    PagesBelow,
-    ShowLength,
+    CellCount, CellSize, Exponent, Length, MoveLength, Offset, PagesAbove, PagesBelow, ShowLength,
     UserCode,
 };
 use crate::code::Form;
