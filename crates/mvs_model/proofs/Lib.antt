@@ -1,5 +1,6 @@
 pub mod Asked
 pub mod Decide
+pub mod Elements
 pub mod Falling
 pub mod Going
 pub mod Keyed
@@ -11,6 +12,8 @@ pub mod Owning
 pub mod Pages
 pub mod Printed
 pub mod Search
+pub mod Seen
+pub mod SeenEnd
 pub mod Sized
 pub mod SmallLaws
 pub mod StorageLaws

@@ -30,6 +30,7 @@ use Rattle.mvs_model.specs.Changes.{with_part, GrantTo, ShortOf, ListGrant, List
 use Rattle.mvs_model.specs.Steps.{Plan, Abends, Refuses, Fails, side_for, is_invalid, ObtainStep, ObtainListStep, whole, on_doubleword, MayRelease, ReleaseStep, EmptiesEntry, ReleaseWholeStep, new_pool, Builds, BuildStep, Gets, GetsMore, GetsNone, GetStep, FreeStep, DeleteStep, AttachCase, ReturnStep, all_granted, Accesses, bytes_from, moved_from, Acts, Step, IsRequest}
 use Rattle.mvs_model.specs.WellFormed.{PoolsSized}
 use Rattle.mvs_model.proofs.Decide.{Decided, decided_and, decided_implies, decided_like, decided_lt, decided_all, decided_some, decided_eq}
+use Rattle.mvs_model.proofs.Elements.{later, first_or_later}
 use Rattle.mvs_model.proofs.Search.{chosen_or_none}
 use Rattle.mvs_model.proofs.Made.{made_values, made_changes, made_without, made_keeps, made_at, made_gone}
 use Rattle.mvs_model.proofs.Orders.{name_cmp-IsAntisymmetric}
@@ -264,16 +265,6 @@ build_some old t name number plan =
             | inl c ↦ let o = enters_some old.owners t number s.0 in let e = extends_some old name (new_pool s.0 plan) plan.primary c.0 o.0 c.1 in (Rc0, (e.0, inr ((s.0, s.1, (c.0, o.0, o.1, e.1)), refl)))
             | inr none ↦ let f = abends_some old t (short X) in (f.0, (f.1.0, inl ((s.0, s.1, none), f.1.1)))
           ]
-
--- an element of a longer list, and of a shorter one
-later : {Y : Type 0} (x y : Y) (ys : List Y) → Contains ys x → Contains (y ∷ ys) x
-later x y ys h = (suc h.0, (let l : h.0 < length ys = h.1 in omega arith), h.2)
-
-first_or_later : {Y : Type 0} (x y : Y) (ys : List Y) → Contains (y ∷ ys) x → (y ≡ x) ⊎ Contains ys x
-first_or_later x y ys h = at h.0 h.1 h.2 where
-  at : (k : ℕ) → k < length (y ∷ ys) → get_or (y ∷ ys) k x ≡ x → (y ≡ x) ⊎ Contains ys x
-  at zero l e = inl e
-  at (suc k) l e = inr (k, omega arith, e)
 
 decided_taken : (pool : Pool) (c : ℕ) → Decided (set.contains pool.taken c ≡ false)
 decided_taken pool c = at (set.contains pool.taken c) where

@@ -21,3 +21,4 @@ pub mod Reports
 pub mod Runs
 pub mod Laws
 pub mod Checks
+pub mod View

@@ -1,6 +1,7 @@
 -- Regions, what is held, and what an obtain and a release do.
-use Rattle.std.specs.Prelude.{◌≡◌, ℕ, ◌+◌, ◌-◌, ◌*◌, ◌/◌, ◌%◌, ◌^◌, ◌<◌, ◌≤◌, ◌⊎◌, ◌==◌, not, Bool, Option, Some, None, nat_lt, nat_le, ◌&&◌, IfSome, IsSome, MatchOption, is_some, refl}
+use Rattle.std.specs.Prelude.{◌≡◌, ℕ, ◌+◌, ◌-◌, ◌*◌, ◌/◌, ◌%◌, ◌^◌, ◌<◌, ◌≤◌, ◌⊎◌, ◌==◌, not, Bool, Option, Some, None, nat_lt, nat_le, ◌&&◌, IfSome, IsSome, MatchOption, is_some, List, refl}
 use Rattle.std.specs.Ordering.{nat_cmp}
+use Rattle.std.specs.List.{list_any}
 use Rattle.std.specs.FinMap.{FinMap, get, code}
 use Rattle.std.specs.Coded.{Coded, code_by, coded×, coded_ℕ}
 use Rattle.mvs_model.specs.Span.{Span, span}
@@ -173,3 +174,13 @@ pub record ReleaseAll (old : Storage) (s : ℕ) (new : Storage) : Type 0 where
   pub regions : new.regions ≡ old.regions
   pub held : Keeps (get old.held) (λ _ t. not (t == s)) (get new.held)
   pub bytes : Changes (get old.bytes) (λ a. holds old s (a / 8)) None (get new.bytes)
+
+-- whether the subpool is one of the list
+abbrev pub is_one_of : List ℕ → ℕ → Bool
+is_one_of subpools t = list_any (λ s. s == t) subpools
+
+-- All that the subpools hold is free now and its bytes are gone; all else is as before.
+pub record ReleaseEach (old : Storage) (subpools : List ℕ) (new : Storage) : Type 0 where
+  pub regions : new.regions ≡ old.regions
+  pub held : Keeps (get old.held) (λ _ t. not (is_one_of subpools t)) (get new.held)
+  pub bytes : Changes (get old.bytes) (λ a. has (is_one_of subpools) (holder old (a / 8))) None (get new.bytes)

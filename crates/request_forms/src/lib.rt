@@ -1,0 +1,5 @@
+//! The forms of the storage requests: their codes, and what they obtain and release.
+#![tactic(auto)]
+
+pub mod codes;
+pub mod obtain;
