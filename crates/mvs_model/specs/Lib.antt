@@ -9,3 +9,14 @@ pub mod Table
 pub mod Storage
 pub mod Owners
 pub mod Keyed
+pub mod Pools
+pub mod State
+pub mod Start
+pub mod Codes
+pub mod Changes
+pub mod Steps
+pub mod WellFormed
+pub mod Texts
+pub mod Reports
+pub mod Runs
+pub mod Laws

@@ -2,7 +2,11 @@
 use Rattle.std.specs.Prelude.{◌≡◌, ℕ, ◌%◌, ◌^◌, ◌<◌, ◌≤◌, Option, None, IfSome}
 use Rattle.mvs_model.specs.Span.{round8}
 use Rattle.mvs_model.specs.declared.want.Side.{Side}
+use Rattle.mvs_model.specs.declared.want.Side.TheVariants as side
 use Rattle.mvs_model.specs.declared.want.Loc.{Loc}
+use Rattle.mvs_model.specs.declared.want.Loc.TheVariants as loc
+use Rattle.mvs_model.specs.declared.want.Residence.{Residence}
+use Rattle.mvs_model.specs.declared.want.Residence.TheVariants as residence
 
 -- The least and the greatest length, the exponents of the boundary to begin on and to lie within, and the side.
 pub record Wanted : Type 0 where
@@ -49,3 +53,10 @@ wanted_of a side = record { least = round8 a.least; most = round8 a.most; start 
 -- a place of one length, rounded, on a boundary
 abbrev pub fixed_want : ℕ → ℕ → Side → Wanted
 fixed_want n start side = record { least = round8 n; most = round8 n; start = start; within = None; side = side }
+
+-- the side that a location means for a task. (Assembler Services Reference, GETMAIN, LOC)
+abbrev pub side_of : Loc → Residence → Side
+side_of loc.Below r = side.Below
+side_of loc.Any r = side.Either
+side_of loc.Res residence.Below = side.Below
+side_of loc.Res residence.Above = side.Either

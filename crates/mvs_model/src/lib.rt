@@ -8,6 +8,7 @@ pub mod error;
 pub mod gifts;
 pub mod line;
 pub mod name;
+pub mod outcome;
 pub mod place;
 pub mod report;
 pub mod request;

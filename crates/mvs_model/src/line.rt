@@ -40,6 +40,8 @@ pub enum Asked {
         form: Form,
         number: u8,
         ask: Ask,
+        /// Whether a largest and a smallest length were written.
+        variable: bool,
         area: Name,
     },
     ObtainList {

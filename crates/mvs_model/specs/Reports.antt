@@ -1,0 +1,96 @@
+-- The reports on subpools and pages. (this project's own)
+use Rattle.std.specs.Prelude.{ℕ, zero, suc, ◌+◌, ◌*◌, ◌==◌, Bool, true, false, not, ◌&&◌, List, [], ◌∷◌, ◌++◌, Option, Some, None, if◌then◌else◌, codes, decimal}
+use Rattle.std.specs.FinMap.{get}
+use Rattle.mvs_model.specs.declared.name.Name.{Name}
+use Rattle.mvs_model.specs.Finite.{has, count_below}
+use Rattle.mvs_model.specs.Name.{trimmed}
+use Rattle.mvs_model.specs.Storage.{end_of}
+use Rattle.mvs_model.specs.Owners.{Owners, entry, owns}
+use Rattle.mvs_model.specs.State.{State, holder}
+use Rattle.mvs_model.specs.Texts.{hex, reply_line}
+
+-- how many bytes a subpool holds outside of pools, or in them
+abbrev pub bytes_held : State → ℕ → Bool → ℕ
+bytes_held st s pooled = 8 * count_below (end_of st.regions) (λ d. has (λ h. (h.subpool == s) && (if pooled then h.pooled else not h.pooled)) (get st.held d))
+
+-- the lists that a function has at the numbers below n, one after another
+unfoldable pub each_below : ℕ → (ℕ → List ℕ) → List ℕ
+each_below zero f = []
+each_below (suc n) f = each_below n f ++ f n
+
+-- the first of the numbers from k on, n of them, at which a function has a value, and that value
+unfoldable pub first_from : {X : Type 0} → ℕ → ℕ → (ℕ → Option X) → Option X
+first_from k zero f = None
+first_from k (suc n) f = or_next (f k) (first_from (k + 1) n f) where
+  or_next : {X : Type 0} → Option X → Option X → Option X
+  or_next (Some x) next = Some x
+  or_next None next = next
+
+-- the line of a number that the task has
+abbrev pub subpool_line : ℕ → State → Name → ℕ → ℕ → List ℕ
+subpool_line number st t n s =
+    reply_line number t (codes "SP " ++ decimal n ++ (if owns st.owners t s then codes " OWNED PLAIN " else codes " SHARED PLAIN ") ++ decimal (bytes_held st s false) ++ codes " POOL " ++ decimal (bytes_held st s true))
+
+abbrev entry_line : ℕ → State → Name → ℕ → Option ℕ → List ℕ
+entry_line number st t n None = []
+entry_line number st t n (Some s) = subpool_line number st t n s
+
+abbrev pub or_none : ℕ → Name → List ℕ → List ℕ
+or_none number t [] = reply_line number t (codes "SP NONE")
+or_none number t (b ∷ bs) = b ∷ bs
+
+-- REPORT SP: a line for each number that the task has, in rising order
+abbrev pub subpools_text : ℕ → State → Name → List ℕ
+subpools_text number st t = or_none number t (each_below 128 (λ n. entry_line number st t n (entry st.owners t n)))
+
+-- the subpool that a page is assigned to: that of its held doublewords
+abbrev pub page_subpool : State → ℕ → Option ℕ
+page_subpool st page = first_from (512 * page) 512 (λ d. holder st d)
+
+-- pages that follow one another and are assigned alike: how many, and to which subpool
+pub record PageRun : Type 0 where
+  pub count : ℕ
+  pub subpool : Option ℕ
+
+abbrev same_subpool : Option ℕ → Option ℕ → Bool
+same_subpool None None = true
+same_subpool None (Some s) = false
+same_subpool (Some r) None = false
+same_subpool (Some r) (Some s) = r == s
+
+-- a page in front of runs: it lengthens the first, or is a run of its own
+abbrev pub with_page : Option ℕ → List PageRun → List PageRun
+with_page s [] = record { count = 1; subpool = s } ∷ []
+with_page s (run ∷ runs) = if same_subpool s run.subpool then record { count = run.count + 1; subpool = s } ∷ runs else record { count = 1; subpool = s } ∷ run ∷ runs
+
+-- the runs of so many pages from one on
+unfoldable pub page_runs : State → ℕ → ℕ → List PageRun
+page_runs st page zero = []
+page_runs st page (suc n) = with_page (page_subpool st page) (page_runs st (page + 1) n)
+
+-- the number under which the owner has the subpool
+abbrev pub number_of : Owners → Name → ℕ → Option ℕ
+number_of o t s = first_from 0 128 (λ n. if has (λ r. r == s) (entry o t n) then Some n else None)
+
+abbrev decimal_of : Option ℕ → List ℕ
+decimal_of None = []
+decimal_of (Some n) = decimal n
+
+abbrev owner_text : Owners → ℕ → Option Name → List ℕ
+owner_text o s None = codes "FREE"
+owner_text o s (Some t) = codes "SP " ++ decimal_of (number_of o t s) ++ codes " OWNER " ++ trimmed t
+
+abbrev pub holder_text : Owners → Option ℕ → List ℕ
+holder_text o None = codes "FREE"
+holder_text o (Some s) = owner_text o s (get o.owner s)
+
+-- the lines of runs from an address on
+abbrev pub map_lines : ℕ → Owners → Name → ℕ → List PageRun → List ℕ
+map_lines number o t a [] = []
+map_lines number o t a (run ∷ runs) =
+    reply_line number t (codes "MAP " ++ hex 8 a ++ codes " " ++ hex 8 (4096 * run.count) ++ codes " " ++ holder_text o run.subpool) ++ map_lines number o t (a + 4096 * run.count) runs
+
+-- REPORT MAP: the pages of the region below, and then those of the region above
+abbrev pub map_text : ℕ → State → Name → List ℕ
+map_text number st t =
+    map_lines number st.owners t 0x6000 (page_runs st 6 st.regions.below) ++ map_lines number st.owners t 0x1000000 (page_runs st 4096 st.regions.above)
