@@ -1,3 +1,2 @@
 pub mod Boundary
-pub mod Location
 pub mod Starts

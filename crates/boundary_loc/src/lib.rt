@@ -6,7 +6,7 @@ ghost use Rattle.mvs_model.specs.Span.{Span, span};
 ghost use Rattle.mvs_model.specs.Storage.{Meets, IsLength, IsRun, InRun};
 ghost use Rattle.boundary_loc.specs.Boundary.{IsWithin, Fits, IsLeastMultiple, IsNextStart, Allows};
 ghost use Rattle.boundary_loc.specs.Starts.{IsStarts};
-ghost use Rattle.boundary_loc.specs.Location.{side_of};
+ghost use Rattle.mvs_model.specs.Wanted.{side_of};
 
 use mvs_model::place::{Addr, Place};
 use mvs_model::want::{Loc, Residence, Side, Want};
