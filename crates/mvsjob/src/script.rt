@@ -1,0 +1,6 @@
+//! Reads the lines of a script.
+
+mod fields;
+mod name;
+mod number;
+mod pieces;
