@@ -3,4 +3,6 @@
 mod fields;
 mod name;
 mod number;
+mod operands;
 mod pieces;
+mod words;
