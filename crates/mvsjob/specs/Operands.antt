@@ -1,6 +1,7 @@
 -- Operands, read by tables of what a statement takes.
-use Rattle.std.specs.Prelude.{◌≡◌, ℕ, ◌+◌, List, Bool, true, false, nat_lt, if◌then◌else◌, Result, Ok, Err, Option, Some, None, bytes_eq, length, take, drop, position, slice_get, slice_set}
+use Rattle.std.specs.Prelude.{◌==◌, [], ◌∷◌, ◌≡◌, ℕ, ◌+◌, List, Bool, true, false, nat_lt, if◌then◌else◌, Result, Ok, Err, Option, Some, None, bytes_eq, length, take, drop, position, slice_get, slice_set}
 use Rattle.std.specs.Option.{option_map}
+use denote.Bor.{Bor}
 use Rattle.mvs_model.specs.declared.line.Fault.{Fault}
 use Rattle.mvs_model.specs.declared.line.Fault.TheVariants.{InvalidOperand, Repeated}
 use Rattle.mvs_model.specs.Name.{padded}
@@ -12,6 +13,7 @@ use Rattle.mvsjob.specs.declared.script.operands.Value.TheVariants as value
 use Rattle.mvsjob.specs.Chains.{◌>>=◌, or_fault}
 use Rattle.mvsjob.specs.Numbers.{number_at}
 use Rattle.mvsjob.specs.NameTexts.{name_at}
+use Rattle.mvsjob.specs.Pieces.{pieces_of}
 use Rattle.mvsjob.specs.Choices.{yes_no_at, boundary_at, loc_at, residence_at}
 
 -- the value of a kind that the text is
@@ -60,3 +62,31 @@ keyword_at keywords values first piece end =
 abbrev pub Leaves : {X : Type 0} → Result X Fault → List (Option Value) → Result (List (Option Value)) Fault → Type 0
 Leaves (Ok x) new reading = reading ≡ Ok new
 Leaves (Err fault) new reading = reading ≡ Err fault
+
+-- where the key of an operand ends, where it has one
+abbrev pub equals_at : List ℕ → Option ℕ
+equals_at piece = position (λ b. b == 61) piece
+
+-- one operand, by the end of its key: the values with it, and the number of a positional operand behind it
+abbrev by_key : List Kind → List Keyword → List (Option Value) → ℕ → List ℕ → Option ℕ → Result (List (Option Value) × ℕ) Fault
+by_key positional keywords values number piece None = positional_at positional values number piece >>= λ new. Ok (new, number + 1)
+by_key positional keywords values number piece (Some end) = keyword_at keywords values (length positional) piece end >>= λ new. Ok (new, length positional)
+
+abbrev pub operand_at : List Kind → List Keyword → List (Option Value) → ℕ → List ℕ → Result (List (Option Value) × ℕ) Fault
+operand_at positional keywords values number piece = by_key positional keywords values number piece (equals_at piece)
+
+-- the operands from left to right; the first fault is the answer
+abbrev pub operands_at : List Kind → List Keyword → List (Option Value) → ℕ → List (List ℕ) → Result (List (Option Value)) Fault
+operands_at positional keywords values number [] = Ok values
+operands_at positional keywords values number (piece ∷ pieces) =
+    operand_at positional keywords values number piece >>= λ r. operands_at positional keywords r.0 r.1 pieces
+
+-- A call left the values as the reading says and answered the number, or answered its fault.
+abbrev pub LeavesNumber : Result ℕ Fault → List (Option Value) → Result (List (Option Value) × ℕ) Fault → Type 0
+LeavesNumber (Ok number) new reading = reading ≡ Ok (new, number)
+LeavesNumber (Err fault) new reading = reading ≡ Err fault
+
+-- the operands of a field, where there is one
+abbrev pub pieces_after : Option (Bor (List ℕ)) → List (List ℕ)
+pieces_after None = []
+pieces_after (Some field) = pieces_of field.now

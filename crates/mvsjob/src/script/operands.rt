@@ -1,7 +1,7 @@
 //! Operands, read by tables of what a statement takes.
 
 ghost use Rattle.std.specs.Prelude.{◌≡◌, ◌+◌, ◌<◌, ◌==◌, ℕ, length, ◌≤◌, MatchOption, map, replicate, None, IfOk, IfSome};
-ghost use Rattle.mvsjob.specs.Operands.{value_at, place_of, key_place, placed, positional_at, keyword_at, Leaves};
+ghost use Rattle.mvsjob.specs.Operands.{value_at, place_of, key_place, placed, positional_at, keyword_at, equals_at, operand_at, operands_at, pieces_after, Leaves, LeavesNumber};
 ghost use Rattle.mvs_model.specs.Name.{padded};
 ghost use Rattle.mvsjob.specs.Pieces.{pieces_of};
 
@@ -145,4 +145,74 @@ fn read_keyword(
             read_value(keywords[i].kind, &piece[end + 1..]),
         ),
     }
+}
+
+/// Where the key of an operand ends, where it has one.
+pub fn equals_at(piece: &[u8]) -> Option<usize>
+    ensures place { result ≡ equals_at piece.now }
+    ensures within { IfSome result (λ at. at < length piece.now) }
+{
+    piece.iter().position(|byte| *byte == b'=')
+}
+
+// Reads one operand, and says which number a positional operand behind it would have. Behind a keyword there is none.
+fn read_operand(
+    positional: &[Kind],
+    keywords: &[Keyword],
+    values: &mut [Option<Value>],
+    number: usize,
+    piece: &[u8],
+) -> Result<usize, Fault>
+    requires { length positional.now + length keywords.now ≡ length values.old }
+    ensures { LeavesNumber result values.new (operand_at positional.now keywords.now values.old number piece.now) }
+{
+    match equals_at(piece) {
+        None => {
+            read_positional(positional, values, number, piece)?;
+            Ok(number + 1)
+        }
+        Some(end) => {
+            read_keyword(keywords, values, positional.len(), piece, end)?;
+            Ok(positional.len())
+        }
+    }
+}
+
+// Reads the operands of a field, from left to right.
+fn read_operands(
+    positional: &[Kind],
+    keywords: &[Keyword],
+    values: &mut [Option<Value>],
+    field: &[u8],
+) -> Result<(), Fault>
+    requires { length positional.now + length keywords.now ≡ length values.old }
+    ensures { Leaves result values.new (operands_at positional.now keywords.now values.old 0 (pieces_of field.now)) }
+{
+    let mut rest = field;
+    let mut number = 0;
+    'reading: loop {
+        let (piece, more) = next_piece(rest);
+        number = read_operand(positional, keywords, values, number, piece)?;
+        match more {
+            None => return Ok(()),
+            Some(next) => rest = next,
+        }
+    }
+}
+
+/// Reads the operands of a field, where there is one: the values of the positional operands and then those of the
+/// keywords, in the order of the tables.
+pub fn read_values<const N: usize>(
+    positional: &[Kind],
+    keywords: &[Keyword],
+    field: Option<&[u8]>,
+) -> Result<[Option<Value>; N], Fault>
+    requires { length positional.now + length keywords.now ≡ N }
+    ensures { result ≡ operands_at positional.now keywords.now (replicate N None) 0 (pieces_after field.entry) }
+{
+    let mut values = [None; N];
+    if let Some(field) = field {
+        read_operands(positional, keywords, &mut values, field)?;
+    }
+    Ok(values)
 }
