@@ -1,5 +1,5 @@
 -- Operands, read by tables of what a statement takes.
-use Rattle.std.specs.Prelude.{◌==◌, [], ◌∷◌, ◌≡◌, ℕ, ◌+◌, List, Bool, true, false, nat_lt, if◌then◌else◌, Result, Ok, Err, Option, Some, None, bytes_eq, length, take, drop, position, slice_get, slice_set}
+use Rattle.std.specs.Prelude.{◌≤◌, map, ◌++◌, ◌==◌, [], ◌∷◌, ◌≡◌, ℕ, ◌+◌, List, Bool, true, false, nat_lt, if◌then◌else◌, Result, Ok, Err, Option, Some, None, bytes_eq, length, take, drop, position, slice_get, slice_set}
 use Rattle.std.specs.Option.{option_map}
 use denote.Bor.{Bor}
 use Rattle.mvs_model.specs.declared.line.Fault.{Fault}
@@ -32,11 +32,11 @@ place_of keywords key = position (λ k. bytes_eq k.key key) keywords
 abbrev pub key_place : List Keyword → List ℕ → Option ℕ
 key_place keywords text = if nat_lt 8 (length text) then None else place_of keywords (padded text)
 
-abbrev is_malformed : Result Value Fault → Bool
+abbrev pub is_malformed : Result Value Fault → Bool
 is_malformed (Err InvalidOperand) = true
 is_malformed _ = false
 
-abbrev is_set : Option (Option Value) → Bool
+abbrev pub is_set : Option (Option Value) → Bool
 is_set (Some (Some v)) = true
 is_set _ = false
 
@@ -68,7 +68,7 @@ abbrev pub equals_at : List ℕ → Option ℕ
 equals_at piece = position (λ b. b == 61) piece
 
 -- one operand, by the end of its key: the values with it, and the number of a positional operand behind it
-abbrev by_key : List Kind → List Keyword → List (Option Value) → ℕ → List ℕ → Option ℕ → Result (List (Option Value) × ℕ) Fault
+abbrev pub by_key : List Kind → List Keyword → List (Option Value) → ℕ → List ℕ → Option ℕ → Result (List (Option Value) × ℕ) Fault
 by_key positional keywords values number piece None = positional_at positional values number piece >>= λ new. Ok (new, number + 1)
 by_key positional keywords values number piece (Some end) = keyword_at keywords values (length positional) piece end >>= λ new. Ok (new, length positional)
 
@@ -90,3 +90,22 @@ LeavesNumber (Err fault) new reading = reading ≡ Err fault
 abbrev pub pieces_after : Option (Bor (List ℕ)) → List (List ℕ)
 pieces_after None = []
 pieces_after (Some field) = pieces_of field.now
+
+-- the value is of the kind, and in its range
+abbrev pub IsOf : Kind → Value → Type 0
+IsOf (kind.Number least most) (value.Number n) = (least ≤ n) × (n ≤ most)
+IsOf kind.YesNo (value.YesNo b) = Unit {0}
+IsOf kind.Boundary (value.Number n) = (3 ≤ n) × (n ≤ 12)
+IsOf kind.Loc (value.Loc loc) = Unit {0}
+IsOf kind.Residence (value.Residence residence) = Unit {0}
+IsOf kind.Name (value.Name name) = Unit {0}
+IsOf _ _ = ⊥
+
+-- where there are a kind and a value, the value is of the kind
+abbrev pub IsKept : Option Kind → Option (Option Value) → Type 0
+IsKept (Some k) (Some (Some v)) = IsOf k v
+IsKept _ _ = Unit {0}
+
+-- each value that there is is of its kind
+abbrev pub AreOf : List Kind → List Keyword → List (Option Value) → Type 0
+AreOf positional keywords values = (i : ℕ) → IsKept (slice_get (positional ++ map (λ k. k.kind) keywords) i) (slice_get values i)

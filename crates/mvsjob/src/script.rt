@@ -5,4 +5,5 @@ mod name;
 mod number;
 mod operands;
 mod pieces;
+mod statements;
 mod words;

@@ -1,7 +1,7 @@
 //! Operands, read by tables of what a statement takes.
 
-ghost use Rattle.std.specs.Prelude.{◌≡◌, ◌+◌, ◌<◌, ◌==◌, ℕ, length, ◌≤◌, MatchOption, map, replicate, None, IfOk, IfSome};
-ghost use Rattle.mvsjob.specs.Operands.{value_at, place_of, key_place, placed, positional_at, keyword_at, equals_at, operand_at, operands_at, pieces_after, Leaves, LeavesNumber};
+ghost use Rattle.std.specs.Prelude.{◌≡◌, ◌+◌, ◌<◌, ◌==◌, ℕ, length, ◌≤◌, MatchOption, map, replicate, None, IfOk, IfSome, IfOk};
+ghost use Rattle.mvsjob.specs.Operands.{value_at, place_of, key_place, placed, positional_at, keyword_at, equals_at, operand_at, operands_at, pieces_after, Leaves, LeavesNumber, AreOf};
 ghost use Rattle.mvs_model.specs.Name.{padded};
 ghost use Rattle.mvsjob.specs.Pieces.{pieces_of};
 
@@ -208,11 +208,15 @@ pub fn read_values<const N: usize>(
     field: Option<&[u8]>,
 ) -> Result<[Option<Value>; N], Fault>
     requires { length positional.now + length keywords.now ≡ N }
-    ensures { result ≡ operands_at positional.now keywords.now (replicate N None) 0 (pieces_after field.entry) }
+    ensures read { result ≡ operands_at positional.now keywords.now (replicate N None) 0 (pieces_after field.entry) }
+    ensures kinds { IfOk result (AreOf positional.now keywords.now) }
 {
     let mut values = [None; N];
-    if let Some(field) = field {
-        read_operands(positional, keywords, &mut values, field)?;
+    match field {
+        None => Ok(values),
+        Some(field) => {
+            read_operands(positional, keywords, &mut values, field)?;
+            Ok(values)
+        }
     }
-    Ok(values)
 }

@@ -1,0 +1,47 @@
+-- What an operation says with its operands.
+use Rattle.std.specs.Prelude.{ℕ, List, [], false, Result, Ok, Err, Option, Some, None, slice_get, replicate}
+use Rattle.mvs_model.specs.declared.name.Name.{Name}
+use Rattle.mvs_model.specs.declared.line.Fault.{Fault}
+use Rattle.mvs_model.specs.declared.line.Fault.TheVariants.{MissingOperand}
+use Rattle.mvs_model.specs.declared.line.Statement.{Statement}
+use Rattle.mvs_model.specs.declared.line.Statement.TheVariants as says
+use Rattle.mvs_model.specs.declared.line.Asked.TheVariants as asked
+use Rattle.mvs_model.specs.declared.code.Form.TheVariants as form
+use Rattle.mvs_model.specs.declared.want.Loc.TheVariants as loc
+use Rattle.mvs_model.specs.declared.want.Residence.TheVariants as residence
+use Rattle.mvsjob.specs.declared.script.operands.Value.{Value}
+use Rattle.mvsjob.specs.declared.script.operands.Value.TheVariants as value
+use Rattle.mvsjob.specs.declared.script.statements.TheConstants.{REGION, GETMAIN_R, WHERE}
+use Rattle.mvsjob.specs.Chains.{◌>>=◌}
+use Rattle.mvsjob.specs.Operands.{operands_at}
+
+-- the number or the name that a required operand says
+abbrev pub number_of : Option (Option Value) → Result ℕ Fault
+number_of (Some (Some (value.Number n))) = Ok n
+number_of _ = Err MissingOperand
+
+abbrev pub name_of : Option (Option Value) → Result Name Fault
+name_of (Some (Some (value.Name name))) = Ok name
+name_of _ = Err MissingOperand
+
+-- REGION with its pages below. (this project's own statement)
+abbrev pub region_at : List (List ℕ) → Result Statement Fault
+region_at pieces =
+    operands_at [] REGION (replicate 1 None) 0 pieces >>= λ values.
+    number_of (slice_get values 0) >>= λ below.
+    Ok (says.Region below 0 0 residence.Below)
+
+-- GETMAIN R with its length and the name of the area. (Assembler Services Reference, GETMAIN)
+abbrev pub getmain_r_at : List (List ℕ) → Result Statement Fault
+getmain_r_at pieces =
+    operands_at [] GETMAIN_R (replicate 2 None) 0 pieces >>= λ values.
+    number_of (slice_get values 0) >>= λ len.
+    name_of (slice_get values 1) >>= λ area.
+    Ok (says.Request (asked.Obtain form.R 0 (record { least = len; most = len; start = 3; within = None; loc = loc.Res }) false area))
+
+-- WHERE with the name of an area. (this project's own statement)
+abbrev pub where_at : List (List ℕ) → Result Statement Fault
+where_at pieces =
+    operands_at WHERE [] (replicate 1 None) 0 pieces >>= λ values.
+    name_of (slice_get values 0) >>= λ area.
+    Ok (says.Where area)
