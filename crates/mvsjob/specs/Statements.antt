@@ -1,8 +1,8 @@
 -- What an operation says with its operands.
-use Rattle.std.specs.Prelude.{ℕ, List, [], false, Result, Ok, Err, Option, Some, None, slice_get, replicate}
+use Rattle.std.specs.Prelude.{◌∷◌, ℕ, List, [], false, Result, Ok, Err, Option, Some, None, is_some, if◌then◌else◌, codes, bytes_eq, slice_get, replicate}
 use Rattle.mvs_model.specs.declared.name.Name.{Name}
 use Rattle.mvs_model.specs.declared.line.Fault.{Fault}
-use Rattle.mvs_model.specs.declared.line.Fault.TheVariants.{MissingOperand}
+use Rattle.mvs_model.specs.declared.line.Fault.TheVariants.{MissingOperand, UnknownOperation}
 use Rattle.mvs_model.specs.declared.line.Statement.{Statement}
 use Rattle.mvs_model.specs.declared.line.Statement.TheVariants as says
 use Rattle.mvs_model.specs.declared.line.Asked.TheVariants as asked
@@ -11,9 +11,12 @@ use Rattle.mvs_model.specs.declared.want.Loc.TheVariants as loc
 use Rattle.mvs_model.specs.declared.want.Residence.TheVariants as residence
 use Rattle.mvsjob.specs.declared.script.operands.Value.{Value}
 use Rattle.mvsjob.specs.declared.script.operands.Value.TheVariants as value
+use Rattle.mvsjob.specs.declared.script.statements.Operation.{Operation}
+use Rattle.mvsjob.specs.declared.script.statements.Operation.TheVariants.{Region, Getmain, Where}
 use Rattle.mvsjob.specs.declared.script.statements.TheConstants.{REGION, GETMAIN_R, WHERE}
 use Rattle.mvsjob.specs.Chains.{◌>>=◌}
-use Rattle.mvsjob.specs.Operands.{operands_at}
+use Rattle.mvsjob.specs.Operands.{equals_at, operands_at}
+use Rattle.mvsjob.specs.Pieces.{pieces_of}
 
 -- the number or the name that a required operand says
 abbrev pub number_of : Option (Option Value) → Result ℕ Fault
@@ -45,3 +48,31 @@ where_at pieces =
     operands_at WHERE [] (replicate 1 None) 0 pieces >>= λ values.
     name_of (slice_get values 0) >>= λ area.
     Ok (says.Where area)
+
+-- the form of an operation, which is its first operand, and the operands behind it
+abbrev pub form_of : List (List ℕ) → Result (List ℕ × List (List ℕ)) Fault
+form_of [] = Err MissingOperand
+form_of (form ∷ pieces) = if is_some (equals_at form) then Err MissingOperand else Ok (form, pieces)
+
+-- GETMAIN with its form and its operands
+abbrev pub getmain_at : List (List ℕ) → Result Statement Fault
+getmain_at pieces = form_of pieces >>= λ r. (if bytes_eq r.0 (codes "R") then getmain_r_at r.1 else Err UnknownOperation)
+
+-- the operation that a word names
+abbrev pub operation_of : List ℕ → Option Operation
+operation_of word =
+    if bytes_eq word (codes "REGION") then Some Region
+    else (if bytes_eq word (codes "GETMAIN") then Some Getmain
+    else (if bytes_eq word (codes "WHERE") then Some Where
+    else None))
+
+-- the operands of a field, which has none where it is empty
+abbrev pub pieces_in : List ℕ → List (List ℕ)
+pieces_in [] = []
+pieces_in (b ∷ bs) = pieces_of (b ∷ bs)
+
+-- what an operation says with its operands
+abbrev pub statement_of : Operation → List (List ℕ) → Result Statement Fault
+statement_of Region pieces = region_at pieces
+statement_of Getmain pieces = getmain_at pieces
+statement_of Where pieces = where_at pieces
