@@ -28,26 +28,29 @@ name_of (Some (Some (value.Name name))) = Ok name
 name_of _ = Err MissingOperand
 
 -- REGION with its pages below. (this project's own statement)
-abbrev pub region_at : List (List ℕ) → Result Statement Fault
-region_at pieces =
-    operands_at [] REGION (replicate 1 None) 0 pieces >>= λ values.
-    number_of (slice_get values 0) >>= λ below.
-    Ok (says.Region below 0 0 residence.Below)
+abbrev pub region_of : List (Option Value) → Result Statement Fault
+region_of values = number_of (slice_get values 0) >>= λ below. Ok (says.Region below 0 0 residence.Below)
 
--- GETMAIN R with its length and the name of the area. (Assembler Services Reference, GETMAIN)
+abbrev pub region_at : List (List ℕ) → Result Statement Fault
+region_at pieces = operands_at [] REGION (replicate 1 None) 0 pieces >>= region_of
+
+-- GETMAIN R with its length and the name of the area. (Assembler Services Reference, GETMAIN; the name is this project's
+-- choice)
+abbrev pub getmain_r : ℕ → Name → Statement
+getmain_r len area = says.Request (asked.Obtain form.R 0 (record { least = len; most = len; start = 3; within = None; loc = loc.Res }) false area)
+
+abbrev pub getmain_r_of : List (Option Value) → Result Statement Fault
+getmain_r_of values = number_of (slice_get values 0) >>= λ len. name_of (slice_get values 1) >>= λ area. Ok (getmain_r len area)
+
 abbrev pub getmain_r_at : List (List ℕ) → Result Statement Fault
-getmain_r_at pieces =
-    operands_at [] GETMAIN_R (replicate 2 None) 0 pieces >>= λ values.
-    number_of (slice_get values 0) >>= λ len.
-    name_of (slice_get values 1) >>= λ area.
-    Ok (says.Request (asked.Obtain form.R 0 (record { least = len; most = len; start = 3; within = None; loc = loc.Res }) false area))
+getmain_r_at pieces = operands_at [] GETMAIN_R (replicate 2 None) 0 pieces >>= getmain_r_of
 
 -- WHERE with the name of an area. (this project's own statement)
+abbrev pub where_of : List (Option Value) → Result Statement Fault
+where_of values = name_of (slice_get values 0) >>= λ area. Ok (says.Where area)
+
 abbrev pub where_at : List (List ℕ) → Result Statement Fault
-where_at pieces =
-    operands_at WHERE [] (replicate 1 None) 0 pieces >>= λ values.
-    name_of (slice_get values 0) >>= λ area.
-    Ok (says.Where area)
+where_at pieces = operands_at WHERE [] (replicate 1 None) 0 pieces >>= where_of
 
 -- the form of an operation, which is its first operand, and the operands behind it
 abbrev pub form_of : List (List ℕ) → Result (List ℕ × List (List ℕ)) Fault

@@ -1,6 +1,7 @@
 //! Reads the lines of a script.
 
 ghost use Rattle.std.specs.Prelude.{◌≡◌};
+ghost use Rattle.mvs_model.specs.Runs.{IsLine};
 ghost use Rattle.mvsjob.specs.Lines.{is_in_place, statement_at, line_of};
 
 use crate::script::fields::{is_blank, is_plain, next_word};
@@ -45,10 +46,11 @@ fn read_statement(line: &[u8], first: bool) -> Result<Line, Fault>
     Ok(Line::Statement(task, read_operands_of(operation, field)?))
 }
 
-/// Reads a line without its end; `first` says whether no statement came before it. Of a line that is too long any front
+/// Reads a line without its end, and answers the first fault that applies; `first` says whether no statement came before it. Of a line that is too long any front
 /// of more than 255 bytes serves. The notation is this project's own.
 pub fn read_line(line: &[u8], first: bool) -> Result<Line, Fault>
-    ensures { result ≡ line_of line.now first }
+    ensures line { result ≡ line_of line.now first }
+    ensures in_range { IsLine first result }
 {
     if line.len() > LONGEST {
         return Err(Fault::TooLong);
