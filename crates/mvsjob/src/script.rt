@@ -63,3 +63,6 @@ pub fn read_line(line: &[u8], first: bool) -> Result<Line, Fault>
     }
     read_statement(line, first)
 }
+
+#[cfg(test)]
+mod tests;

@@ -37,7 +37,7 @@ pub struct Keyword {
 }
 
 /// What an operand says.
-#[derive(Clone, Copy)]
+#[derive(Clone, Copy, Debug, PartialEq, Eq)]
 pub enum Value {
     Number(u32),
     YesNo(bool),
