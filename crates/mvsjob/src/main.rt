@@ -3,6 +3,7 @@
 
 mod names;
 mod print;
+mod script;
 mod text;
 
 fn main(_rt: HostRuntime) {}

@@ -1,0 +1,28 @@
+-- Addresses at which a length meets the boundaries.
+use Rattle.std.specs.Prelude.{◌≡◌, ℕ, ◌+◌, ◌-◌, ◌/◌, ◌%◌, ◌^◌, ◌<◌, ◌≤◌, ◌⊎◌, IfSome, Option}
+use Rattle.mvs_model.specs.declared.want.Side.{Side}
+use Rattle.mvs_model.specs.declared.want.Side.TheVariants.{Below}
+
+-- n bytes from an address on do not pass a multiple of the bound: the first and the last have one quotient
+abbrev pub IsWithin : ℕ → ℕ → ℕ → Type 0
+IsWithin bound n a = a / bound ≡ (a + n - 1) / bound
+
+-- n bytes from an address on end in time and lie within the boundary that is wanted
+abbrev pub Fits : Option ℕ → ℕ → ℕ → ℕ → Type 0
+Fits within end n a = (a + n ≤ end) × IfSome within (λ k. IsWithin (2 ^ k) n a)
+
+-- The lowest multiple of the unit from a number on.
+pub record IsLeastMultiple (unit from a : ℕ) : Type 0 where
+  pub after : from ≤ a
+  pub multiple : a % unit ≡ 0
+  pub least : (q : ℕ) → from ≤ q → q % unit ≡ 0 → a ≤ q
+
+-- Whatever fits at a start from the first on, fits at the first start or at this next one, which is then no higher.
+pub record IsNextStart (start : ℕ) (within : Option ℕ) (first next : ℕ) : Type 0 where
+  pub after : first ≤ next
+  pub on_start : next % 2 ^ start ≡ 0
+  pub enough : (end n q : ℕ) → 0 < n → first ≤ q → q % 2 ^ start ≡ 0 → Fits within end n q → Fits within end n first ⊎ ((next ≤ q) × Fits within end n next)
+
+-- an area on this side may begin at the address
+abbrev pub Allows : Side → ℕ → Type 0
+Allows side a = side ≡ Below → a < 0x1000000

@@ -1,0 +1,178 @@
+//! Places inside one run of free doublewords.
+#![tactic(auto)]
+
+ghost use Rattle.std.specs.Prelude.{◌≡◌, ◌<◌, ◌≤◌, ◌+◌, ◌%◌, ◌^◌, ◌↔◌, ℕ, Option, Some, None, IfSome, MatchOption, IsTrue};
+ghost use Rattle.mvs_model.specs.Span.{Span, span};
+ghost use Rattle.mvs_model.specs.Storage.{Meets, IsLength, IsRun, InRun};
+ghost use Rattle.boundary_loc.specs.Boundary.{IsWithin, Fits, IsLeastMultiple, IsNextStart, Allows};
+ghost use Rattle.boundary_loc.specs.Starts.{IsStarts};
+ghost use Rattle.mvs_model.specs.Wanted.{side_of};
+
+use mvs_model::place::{Addr, Place};
+use mvs_model::want::{Loc, Residence, Side, Want};
+
+// A power of two.
+fn power(exponent: u8) -> u64
+    requires { exponent ≤ 31 }
+    ensures is { result ≡ 2 ^ exponent }
+    ensures some { 0 < result }
+    ensures small { result ≤ 2 ^ 31 }
+{
+    1u64 << exponent
+}
+
+// The least multiple of the unit from a number on.
+fn round_up(number: u64, unit: u64) -> u64
+    requires some { 0 < unit }
+    requires unit { unit ≤ 2 ^ 31 }
+    requires small { number ≤ 2 ^ 34 }
+    ensures least { IsLeastMultiple unit number result }
+    ensures near { result < number + unit }
+{
+    (number + unit - 1) / unit * unit
+}
+
+// The bytes from an address up to the next containing boundary.
+fn room_within(addr: u64, within: u8) -> u64
+    requires { within ≤ 31 }
+    ensures { (n : ℕ) → 0 < n → (n ≤ result) ↔ IsWithin (2 ^ within) n addr }
+{
+    let bound = power(within);
+    bound - addr % bound
+}
+
+// The bytes from an address up to an end, no further than to the containing boundary.
+fn room(addr: u64, within: Option<u8>, end: u64) -> u64
+    requires { IfSome within (λ k. k ≤ 31) }
+    ensures { (n : ℕ) → 0 < n → (n ≤ result) ↔ Fits within end n addr }
+{
+    let left = end.saturating_sub(addr);
+    match within {
+        None => left,
+        Some(within) => left.min(room_within(addr, within)),
+    }
+}
+
+// The first start behind the containing boundary that comes next, or the start itself where there is none.
+fn next_start(first: u64, start: u8, within: Option<u8>) -> u64
+    requires start { start ≤ 31 }
+    requires within { IfSome within (λ k. k ≤ 31) }
+    requires on_start { first % 2 ^ start ≡ 0 }
+    requires small { first ≤ 2 ^ 33 }
+    ensures next { IsNextStart start within first result }
+    ensures near { result ≤ first + 2 ^ 32 }
+{
+    match within {
+        None => first,
+        Some(within) => round_up(round_up(first + 1, power(within)), power(start)),
+    }
+}
+
+// Whether an area on this side may begin at the address.
+fn allows(side: Side, addr: u32) -> bool
+    ensures { IsTrue result ↔ Allows side addr }
+{
+    match side {
+        Side::Below => addr < 0x100_0000,
+        Side::Either => true,
+    }
+}
+
+// Two starts in a run, and the bytes from each that serve: whatever serves somewhere, serves at one of them.
+#[derive(Clone, Copy)]
+struct Starts {
+    first: u64,
+    first_room: u64,
+    next: u64,
+    next_room: u64,
+}
+
+// None where no place in the run can meet what is wanted, of whatever length.
+fn starts_in(run: Place, want: &Want) -> Option<Starts>
+    requires { IsRun run }
+    ensures { MatchOption result
+        ((q : Span) → InRun run q → Meets want.now q → ⊥)
+        (IsStarts run want.now) }
+{
+    let from = run.addr().get();
+    if !allows(want.side(), from) {
+        return None;
+    }
+    let from = u64::from(from);
+    let end = from + u64::from(run.len());
+    let within = want.within();
+    let first = round_up(from, power(want.start()));
+    let next = next_start(first, want.start(), within);
+    Some(Starts {
+        first,
+        first_room: room(first, within, end),
+        next,
+        next_room: room(next, within, end),
+    })
+}
+
+// The place of so many bytes from an address on.
+fn place(addr: u64, len: u64) -> Place
+    requires addr { addr < 2 ^ 31 }
+    requires some { 1 ≤ len }
+    requires most { len ≤ 2 ^ 31 }
+    ensures { result ≡ span addr len }
+{
+    Place::new(Addr::new(addr as u32), len as u32)
+}
+
+/// The lowest place of a length in bytes that lies in the run and meets what is wanted but for its lengths; None
+/// where there is none.
+pub fn first_in(run: Place, want: &Want, len: u32) -> Option<Place>
+    requires run { IsRun run }
+    requires whole { len % 8 ≡ 0 }
+    requires some { 8 ≤ len }
+    ensures { MatchOption result
+        ((q : Span) → q.len ≡ len → InRun run q → Meets want.now q → ⊥)
+        (λ p. (p.len ≡ len) × InRun run p × Meets want.now p
+        × ((q : Span) → q.len ≡ len → InRun run q → Meets want.now q → p.addr ≤ q.addr)) }
+{
+    let starts = starts_in(run, want)?;
+    let len = u64::from(len);
+    if len <= starts.first_room {
+        Some(place(starts.first, len))
+    } else if len <= starts.next_room {
+        Some(place(starts.next, len))
+    } else {
+        None
+    }
+}
+
+/// A longest place in the run of a length that is wanted, which meets what is wanted; None where there is none.
+pub fn longest_in(run: Place, want: &Want) -> Option<Place>
+    requires { IsRun run }
+    ensures { MatchOption result
+        ((q : Span) → IsLength want.now q.len → InRun run q → Meets want.now q → ⊥)
+        (λ p. IsLength want.now p.len × InRun run p × Meets want.now p
+        × ((q : Span) → IsLength want.now q.len → InRun run q → Meets want.now q → q.len ≤ p.len)) }
+{
+    let starts = starts_in(run, want)?;
+    let most = u64::from(want.most());
+    let len = most.min(starts.first_room.max(starts.next_room)) / 8 * 8;
+    if len < u64::from(want.least()) {
+        None
+    } else if len <= starts.first_room {
+        Some(place(starts.first, len))
+    } else {
+        Some(place(starts.next, len))
+    }
+}
+
+/// The side of a location: BELOW is below, ANY is either, and RES follows the residence of the task (Assembler
+/// Services Reference, GETMAIN, LOC).
+pub fn side(loc: Loc, residence: Residence) -> Side
+    ensures { result ≡ side_of loc residence }
+{
+    match (loc, residence) {
+        (Loc::Any, _) | (Loc::Res, Residence::Above) => Side::Either,
+        (Loc::Below, _) | (Loc::Res, Residence::Below) => Side::Below,
+    }
+}
+
+#[cfg(test)]
+mod tests;
