@@ -1,0 +1,134 @@
+//! The machine of one step.
+
+ghost use Rattle.std.specs.Prelude.{◌≡◌, ◌||◌, false, true, IfOk, ℕ};
+ghost use Rattle.mvs_model.specs.Storage.{IsStorage, ReleaseEach};
+ghost use Rattle.mvs_model.specs.Owners.{is_active};
+ghost use Rattle.mvs_model.specs.Start.{start};
+ghost use Rattle.mvs_model.specs.Steps.{Abends, Acts, Step as MachineStep};
+ghost use Rattle.mvs_model.specs.Runs.{is_abend};
+ghost use Rattle.mvs_model.specs.View.{seen};
+ghost use Rattle.task_owner.specs.Directory.{IsTask, name_of, name_at};
+ghost use Rattle.request_forms.specs.Answers.{Answers};
+ghost use Rattle.job_step.specs.Progress.{IsBuilt};
+
+use mvs_model::card::Card;
+use mvs_model::code::Code;
+use mvs_model::error::OutOfMemory;
+use mvs_model::name::Name;
+use mvs_model::request::{Reply, Request};
+use mvs_model::subpool::SubpoolId;
+use mvs_model::want::Placement;
+use request_forms::obtain::obtain;
+use std::alloc::Global;
+use std::marker::Model;
+use subpool_store::Store;
+use task_owner::{TaskId, Tasks};
+
+/// The storage and the tasks of a step, and whether a task has abended.
+#[derive(Drop)]
+pub struct Step {
+    store: Store,
+    tasks: Tasks,
+    abended: bool,
+}
+
+impl Model for Step {
+    ghost use Rattle.mvs_model.specs.Storage.{IsStorage};
+    ghost use Rattle.mvs_model.specs.View.{seen};
+    ghost use Rattle.job_step.specs.Progress.{Progress, progress_code};
+
+    ghost Value = { Progress };
+
+    ghost coded = { progress_code };
+
+    ghost view = { λ s. record { state = seen s.store s.tasks.owners; abended = s.abended } };
+
+    ghost invariant = { λ s. IsStorage s.store };
+}
+
+// Releases all that some subpools hold.
+fn release_each(store: &mut Store, subpools: &[SubpoolId])
+    requires { IsStorage store.old }
+    ensures released { ReleaseEach store.old subpools.now store.new }
+    ensures storage { IsStorage store.new }
+{
+    for subpool in subpools {
+        store.release_all(*subpool);
+    }
+}
+
+// What an active task's request is answered, before an abend ends the task.
+fn act(
+    store: &mut Store,
+    tasks: &mut Tasks,
+    t: TaskId,
+    request: &Request,
+) -> Result<Reply, Code>
+    requires task { IsTask tasks.old t }
+    requires storage { IsStorage store.old }
+    requires built { IsBuilt request.now }
+    ensures answer { let old = seen store.old tasks.old.owners in let name = name_of tasks.old t in
+        Answers (Acts old name request.now) old name result (seen store.new tasks.new.owners) }
+    ensures storage { IsStorage store.new }
+    ensures names { (id : ℕ) → name_at tasks.new id ≡ name_at tasks.old id }
+{
+    match request {
+        Request::Obtain { form, number, ask } => obtain(store, tasks, t, *form, *number, ask),
+        _ => unreachable!(),
+    }
+}
+
+impl Step {
+    /// The step at its start: the job step task alone, with nothing held.
+    pub fn new(alloc: Global, card: &Card, placement: Placement) -> Result<Step, OutOfMemory>
+        ensures { IfOk result (λ s. s ≡ record { state = start card.now; abended = false }) }
+    {
+        let store = Store::new(alloc, card.below(), card.above(), card.fill(), placement)?;
+        let tasks = Tasks::new(alloc, card.name(), card.residence())?;
+        Ok(Step {
+            store,
+            tasks,
+            abended: false,
+        })
+    }
+
+    /// Whether the task is active.
+    pub fn is_active(&self, name: &Name) -> bool
+        ensures { result ≡ is_active self.now.state.owners name.now }
+    {
+        self.tasks.find(name).is_some()
+    }
+
+    /// Whether a task has abended so far.
+    pub fn abended(&self) -> bool
+        ensures { result ≡ self.now.abended }
+    {
+        self.abended
+    }
+
+    // Ends a task that abends, with its descendants and what they own.
+    fn abend(&mut self, t: TaskId, code: Code, name: &Name) -> Reply
+        requires { true ≡ true }
+        ensures { Abends self.old.state name.now code result self.new.state }
+    {
+        let gone = self.tasks.end(t);
+        release_each(&mut self.store, gone.freed.as_slice());
+        self.abended = true;
+        Reply::Abended(code, gone.fallen)
+    }
+
+    /// Serves a request of a task, which need not be active. It always replies.
+    pub fn request(&mut self, name: &Name, request: &Request) -> Reply
+        requires { IsBuilt request.now }
+        ensures step { MachineStep self.old.state name.now request.now result self.new.state }
+        ensures abended { self.new.abended ≡ (self.old.abended || is_abend result) }
+    {
+        let Some(t) = self.tasks.find(name) else {
+            return Reply::NotRun;
+        };
+        match act(&mut self.store, &mut self.tasks, t, request) {
+            Ok(reply) => reply,
+            Err(code) => self.abend(t, code, name),
+        }
+    }
+}
