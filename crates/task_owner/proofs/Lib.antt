@@ -1,0 +1,9 @@
+pub mod Places
+pub mod Reading
+pub mod Labels
+pub mod Subtasks
+pub mod Room
+pub mod Starting
+pub mod Binding
+pub mod Families
+pub mod Freed

@@ -1,0 +1,173 @@
+//! The active tasks and their subpools.
+
+ghost use Rattle.std.specs.Prelude.{◌≡◌, ◌≢◌, ◌<◌, ◌≤◌, ◌↔◌, ℕ, true, false, IsTrue, is_some, IfSome, IfOk, MatchOption, MatchResult, Some, None};
+ghost use Rattle.std.specs.FinMap.{get};
+ghost use Rattle.mvs_model.specs.Finite.{has};
+ghost use Rattle.mvs_model.specs.Owners.{entry, is_active, has_subtask, owns, IsSpare, Binds};
+ghost use Rattle.task_owner.specs.Start.{first_owners};
+ghost use Rattle.task_owner.specs.Directory.{name_at, IsTask, name_of, residence_of};
+
+use crate::family::{drop_entries, free_each, ownerless, remove_family};
+use crate::seat::{Owned, Seat, enter, find_key, first_spare, has_child, no_owners, number_at, seat_at};
+use mvs_model::error::OutOfMemory;
+use mvs_model::name::Name;
+use mvs_model::request::Fallen;
+use mvs_model::short_list::ShortList;
+use mvs_model::subpool::{SubNo, SubpoolId};
+use mvs_model::want::Residence;
+use slab::Slab;
+use std::alloc::Global;
+use std::marker::Model;
+
+/// An active task. It stands for the same task until that task ends.
+#[derive(Clone, Copy, Debug, PartialEq, Eq)]
+pub struct TaskId {
+    key: usize,
+}
+
+impl Model for TaskId {
+    ghost use Rattle.std.specs.Prelude.{ℕ};
+
+    ghost Value = { ℕ };
+
+    ghost view = { λ t. t.key };
+
+    ghost inverse = { λ n. record { key = n } };
+}
+
+/// The active tasks, at most 32, and their subpools.
+#[derive(Drop)]
+pub struct Tasks {
+    active: Slab<Seat>,
+    owned: Vec<Option<Owned>>,
+}
+
+impl Model for Tasks {
+    ghost use Rattle.std.specs.Prelude.{◌≡◌, ◌≤◌, length};
+    ghost use Rattle.slab.specs.Slab.{slab_len};
+    ghost use Rattle.task_owner.specs.Directory.{Directory, directory_code};
+
+    ghost Value = { Directory };
+
+    ghost coded = { directory_code };
+
+    ghost use Rattle.task_owner.specs.Seats.{directory, IsSound};
+
+    ghost view = { λ t. directory t.active.slots t.owned.items };
+
+    ghost invariant = { λ t. IsSound t.active.slots t.owned.items × (length t.owned.items ≡ 4096) × (slab_len t.active ≤ 32) × (32 ≤ t.active.capacity) };
+}
+
+impl Tasks {
+    /// The job step task alone, which has no subpool yet, with room for 32 tasks. No later call takes memory.
+    pub fn new(alloc: Global, name: Name, residence: Residence) -> Result<Tasks, OutOfMemory>
+        ensures { IfOk result (λ d. d.owners ≡ first_owners name residence) }
+    {
+        let Ok(mut active) = Slab::with_capacity(alloc, 32) else {
+            return Err(OutOfMemory);
+        };
+        let Ok(owned) = no_owners(alloc) else {
+            return Err(OutOfMemory);
+        };
+        active.insert_reserved(Seat {
+            name,
+            mother: None,
+            residence,
+            numbers: [None; 128],
+        });
+        Ok(Tasks { active, owned })
+    }
+
+    /// The active task of this name.
+    pub fn find(&self, name: &Name) -> Option<TaskId>
+        ensures active { is_some result ≡ is_active self.now.owners name.now }
+        ensures named { IfSome result (λ id. name_at self.now id ≡ Some name.now) }
+    {
+        match find_key(&self.active, *name) {
+            Some(key) => Some(TaskId { key }),
+            None => None,
+        }
+    }
+
+    /// Whether the task has a subtask that is active.
+    pub fn has_active_subtasks(&self, t: TaskId) -> bool
+        requires { IsTask self.now t }
+        ensures { result ≡ has_subtask self.now.owners (name_of self.now t) }
+    {
+        has_child(&self.active, t.key)
+    }
+
+    /// Where the task's program resides.
+    pub fn residence(&self, t: TaskId) -> Residence
+        requires { IsTask self.now t }
+        ensures { residence_of self.now.owners (name_of self.now t) ≡ Some result }
+    {
+        seat_at(&self.active, t.key).residence
+    }
+
+    /// The subpool that the task has under the number.
+    pub fn subpool(&self, t: TaskId, number: SubNo) -> Option<SubpoolId>
+        requires { IsTask self.now t }
+        ensures { result ≡ entry self.now.owners (name_of self.now t) number }
+    {
+        seat_at(&self.active, t.key).numbers[number.get() as usize]
+    }
+
+    /// Whether the task has a subpool under the number and owns it.
+    pub fn owns(&self, t: TaskId, number: SubNo) -> bool
+        requires { IsTask self.now t }
+        ensures { result ≡ has (owns self.now.owners (name_of self.now t)) (entry self.now.owners (name_of self.now t) number) }
+    {
+        match self.subpool(t, number) {
+            Some(subpool) => self.is_owner(t, subpool),
+            None => false,
+        }
+    }
+
+    // Whether the task owns the subpool.
+    fn is_owner(&self, t: TaskId, subpool: SubpoolId) -> bool
+        requires { IsTask self.now t }
+        ensures { result ≡ owns self.now.owners (name_of self.now t) subpool }
+    {
+        match self.owned[subpool.get() as usize] {
+            Some(owned) => owned.owner == t.key,
+            None => false,
+        }
+    }
+
+    /// The lowest subpool that no task owns, for a number under which the task has none.
+    pub fn spare(&self, t: TaskId, number: SubNo) -> SubpoolId
+        requires active { IsTask self.now t }
+        requires none { entry self.now.owners (name_of self.now t) number ≡ None }
+        ensures { IsSpare self.now.owners result }
+    {
+        let _number = number.get();
+        SubpoolId::new(first_spare(self.owned.as_slice()) as u16)
+    }
+
+    /// Enters a subpool that no task owns under a number that the task does not have; the task then owns it.
+    pub fn bind(&mut self, t: TaskId, number: SubNo, subpool: SubpoolId)
+        requires active { IsTask self.old t }
+        requires none { entry self.old.owners (name_of self.old t) number ≡ None }
+        requires spare { get self.old.owners.owner subpool ≡ None }
+        ensures binds { Binds self.old.owners (name_of self.old t) number subpool self.new.owners }
+        ensures names { (id : ℕ) → name_at self.new id ≡ name_at self.old id }
+    {
+        let number = number.get();
+        enter(&mut self.active, t.key, number as usize, subpool);
+        self.owned[subpool.get() as usize] = Some(Owned {
+            owner: t.key,
+            number,
+        });
+    }
+
+    /// The number under which the subpool stands, and the name of its owner.
+    pub fn label(&self, subpool: SubpoolId) -> Option<(SubNo, Name)>
+        ensures { MatchOption result (get self.now.owners.owner subpool ≡ None) (λ r. (get self.now.owners.owner subpool ≡ Some r.1) × (entry self.now.owners r.1 r.0 ≡ Some subpool)) }
+    {
+        match self.owned[subpool.get() as usize] {
+            Some(owned) => Some((number_at(owned.number), seat_at(&self.active, owned.owner).name)),
+            None => None,
+        }
+    }
+}
