@@ -35,7 +35,7 @@ same_kept : {X : Type 0} (f g : X → Bool) (o : Option X) → ((x : X) → o �
 same_kept f g None h = refl
 same_kept f g (Some x) h = ap (λ b. cond b (Some x) None) (h x refl)
 
-or_true : (b : Bool) → (b || true) ≡ true
+pub or_true : (b : Bool) → (b || true) ≡ true
 or_true true = refl
 or_true false = refl
 
@@ -43,7 +43,7 @@ or_false : (b : Bool) → (b || false) ≡ b
 or_false true = refl
 or_false false = refl
 
-either_true : (b c : Bool) → (b || c) ≡ true → (b ≡ true) ⊎ (c ≡ true)
+pub either_true : (b c : Bool) → (b || c) ≡ true → (b ≡ true) ⊎ (c ≡ true)
 either_true true c h = inl refl
 either_true false c h = inr h
 

@@ -7,3 +7,7 @@ pub mod Starting
 pub mod Binding
 pub mod Families
 pub mod Freed
+pub mod Trimming
+pub mod Ending
+pub mod Fallen
+pub mod Ended

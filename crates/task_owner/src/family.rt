@@ -48,7 +48,7 @@ pub(crate) fn remove_family(active: &mut Slab<Seat>, t: usize) -> TaskNames
 }
 
 // The subpools whose owner is not active.
-pub(crate) fn ownerless(active: &Slab<Seat>, owned: &[Option<Owned>]) -> ShortList<SubpoolId, 0, 4096>
+fn ownerless(active: &Slab<Seat>, owned: &[Option<Owned>]) -> ShortList<SubpoolId, 0, 4096>
     requires { length owned.now ≡ 4096 }
     ensures { FreedBelow active.now owned.now 4096 result }
 {
@@ -64,7 +64,7 @@ pub(crate) fn ownerless(active: &Slab<Seat>, owned: &[Option<Owned>]) -> ShortLi
 }
 
 // Takes the owner from each subpool whose owner is not active.
-pub(crate) fn free_each(active: &Slab<Seat>, owned: &mut [Option<Owned>])
+fn free_each(active: &Slab<Seat>, owned: &mut [Option<Owned>])
     ensures { Keeps (item_at owned.old) (λ _ o. is_owner_active active.now o) (item_at owned.new) }
 {
     for s in 0..owned.len() {
@@ -74,6 +74,18 @@ pub(crate) fn free_each(active: &Slab<Seat>, owned: &mut [Option<Owned>])
             }
         }
     }
+}
+
+// Takes the owner from each subpool whose owner is not active; these subpools.
+pub(crate) fn free_subpools(active: &Slab<Seat>, owned: &mut Vec<Option<Owned>>) -> ShortList<SubpoolId, 0, 4096>
+    requires { length owned.old.items ≡ 4096 }
+    ensures freed { FreedBelow active.now owned.old.items 4096 result }
+    ensures kept { Keeps (item_at owned.old.items) (λ _ o. is_owner_active active.now o) (item_at owned.new.items) }
+    ensures len { length owned.new.items ≡ 4096 }
+{
+    let freed = ownerless(active, owned.as_slice());
+    free_each(active, owned.as_mut_slice());
+    freed
 }
 
 // Drops each entry of a subpool without an owner.

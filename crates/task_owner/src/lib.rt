@@ -6,4 +6,4 @@ mod handing;
 mod seat;
 mod tasks;
 
-pub use tasks::{TaskId, Tasks};
+pub use tasks::{Gone, TaskId, Tasks};

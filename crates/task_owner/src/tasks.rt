@@ -1,13 +1,16 @@
 //! The active tasks and their subpools.
 
-ghost use Rattle.std.specs.Prelude.{◌≡◌, ◌≢◌, ◌<◌, ◌≤◌, ◌↔◌, ℕ, true, false, IsTrue, is_some, IfSome, IfOk, MatchOption, MatchResult, Some, None};
+ghost use Rattle.std.specs.Prelude.{◌≡◌, ◌≢◌, ◌<◌, ◌≤◌, ◌↔◌, ℕ, true, not, IsTrue, is_some, IfSome, IfOk, MatchOption, MatchResult, Some, None};
+ghost use Rattle.std.specs.List.{Contains};
+ghost use Rattle.std.specs.List.Sorted.{IsStrictlySortedBy};
+ghost use Rattle.std.specs.Ordering.{nat_cmp};
 ghost use Rattle.std.specs.FinMap.{get};
-ghost use Rattle.mvs_model.specs.Finite.{has};
-ghost use Rattle.mvs_model.specs.Owners.{entry, is_active, has_subtask, owns, IsSpare, Binds};
+ghost use Rattle.mvs_model.specs.Finite.{has, kept};
+ghost use Rattle.mvs_model.specs.Owners.{entry, is_active, has_subtask, owns, IsSpare, Binds, IsFallen, goes, ends_with, Ends};
 ghost use Rattle.task_owner.specs.Start.{first_owners};
 ghost use Rattle.task_owner.specs.Directory.{name_at, IsTask, name_of, residence_of};
 
-use crate::family::{drop_entries, free_each, ownerless, remove_family};
+use crate::family::{drop_entries, free_subpools, remove_family};
 use crate::seat::{Owned, Seat, enter, find_key, first_spare, has_child, no_owners, number_at, seat_at};
 use mvs_model::error::OutOfMemory;
 use mvs_model::name::Name;
@@ -56,6 +59,15 @@ impl Model for Tasks {
     ghost view = { λ t. directory t.active.slots t.owned.items };
 
     ghost invariant = { λ t. IsSound t.active.slots t.owned.items × (length t.owned.items ≡ 4096) × (slab_len t.active ≤ 32) × (32 ≤ t.active.capacity) };
+}
+
+/// What goes with a task that ends.
+#[derive(Drop)]
+pub struct Gone {
+    /// Its descendants, in byte order of their names.
+    pub fallen: Fallen,
+    /// The subpools that it and its descendants owned, in rising order.
+    pub freed: ShortList<SubpoolId, 0, 4096>,
 }
 
 impl Tasks {
@@ -159,6 +171,24 @@ impl Tasks {
             owner: t.key,
             number,
         });
+    }
+
+    /// Ends the task and its descendants: the subpools that they own fall free, and no task has one of these any more.
+    pub fn end(&mut self, t: TaskId) -> Gone
+        requires { IsTask self.old t }
+        ensures fallen { IsFallen self.old.owners (name_of self.old t) result.fallen }
+        ensures ends { Ends self.old.owners (name_of self.old t) result.fallen self.new.owners }
+        ensures freed { (s : ℕ) → Contains result.freed s ↔ (ends_with self.old.owners (name_of self.old t) result.fallen s ≡ true) }
+        ensures rising { IsStrictlySortedBy nat_cmp result.freed }
+        ensures names { (id : ℕ) → name_at self.new id ≡ kept (λ x. not (goes (name_of self.old t) result.fallen x)) (name_at self.old id) }
+    {
+        let names = remove_family(&mut self.active, t.key);
+        let freed = free_subpools(&self.active, &mut self.owned);
+        drop_entries(&mut self.active, self.owned.as_slice());
+        Gone {
+            fallen: Fallen::new(names),
+            freed,
+        }
     }
 
     /// The number under which the subpool stands, and the name of its owner.
