@@ -11,3 +11,10 @@ pub mod Trimming
 pub mod Ending
 pub mod Fallen
 pub mod Ended
+pub mod AnyBelow
+pub mod Entering
+pub mod Count
+pub mod Refusing
+pub mod Attaching
+pub mod Admitting
+pub mod Admitted

@@ -1,6 +1,6 @@
 //! What a mother hands over to a subtask.
 
-ghost use Rattle.std.specs.Prelude.{◌≡◌, ◌≢◌, ◌<◌, ℕ, IsSome, Some};
+ghost use Rattle.std.specs.Prelude.{◌≡◌, ◌≢◌, ◌<◌, ℕ, IsSome, Some, length};
 ghost use Rattle.slab.specs.Slab.{get, slab_len};
 ghost use Rattle.task_owner.specs.Seats.{item_at};
 ghost use Rattle.task_owner.specs.Handing.{taken, left_over, passed_on, Leaves};
@@ -44,7 +44,6 @@ pub(crate) fn hand_over(active: &mut Slab<Seat>, mother: usize, gifts: &Gifts) -
     ensures others { (k : ℕ) → k ≢ mother → get active.new k ≡ get active.old k }
     ensures len { slab_len active.new ≡ slab_len active.old }
     ensures capacity { active.new.capacity ≡ active.old.capacity }
-    ensures vacant { active.new.vacant_key ≡ active.old.vacant_key }
 {
     match active.get_mut(mother) {
         Some(seat) => {
@@ -57,7 +56,7 @@ pub(crate) fn hand_over(active: &mut Slab<Seat>, mother: usize, gifts: &Gifts) -
 }
 
 // Makes the task at the key the owner of each subpool that the mother gives.
-pub(crate) fn pass_on(owned: &mut [Option<Owned>], mother: usize, key: usize, gifts: &Gifts)
+fn pass_each(owned: &mut [Option<Owned>], mother: usize, key: usize, gifts: &Gifts)
     requires { (s : ℕ) (o : Owned) → item_at owned.old s ≡ Some o → o.number < 128 }
     ensures { (s : ℕ) → item_at owned.new s ≡ passed_on gifts.now mother key (item_at owned.old s) }
 {
@@ -71,4 +70,13 @@ pub(crate) fn pass_on(owned: &mut [Option<Owned>], mother: usize, key: usize, gi
             }
         }
     }
+}
+
+// The same in the vector.
+pub(crate) fn pass_on(owned: &mut Vec<Option<Owned>>, mother: usize, key: usize, gifts: &Gifts)
+    requires { (s : ℕ) (o : Owned) → item_at owned.old.items s ≡ Some o → o.number < 128 }
+    ensures passed { (s : ℕ) → item_at owned.new.items s ≡ passed_on gifts.now mother key (item_at owned.old.items s) }
+    ensures len { length owned.new.items ≡ length owned.old.items }
+{
+    pass_each(owned.as_mut_slice(), mother, key, gifts);
 }

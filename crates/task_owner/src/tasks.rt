@@ -1,18 +1,22 @@
 //! The active tasks and their subpools.
 
-ghost use Rattle.std.specs.Prelude.{◌≡◌, ◌≢◌, ◌<◌, ◌≤◌, ◌↔◌, ℕ, true, not, IsTrue, is_some, IfSome, IfOk, MatchOption, MatchResult, Some, None};
+ghost use Rattle.std.specs.Prelude.{◌≡◌, ◌≢◌, ◌<◌, ◌≤◌, ◌↔◌, ℕ, true, false, not, IsTrue, is_some, IfSome, IfOk, IfErr, OnOk, OnErr, MatchOption, Some, None};
 ghost use Rattle.std.specs.List.{Contains};
 ghost use Rattle.std.specs.List.Sorted.{IsStrictlySortedBy};
 ghost use Rattle.std.specs.Ordering.{nat_cmp};
-ghost use Rattle.std.specs.FinMap.{get};
+ghost use Rattle.std.specs.FinMap.{get, len};
 ghost use Rattle.mvs_model.specs.Finite.{has, kept};
-ghost use Rattle.mvs_model.specs.Owners.{entry, is_active, has_subtask, owns, IsSpare, Binds, IsFallen, goes, ends_with, Ends};
+ghost use Rattle.mvs_model.specs.Owners.{entry, is_active, has_subtask, owns, IsSpare, Binds, IsFallen, goes, ends_with, Ends, Attach, attach_refusal, gives_shared};
 ghost use Rattle.task_owner.specs.Start.{first_owners};
+ghost use Rattle.task_owner.specs.Handing.{GetsEntry, SharesBelow, Admits};
 ghost use Rattle.task_owner.specs.Directory.{name_at, IsTask, name_of, residence_of};
 
 use crate::family::{drop_entries, free_subpools, remove_family};
+use crate::handing::{hand_over, pass_on};
 use crate::seat::{Owned, Seat, enter, find_key, first_spare, has_child, no_owners, number_at, seat_at};
+use mvs_model::code::Code;
 use mvs_model::error::OutOfMemory;
+use mvs_model::gifts::Gifts;
 use mvs_model::name::Name;
 use mvs_model::request::Fallen;
 use mvs_model::short_list::ShortList;
@@ -171,6 +175,117 @@ impl Tasks {
             owner: t.key,
             number,
         });
+    }
+
+    /// Attaches a subtask. The mother first gets a subpool under each number that she shares and does not have. Refused
+    /// are, in this order, a name that is active (user 4009), a task beyond 32 (user 4005), and the gift of a subpool
+    /// that the mother does not own (user 4003).
+    pub fn attach(&mut self, mother: TaskId, name: &Name, gifts: &Gifts, residence: Residence) -> Result<TaskId, Code>
+        requires { IsTask self.old mother }
+        ensures attached { OnOk result (Attach self.old.owners (name_of self.old mother) name.now gifts.now residence self.new.owners) }
+        ensures granted { OnOk result (attach_refusal self.old.owners (name_of self.old mother) name.now gifts.now ≡ None) }
+        ensures named { IfOk result (λ id. name_at self.new id ≡ Some name.now) }
+        ensures fresh { IfOk result (λ id. name_at self.old id ≡ None) }
+        ensures others { IfOk result (λ id. (k : ℕ) → k ≢ id → name_at self.new k ≡ name_at self.old k) }
+
+        ensures refused { IfErr result (λ code. attach_refusal self.old.owners (name_of self.old mother) name.now gifts.now ≡ Some code) }
+        ensures unchanged { OnErr result (self.new ≡ self.old) }
+    {
+        if let Some(code) = self.refusal(mother, name, gifts) {
+            return Err(code);
+        }
+        self.enter_shared(mother, gifts);
+        Ok(self.admit(mother, name, gifts, residence))
+    }
+
+    // Why an attach is refused, if it is.
+    fn refusal(&self, mother: TaskId, name: &Name, gifts: &Gifts) -> Option<Code>
+        requires { IsTask self.now mother }
+        ensures { result ≡ attach_refusal self.now.owners (name_of self.now mother) name.now gifts.now }
+    {
+        if self.find(name).is_some() {
+            return Some(Code::User(4009));
+        }
+        if self.active.len() >= 32 {
+            return Some(Code::User(4005));
+        }
+        if self.gives_shared(mother, gifts) {
+            return Some(Code::User(4003));
+        }
+        None
+    }
+
+    // Whether the task gives a subpool that it does not own.
+    fn gives_shared(&self, mother: TaskId, gifts: &Gifts) -> bool
+        requires { IsTask self.now mother }
+        ensures { result ≡ gives_shared self.now.owners (name_of self.now mother) gifts.now }
+    {
+        for n in 0..128u8 {
+            if gifts.gives(n) && self.is_shared(mother, number_at(n)) {
+                return true;
+            }
+        }
+        false
+    }
+
+    // Whether the task has a subpool under the number and does not own it.
+    fn is_shared(&self, t: TaskId, number: SubNo) -> bool
+        requires { IsTask self.now t }
+        ensures { result ≡ has (λ s. not (owns self.now.owners (name_of self.now t) s)) (entry self.now.owners (name_of self.now t) number) }
+    {
+        match self.subpool(t, number) {
+            Some(subpool) => !self.is_owner(t, subpool),
+            None => false,
+        }
+    }
+
+    // Gives the task a subpool under a number, if it has none.
+    fn enter_one(&mut self, t: TaskId, number: SubNo)
+        requires { IsTask self.old t }
+        ensures entered { GetsEntry self.old.owners (name_of self.old t) number self.new.owners }
+        ensures names { (id : ℕ) → name_at self.new id ≡ name_at self.old id }
+    {
+        match self.subpool(t, number) {
+            Some(_) => {}
+            None => {
+                let subpool = self.spare(t, number);
+                self.bind(t, number, subpool);
+            }
+        }
+    }
+
+    // Gives the mother a subpool under each number that she shares and does not have, in rising order.
+    fn enter_shared(&mut self, mother: TaskId, gifts: &Gifts)
+        requires { IsTask self.old mother }
+        ensures { SharesBelow self.old mother gifts.now 128 self.new }
+    {
+        for n in 0..128u8 {
+            if gifts.shares(n) {
+                self.enter_one(mother, number_at(n));
+            }
+        }
+    }
+
+    // Makes the name that of an active task, and hands over what the mother gives and shares.
+    fn admit(&mut self, mother: TaskId, name: &Name, gifts: &Gifts, residence: Residence) -> TaskId
+        requires active { IsTask self.old mother }
+        requires new { is_active self.old.owners name.now ≡ false }
+        requires room { len self.old.owners.tasks < 32 }
+        requires owned { gives_shared self.old.owners (name_of self.old mother) gifts.now ≡ false }
+        ensures admits { Admits self.old.owners (name_of self.old mother) name.now gifts.now residence self.new.owners }
+        ensures named { name_at self.new result ≡ Some name.now }
+        ensures fresh { name_at self.old result ≡ None }
+        ensures others { (k : ℕ) → k ≢ result → name_at self.new k ≡ name_at self.old k }
+    {
+        let numbers = hand_over(&mut self.active, mother.key, gifts);
+        let key = self.active.insert_reserved(Seat {
+            name: *name,
+            mother: Some(mother.key),
+            residence,
+            numbers,
+        });
+        pass_on(&mut self.owned, mother.key, key, gifts);
+        TaskId { key }
     }
 
     /// Ends the task and its descendants: the subpools that they own fall free, and no task has one of these any more.
