@@ -79,7 +79,7 @@ module _ (seats : List (Option Seat)) (owned : List (Option Owned)) (t : ℕ) (y
           let z = of_mapped (λ (w : Seat). w.name) (item_at seats m) n g in
           record { key = k; seat = x; here = a; name = b; mother_key = m; mother = f; mother_seat = z.0; mother_here = z.1; mother_name = z.2 }
 
-  is_mother : (k m : ℕ) (x z : Seat) → item_at seats k ≡ Some x → x.mother ≡ Some m → item_at seats m ≡ Some z → IsMother (directory seats owned).owners z.name x.name
+  pub is_mother : (k m : ℕ) (x z : Seat) → item_at seats k ≡ Some x → x.mother ≡ Some m → item_at seats m ≡ Some z → IsMother (directory seats owned).owners z.name x.name
   is_mother k m x z hx e hz =
       (task_of seats x, view-task seats owned x.name ∙ ap (option_map (task_of seats)) (found seats k x sound.distinct hx),
        ap (mother_of seats) e ∙ ap (option_map (λ (w : Seat). w.name)) hz)
@@ -112,7 +112,7 @@ module _ (seats : List (Option Seat)) (owned : List (Option Owned)) (t : ℕ) (y
   higher q (further {m = n} d m) = ranked n q m (λ j z h e. let up : sound.ranked.0 t < sound.ranked.0 j = higher n d j z h e in omega arith)
 
   -- no task descends from itself
-  not_itself : Descends (directory seats owned).owners y.name y.name → ⊥
+  pub not_itself : Descends (directory seats owned).owners y.name y.name → ⊥
   not_itself d = let h : sound.ranked.0 t < sound.ranked.0 t = higher y.name d t y at refl in omega arith
 
   module _ (mid : List (Option Seat)) (names : List Name) (out : Keeps (item_at seats) (λ _ (x : Seat). not (goes y.name names x.name)) (item_at mid)) (closed : MothersActive mid) where

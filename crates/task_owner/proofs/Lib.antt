@@ -18,3 +18,4 @@ pub mod Refusing
 pub mod Attaching
 pub mod Admitting
 pub mod Admitted
+pub mod Keeping

@@ -3,3 +3,4 @@ pub mod Directory
 pub mod Seats
 pub mod Family
 pub mod Handing
+pub mod Kept

@@ -9,6 +9,7 @@ ghost use Rattle.mvs_model.specs.Finite.{has, kept};
 ghost use Rattle.mvs_model.specs.Owners.{entry, is_active, has_subtask, owns, IsSpare, Binds, IsFallen, goes, ends_with, Ends, Attach, attach_refusal, gives_shared};
 ghost use Rattle.task_owner.specs.Start.{first_owners};
 ghost use Rattle.task_owner.specs.Handing.{GetsEntry, SharesBelow, Admits};
+ghost use Rattle.task_owner.specs.Kept.{OwnersKept};
 ghost use Rattle.task_owner.specs.Directory.{name_at, IsTask, name_of, residence_of};
 
 use crate::family::{drop_entries, free_subpools, remove_family};
@@ -98,6 +99,7 @@ impl Tasks {
     pub fn find(&self, name: &Name) -> Option<TaskId>
         ensures active { is_some result ≡ is_active self.now.owners name.now }
         ensures named { IfSome result (λ id. name_at self.now id ≡ Some name.now) }
+        ensures kept { OwnersKept self.now.owners }
     {
         match find_key(&self.active, *name) {
             Some(key) => Some(TaskId { key }),
