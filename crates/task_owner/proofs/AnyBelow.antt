@@ -1,0 +1,41 @@
+-- Tests of the numbers below a bound.
+use Rattle.std.proofs.Common.{◌≡◌, ℕ, zero, suc, ◌+◌, ◌<◌, ◌≢◌, ◌==◌, Bool, true, false, ◌||◌, sym, ap, refl, ◌∙◌, arith, ◌⊎◌, inl, inr}
+use Rattle.mvs_model.specs.Finite.{any_below}
+use Rattle.task_owner.proofs.Places.{number_cases}
+
+module _ (test : ℕ → Bool) where
+  pub none_below : any_below test 0 ≡ false
+  unfolding any_below
+  none_below = refl
+
+  pub none_more : (n : ℕ) → any_below test n ≡ false → test n ≡ false → any_below test (n + 1) ≡ false
+  unfolding any_below
+  none_more n h e = let s : n + 1 ≡ suc n = omega arith in ap (any_below test) s ∙ (λ i. e i || h i)
+
+  or_true : (b : Bool) → (b || true) ≡ true
+  or_true true = refl
+  or_true false = refl
+
+  -- one that passes is found; what is found passes
+  pub found_below : (n m : ℕ) → n < m → test n ≡ true → any_below test m ≡ true
+  unfolding any_below
+  found_below n zero l e = absurd (omega arith)
+  found_below n (suc m) l e = by (number_cases n m) (λ h. found_below n m h e) where
+    by : ((n == m) ≡ true) × (n ≡ m) ⊎ ((n == m) ≡ false) × (n ≢ m) → (n < m → any_below test m ≡ true) → (test m || any_below test m) ≡ true
+    by (inl p) f = ap (λ j. test j || any_below test m) (sym p.1) ∙ ap (λ b. b || any_below test m) e
+    by (inr p) f = let d : n ≢ m = p.1 in ap (λ b. test m || b) (f (omega arith)) ∙ or_true (test m)
+
+  pub passing_below : (m : ℕ) → any_below test m ≡ true → (n : ℕ) × (n < m) × (test n ≡ true)
+  unfolding any_below
+  passing_below zero h = absurd (let e : false ≡ true = h in cc)
+  passing_below (suc m) h = by (test m) refl h (passing_below m) where
+    by : (b : Bool) → test m ≡ b → (b || any_below test m) ≡ true → (any_below test m ≡ true → (n : ℕ) × (n < m) × (test n ≡ true)) → (n : ℕ) × (n < suc m) × (test n ≡ true)
+    by true e t f = (m, omega arith, e)
+    by false e t f = let r = f t in (r.0, (let l = r.1 in omega arith), r.2)
+
+  -- where none passes, each fails
+  pub fails_below : (n m : ℕ) → n < m → any_below test m ≡ false → test n ≡ false
+  fails_below n m l h = by (test n) refl where
+    by : (b : Bool) → test n ≡ b → b ≡ false
+    by false e = refl
+    by true e = absurd (let f : true ≡ false = sym (found_below n m l e) ∙ h in cc)

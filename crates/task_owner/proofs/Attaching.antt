@@ -1,0 +1,45 @@
+-- A mother first gets what she shares, and then the subtask is admitted.
+use Rattle.std.proofs.Common.{◌≡◌, ℕ, ◌<◌, Bool, false, List, [], Option, Some, None, is_some, unwrap_or, sym, ap, subst, ◌∙◌}
+use Rattle.std.specs.FinMap.{get, len}
+use Rattle.mvs_model.specs.declared.name.Name.{Name}
+use Rattle.mvs_model.specs.declared.want.Residence.{Residence}
+use Rattle.mvs_model.specs.declared.code.Code.{Code}
+use Rattle.mvs_model.specs.Name.{same_name}
+use Rattle.mvs_model.specs.Presents.{Presents, shares}
+use Rattle.mvs_model.specs.Finite.{Changes}
+use Rattle.mvs_model.specs.Owners.{Owners, is_active, gives_shared, attach_refusal, Attach}
+use Rattle.task_owner.specs.Directory.{Directory, name_of}
+use Rattle.task_owner.specs.Handing.{SharesBelow, Admits}
+use Rattle.task_owner.proofs.Refusing.{allowed, not_refused}
+use Rattle.task_owner.proofs.Entering.{same_tasks, still_owned}
+
+module _ (old now : Directory) (mother : ℕ) (name : Name) (gifts : Presents) (made : SharesBelow old mother gifts 128 now) where
+  same_mother : name_of now mother ≡ name_of old mother
+  same_mother = ap (λ o. unwrap_or o []) (made.names mother)
+
+  tasks_are : now.owners.tasks ≡ old.owners.tasks
+  tasks_are = same_tasks (name_of old mother) (shares gifts) old.owners now.owners 128 made.made
+
+  module _ (code : Option Code) (e : code ≡ attach_refusal old.owners (name_of old mother) name gifts) (none : (x : Code) → code ≡ Some x → ⊥) where
+    ok : (is_active old.owners name ≡ false) × (len old.owners.tasks < 32) × (gives_shared old.owners (name_of old mother) gifts ≡ false)
+    ok = allowed old.owners (name_of old mother) name gifts (not_refused old.owners (name_of old mother) name gifts code e none)
+
+    pub still_new : is_active now.owners name ≡ false
+    still_new = ap (λ tasks. is_some (get tasks name)) tasks_are ∙ ok.0
+
+    pub still_room : len now.owners.tasks < 32
+    still_room = subst (λ tasks. len tasks < 32) (sym tasks_are) ok.1
+
+    pub still_given : gives_shared now.owners (name_of now mother) gifts ≡ false
+    still_given = ap (λ t. gives_shared now.owners t gifts) same_mother ∙ still_owned (name_of old mother) gifts (shares gifts) old.owners now.owners 128 made.made ok.2
+
+  pub attaches : (residence : Residence) (new : Owners) → Admits now.owners (name_of now mother) name gifts residence new → Attach old.owners (name_of old mother) name gifts residence new
+  attaches residence new a = by (subst (λ t. Admits now.owners t name gifts residence new) same_mother a) where
+    by : Admits now.owners (name_of old mother) name gifts residence new → Attach old.owners (name_of old mother) name gifts residence new
+    by r = record {
+      ready = now.owners;
+      made = made.made;
+      tasks = subst (λ tasks. Changes (get tasks) (same_name name) (Some (record { mother = Some (name_of old mother); residence = residence })) (get new.tasks)) tasks_are r.tasks;
+      table = r.table;
+      owner = r.owner;
+    }

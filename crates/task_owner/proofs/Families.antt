@@ -1,0 +1,163 @@
+-- A task and its descendants are taken out, and their names listed.
+use Rattle.std.proofs.Common.{◌≡◌, ◌≢◌, ℕ, ◌+◌, ◌<◌, ◌≤◌, Bool, true, false, cond, not, ◌||◌, List, [], ◌∷◌, ◌++◌, length, length-append, Option, Some, None, IsSome, count_by, sym, ap, subst, refl, ◌∙◌, arith, ◌⊎◌, inl, inr}
+use Rattle.std.proofs.lemmas.List.Folds.{list_any-append}
+use Rattle.std.proofs.lemmas.List.Sums.{sum_by-cons, sum_by-append}
+use Rattle.std.specs.List.{list_any}
+use Rattle.slab.specs.Slab.{Slab, get, slab_len, Updates}
+use Rattle.mvs_model.specs.declared.name.Name.{Name}
+use Rattle.mvs_model.specs.Name.{same_name}
+use Rattle.mvs_model.specs.Finite.{kept}
+use Rattle.mvs_model.specs.Owners.{goes}
+use Rattle.mvs_model.proofs.Orders.{same_name_is, same_name_self}
+use Rattle.task_owner.specs.Seats.{Distinct, MothersActive}
+use Rattle.task_owner.specs.Family.{Falls, Below, child, lower}
+use Rattle.task_owner.specs.declared.seat.Seat.{Seat}
+use Rattle.task_owner.proofs.Places.{same_or_not, of_some}
+use Rattle.task_owner.proofs.Reading.{name_cases}
+
+-- what is kept was there and passes the test
+pub kept_back : {X : Type 0} (f : X → Bool) (o : Option X) (x : X) → kept f o ≡ Some x → (o ≡ Some x) × (f x ≡ true)
+kept_back {X} f None x e = absurd (let h : ◌≡◌ {A = Option X} None (Some x) = e in cc)
+kept_back {X} f (Some y) x e = by (f y) refl e where
+  by : (b : Bool) → f y ≡ b → cond b (Some y) None ≡ Some x → (Some y ≡ Some x) × (f x ≡ true)
+  by true t h = let same : y ≡ x = cc in (h, ap f (sym same) ∙ t)
+  by false t h = absurd (let g : ◌≡◌ {A = Option X} None (Some x) = h in cc)
+
+-- what is not kept fails it
+pub dropped_fails : {X : Type 0} (f : X → Bool) (x : X) → kept f (Some x) ≡ None → f x ≡ false
+dropped_fails {X} f x e = by (f x) refl e where
+  by : (b : Bool) → f x ≡ b → cond b (Some x) None ≡ None → f x ≡ false
+  by true t h = absurd (let g : ◌≡◌ {A = Option X} None (Some x) = sym h in cc)
+  by false t h = t
+
+-- two tests that agree on the value keep it alike
+same_kept : {X : Type 0} (f g : X → Bool) (o : Option X) → ((x : X) → o ≡ Some x → f x ≡ g x) → kept f o ≡ kept g o
+same_kept f g None h = refl
+same_kept f g (Some x) h = ap (λ b. cond b (Some x) None) (h x refl)
+
+pub or_true : (b : Bool) → (b || true) ≡ true
+or_true true = refl
+or_true false = refl
+
+or_false : (b : Bool) → (b || false) ≡ b
+or_false true = refl
+or_false false = refl
+
+pub either_true : (b c : Bool) → (b || c) ≡ true → (b ≡ true) ⊎ (c ≡ true)
+either_true true c h = inl refl
+either_true false c h = inr h
+
+both_false : (b c : Bool) → (b || c) ≡ false → (b ≡ false) × (c ≡ false)
+both_false true c h = absurd (let e : true ≡ false = h in cc)
+both_false false c h = (refl, h)
+
+pub not_true : (b : Bool) → not b ≡ true → b ≡ false
+not_true true h = absurd (let e : false ≡ true = h in cc)
+not_true false h = refl
+
+pub not_false : (b : Bool) → not b ≡ false → b ≡ true
+not_false true h = refl
+not_false false h = absurd (let e : true ≡ false = h in cc)
+
+one_more : (a b c : Bool) → (a || (b || (c || false))) ≡ ((a || b) || c)
+one_more true b c = refl
+one_more false true c = refl
+one_more false false c = or_false c
+
+-- one more name
+goes_more : (t : Name) (names : List Name) (x q : Name) → goes t (names ++ x ∷ []) q ≡ (goes t names q || same_name q x)
+goes_more t names x q = ap (λ b. same_name q t || b) (list_any-append (same_name q) names (x ∷ [])) ∙ one_more (same_name q t) (list_any (same_name q) names) (same_name q x)
+
+count_none : {X : Type 0} (p : X → Bool) (xs : List X) → list_any p xs ≡ false → count_by p xs ≡ 0
+count_none p [] h = refl
+count_none {X} p (x ∷ xs) h =
+    let parts = both_false (p x) (list_any p xs) h in
+    let rest : count_by p xs ≡ 0 = count_none p xs parts.1 in
+    sum_by-cons (λ y. cond (p y) 1 0) x xs ∙ (λ i. cond (parts.0 i) 1 0 + rest i)
+
+at_most_one : (b : Bool) → cond b 1 0 ≤ 1
+at_most_one true = omega arith
+at_most_one false = omega arith
+
+once_more : (q x : Name) (names : List Name) → count_by (same_name q) names ≤ 1 → list_any (same_name x) names ≡ false → count_by (same_name q) (names ++ x ∷ []) ≤ 1
+once_more q x names once absent = by (name_cases q x) where
+  all : count_by (same_name q) (names ++ x ∷ []) ≡ count_by (same_name q) names + (cond (same_name q x) 1 0 + 0)
+  all = sum_by-append (λ y. cond (same_name q y) 1 0) names (x ∷ []) ∙ ap (λ n. count_by (same_name q) names + n) (sum_by-cons (λ y. cond (same_name q y) 1 0) x [])
+  by : ((same_name q x ≡ true) × (q ≡ x)) ⊎ ((same_name q x ≡ false) × (q ≢ x)) → count_by (same_name q) (names ++ x ∷ []) ≤ 1
+  by (inl r) =
+      let none : count_by (same_name q) names ≡ 0 = count_none (same_name q) names (ap (λ n. list_any (same_name n) names) r.1 ∙ absent) in
+      let sum : count_by (same_name q) (names ++ x ∷ []) ≡ 0 + (1 + 0) = all ∙ (λ i. none i + (cond (r.0 i) 1 0 + 0)) in
+      omega arith
+  by (inr r) =
+      let sum : count_by (same_name q) (names ++ x ∷ []) ≡ count_by (same_name q) names + (0 + 0) = all ∙ (λ i. count_by (same_name q) names + (cond (r.0 i) 1 0 + 0)) in
+      omega arith
+
+module _ (old : Slab Seat) (t : ℕ) (first : Seat) (distinct : Distinct old.slots) (at : get old t ≡ Some first) where
+  -- the first
+  pub falls_first : (now : Slab Seat) (names : List Name) → names ≡ [] → Updates old now t None → slab_len now + 1 ≡ slab_len old → now.capacity ≡ old.capacity → Falls old t first.name names now
+  falls_first now names empty u len capacity = subst (λ ns. Falls old t first.name ns now) (sym empty) (record {
+      kept = λ k. kept_at k (same_or_not k t);
+      below = λ q h. absurd (let e : false ≡ true = h in cc);
+      once = λ q. omega arith;
+      len = omega arith;
+      capacity = capacity;
+    }) where
+    kept_at : (k : ℕ) → (k ≡ t) ⊎ (k ≢ t) → get now k ≡ kept (λ y. not (goes first.name [] y.name)) (get old k)
+    kept_at k (inl e) =
+        ap (get now) e ∙ u.changed ∙ ap (λ b. cond (not (b || false)) (Some first) None) (sym (same_name_self first.name))
+        ∙ ap (kept (λ (y : Seat). not (goes first.name [] y.name))) (sym (ap (get old) e ∙ at))
+    kept_at k (inr d) = u.others k d ∙ by (get old k) refl where
+      by : (o : Option Seat) → get old k ≡ o → o ≡ kept (λ y. not (goes first.name [] y.name)) o
+      by None h = refl
+      by (Some y) h = two (name_cases y.name first.name) where
+        two : ((same_name y.name first.name ≡ true) × (y.name ≡ first.name)) ⊎ ((same_name y.name first.name ≡ false) × (y.name ≢ first.name)) → Some y ≡ kept (λ z. not (goes first.name [] z.name)) (Some y)
+        two (inl r) = absurd (d (distinct k t y first h at r.1))
+        two (inr r) = ap (λ b. cond (not (b || false)) (Some y) None) (sym r.0)
+
+  -- and then one whose mother has gone
+  module _ (mothers : MothersActive old.slots) (now next : Slab Seat) (names : List Name) (key m : ℕ) (x : Seat) (r : Falls old t first.name names now) (here : get now key ≡ Some x) (mother : x.mother ≡ Some m)
+      (gone : get now m ≡ None) (u : Updates now next key None) where
+    was : (get old key ≡ Some x) × (not (goes first.name names x.name) ≡ true)
+    was = kept_back (λ (y : Seat). not (goes first.name names y.name)) (get old key) x (sym (r.kept key) ∙ here)
+
+    absent : list_any (same_name x.name) names ≡ false
+    absent = (both_false (same_name x.name first.name) (list_any (same_name x.name) names) (not_true (goes first.name names x.name) was.1)).1
+
+    kept_more : (k : ℕ) → (k ≡ key) ⊎ (k ≢ key) → get next k ≡ kept (λ y. not (goes first.name (names ++ x.name ∷ []) y.name)) (get old k)
+    kept_more k (inl e) =
+        ap (get next) e ∙ u.changed
+        ∙ ap (λ b. cond (not b) (Some x) None) (sym (goes_more first.name names x.name x.name ∙ ap (λ b. goes first.name names x.name || b) (same_name_self x.name) ∙ or_true (goes first.name names x.name)))
+        ∙ ap (kept (λ (y : Seat). not (goes first.name (names ++ x.name ∷ []) y.name))) (sym (ap (get old) e ∙ was.0))
+    kept_more k (inr d) = u.others k d ∙ r.kept k ∙ same_kept (λ (y : Seat). not (goes first.name names y.name)) (λ (y : Seat). not (goes first.name (names ++ x.name ∷ []) y.name)) (get old k) agree where
+      agree : (y : Seat) → get old k ≡ Some y → not (goes first.name names y.name) ≡ not (goes first.name (names ++ x.name ∷ []) y.name)
+      agree y h = by (name_cases y.name x.name) where
+        by : ((same_name y.name x.name ≡ true) × (y.name ≡ x.name)) ⊎ ((same_name y.name x.name ≡ false) × (y.name ≢ x.name)) → not (goes first.name names y.name) ≡ not (goes first.name (names ++ x.name ∷ []) y.name)
+        by (inl p) = absurd (d (distinct k key y x h was.0 p.1))
+        by (inr p) = ap not (sym (goes_more first.name names x.name y.name ∙ ap (λ b. goes first.name names y.name || b) p.0 ∙ or_false (goes first.name names y.name)))
+
+    below_here : Below old.slots t key
+    below_here = by (either_true (same_name z.0.name first.name) (list_any (same_name z.0.name) names) fell) where
+      z : (z : Seat) × (get old m ≡ Some z)
+      z = of_some (get old m) (mothers key m x was.0 mother)
+      fell : goes first.name names z.0.name ≡ true
+      fell = not_false (goes first.name names z.0.name) (dropped_fails (λ (y : Seat). not (goes first.name names y.name)) z.0 (ap (kept (λ (y : Seat). not (goes first.name names y.name))) (sym z.1) ∙ sym (r.kept m) ∙ gone))
+      by : (same_name z.0.name first.name ≡ true) ⊎ (list_any (same_name z.0.name) names ≡ true) → Below old.slots t key
+      by (inl p) =
+          let e : m ≡ t = distinct m t z.0 first z.1 at (same_name_is z.0.name first.name p) in
+          child x was.0 (mother ∙ ap Some e)
+      by (inr p) =
+          let b = r.below z.0.name p in
+          let e : b.0 ≡ m = distinct b.0 m b.1 z.0 b.2 z.1 b.3 in
+          lower x (subst (λ (j : ℕ). Below old.slots t j) e b.4) was.0 mother
+
+    pub falls_more : (next_names : List Name) → next_names ≡ names ++ x.name ∷ [] → slab_len next + 1 ≡ slab_len now → next.capacity ≡ now.capacity → Falls old t first.name next_names next
+    falls_more next_names e len capacity = subst (λ ns. Falls old t first.name ns next) (sym e) (record {
+        kept = λ k. kept_more k (same_or_not k key);
+        below = λ q h. below q (either_true (list_any (same_name q) names) (same_name q x.name || false) (sym (list_any-append (same_name q) names (x.name ∷ [])) ∙ h));
+        once = λ q. once_more q x.name names (r.once q) absent;
+        len = (let long : length (names ++ x.name ∷ []) ≡ length names + 1 = length-append names (x.name ∷ []) in let before = r.len in omega arith);
+        capacity = capacity ∙ r.capacity;
+      }) where
+      below : (q : Name) → (list_any (same_name q) names ≡ true) ⊎ ((same_name q x.name || false) ≡ true) → (k : ℕ) × (y : Seat) × (get old k ≡ Some y) × (y.name ≡ q) × Below old.slots t k
+      below q (inl h) = r.below q h
+      below q (inr h) = (key, x, was.0, sym (same_name_is q x.name (sym (or_false (same_name q x.name)) ∙ h)), below_here)

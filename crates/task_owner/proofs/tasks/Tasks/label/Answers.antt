@@ -1,0 +1,31 @@
+use Rattle.std.proofs.Common.{◌<◌, length, ap, ◌∙◌, is_some, arith}
+use Rattle.mvs_model.specs.Owners.{entry}
+use Rattle.task_owner.proofs.tasks.Tasks.label.Goals as goal
+use Rattle.task_owner.proofs.Places.{read_at}
+use Rattle.task_owner.proofs.Reading.{number_low}
+use Rattle.task_owner.proofs.Labels.{labelled, unlabelled}
+
+pub number_at-requires : goal.number_at-requires
+number_at-requires c =
+    let range : c.get.result < length c.self.inside.owned.items = omega (arith, c.self.invariant.1, c.get.ensures.low) in
+    let o = read_at c.self.inside.owned.items c.get.result c.args.subpool c.index.result.now c.index.ensures c.get.ensures.value range ∙ c.in-Some.is in
+    let x = c.self.invariant.0.owners c.args.subpool c.in-Some.owned o in
+    number_low x.0 c.in-Some.owned.number c.args.subpool x.2
+
+pub seat_at-requires : goal.seat_at-requires
+seat_at-requires c =
+    let range : c.get.result < length c.self.inside.owned.items = omega (arith, c.self.invariant.1, c.get.ensures.low) in
+    let o = read_at c.self.inside.owned.items c.get.result c.args.subpool c.index.result.now c.index.ensures c.get.ensures.value range ∙ c.in-Some.is in
+    ap is_some (c.self.invariant.0.owners c.args.subpool c.in-Some.owned o).1
+
+pub returns-in-Some : goal.returns-in-Some
+returns-in-Some c =
+    let range : c.get.result < length c.self.inside.owned.items = omega (arith, c.self.invariant.1, c.get.ensures.low) in
+    let o = read_at c.self.inside.owned.items c.get.result c.args.subpool c.index.result.now c.index.ensures c.get.ensures.value range ∙ c.in-Some.is in
+    let both = labelled _ _ _ c.args.subpool c.self.view_is c.self.invariant.0 c.in-Some.owned c.seat_at.result.now o c.seat_at.ensures in
+    (both.0, ap (entry c.args.self.now.owners c.seat_at.result.now.name) c.number_at.ensures ∙ both.1)
+
+pub returns-in-None : goal.returns-in-None
+returns-in-None c =
+    let range : c.get.result < length c.self.inside.owned.items = omega (arith, c.self.invariant.1, c.get.ensures.low) in
+    unlabelled _ _ _ c.args.subpool c.self.view_is (read_at c.self.inside.owned.items c.get.result c.args.subpool c.index.result.now c.index.ensures c.get.ensures.value range ∙ c.in-None.is)

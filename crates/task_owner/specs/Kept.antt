@@ -1,0 +1,24 @@
+-- What holds of the tasks and their subpools at all times.
+use Rattle.std.specs.Prelude.{◌≡◌, ◌⊎◌, ℕ, ◌<◌, ◌≤◌, true, Option, Some, None, IsSome}
+use Rattle.std.specs.FinMap.{get, len}
+use Rattle.mvs_model.specs.declared.name.Name.{Name}
+use Rattle.mvs_model.specs.Owners.{Task, Owners, is_active, entry, IsMother, Descends}
+
+-- the task is active and nobody attached it
+abbrev pub IsFirst : Owners → Name → Type 0
+IsFirst o t = (task : Task) × (get o.tasks t ≡ Some task) × (task.mother ≡ None)
+
+-- The tasks are a family of at most 32, whose first one all the others descend from and of whom none descends from itself.
+-- The subpools that the tasks have are those that have an owner: each stands under one number, and its owner has it there.
+pub record OwnersKept (o : Owners) : Type 0 where
+  pub few : len o.tasks ≤ 32
+  pub mothers : (t x : Name) → IsMother o t x → is_active o t ≡ true
+  pub one_first : (t q : Name) → IsFirst o t → IsFirst o q → t ≡ q
+  pub reached : (x : Name) → is_active o x ≡ true → (t : Name) × IsFirst o t × ((x ≡ t) ⊎ Descends o t x)
+  pub no_cycle : (t : Name) → Descends o t t → ⊥
+  pub owned : (t : Name) (s : ℕ) → get o.owner s ≡ Some t → (n : ℕ) × (entry o t n ≡ Some s)
+  pub has_owner : (t : Name) (n s : ℕ) → entry o t n ≡ Some s → IsSome (get o.owner s)
+  pub one_number : (t q : Name) (m n s : ℕ) → entry o t m ≡ Some s → entry o q n ≡ Some s → m ≡ n
+  pub active : (t : Name) (n s : ℕ) → entry o t n ≡ Some s → is_active o t ≡ true
+  pub numbers : (t : Name) (n s : ℕ) → entry o t n ≡ Some s → n < 128
+  pub subpools : (t : Name) (s : ℕ) → get o.owner s ≡ Some t → s < 4096

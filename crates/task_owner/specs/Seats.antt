@@ -1,0 +1,86 @@
+-- How `Tasks` keeps its tasks. No public clause cites this module.
+use Rattle.std.specs.Prelude.{◌≡◌, ℕ, ◌<◌, ◌≤◌, List, [], ◌∷◌, map, length, Bool, Option, Some, None, IsSome, is_some, slice_index_or, nat_lt, if◌then◌else◌}
+use Rattle.std.specs.Option.{option_map}
+use Rattle.mvs_model.specs.declared.name.Name.{Name}
+use Rattle.mvs_model.specs.Name.{name_cmp, same_name}
+use Rattle.mvs_model.specs.Owners.{entry_cmp, Task}
+use Rattle.mvs_model.specs.Keyed.{keyed, pairs_below}
+use Rattle.mvs_model.specs.Table.{table}
+use Rattle.task_owner.specs.Directory.{Directory}
+use Rattle.task_owner.specs.declared.seat.Seat.{Seat}
+use Rattle.task_owner.specs.declared.seat.Owned.{Owned}
+
+-- what the list has at a place, and nothing past its end
+abbrev pub item_at : {X : Type 0} → List (Option X) → ℕ → Option X
+item_at xs k = slice_index_or xs k None
+
+-- the name of the task at a key
+abbrev pub name_of_seat : List (Option Seat) → ℕ → Option Name
+name_of_seat seats key = option_map (λ x. x.name) (item_at seats key)
+
+-- the subpool that a task has under a number
+abbrev pub number_of : Seat → ℕ → Option ℕ
+number_of x n = if nat_lt n 128 then item_at x.numbers n else None
+
+-- the first task of this name
+abbrev pub seat_named : List (Option Seat) → Name → Option Seat
+seat_named [] t = None
+seat_named (None ∷ rest) t = seat_named rest t
+seat_named (Some x ∷ rest) t = if same_name t x.name then Some x else seat_named rest t
+
+-- the names of the tasks
+abbrev pub names : List (Option Seat) → List Name
+names [] = []
+names (None ∷ rest) = names rest
+names (Some x ∷ rest) = x.name ∷ names rest
+
+-- the name of the mother, and with the residence what is said of a task
+abbrev pub mother_of : List (Option Seat) → Option ℕ → Option Name
+mother_of seats None = None
+mother_of seats (Some key) = name_of_seat seats key
+
+abbrev pub task_of : List (Option Seat) → Seat → Task
+task_of seats x = record { mother = mother_of seats x.mother; residence = x.residence }
+
+-- the subpool that a task, if there is one, has under a number
+abbrev pub entry_of : Option Seat → ℕ → Option ℕ
+entry_of None n = None
+entry_of (Some x) n = number_of x n
+
+-- the name of the owner, if there is one
+abbrev pub owner_name : List (Option Seat) → Option Owned → Option Name
+owner_name seats None = None
+owner_name seats (Some o) = name_of_seat seats o.owner
+
+-- the tasks and their subpools
+unfoldable pub directory : List (Option Seat) → List (Option Owned) → Directory
+directory seats owned = record {
+  owners = record {
+    tasks = keyed name_cmp (names seats) (λ t. option_map (task_of seats) (seat_named seats t));
+    table = keyed entry_cmp (pairs_below (names seats) 128) (λ e. entry_of (seat_named seats e.0) e.1);
+    owner = table (length owned) (λ s. owner_name seats (item_at owned s));
+  };
+  names = map (option_map (λ x. x.name)) seats;
+}
+
+-- no two tasks have one name
+abbrev pub Distinct : List (Option Seat) → Type 0
+Distinct seats = (j k : ℕ) (x y : Seat) → item_at seats j ≡ Some x → item_at seats k ≡ Some y → x.name ≡ y.name → j ≡ k
+
+-- each mother is active
+abbrev pub MothersActive : List (Option Seat) → Type 0
+MothersActive seats = (k m : ℕ) (x : Seat) → item_at seats k ≡ Some x → x.mother ≡ Some m → IsSome (item_at seats m)
+
+-- a mother has a lower rank than her subtasks
+abbrev pub Ranks : List (Option Seat) → (ℕ → ℕ) → Type 0
+Ranks seats rank = (k m : ℕ) (x : Seat) → item_at seats k ≡ Some x → x.mother ≡ Some m → rank m < rank k
+
+-- No two tasks have one name, each mother is active and no task descends from itself, one task at most has no mother, and
+-- the subpools that the tasks have are those that have an owner: each stands under one number, and its owner has it there.
+pub record IsSound (seats : List (Option Seat)) (owned : List (Option Owned)) : Type 0 where
+  pub distinct : Distinct seats
+  pub mothers : MothersActive seats
+  pub ranked : (rank : ℕ → ℕ) × Ranks seats rank
+  pub first : (j k : ℕ) (x y : Seat) → item_at seats j ≡ Some x → item_at seats k ≡ Some y → x.mother ≡ None → y.mother ≡ None → j ≡ k
+  pub entries : (k n s : ℕ) (x : Seat) → item_at seats k ≡ Some x → number_of x n ≡ Some s → (o : Owned) × (item_at owned s ≡ Some o) × (o.number ≡ n)
+  pub owners : (s : ℕ) (o : Owned) → item_at owned s ≡ Some o → (x : Seat) × (item_at seats o.owner ≡ Some x) × (number_of x o.number ≡ Some s)

@@ -1,0 +1,120 @@
+//! A task with its subpools, and who owns a subpool.
+
+ghost use Rattle.std.specs.Prelude.{◌≡◌, ◌≢◌, ◌<◌, ◌↔◌, ℕ, length, replicate, IsTrue, IsSome, IfOk, MatchOption, Some, None, slice_set};
+ghost use Rattle.slab.specs.Slab.{get, slab_len};
+ghost use Rattle.task_owner.specs.Seats.{item_at};
+ghost use Rattle.task_owner.specs.declared.seat.Seat.{Seat};
+ghost use Rattle.task_owner.specs.declared.seat.Owned.{Owned};
+
+use mvs_model::name::Name;
+use mvs_model::subpool::{SubNo, SubpoolId};
+use mvs_model::want::Residence;
+use slab::Slab;
+use std::alloc::{AllocError, Global};
+
+// A task, its mother by her key, and the subpools under its numbers.
+#[derive(Drop)]
+pub(crate) struct Seat {
+    pub(crate) name: Name,
+    pub(crate) mother: Option<usize>,
+    pub(crate) residence: Residence,
+    pub(crate) numbers: [Option<SubpoolId>; 128],
+}
+
+// Who owns a subpool, by his key, and under which number it stands.
+#[derive(Clone, Copy)]
+pub(crate) struct Owned {
+    pub(crate) owner: usize,
+    pub(crate) number: u8,
+}
+
+// The subpool number of a value that is one.
+pub(crate) fn number_at(value: u8) -> SubNo
+    requires { value < 128 }
+    ensures { result ≡ value }
+{
+    match SubNo::new(value) {
+        Some(number) => number,
+        None => unreachable!(),
+    }
+}
+
+// The task at a key.
+pub(crate) fn seat_at(active: &Slab<Seat>, key: usize) -> &Seat
+    requires { IsSome (get active.now key) }
+    ensures { get active.now key ≡ Some result.now }
+{
+    match active.get(key) {
+        Some(seat) => seat,
+        None => unreachable!(),
+    }
+}
+
+// Enters a subpool under a number of the task at a key.
+pub(crate) fn enter(active: &mut Slab<Seat>, key: usize, number: usize, subpool: SubpoolId)
+    requires there { IsSome (get active.old key) }
+    requires low { number < 128 }
+    ensures entered { (x : Seat) → get active.old key ≡ Some x → get active.new key ≡ Some (record x { numbers = slice_set x.numbers number (Some subpool) }) }
+    ensures fits { (x : Seat) → get active.old key ≡ Some x → number < length x.numbers }
+    ensures others { (k : ℕ) → k ≢ key → get active.new k ≡ get active.old k }
+    ensures len { slab_len active.new ≡ slab_len active.old }
+    ensures capacity { active.new.capacity ≡ active.old.capacity }
+{
+    match active.get_mut(key) {
+        Some(seat) => seat.numbers[number] = Some(subpool),
+        None => unreachable!(),
+    }
+}
+
+// The key of the task of this name.
+pub(crate) fn find_key(active: &Slab<Seat>, name: Name) -> Option<usize>
+    ensures { MatchOption result ((k : ℕ) (x : Seat) → get active.now k ≡ Some x → x.name ≢ name) (λ k. (x : Seat) × (get active.now k ≡ Some x) × (x.name ≡ name)) }
+{
+    for key in 0..active.capacity() {
+        if let Some(seat) = active.get(key) {
+            if seat.name == name {
+                return Some(key);
+            }
+        }
+    }
+    None
+}
+
+// Whether a task has the mother at the key.
+pub(crate) fn has_child(active: &Slab<Seat>, mother: usize) -> bool
+    ensures { IsTrue result ↔ ((k : ℕ) × (x : Seat) × (get active.now k ≡ Some x) × (x.mother ≡ Some mother)) }
+{
+    for key in 0..active.capacity() {
+        if let Some(seat) = active.get(key) {
+            if seat.mother == Some(mother) {
+                return true;
+            }
+        }
+    }
+    false
+}
+
+// The lowest subpool without an owner.
+pub(crate) fn first_spare(owned: &[Option<Owned>]) -> usize
+    requires { (s : ℕ) × (s < length owned.now) × (item_at owned.now s ≡ None) }
+    ensures spare { item_at owned.now result ≡ None }
+    ensures least { (r : ℕ) → r < result → IsSome (item_at owned.now r) }
+    ensures low { result < length owned.now }
+{
+    for s in 0..owned.len() {
+        if owned[s].is_none() {
+            return s;
+        }
+    }
+    unreachable!()
+}
+
+// 4,096 subpools without an owner.
+pub(crate) fn no_owners(alloc: Global) -> Result<Vec<Option<Owned>>, AllocError>
+    ensures { IfOk result (λ v. v.items ≡ replicate 4096 None) }
+{
+    match vec![in alloc; None; 4096] {
+        Ok(owned) => Ok(owned),
+        Err(error) => Err(error),
+    }
+}

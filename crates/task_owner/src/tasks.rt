@@ -1,0 +1,320 @@
+//! The active tasks and their subpools.
+
+ghost use Rattle.std.specs.Prelude.{◌≡◌, ◌≢◌, ◌<◌, ◌≤◌, ◌↔◌, ℕ, true, false, not, IsTrue, is_some, IfSome, IfOk, IfErr, OnOk, OnErr, MatchOption, Some, None};
+ghost use Rattle.std.specs.List.{Contains};
+ghost use Rattle.std.specs.List.Sorted.{IsStrictlySortedBy};
+ghost use Rattle.std.specs.Ordering.{nat_cmp};
+ghost use Rattle.std.specs.FinMap.{get, len};
+ghost use Rattle.mvs_model.specs.Finite.{has, kept};
+ghost use Rattle.mvs_model.specs.Owners.{entry, is_active, has_subtask, owns, IsSpare, Binds, IsFallen, goes, ends_with, Ends, Attach, attach_refusal, gives_shared};
+ghost use Rattle.task_owner.specs.Start.{first_owners};
+ghost use Rattle.task_owner.specs.Handing.{GetsEntry, SharesBelow, Admits};
+ghost use Rattle.task_owner.specs.Kept.{OwnersKept};
+ghost use Rattle.task_owner.specs.Directory.{name_at, IsTask, name_of, residence_of};
+
+use crate::family::{drop_entries, free_subpools, remove_family};
+use crate::handing::{hand_over, pass_on};
+use crate::seat::{Owned, Seat, enter, find_key, first_spare, has_child, no_owners, number_at, seat_at};
+use mvs_model::code::Code;
+use mvs_model::error::OutOfMemory;
+use mvs_model::gifts::Gifts;
+use mvs_model::name::Name;
+use mvs_model::request::Fallen;
+use mvs_model::short_list::ShortList;
+use mvs_model::subpool::{SubNo, SubpoolId};
+use mvs_model::want::Residence;
+use slab::Slab;
+use std::alloc::Global;
+use std::marker::Model;
+
+/// An active task. It stands for the same task until that task ends.
+#[derive(Clone, Copy, Debug, PartialEq, Eq)]
+pub struct TaskId {
+    key: usize,
+}
+
+impl Model for TaskId {
+    ghost use Rattle.std.specs.Prelude.{ℕ};
+
+    ghost Value = { ℕ };
+
+    ghost view = { λ t. t.key };
+
+    ghost inverse = { λ n. record { key = n } };
+}
+
+/// The active tasks, at most 32, and their subpools.
+#[derive(Drop)]
+pub struct Tasks {
+    active: Slab<Seat>,
+    owned: Vec<Option<Owned>>,
+}
+
+impl Model for Tasks {
+    ghost use Rattle.std.specs.Prelude.{◌≡◌, ◌≤◌, length};
+    ghost use Rattle.slab.specs.Slab.{slab_len};
+    ghost use Rattle.task_owner.specs.Directory.{Directory, directory_code};
+
+    ghost Value = { Directory };
+
+    ghost coded = { directory_code };
+
+    ghost use Rattle.task_owner.specs.Seats.{directory, IsSound};
+
+    ghost view = { λ t. directory t.active.slots t.owned.items };
+
+    ghost invariant = { λ t. IsSound t.active.slots t.owned.items × (length t.owned.items ≡ 4096) × (slab_len t.active ≤ 32) × (32 ≤ t.active.capacity) };
+}
+
+/// What goes with a task that ends.
+#[derive(Drop)]
+pub struct Gone {
+    /// Its descendants, in byte order of their names.
+    pub fallen: Fallen,
+    /// The subpools that it and its descendants owned, in rising order.
+    pub freed: ShortList<SubpoolId, 0, 4096>,
+}
+
+impl Tasks {
+    /// The job step task alone, which has no subpool yet, with room for 32 tasks. No later call takes memory.
+    pub fn new(alloc: Global, name: Name, residence: Residence) -> Result<Tasks, OutOfMemory>
+        ensures { IfOk result (λ d. d.owners ≡ first_owners name residence) }
+    {
+        let Ok(mut active) = Slab::with_capacity(alloc, 32) else {
+            return Err(OutOfMemory);
+        };
+        let Ok(owned) = no_owners(alloc) else {
+            return Err(OutOfMemory);
+        };
+        active.insert_reserved(Seat {
+            name,
+            mother: None,
+            residence,
+            numbers: [None; 128],
+        });
+        Ok(Tasks { active, owned })
+    }
+
+    /// The active task of this name.
+    pub fn find(&self, name: &Name) -> Option<TaskId>
+        ensures active { is_some result ≡ is_active self.now.owners name.now }
+        ensures named { IfSome result (λ id. name_at self.now id ≡ Some name.now) }
+        ensures kept { OwnersKept self.now.owners }
+    {
+        match find_key(&self.active, *name) {
+            Some(key) => Some(TaskId { key }),
+            None => None,
+        }
+    }
+
+    /// Whether the task has a subtask that is active.
+    pub fn has_active_subtasks(&self, t: TaskId) -> bool
+        requires { IsTask self.now t }
+        ensures { result ≡ has_subtask self.now.owners (name_of self.now t) }
+    {
+        has_child(&self.active, t.key)
+    }
+
+    /// Where the task's program resides.
+    pub fn residence(&self, t: TaskId) -> Residence
+        requires { IsTask self.now t }
+        ensures { residence_of self.now.owners (name_of self.now t) ≡ Some result }
+    {
+        seat_at(&self.active, t.key).residence
+    }
+
+    /// The subpool that the task has under the number.
+    pub fn subpool(&self, t: TaskId, number: SubNo) -> Option<SubpoolId>
+        requires { IsTask self.now t }
+        ensures { result ≡ entry self.now.owners (name_of self.now t) number }
+    {
+        seat_at(&self.active, t.key).numbers[number.get() as usize]
+    }
+
+    /// Whether the task has a subpool under the number and owns it.
+    pub fn owns(&self, t: TaskId, number: SubNo) -> bool
+        requires { IsTask self.now t }
+        ensures { result ≡ has (owns self.now.owners (name_of self.now t)) (entry self.now.owners (name_of self.now t) number) }
+    {
+        match self.subpool(t, number) {
+            Some(subpool) => self.is_owner(t, subpool),
+            None => false,
+        }
+    }
+
+    // Whether the task owns the subpool.
+    fn is_owner(&self, t: TaskId, subpool: SubpoolId) -> bool
+        requires { IsTask self.now t }
+        ensures { result ≡ owns self.now.owners (name_of self.now t) subpool }
+    {
+        match self.owned[subpool.get() as usize] {
+            Some(owned) => owned.owner == t.key,
+            None => false,
+        }
+    }
+
+    /// The lowest subpool that no task owns, for a number under which the task has none.
+    pub fn spare(&self, t: TaskId, number: SubNo) -> SubpoolId
+        requires active { IsTask self.now t }
+        requires none { entry self.now.owners (name_of self.now t) number ≡ None }
+        ensures { IsSpare self.now.owners result }
+    {
+        let _number = number.get();
+        SubpoolId::new(first_spare(self.owned.as_slice()) as u16)
+    }
+
+    /// Enters a subpool that no task owns under a number that the task does not have; the task then owns it.
+    pub fn bind(&mut self, t: TaskId, number: SubNo, subpool: SubpoolId)
+        requires active { IsTask self.old t }
+        requires none { entry self.old.owners (name_of self.old t) number ≡ None }
+        requires spare { get self.old.owners.owner subpool ≡ None }
+        ensures binds { Binds self.old.owners (name_of self.old t) number subpool self.new.owners }
+        ensures names { (id : ℕ) → name_at self.new id ≡ name_at self.old id }
+    {
+        let number = number.get();
+        enter(&mut self.active, t.key, number as usize, subpool);
+        self.owned[subpool.get() as usize] = Some(Owned {
+            owner: t.key,
+            number,
+        });
+    }
+
+    /// Attaches a subtask. The mother first gets a subpool under each number that she shares and does not have. Refused
+    /// are, in this order, a name that is active (user 4009), a task beyond 32 (user 4005), and the gift of a subpool
+    /// that the mother does not own (user 4003).
+    pub fn attach(&mut self, mother: TaskId, name: &Name, gifts: &Gifts, residence: Residence) -> Result<TaskId, Code>
+        requires { IsTask self.old mother }
+        ensures attached { OnOk result (Attach self.old.owners (name_of self.old mother) name.now gifts.now residence self.new.owners) }
+        ensures granted { OnOk result (attach_refusal self.old.owners (name_of self.old mother) name.now gifts.now ≡ None) }
+        ensures named { IfOk result (λ id. name_at self.new id ≡ Some name.now) }
+        ensures fresh { IfOk result (λ id. name_at self.old id ≡ None) }
+        ensures others { IfOk result (λ id. (k : ℕ) → k ≢ id → name_at self.new k ≡ name_at self.old k) }
+
+        ensures refused { IfErr result (λ code. attach_refusal self.old.owners (name_of self.old mother) name.now gifts.now ≡ Some code) }
+        ensures unchanged { OnErr result (self.new ≡ self.old) }
+    {
+        if let Some(code) = self.refusal(mother, name, gifts) {
+            return Err(code);
+        }
+        self.enter_shared(mother, gifts);
+        Ok(self.admit(mother, name, gifts, residence))
+    }
+
+    // Why an attach is refused, if it is.
+    fn refusal(&self, mother: TaskId, name: &Name, gifts: &Gifts) -> Option<Code>
+        requires { IsTask self.now mother }
+        ensures { result ≡ attach_refusal self.now.owners (name_of self.now mother) name.now gifts.now }
+    {
+        if self.find(name).is_some() {
+            return Some(Code::User(4009));
+        }
+        if self.active.len() >= 32 {
+            return Some(Code::User(4005));
+        }
+        if self.gives_shared(mother, gifts) {
+            return Some(Code::User(4003));
+        }
+        None
+    }
+
+    // Whether the task gives a subpool that it does not own.
+    fn gives_shared(&self, mother: TaskId, gifts: &Gifts) -> bool
+        requires { IsTask self.now mother }
+        ensures { result ≡ gives_shared self.now.owners (name_of self.now mother) gifts.now }
+    {
+        for n in 0..128u8 {
+            if gifts.gives(n) && self.is_shared(mother, number_at(n)) {
+                return true;
+            }
+        }
+        false
+    }
+
+    // Whether the task has a subpool under the number and does not own it.
+    fn is_shared(&self, t: TaskId, number: SubNo) -> bool
+        requires { IsTask self.now t }
+        ensures { result ≡ has (λ s. not (owns self.now.owners (name_of self.now t) s)) (entry self.now.owners (name_of self.now t) number) }
+    {
+        match self.subpool(t, number) {
+            Some(subpool) => !self.is_owner(t, subpool),
+            None => false,
+        }
+    }
+
+    // Gives the task a subpool under a number, if it has none.
+    fn enter_one(&mut self, t: TaskId, number: SubNo)
+        requires { IsTask self.old t }
+        ensures entered { GetsEntry self.old.owners (name_of self.old t) number self.new.owners }
+        ensures names { (id : ℕ) → name_at self.new id ≡ name_at self.old id }
+    {
+        match self.subpool(t, number) {
+            Some(_) => {}
+            None => {
+                let subpool = self.spare(t, number);
+                self.bind(t, number, subpool);
+            }
+        }
+    }
+
+    // Gives the mother a subpool under each number that she shares and does not have, in rising order.
+    fn enter_shared(&mut self, mother: TaskId, gifts: &Gifts)
+        requires { IsTask self.old mother }
+        ensures { SharesBelow self.old mother gifts.now 128 self.new }
+    {
+        for n in 0..128u8 {
+            if gifts.shares(n) {
+                self.enter_one(mother, number_at(n));
+            }
+        }
+    }
+
+    // Makes the name that of an active task, and hands over what the mother gives and shares.
+    fn admit(&mut self, mother: TaskId, name: &Name, gifts: &Gifts, residence: Residence) -> TaskId
+        requires active { IsTask self.old mother }
+        requires new { is_active self.old.owners name.now ≡ false }
+        requires room { len self.old.owners.tasks < 32 }
+        requires owned { gives_shared self.old.owners (name_of self.old mother) gifts.now ≡ false }
+        ensures admits { Admits self.old.owners (name_of self.old mother) name.now gifts.now residence self.new.owners }
+        ensures named { name_at self.new result ≡ Some name.now }
+        ensures fresh { name_at self.old result ≡ None }
+        ensures others { (k : ℕ) → k ≢ result → name_at self.new k ≡ name_at self.old k }
+    {
+        let numbers = hand_over(&mut self.active, mother.key, gifts);
+        let key = self.active.insert_reserved(Seat {
+            name: *name,
+            mother: Some(mother.key),
+            residence,
+            numbers,
+        });
+        pass_on(&mut self.owned, mother.key, key, gifts);
+        TaskId { key }
+    }
+
+    /// Ends the task and its descendants: the subpools that they own fall free, and no task has one of these any more.
+    pub fn end(&mut self, t: TaskId) -> Gone
+        requires { IsTask self.old t }
+        ensures fallen { IsFallen self.old.owners (name_of self.old t) result.fallen }
+        ensures ends { Ends self.old.owners (name_of self.old t) result.fallen self.new.owners }
+        ensures freed { (s : ℕ) → Contains result.freed s ↔ (ends_with self.old.owners (name_of self.old t) result.fallen s ≡ true) }
+        ensures rising { IsStrictlySortedBy nat_cmp result.freed }
+        ensures names { (id : ℕ) → name_at self.new id ≡ kept (λ x. not (goes (name_of self.old t) result.fallen x)) (name_at self.old id) }
+    {
+        let names = remove_family(&mut self.active, t.key);
+        let freed = free_subpools(&self.active, &mut self.owned);
+        drop_entries(&mut self.active, self.owned.as_slice());
+        Gone {
+            fallen: Fallen::new(names),
+            freed,
+        }
+    }
+
+    /// The number under which the subpool stands, and the name of its owner.
+    pub fn label(&self, subpool: SubpoolId) -> Option<(SubNo, Name)>
+        ensures { MatchOption result (get self.now.owners.owner subpool ≡ None) (λ r. (get self.now.owners.owner subpool ≡ Some r.1) × (entry self.now.owners r.1 r.0 ≡ Some subpool)) }
+    {
+        match self.owned[subpool.get() as usize] {
+            Some(owned) => Some((number_at(owned.number), seat_at(&self.active, owned.owner).name)),
+            None => None,
+        }
+    }
+}
