@@ -78,7 +78,7 @@ impl PageMap {
         requires { page < length self.now }
         ensures { result ≡ is_usable subpool (owner_of self.now page) }
     {
-        match self.owners[page] {
+        match self.owner(page) {
             None => true,
             Some(owner) => owner == subpool,
         }
