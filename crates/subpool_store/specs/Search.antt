@@ -36,6 +36,12 @@ abbrev pub Beats : Option Span → ℕ → Type 0
 Beats None n = ⊥
 Beats (Some p) n = n ≤ p.len
 
+-- where there is a first place, there is another, which is longer
+abbrev pub IsShorter : Option Span → Option Span → Type 0
+IsShorter None other = Unit {0}
+IsShorter (Some p) None = ⊥
+IsShorter (Some p) (Some q) = p.len < q.len
+
 -- a place of a length that is wanted, that meets what is wanted, and whose doublewords pass
 pub record IsCandidate (test : ℕ → Bool) (first : ℕ) (want : Wanted) (q : Span) : Type 0 where
   pub length : IsLength want q.len

@@ -2,6 +2,8 @@
 #![tactic(auto)]
 
 mod bit_list;
+mod data;
+mod half;
 mod held_map;
 mod run;
 mod search;

@@ -10,6 +10,7 @@ ghost use Rattle.subpool_store.specs.Search.{
   IsCandidate,
   IsExact,
   IsOnlyLength,
+  IsShorter,
   LongestIn,
 };
 
@@ -73,7 +74,7 @@ fn best_in(run: Place, want: &Want, only: Option<u32>) -> Option<Place>
 
 // The longer of two places, the first one if they are of one length.
 pub fn longer(one: Option<Place>, other: Option<Place>) -> Option<Place>
-    ensures either { (result ≡ one) ⊎ (result ≡ other) }
+    ensures either { (result ≡ one) ⊎ ((result ≡ other) × IsShorter one other) }
     ensures one { (n : ℕ) → Beats one n → Beats result n }
     ensures other { (n : ℕ) → Beats other n → Beats result n }
 {
@@ -102,6 +103,7 @@ pub fn find(first: u32, held: &HeldMap, pages: &PageMap, subpool: SubpoolId, wan
     requires one_side { first < 2097152 → first + length held.now ≤ 2097152 }
     ensures found { IfSome result.place (IsCandidate (may_take held.now pages.now subpool) first want.now) }
     ensures longest { (q : Span) → IsCandidate (may_take held.now pages.now subpool) first want.now q → Beats result.place q.len }
+    ensures wanted { IsWanted want.now }
 {
     let only = only_length(want);
     let mut walk = Walk::new();
