@@ -16,8 +16,10 @@ clear_words n ws is = record {
 } where
   count : length ws ≡ n
   count = ap length is ∙ length-replicate n 0
+
   at : (i w : ℕ) → w ≡ 0 → eqb (bit_at w (i % 64)) 1 ≡ false
   at i w zero = ap (λ v. eqb (bit_at v (i % 64)) 1) zero ∙ ap (λ x. eqb x 1) (bit_at-zero (i % 64))
+
   word_is : (k : ℕ) → get_or ws k 0 ≡ 0
   word_is k = elim (cases_lt k n) [
     | inl low ↦ ap (λ l. get_or l k 0) is ∙ get_or-replicate n k 0 0 low

@@ -49,6 +49,7 @@ joined_empty bound split = same_maps _ _ (λ k. get-table bound (joined_at split
   cond_same : (t : Bool) → cond {A = Option ℕ} t None None ≡ None
   cond_same true = refl
   cond_same false = refl
+
   nothing : (k : ℕ) → cond (ltb k bound) (joined_at split empty empty k) None ≡ None
   nothing k = ap (λ o. cond (ltb k bound) o None) (ap (λ o. cond (ltb k split) o (get (empty {K = ℕ} {X = ℕ} {R = nat_cmp}) k)) (get-empty nat_cmp k) ∙ ap (λ o. cond (ltb k split) None o) (get-empty nat_cmp k) ∙ cond_same (ltb k split)) ∙ cond_same (ltb k bound)
 
@@ -90,6 +91,7 @@ module _ (b a : HalfState) (fill : ℕ) where
     rule d e s t same at_d at_e (inr high) =
         let high_e : 2097152 ≤ e = omega arith in
         both.sound_above.rule d e s t same (sym (high_holder d high (holder_small d s at_d)) ∙ at_d) (sym (high_holder e high_e (holder_small e t at_e)) ∙ at_e)
+
     inside : (d s : ℕ) → holder (store_of b a fill) d ≡ Some s → (d < 2097152) ⊎ (2097152 ≤ d) → InRegion (regions_of b a fill) (span (8 * d) 8)
     inside d s held (inl low) =
         let in_half = both.sound_below.bounded d s (sym (low_holder d low) ∙ held) in
@@ -103,6 +105,7 @@ module _ (b a : HalfState) (fill : ℕ) where
         let from : a.first ≤ d = in_half.0 in
         let to : d < a.first + 512 * a.pages = in_half.1 in
         inr (omega arith, omega arith)
+
     bytes : (k : ℕ) → (k < 16777216) ⊎ (16777216 ≤ k) → (k < 2147483648) ⊎ (2147483648 ≤ k) → is_some (get (store_of b a fill).bytes k) ≡ is_some (holder (store_of b a fill) (k / 8))
     bytes k (inl low) small = ap is_some (low_byte k low) ∙ both.sound_below.bytes k ∙ sym (ap is_some (low_holder (k / 8) (omega arith)))
     bytes k (inr high) (inl small) = ap is_some (high_byte k high small) ∙ both.sound_above.bytes k ∙ sym (ap is_some (high_holder (k / 8) (omega arith) (omega arith)))
@@ -117,6 +120,7 @@ module _ (b a : HalfState) (fill : ℕ) where
   } where
     covered_low : (k : ℕ) → covers p k ≡ true → k < 2097152
     covered_low k hit = grind (arith, nat_tests)
+
     address_low : (k : ℕ) → has_address p k ≡ true → k < 16777216
     address_low k hit = grind (arith, nat_tests)
 
@@ -128,10 +132,13 @@ module _ (b a : HalfState) (fill : ℕ) where
   } where
     covered_high : (k : ℕ) → covers p k ≡ true → 2097152 ≤ k
     covered_high k hit = grind (arith, nat_tests)
+
     covered_low : (k : ℕ) → covers p k ≡ true → k < 268435456
     covered_low k hit = grind (arith, nat_tests)
+
     address_high : (k : ℕ) → has_address p k ≡ true → 16777216 ≤ k
     address_high k hit = grind (arith, nat_tests)
+
     address_low : (k : ℕ) → has_address p k ≡ true → k < 2147483648
     address_low k hit = grind (arith, nat_tests)
 
@@ -147,9 +154,11 @@ module _ (b a : HalfState) (fill : ℕ) where
     held k (inl below) small = get_low 268435456 2097152 b'.held a'.held (omega arith) k below ∙ low.held k ∙ sym (ap (kept (λ t. not (eqb t s))) (low_holder k below))
     held k (inr above) (inl small) = get_high 268435456 2097152 b'.held a'.held k above small ∙ high.held k ∙ sym (ap (kept (λ t. not (eqb t s))) (high_holder k above small))
     held k (inr above) (inr past) = get_past 268435456 2097152 b'.held a'.held k past ∙ sym (ap (kept (λ t. not (eqb t s))) (past_holder k past))
+
     cond_none : (t : Bool) → cond {A = Option ℕ} t None None ≡ None
     cond_none true = refl
     cond_none false = refl
+
     bytes : (k : ℕ) → (k < 16777216) ⊎ (16777216 ≤ k) → (k < 2147483648) ⊎ (2147483648 ≤ k) →
         get (joined 2147483648 16777216 b'.bytes a'.bytes) k ≡ cond (has (λ t. eqb t s) (holder (store_of b a fill) (k / 8))) None (get (joined 2147483648 16777216 b.bytes a.bytes) k)
     bytes k (inl below) small =
@@ -161,3 +170,42 @@ module _ (b a : HalfState) (fill : ℕ) where
     bytes k (inr above) (inr past) =
         get_past 2147483648 16777216 b'.bytes a'.bytes k past
         ∙ sym (ap (cond (has (λ t. eqb t s) (holder (store_of b a fill) (k / 8))) None) (past_byte k past) ∙ cond_none (has (λ t. eqb t s) (holder (store_of b a fill) (k / 8))))
+
+-- what is kept of the two halves when one of them changes
+pub new_below : (b a b' : HalfState) → IsStore b a → b'.first ≡ b.first → b'.pages ≡ b.pages → IsSound b' → IsStore b' a
+new_below b a b' both first pages sound = record {
+  first_below = first ∙ both.first_below;
+  first_above = both.first_above;
+  few_below = let few : b.pages ≤ 2048 = both.few_below in omega arith;
+  few_above = both.few_above;
+  sound_below = sound;
+  sound_above = both.sound_above;
+}
+
+pub new_above : (b a a' : HalfState) → IsStore b a → a'.first ≡ a.first → a'.pages ≡ a.pages → IsSound a' → IsStore b a'
+new_above b a a' both first pages sound = record {
+  first_below = both.first_below;
+  first_above = first ∙ both.first_above;
+  few_below = both.few_below;
+  few_above = let few : a.pages ≤ 8192 = both.few_above in omega arith;
+  sound_below = both.sound_below;
+  sound_above = sound;
+}
+
+-- the storage of two halves in which nothing is held
+pub nothing_stored : (b a : HalfState) (m n fill : ℕ) → b ≡ record { first = 3072; pages = m; held = empty; bytes = empty } → a ≡ record { first = 2097152; pages = n; held = empty; bytes = empty } →
+    store_of b a fill ≡ record { regions = record { below = m; above = n; fill = fill }; held = empty; bytes = empty }
+nothing_stored b a m n fill low high =
+    (λ i. store_of (low i) (high i) fill)
+    ∙ (λ i. record { regions = record { below = m; above = n; fill = fill }; held = joined_empty 268435456 2097152 i; bytes = joined_empty 2147483648 16777216 i })
+
+pub nothing_kept : (b a : HalfState) (m n : ℕ) → m ≤ 2048 → n ≤ 8192 → b ≡ record { first = 3072; pages = m; held = empty; bytes = empty } → a ≡ record { first = 2097152; pages = n; held = empty; bytes = empty } →
+    IsSound b → IsSound a → IsStore b a
+nothing_kept b a m n few_m few_n low high sound_b sound_a = record {
+  first_below = ap (λ h. h.first) low;
+  first_above = ap (λ h. h.first) high;
+  few_below = let e : b.pages ≡ m = ap (λ h. h.pages) low in omega arith;
+  few_above = let e : a.pages ≡ n = ap (λ h. h.pages) high in omega arith;
+  sound_below = sound_b;
+  sound_above = sound_a;
+}

@@ -63,13 +63,16 @@ module _ (first : ℕ) (bits bits' : List Bool) (pages pages' : List (Option ℕ
       ] where
         here : (a : ℕ) → has_address p a ≡ covers p (a / 8)
         here a = has_address_is p a (omega arith) (omega arith)
+
         low : (a : ℕ) → has_address p a ≡ true → 8 * first ≤ a
         low a hit = elim (cases_lt a (8 * first)) [
           | inr high ↦ high
           | inl below ↦ absurd (let e : false ≡ true = sym (covers_none first start end (a / 8) p addr_is (omega arith)) ∙ sym (here a) ∙ hit in cc)
         ]
+
         range_at : (a : ℕ) → has_address p a ≡ true → has_address p a ≡ in_range (8 * start) (8 * end) (a - 8 * first)
         range_at a hit = has_address_range first start end a p addr_is len_is some (low a hit)
+
         other : (a : ℕ) → has_address p a ≡ false → (a < 8 * first) ⊎ (8 * first ≤ a) →
             cond (is_some (shifted first (cell bits pages) (a / 8))) (Some (get_or bytes' (a - 8 * first) 0)) None ≡ byte_at first bits pages bytes a
         other a out (inl below) =
@@ -86,9 +89,9 @@ module _ (first : ℕ) (bits bits' : List Bool) (pages pages' : List (Option ℕ
       ∙ ap (λ o. cond (is_some o) (Some (get_or bytes (a - 8 * first) 0)) None) (holders (a / 8) ∙ ap (λ b. cond b None (shifted first (cell bits pages) (a / 8))) (sym (has_address_is p a on whole)))
       ∙ inner (has_address p a) (shifted first (cell bits pages) (a / 8))
       ∙ sym (ap (cond (has_address p a) None) (get-bytes_of first bits pages bytes a)) where
-    inner : (b : Bool) (o : Option ℕ) → cond (is_some (cond b None o)) (Some (get_or bytes (a - 8 * first) 0)) None ≡ cond b None (cond (is_some o) (Some (get_or bytes (a - 8 * first) 0)) None)
-    inner true o = refl
-    inner false o = refl
+        inner : (b : Bool) (o : Option ℕ) → cond (is_some (cond b None o)) (Some (get_or bytes (a - 8 * first) 0)) None ≡ cond b None (cond (is_some o) (Some (get_or bytes (a - 8 * first) 0)) None)
+        inner true o = refl
+        inner false o = refl
 
   pub dropped_shifted : (s : ℕ) → ((i : ℕ) → cell bits' pages' i ≡ kept (λ t. not (eqb t s)) (cell bits pages i)) →
       (k : ℕ) → (k < first) ⊎ (first ≤ k) → shifted first (cell bits' pages') k ≡ kept (λ t. not (eqb t s)) (shifted first (cell bits pages) k)
@@ -108,9 +111,9 @@ module _ (first : ℕ) (bits bits' : List Bool) (pages pages' : List (Option ℕ
       ∙ inner (shifted first (cell bits pages) (a / 8))
       ∙ sym (ap (λ o. cond (has (λ t. eqb t s) o) None (byte_at first bits pages bytes a)) (holder_at first bits pages (a / 8)))
       ∙ sym (ap (cond (has (λ t. eqb t s) (get (held_of first bits pages) (a / 8))) None) (get-bytes_of first bits pages bytes a)) where
-    inner : (o : Option ℕ) → cond (is_some (kept (λ t. not (eqb t s)) o)) (Some (get_or bytes (a - 8 * first) 0)) None ≡ cond (has (λ t. eqb t s) o) None (cond (is_some o) (Some (get_or bytes (a - 8 * first) 0)) None)
-    inner None = refl
-    inner (Some t) = at (eqb t s) where
-      at : (b : Bool) → cond (is_some (cond (not b) (Some t) None)) (Some (get_or bytes (a - 8 * first) 0)) None ≡ cond b None (Some (get_or bytes (a - 8 * first) 0))
-      at true = refl
-      at false = refl
+        inner : (o : Option ℕ) → cond (is_some (kept (λ t. not (eqb t s)) o)) (Some (get_or bytes (a - 8 * first) 0)) None ≡ cond (has (λ t. eqb t s) o) None (cond (is_some o) (Some (get_or bytes (a - 8 * first) 0)) None)
+        inner None = refl
+        inner (Some t) = at (eqb t s) where
+          at : (b : Bool) → cond (is_some (cond (not b) (Some t) None)) (Some (get_or bytes (a - 8 * first) 0)) None ≡ cond b None (Some (get_or bytes (a - 8 * first) 0))
+          at true = refl
+          at false = refl

@@ -58,26 +58,26 @@ module _ (start end s : ℕ) (bits bits' : List Bool) (pages pages' : List (Opti
 
   pub taken_exact : IsExact bits' pages'
   taken_exact = record {
-      most = subst (λ n. n ≤ 8192) (sym assigned.sizes) exact.most;
-      sizes = marked.sizes ∙ exact.sizes ∙ ap (λ n. 512 * n) (sym assigned.sizes);
-      free = λ i none.
-          elim (cases_Bool (in_range (start / 512) ((end - 1) / 512 + 1) (i / 512))) [
-            | inl inside ↦ absurd (none-some s (sym none ∙ assigned.each (i / 512) ∙ cond-true _ _ _ inside))
-            | inr outside ↦
-                marked.each i
-                ∙ cond-false _ _ _ (out_of_range_from start end i (λ low. let page_low : start / 512 ≤ i / 512 = omega arith in let out : (end - 1) / 512 + 1 ≤ i / 512 = in_range_false _ _ (i / 512) outside page_low in omega arith))
-                ∙ exact.free i (sym (cond-false _ _ _ outside) ∙ sym (assigned.each (i / 512)) ∙ none)
-          ];
-      used = λ p t owned.
-          elim (cases_Bool (in_range (start / 512) ((end - 1) / 512 + 1) p)) [
-            | inl inside ↦
-                let page = in_range_true _ _ p inside in
-                let at = page_index start end p some page.0 page.1 in
-                (at.0, at.1, marked.each at.0 ∙ cond-true _ _ _ (in_range_from start end at.0 at.2 at.3))
-            | inr outside ↦
-                let at = exact.used p t (sym (cond-false _ _ _ outside) ∙ sym (assigned.each p) ∙ owned) in
-                (at.0, at.1, marked.each at.0 ∙ ap (cond (in_range start end at.0) true) at.2 ∙ cond_same (in_range start end at.0))
-          ];
+    most = subst (λ n. n ≤ 8192) (sym assigned.sizes) exact.most;
+    sizes = marked.sizes ∙ exact.sizes ∙ ap (λ n. 512 * n) (sym assigned.sizes);
+    free = λ i none.
+        elim (cases_Bool (in_range (start / 512) ((end - 1) / 512 + 1) (i / 512))) [
+          | inl inside ↦ absurd (none-some s (sym none ∙ assigned.each (i / 512) ∙ cond-true _ _ _ inside))
+          | inr outside ↦
+              marked.each i
+              ∙ cond-false _ _ _ (out_of_range_from start end i (λ low. let page_low : start / 512 ≤ i / 512 = omega arith in let out : (end - 1) / 512 + 1 ≤ i / 512 = in_range_false _ _ (i / 512) outside page_low in omega arith))
+              ∙ exact.free i (sym (cond-false _ _ _ outside) ∙ sym (assigned.each (i / 512)) ∙ none)
+        ];
+    used = λ p t owned.
+        elim (cases_Bool (in_range (start / 512) ((end - 1) / 512 + 1) p)) [
+          | inl inside ↦
+              let page = in_range_true _ _ p inside in
+              let at = page_index start end p some page.0 page.1 in
+              (at.0, at.1, marked.each at.0 ∙ cond-true _ _ _ (in_range_from start end at.0 at.2 at.3))
+          | inr outside ↦
+              let at = exact.used p t (sym (cond-false _ _ _ outside) ∙ sym (assigned.each p) ∙ owned) in
+              (at.0, at.1, marked.each at.0 ∙ ap (cond (in_range start end at.0) true) at.2 ∙ cond_same (in_range start end at.0))
+        ];
   } where
     cond_same : (b : Bool) → cond b true true ≡ true
     cond_same true = refl
@@ -119,26 +119,26 @@ module _ (start end : ℕ) (bits bits' : List Bool) (pages pages' : List (Option
 
   pub given_exact : IsExact bits' pages'
   given_exact = record {
-      most = subst (λ n. n ≤ 8192) (sym given.sizes) exact.most;
-      sizes = marked.sizes ∙ exact.sizes ∙ ap (λ n. 512 * n) (sym given.sizes);
-      free = λ i none.
-          elim (cases_Bool (in_range (start / 512) ((end - 1) / 512 + 1) (i / 512))) [
-            | inr outside ↦ page_out i outside ∙ exact.free i (sym (given.outside (i / 512) outside) ∙ none)
-            | inl inside ↦ elim (given.inside (i / 512) inside) [
-              | inl gone ↦ gone.1 i refl
-              | inr kept ↦ absurd (both_ways _ (exact.free kept.1.0 (ap (owner_of pages) (kept.1.1) ∙ sym kept.0 ∙ none)) (bit_before kept.1.0 kept.1.2))
-            ]
-          ];
-      used = λ p t owned.
-          elim (cases_Bool (in_range (start / 512) ((end - 1) / 512 + 1) p)) [
-            | inr outside ↦
-                let at = exact.used p t (sym (given.outside p outside) ∙ owned) in
-                (at.0, at.1, page_out at.0 (ap (in_range (start / 512) ((end - 1) / 512 + 1)) at.1 ∙ outside) ∙ at.2)
-            | inl inside ↦ elim (given.inside p inside) [
-              | inl gone ↦ absurd (none-some t (sym gone.0 ∙ owned))
-              | inr kept ↦ kept.1
-            ]
-          ];
+    most = subst (λ n. n ≤ 8192) (sym given.sizes) exact.most;
+    sizes = marked.sizes ∙ exact.sizes ∙ ap (λ n. 512 * n) (sym given.sizes);
+    free = λ i none.
+        elim (cases_Bool (in_range (start / 512) ((end - 1) / 512 + 1) (i / 512))) [
+          | inr outside ↦ page_out i outside ∙ exact.free i (sym (given.outside (i / 512) outside) ∙ none)
+          | inl inside ↦ elim (given.inside (i / 512) inside) [
+            | inl gone ↦ gone.1 i refl
+            | inr kept ↦ absurd (both_ways _ (exact.free kept.1.0 (ap (owner_of pages) (kept.1.1) ∙ sym kept.0 ∙ none)) (bit_before kept.1.0 kept.1.2))
+          ]
+        ];
+    used = λ p t owned.
+        elim (cases_Bool (in_range (start / 512) ((end - 1) / 512 + 1) p)) [
+          | inr outside ↦
+              let at = exact.used p t (sym (given.outside p outside) ∙ owned) in
+              (at.0, at.1, page_out at.0 (ap (in_range (start / 512) ((end - 1) / 512 + 1)) at.1 ∙ outside) ∙ at.2)
+          | inl inside ↦ elim (given.inside p inside) [
+            | inl gone ↦ absurd (none-some t (sym gone.0 ∙ owned))
+            | inr kept ↦ kept.1
+          ]
+        ];
   }
 
 -- a doubleword and its page after all of s went

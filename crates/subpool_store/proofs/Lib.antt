@@ -8,3 +8,4 @@ pub mod Change
 pub mod Bytes
 pub mod Methods
 pub mod Both
+pub mod Choice

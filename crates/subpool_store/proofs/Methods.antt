@@ -38,6 +38,7 @@ nothing_kept first n bits pages bytes few aligned end one_side clear none size =
 } where
   count : length pages ≡ n
   count = ap length none ∙ length-replicate n None
+
   nobody : (p : ℕ) → (p < n) ⊎ (n ≤ p) → owner_of pages p ≡ None
   nobody p (inl low) = ap (λ l. owner_of l p) none ∙ get_or-replicate n p None None low
   nobody p (inr past) = get_or_past pages p None (let c : length pages ≡ n = count in omega (arith, c))

@@ -83,7 +83,12 @@ fn mark(words: &mut [u64], from: usize, to: usize, value: bool)
     'words: while at < to {
         let first = at / 64 * 64;
         let end = to.min(first + 64);
-        words[at / 64] = marked(words[at / 64], (at - first) as u32, (end - first) as u32, value);
+        words[at / 64] = marked(
+            words[at / 64],
+            (at - first) as u32,
+            (end - first) as u32,
+            value,
+        );
         at = end;
     }
 }

@@ -7,4 +7,7 @@ mod half;
 mod held_map;
 mod run;
 mod search;
+mod store;
 mod walk;
+
+pub use store::Store;

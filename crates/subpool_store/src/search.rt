@@ -56,7 +56,11 @@ fn only_length(want: &Want) -> Option<u32>
     ensures only { IfSome result (IsOnlyLength want.now) }
     ensures wanted { IsWanted want.now }
 {
-    if want.least() == want.most() { Some(want.least()) } else { None }
+    if want.least() == want.most() {
+        Some(want.least())
+    } else {
+        None
+    }
 }
 
 // A longest place of a run: the lowest one, where one length alone is wanted.
@@ -87,10 +91,12 @@ pub fn longer(one: Option<Place>, other: Option<Place>) -> Option<Place>
 
 // Whether no length that is wanted is greater than that of the place.
 pub fn is_longest(place: &Option<Place>, want: &Want) -> bool
-    ensures { IsTrue result → (n : ℕ) → IsLength want.now n → Beats place.now n }
+    ensures longest { IsTrue result → (n : ℕ) → IsLength want.now n → Beats place.now n }
+    ensures wanted { IsWanted want.now }
 {
+    let most = want.most();
     match place {
-        Some(place) => want.most() <= place.len(),
+        Some(place) => most <= place.len(),
         None => false,
     }
 }
