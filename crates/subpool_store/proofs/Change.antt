@@ -13,7 +13,7 @@ use Rattle.subpool_store.proofs.Exact.{cell_at, cell_none, usable_some}
 use Rattle.subpool_store.proofs.Ranges.{in_range_true, in_range_false, in_range_from, out_of_range_from}
 
 -- a page between the first and the last page of a range of indices has one of them
-page_index : (start end p : ℕ) → start < end → start / 512 ≤ p → p < (end - 1) / 512 + 1 → (i : ℕ) × (i / 512 ≡ p) × (start ≤ i) × (i < end)
+pub page_index : (start end p : ℕ) → start < end → start / 512 ≤ p → p < (end - 1) / 512 + 1 → (i : ℕ) × (i / 512 ≡ p) × (start ≤ i) × (i < end)
 page_index start end p some low high = (max start (512 * p), omega arith, omega arith, omega arith)
 
 -- the pages of a range whose doublewords pass are usable

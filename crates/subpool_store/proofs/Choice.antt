@@ -1,15 +1,17 @@
 -- A place is open in the two regions together where it is in one of them, and the choice between them.
-use Rattle.std.proofs.Common.{◌≡◌, ℕ, ◌+◌, ◌*◌, ◌/◌, ◌^◌, ◌<◌, ◌≤◌, ◌⊎◌, Option, Some, None, MatchOption, refl, sym, ap, ◌∙◌, subst, inl, inr, arith}
-use Rattle.std.proofs.lemmas.Bool.{cases_lt}
+use Rattle.std.proofs.Common.{◌≡◌, ℕ, ◌+◌, ◌-◌, ◌*◌, ◌/◌, ◌^◌, ◌<◌, ◌≤◌, ◌⊎◌, Option, Some, None, MatchOption, IsSome, is_some, List, length, get_or, refl, sym, ap, ◌∙◌, subst, inl, inr, arith}
+use Rattle.std.proofs.lemmas.Bool.{cases_lt, false≢true}
+use Rattle.std.proofs.lemmas.Option.{slice_get-get_or}
+use Rattle.std.specs.List.{slice_get}
 use Rattle.std.specs.FinMap.{get}
 use Rattle.mvs_model.specs.Span.{Span, span}
-use Rattle.mvs_model.specs.Storage.{Chosen, Covers, IsLength, LiesIn, MayTake, Meets, NoPlace, Open, Places, Storage, holder}
+use Rattle.mvs_model.specs.Storage.{AllHeld, Chosen, Covers, HeldBy, IsLength, IsPageOwner, LiesIn, MayTake, Meets, NoPlace, Open, Places, Storage, holder}
 use Rattle.mvs_model.specs.Wanted.{Wanted, IsWanted}
 use Rattle.mvs_model.specs.declared.want.Side.TheVariants.{Below}
-use Rattle.subpool_store.specs.Half.{BestIn, ChangedIn, HalfState, IsBest, OpenIn}
+use Rattle.subpool_store.specs.Half.{AllHeldIn, BestIn, ChangedIn, HalfState, HeldIn, IsBest, OpenIn, OwnsPage}
 use Rattle.subpool_store.specs.Joined.{BestAbove, IsStore, Taken, regions_of, store_of}
 use Rattle.subpool_store.specs.Search.{Beats, IsShorter}
-use Rattle.subpool_store.proofs.Both.{low_holder, high_holder, below_changes, above_changes}
+use Rattle.subpool_store.proofs.Both.{low_holder, high_holder, holder_small, low_byte, high_byte, below_changes, above_changes}
 
 -- who may take a doubleword is decided by its page alone
 same_may : (f g : ℕ → Option ℕ) (s d : ℕ) → ((e : ℕ) → e / 512 ≡ d / 512 → f e ≡ g e) → MayTake f s d → MayTake g s d
@@ -138,6 +140,16 @@ module _ (b a : HalfState) (fill : ℕ) (st : Storage) (both : IsStore b a) (is 
     | inr up ↦ up.0
   ]
 
+  pub open_high : 0x1000000 < p.addr + p.len → Open st.regions (holder st) s p → 0x1000000 ≤ p.addr
+  open_high high is_open = elim (open_split b a fill s both p some (subst (λ t. Open t.regions (holder t) s p) (sym is) is_open)) [
+    | inr up ↦ up.1
+    | inl below ↦
+        let first : b.first ≡ 3072 = both.first_below in
+        let few : b.pages ≤ 2048 = both.few_below in
+        let ends : p.addr + p.len ≤ 8 * b.first + 4096 * b.pages = below.0.inside.1 in
+        absurd (omega arith)
+  ]
+
   pub below_taken : (v w : Option ℕ) (b' : HalfState) → LiesIn (8 * b.first) (8 * b.first + 4096 * b.pages) p → ChangedIn b p v w b' → Taken st p v w (store_of b' a fill)
   below_taken v w b' inside change =
       let first : b.first ≡ 3072 = both.first_below in
@@ -149,3 +161,106 @@ module _ (b a : HalfState) (fill : ℕ) (st : Storage) (both : IsStore b a) (is 
       let first : a.first ≡ 2097152 = both.first_above in
       let few : a.pages ≤ 8192 = both.few_above in
       subst (λ t. Taken t p v w (store_of b a' fill)) is (above_changes b a fill a' p v w (omega arith) (omega arith) change)
+
+module _ (b a : HalfState) (fill : ℕ) (st : Storage) (both : IsStore b a) (is : store_of b a fill ≡ st) where
+  -- a doubleword that is held is held in one of the regions, and not at the end of the lower part
+  pub held_low : (d t : ℕ) → holder st d ≡ Some t → d < 2097152 → d < 1051648
+  held_low d t held low =
+      let first : b.first ≡ 3072 = both.first_below in
+      let few : b.pages ≤ 2048 = both.few_below in
+      let last : d < b.first + 512 * b.pages = (both.sound_below.bounded d t (sym (low_holder b a fill d low) ∙ ap (λ s. holder s d) is ∙ held)).1 in
+      omega arith
+
+  pub held_small : (d t : ℕ) → holder st d ≡ Some t → d < 268435456
+  held_small d t held = holder_small b a fill d t (ap (λ s. holder s d) is ∙ held)
+
+  pub low_is : (d : ℕ) → d < 2097152 → get b.held d ≡ holder st d
+  low_is d low = sym (low_holder b a fill d low) ∙ ap (λ t. holder t d) is
+
+  pub high_is : (d : ℕ) → 2097152 ≤ d → d < 268435456 → get a.held d ≡ holder st d
+  high_is d high small = sym (high_holder b a fill d high small) ∙ ap (λ t. holder t d) is
+
+  module _ (s : ℕ) (p : Span) (some : 1 ≤ p.len) where
+    -- a place that is held from below 16 megabytes on ends there
+    pub below_ends : p.addr < 0x1000000 → ((d : ℕ) → Covers p d → IsSome (holder st d)) → p.addr + p.len ≤ 0x1000000
+    below_ends low held = elim (cases_lt 0x1000000 (p.addr + p.len)) [
+      | inr fits ↦ fits
+      | inl past ↦ absurd (by (holder st 2097151) refl (held 2097151 (omega arith, omega arith)))
+    ] where
+      by : (o : Option ℕ) → holder st 2097151 ≡ o → IsSome o → ⊥
+      by None e none = false≢true none
+      by (Some t) e _ = let low : 2097151 < 1051648 = held_low 2097151 t e (omega arith) in omega arith
+
+    pub above_from : AllHeld st p → 0x1000000 < p.addr + p.len → 0x1000000 ≤ p.addr
+    above_from held high = elim (cases_lt p.addr 0x1000000) [
+      | inr up ↦ up
+      | inl low ↦ let ends : p.addr + p.len ≤ 0x1000000 = below_ends low held in absurd (omega arith)
+    ]
+
+    pub some_held : HeldBy st s p → (d : ℕ) → Covers p d → IsSome (holder st d)
+    some_held held d covered = ap is_some (held d covered)
+
+    pub held_below : p.addr < 0x1000000 → HeldBy st s p → HeldIn b s p
+    held_below low held d covered = let ends : p.addr + p.len ≤ 0x1000000 = below_ends low (some_held held) in low_is d (omega arith) ∙ held d covered
+
+    pub held_above : 0x1000000 ≤ p.addr → HeldBy st s p → HeldIn a s p
+    held_above high held d covered = high_is d (omega arith) (held_small d s (held d covered)) ∙ held d covered
+
+    pub below_held : HeldIn b s p → HeldBy st s p
+    below_held held d covered =
+        let first : b.first ≡ 3072 = both.first_below in
+        let few : b.pages ≤ 2048 = both.few_below in
+        let last : d < b.first + 512 * b.pages = (both.sound_below.bounded d s (held d covered)).1 in
+        sym (low_is d (omega arith)) ∙ held d covered
+
+    pub above_held : HeldIn a s p → HeldBy st s p
+    above_held held d covered =
+        let first : a.first ≡ 2097152 = both.first_above in
+        let few : a.pages ≤ 8192 = both.few_above in
+        let bound = both.sound_above.bounded d s (held d covered) in
+        let low : a.first ≤ d = bound.0 in
+        let last : d < a.first + 512 * a.pages = bound.1 in
+        sym (high_is d (omega arith) (omega arith)) ∙ held d covered
+
+    pub below_given : (b' : HalfState) → p.addr < 0x1000000 → HeldBy st s p → ChangedIn b p None None b' → Taken st p None None (store_of b' a fill)
+    below_given b' low held change = subst (λ t. Taken t p None None (store_of b' a fill)) is (below_changes b a fill b' p None None (below_ends low (some_held held)) change)
+
+    pub above_given : (a' : HalfState) → 0x1000000 ≤ p.addr → HeldBy st s p → ChangedIn a p None None a' → Taken st p None None (store_of b a' fill)
+    above_given a' high held change =
+        let last : (p.addr + p.len - 1) / 8 < 268435456 = held_small ((p.addr + p.len - 1) / 8) s (held ((p.addr + p.len - 1) / 8) (omega arith, omega arith)) in
+        subst (λ t. Taken t p None None (store_of b a' fill)) is (above_changes b a fill a' p None None high (omega arith) change)
+
+    -- the place is held in the region where it begins
+    pub all_below : p.addr < 0x1000000 → AllHeld st p → AllHeldIn b p
+    all_below low held d covered = let ends : p.addr + p.len ≤ 0x1000000 = below_ends low held in ap is_some (low_is d (omega arith)) ∙ held d covered
+
+    pub all_above : 0x1000000 ≤ p.addr → AllHeld st p → AllHeldIn a p
+    all_above high held d covered = by (holder st d) refl (held d covered) where
+      by : (o : Option ℕ) → holder st d ≡ o → IsSome o → IsSome (get a.held d)
+      by None e none = absurd (false≢true none)
+      by (Some t) e _ = ap is_some (high_is d (omega arith) (held_small d t e) ∙ e)
+
+    -- the bytes of the region are those of the storage
+    pub bytes_below : (part : List ℕ) → length part ≡ p.len → p.addr < 0x1000000 → AllHeld st p → ((k : ℕ) → k < p.len → get b.bytes (p.addr + k) ≡ Some (get_or part k 0)) →
+        (k : ℕ) → k < p.len → slice_get part k ≡ get st.bytes (p.addr + k)
+    bytes_below part size low held each k inside =
+        let ends : p.addr + p.len ≤ 0x1000000 = below_ends low held in
+        slice_get-get_or part k 0 (omega arith) ∙ sym (each k inside) ∙ sym (low_byte b a fill (p.addr + k) (omega arith)) ∙ ap (λ t. get t.bytes (p.addr + k)) is
+
+    pub bytes_above : (part : List ℕ) → length part ≡ p.len → 0x1000000 ≤ p.addr → AllHeld st p → ((k : ℕ) → k < p.len → get a.bytes (p.addr + k) ≡ Some (get_or part k 0)) →
+        (k : ℕ) → k < p.len → slice_get part k ≡ get st.bytes (p.addr + k)
+    bytes_above part size high held each k inside =
+        let small : (p.addr + k) / 8 < 268435456 = by (holder st ((p.addr + k) / 8)) refl (held ((p.addr + k) / 8) (omega arith, omega arith)) in
+        slice_get-get_or part k 0 (omega arith) ∙ sym (each k inside) ∙ sym (high_byte b a fill (p.addr + k) (omega arith) (omega arith)) ∙ ap (λ t. get t.bytes (p.addr + k)) is where
+          by : (o : Option ℕ) → holder st ((p.addr + k) / 8) ≡ o → IsSome o → (p.addr + k) / 8 < 268435456
+          by None e none = absurd (false≢true none)
+          by (Some t) e _ = held_small ((p.addr + k) / 8) t e
+
+  -- the owner of a page is the one in its region
+  pub owner_below : (x : ℕ) (o : Option ℕ) → x < 0x1000000 → OwnsPage b (x / 4096) o → IsPageOwner st x o
+  owner_below x None low none = λ d on. sym (low_is d (omega arith)) ∙ none d on
+  owner_below x (Some s) low found = let on : found.0 / 512 ≡ x / 4096 = found.1 in (found.0, found.1, sym (low_is found.0 (omega arith)) ∙ found.2)
+
+  pub owner_above : (x : ℕ) (o : Option ℕ) → 0x1000000 ≤ x → x < 2147483648 → OwnsPage a (x / 4096) o → IsPageOwner st x o
+  owner_above x None high small none = λ d on. sym (high_is d (omega arith) (omega arith)) ∙ none d on
+  owner_above x (Some s) high small found = let on : found.0 / 512 ≡ x / 4096 = found.1 in (found.0, found.1, sym (high_is found.0 (omega arith) (omega arith)) ∙ found.2)

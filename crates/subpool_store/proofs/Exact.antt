@@ -21,7 +21,7 @@ shifted_some first f d t e = grind (arith, nat_tests)
 pub shifted_none : {X : Type 0} → (first : ℕ) (f : ℕ → Option X) (d : ℕ) → (first ≤ d → f (d - first) ≡ None) → shifted first f d ≡ None
 shifted_none first f d h = grind (arith, nat_tests)
 
-cell_some : (bits : List Bool) (pages : List (Option ℕ)) (i t : ℕ) → cell bits pages i ≡ Some t → (get_or bits i false ≡ true) × (owner_of pages (i / 512) ≡ Some t)
+pub cell_some : (bits : List Bool) (pages : List (Option ℕ)) (i t : ℕ) → cell bits pages i ≡ Some t → (get_or bits i false ≡ true) × (owner_of pages (i / 512) ≡ Some t)
 cell_some bits pages i t = at_bit (get_or bits i false) (owner_of pages (i / 512)) where
   at_bit : (b : Bool) (o : Option ℕ) → cond b o None ≡ Some t → (b ≡ true) × (o ≡ Some t)
   at_bit true o e = (refl, e)

@@ -1,6 +1,6 @@
 -- What the methods of a region owe, over its parts.
-use Rattle.std.proofs.Common.{◌≡◌, ℕ, ◌+◌, ◌-◌, ◌*◌, ◌/◌, ◌%◌, ◌^◌, ◌<◌, ◌≤◌, not, eqb, Bool, true, false, cond, Option, Some, None, is_some, IfSome, List, length, get_or, replicate, ◌⊎◌, refl, sym, ap, ◌∙◌, subst, inl, inr, arith}
-use Rattle.std.proofs.lemmas.Bool.{cases_lt, cond-true}
+use Rattle.std.proofs.Common.{◌≡◌, ℕ, ◌+◌, ◌-◌, ◌*◌, ◌/◌, ◌%◌, ◌^◌, ◌<◌, ◌≤◌, not, eqb, Bool, true, false, cond, Option, Some, None, is_some, IsSome, IfSome, List, length, get_or, replicate, ◌⊎◌, refl, sym, ap, ◌∙◌, subst, inl, inr, arith}
+use Rattle.std.proofs.lemmas.Bool.{cases_lt, cond-true, false≢true}
 use Rattle.std.proofs.lemmas.List.{get_or_past, get_or-replicate, length-replicate}
 use Rattle.std.proofs.lemmas.Option.{none-some, same_Some}
 use Rattle.std.specs.Ordering.{nat_cmp}
@@ -12,11 +12,11 @@ use Rattle.mvs_model.proofs.Tables.{same_maps}
 use Rattle.page_map.specs.Owners.{owner_of, is_usable}
 use Rattle.subpool_store.specs.Bits.{in_range}
 use Rattle.subpool_store.specs.Edits.{IsClear, IsMarked, IsAssigned, IsGivenUp, IsDropped, IsFilled}
-use Rattle.subpool_store.specs.Half.{HalfState, cell, shifted, byte_at, IsHalf, IsSound, held_of, bytes_of, half_of, OpenIn, HeldIn, BestIn, IsBest, ChangedIn, DroppedIn}
+use Rattle.subpool_store.specs.Half.{HalfState, cell, shifted, byte_at, IsHalf, IsSound, held_of, bytes_of, half_of, OpenIn, HeldIn, BestIn, IsBest, ChangedIn, DroppedIn, AllHeldIn, OwnsPage}
 use Rattle.subpool_store.specs.Search.{AllPass, Beats, IsCandidate, IsExact, may_take}
 use Rattle.subpool_store.proofs.Bytes.{get-bytes_of, cells_change, holders_change, taken_bytes, given_bytes, dropped_holders, dropped_bytes}
-use Rattle.subpool_store.proofs.Change.{pages_usable, taken_cell, taken_exact, given_cell, given_exact, dropped_cell, dropped_exact}
-use Rattle.subpool_store.proofs.Exact.{holder_at, holder_some, holder_index, shifted_at, shifted_none, cell_none, open_from, open_of}
+use Rattle.subpool_store.proofs.Change.{page_index, pages_usable, taken_cell, taken_exact, given_cell, given_exact, dropped_cell, dropped_exact}
+use Rattle.subpool_store.proofs.Exact.{holder_at, holder_some, holder_index, shifted_at, shifted_none, cell_at, cell_none, cell_some, open_from, open_of}
 
 set_within : (bits : List Bool) (i : ℕ) → get_or bits i false ≡ true → i < length bits
 set_within bits i set = elim (cases_lt i (length bits)) [ inl low ↦ low | inr high ↦ absurd (let e : false ≡ true = sym (get_or_past bits i false high) ∙ set in cc) ]
@@ -224,7 +224,65 @@ module _ (first : ℕ) (bits : List Bool) (pages : List (Option ℕ)) (bytes : L
       sym (shifted_none first (cell bits pages) d (λ low. cell_none bits pages (d - first) (get_or_past bits (d - first) false (out low)))) ∙ sym (holder_at first bits pages d) ∙ ap (λ g. get g.held d) is
 
   -- the byte at an address whose doubleword is held
-  pub byte_held : (a t : ℕ) → get h.held (a / 8) ≡ Some t → get h.bytes a ≡ Some (get_or bytes (a - 8 * first) 0)
-  byte_held a t held =
+  pub byte_held : (a : ℕ) → IsSome (get h.held (a / 8)) → get h.bytes a ≡ Some (get_or bytes (a - 8 * first) 0)
+  byte_held a held =
       sym (ap (λ g. get g.bytes a) is) ∙ get-bytes_of first bits pages bytes a
-      ∙ cond-true _ _ _ (ap is_some (sym (holder_at first bits pages (a / 8)) ∙ ap (λ g. get g.held (a / 8)) is ∙ held))
+      ∙ cond-true _ _ _ (ap is_some (sym (holder_at first bits pages (a / 8)) ∙ ap (λ g. get g.held (a / 8)) is) ∙ held)
+
+  -- a place that is held by some subpools lies in the region
+  pub all_inside : (p : Span) → 1 ≤ p.len → AllHeldIn h p → LiesIn (8 * first) (8 * first + 8 * length bits) p
+  all_inside p some held =
+      let begin = at (p.addr / 8) (held (p.addr / 8) (omega arith, omega arith)) in
+      let last = at ((p.addr + p.len - 1) / 8) (held ((p.addr + p.len - 1) / 8) (omega arith, omega arith)) in
+      let low : first ≤ p.addr / 8 = begin.0 in
+      let last_low : first ≤ (p.addr + p.len - 1) / 8 = last.0 in
+      let last_in : (p.addr + p.len - 1) / 8 - first < length bits = last.1 in
+      (omega arith, omega arith) where
+        at : (d : ℕ) → IsSome (get h.held d) → (first ≤ d) × (d - first < length bits)
+        at d held = by (get h.held d) refl held where
+          by : (o : Option ℕ) → get h.held d ≡ o → IsSome o → (first ≤ d) × (d - first < length bits)
+          by None e none = absurd (false≢true none)
+          by (Some t) e _ = let there = holder_some first bits pages d t (ap (λ g. get g.held d) is ∙ e) in (there.0, set_within bits (d - first) there.1)
+
+  -- the bytes of a place are read off the part of the bytes that is its own
+  pub part_bytes : (p : Span) (part : List ℕ) → 1 ≤ p.len → AllHeldIn h p → ((k : ℕ) → k < p.len → get_or part k 0 ≡ get_or bytes (p.addr - 8 * first + k) 0) →
+      (k : ℕ) → k < p.len → get h.bytes (p.addr + k) ≡ Some (get_or part k 0)
+  part_bytes p part some held each k low =
+      let inside : 8 * first ≤ p.addr = (all_inside p some held).0 in
+      let at : p.addr + k - 8 * first ≡ p.addr - 8 * first + k = omega arith in
+      byte_held (p.addr + k) (held ((p.addr + k) / 8) (omega arith, omega arith)) ∙ ap Some (ap (λ i. get_or bytes i 0) at ∙ sym (each k low))
+
+  -- the owner of a page
+  pub no_page : (p : ℕ) → first % 512 ≡ 0 → length bits ≡ 512 * length pages → (first / 512 ≤ p → length pages ≤ p - first / 512) → OwnsPage h p None
+  no_page p aligned sizes out d on = sym (holder_outside d (λ low. let past : length pages ≤ p - first / 512 = out (omega arith) in omega arith))
+
+  pub page_owner : (p : ℕ) → first % 512 ≡ 0 → IsExact bits pages → first / 512 ≤ p → OwnsPage h p (owner_of pages (p - first / 512))
+  page_owner p aligned exact low = by (owner_of pages (p - first / 512)) refl where
+    by : (o : Option ℕ) → owner_of pages (p - first / 512) ≡ o → OwnsPage h p o
+    by None e = λ d on.
+        let from : first ≤ d = omega arith in
+        let page : (d - first) / 512 ≡ p - first / 512 = omega arith in
+        sym (holder_inside d from) ∙ cell_none bits pages (d - first) (exact.free (d - first) (ap (owner_of pages) page ∙ e))
+    by (Some s) e =
+        let used = exact.used (p - first / 512) s e in
+        let on : used.0 / 512 ≡ p - first / 512 = used.1 in
+        let is_index : first + used.0 - first ≡ used.0 = omega arith in (
+          first + used.0,
+          omega arith,
+          sym (holder_inside (first + used.0) (omega arith)) ∙ ap (cell bits pages) is_index ∙ cell_at bits pages used.0 used.2 ∙ ap (owner_of pages) on ∙ e,
+        )
+
+-- the cells of a run are all of s where its pages are and its bits are set
+pub run_of_cells : (bits : List Bool) (pages : List (Option ℕ)) (s start end : ℕ) → ((p : ℕ) → start / 512 ≤ p → p < (end - 1) / 512 + 1 → owner_of pages p ≡ Some s) →
+    ((i : ℕ) → start ≤ i → i < end → get_or bits i false ≡ true) → (i : ℕ) → start ≤ i → i < end → cell bits pages i ≡ Some s
+run_of_cells bits pages s start end owned set i low high = cell_at bits pages i (set i low high) ∙ owned (i / 512) (omega arith) (omega arith)
+
+pub cells_of_run : (bits : List Bool) (pages : List (Option ℕ)) (s start end : ℕ) → start < end → ((i : ℕ) → start ≤ i → i < end → cell bits pages i ≡ Some s) →
+    (p : ℕ) → start / 512 ≤ p → p < (end - 1) / 512 + 1 → owner_of pages p ≡ Some s
+cells_of_run bits pages s start end some cells p low high =
+    let at = page_index start end p some low high in
+    ap (owner_of pages) (sym at.1) ∙ (cell_some bits pages at.0 s (cells at.0 at.2 at.3)).1
+
+pub bits_of_run : (bits : List Bool) (pages : List (Option ℕ)) (s start end : ℕ) → ((i : ℕ) → start ≤ i → i < end → cell bits pages i ≡ Some s) →
+    (i : ℕ) → start ≤ i → i < end → get_or bits i false ≡ true
+bits_of_run bits pages s start end cells i low high = (cell_some bits pages i s (cells i low high)).0

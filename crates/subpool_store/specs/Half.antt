@@ -1,5 +1,5 @@
 -- One region: which of its doublewords are held, the owners of its pages, and its bytes.
-use Rattle.std.specs.Prelude.{◌≡◌, ℕ, ◌+◌, ◌-◌, ◌*◌, ◌/◌, ◌%◌, ◌^◌, ◌<◌, ◌≤◌, ◌==◌, not, Bool, false, Option, Some, None, List, length, is_some, nat_le, slice_index, slice_index_or, MatchOption, if◌then◌else◌, refl}
+use Rattle.std.specs.Prelude.{◌≡◌, ℕ, ◌+◌, ◌-◌, ◌*◌, ◌/◌, ◌%◌, ◌^◌, ◌<◌, ◌≤◌, ◌==◌, not, Bool, false, Option, Some, None, List, length, is_some, nat_le, slice_index, slice_index_or, MatchOption, IsSome, if◌then◌else◌, refl}
 use Rattle.std.specs.Ordering.{nat_cmp}
 use Rattle.std.specs.FinMap.{FinMap, get, code}
 use Rattle.std.specs.Coded.{Coded, code_by, coded×, coded_ℕ}
@@ -69,6 +69,16 @@ pub record OpenIn (h : HalfState) (s : ℕ) (p : Span) : Type 0 where
 -- each doubleword of the place is held by s in the region
 abbrev pub HeldIn : HalfState → ℕ → Span → Type 0
 HeldIn h s p = (d : ℕ) → Covers p d → get h.held d ≡ Some s
+
+-- each doubleword of the place is held in the region
+abbrev pub AllHeldIn : HalfState → Span → Type 0
+AllHeldIn h p = (d : ℕ) → Covers p d → IsSome (get h.held d)
+
+-- the subpool is the one that holds a doubleword of the page; there is none where nothing of the page is held
+abbrev pub OwnsPage : HalfState → ℕ → Option ℕ → Type 0
+OwnsPage h p owner = MatchOption owner
+    ((d : ℕ) → d / 512 ≡ p → get h.held d ≡ None)
+    (λ s. (d : ℕ) × (d / 512 ≡ p) × (get h.held d ≡ Some s))
 
 -- A place of a length that is wanted is open in the region and meets what is wanted; none of them is longer.
 pub record IsBest (h : HalfState) (s : ℕ) (want : Wanted) (p : Span) : Type 0 where

@@ -7,11 +7,14 @@ ghost use Rattle.mvs_model.specs.Wanted.{IsWanted};
 ghost use Rattle.page_map.specs.Owners.{owner_of, is_usable};
 ghost use Rattle.subpool_store.specs.Edits.{IsAssigned, IsGivenUp, IsDropped};
 ghost use Rattle.subpool_store.specs.Half.{
+  AllHeldIn,
   BestIn,
   ChangedIn,
   DroppedIn,
+  HeldIn,
   IsSound,
   OpenIn,
+  OwnsPage,
   cell,
 };
 
@@ -52,6 +55,48 @@ fn assign_pages(pages: &mut PageMap, subpool: SubpoolId, from: usize, to: usize)
             pages.assign(page, subpool);
         }
     }
+}
+
+// Gives up the pages of a range of which nothing is held.
+fn give_up_pages(held: &HeldMap, pages: &mut PageMap, from: usize, to: usize)
+    requires ordered { from ≤ to }
+    requires within { to ≤ length pages.old }
+    requires few { length pages.old ≤ 8192 }
+    requires sizes { length held.now ≡ 512 * length pages.old }
+    ensures { IsGivenUp held.now pages.old from to pages.new }
+{
+    for page in from..to {
+        if held.is_whole(page) {
+            pages.unassign(page);
+        }
+    }
+}
+
+// Whether the pages of a range are all the subpool's.
+fn are_of(pages: &PageMap, subpool: SubpoolId, from: usize, to: usize) -> bool
+    requires ordered { from ≤ to }
+    requires within { to ≤ length pages.now }
+    ensures { IsTrue result ↔ ((p : ℕ) → from ≤ p → p < to → owner_of pages.now p ≡ Some subpool) }
+{
+    for page in from..to {
+        if pages.owner(page) != Some(subpool) {
+            return false;
+        }
+    }
+    true
+}
+
+// Whether the subpool holds each doubleword of a run.
+fn holds_run(held: &HeldMap, pages: &PageMap, subpool: SubpoolId, run: Run) -> bool
+    requires some { run.start < run.end }
+    requires within { run.end ≤ length held.now }
+    requires sizes { length held.now ≡ 512 * length pages.now }
+    ensures { IsTrue result ↔ ((i : ℕ) → run.start ≤ i → i < run.end → cell held.now pages.now i ≡ Some subpool) }
+{
+    if !are_of(pages, subpool, run.start / 512, (run.end - 1) / 512 + 1) {
+        return false;
+    }
+    held.are_held(run)
 }
 
 // Gives up the pages of the subpool, and what is held of them.
@@ -146,6 +191,40 @@ impl Half {
         self.data.fill(8 * run.start, 8 * run.end, fill);
     }
 
+    // Whether the subpool holds each doubleword of the place.
+    pub fn holds(&self, subpool: SubpoolId, place: Place) -> bool
+        requires whole { IsWhole place }
+        requires some { 8 ≤ place.len }
+        ensures { IsTrue result ↔ HeldIn self.now subpool place }
+    {
+        if place.addr().get() / 8 < self.first {
+            return false;
+        }
+        let run = run_of(self.first, place);
+        if 512 * self.pages.pages() < run.end {
+            return false;
+        }
+        holds_run(&self.held, &self.pages, subpool, run)
+    }
+
+    // Takes back a place that the subpool holds.
+    pub fn give(&mut self, subpool: SubpoolId, place: Place)
+        requires held { HeldIn self.old subpool place }
+        requires whole { IsWhole place }
+        requires some { 8 ≤ place.len }
+        ensures given { ChangedIn self.old place None None self.new }
+        ensures sound { IsSound self.new }
+    {
+        let run = run_of(self.first, place);
+        self.held.give(run);
+        give_up_pages(
+            &self.held,
+            &mut self.pages,
+            run.start / 512,
+            (run.end - 1) / 512 + 1,
+        );
+    }
+
     // Takes back all that the subpool holds.
     pub fn release_all(&mut self, subpool: SubpoolId)
         ensures dropped { DroppedIn self.old subpool self.new }
@@ -163,5 +242,27 @@ impl Half {
             return None;
         }
         cell(&self.held, &self.pages, (at - self.first) as usize)
+    }
+
+    // The subpool that the page of an address is assigned to.
+    pub fn page_owner(&self, addr: Addr) -> Option<SubpoolId>
+        ensures { OwnsPage self.now (addr / 4096) result }
+    {
+        let page = addr.get() / 4096;
+        if page < self.first / 512 || self.pages.pages() <= (page - self.first / 512) as usize {
+            return None;
+        }
+        self.pages.owner((page - self.first / 512) as usize)
+    }
+
+    // The bytes of a place.
+    pub fn part(&self, place: Place) -> &[u8]
+        requires { AllHeldIn self.now place }
+        ensures len { length result.now ≡ place.len }
+        ensures each { (k : ℕ) → k < place.len → get self.now.bytes (place.addr + k) ≡ Some (slice_index result.now k) }
+    {
+        let len = place.len() as usize;
+        let from = (place.addr().get() - 8 * self.first) as usize;
+        self.data.part(from, from + len)
     }
 }

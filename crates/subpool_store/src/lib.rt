@@ -10,4 +10,4 @@ mod search;
 mod store;
 mod walk;
 
-pub use store::Store;
+pub use store::{NotHeld, Store};

@@ -1,14 +1,18 @@
 //! Storage of both regions.
 
-ghost use Rattle.std.specs.Prelude.{◌≡◌, ◌<◌, ◌≤◌, ◌+◌, ◌*◌, ◌/◌, ◌%◌, ◌^◌, ◌↔◌, Some, None, MatchOption, MatchResult, IfOk, IsTrue, ℕ};
+ghost use Rattle.std.specs.Prelude.{◌≡◌, ◌<◌, ◌≤◌, ◌+◌, ◌*◌, ◌/◌, ◌%◌, ◌^◌, ◌↔◌, Some, None, MatchBool, MatchOption, MatchResult, IfOk, IsTrue, ℕ, length, slice_get};
 ghost use Rattle.std.specs.FinMap.{get, empty};
 ghost use Rattle.mvs_model.specs.Storage.{
+  AllHeld,
   Chosen,
   Grant,
+  HeldBy,
+  IsPageOwner,
   IsStorage,
   IsWhole,
   NoPlace,
   Open,
+  Release,
   ReleaseAll,
   holder,
 };
@@ -22,6 +26,12 @@ use mvs_model::subpool::SubpoolId;
 use mvs_model::want::{Placement, Side, Want};
 use std::alloc::Global;
 use std::marker::Model;
+use thiserror::Error;
+
+/// The subpool does not hold each doubleword of the place.
+#[derive(Clone, Copy, Debug, PartialEq, Eq, Error)]
+#[error("storage is not held by the subpool")]
+pub struct NotHeld;
 
 /// The storage of a step: which subpool holds a doubleword, and which byte stands at an address, in the region
 /// below 16 megabytes and in the region above.
@@ -44,6 +54,14 @@ impl Model for Store {
     ghost view = { λ s. store_of s.below s.above s.fill };
 
     ghost invariant = { λ s. IsStore s.below s.above };
+}
+
+// Whether the place lies below 16 megabytes.
+fn is_below(place: Place) -> bool
+    ensures below { MatchBool result (place.addr + place.len ≤ 0x1000000) (0x1000000 < place.addr + place.len) }
+    ensures some { 1 ≤ place.len }
+{
+    u64::from(place.addr().get()) + u64::from(place.len()) <= 0x100_0000
 }
 
 // The best place in the region above, if a place may be there.
@@ -102,7 +120,7 @@ impl Store {
         ensures taken { Taken self.old place (Some subpool) (Some self.old.regions.fill) self.new }
         ensures storage { IsStorage self.new }
     {
-        if place.addr().get() < 0x100_0000 {
+        if is_below(place) {
             self.below.take(subpool, place, self.fill);
         } else {
             self.above.take(subpool, place, self.fill);
@@ -126,6 +144,36 @@ impl Store {
         Some(place)
     }
 
+    // Takes back a place that the subpool holds.
+    fn give(&mut self, subpool: SubpoolId, place: Place)
+        requires held { HeldBy self.old subpool place }
+        requires whole { IsWhole place }
+        ensures given { Taken self.old place None None self.new }
+        ensures storage { IsStorage self.new }
+    {
+        if is_below(place) {
+            self.below.give(subpool, place);
+        } else {
+            self.above.give(subpool, place);
+        }
+    }
+
+    /// Releases a place of whole doublewords. It is refused where the subpool does not hold all of it, and then
+    /// nothing changes (Assembler Services Reference, FREEMAIN).
+    pub fn release(&mut self, subpool: SubpoolId, place: Place) -> Result<(), NotHeld>
+        requires { IsWhole place }
+        ensures released { MatchResult result
+            (λ _. Release self.old subpool place self.new)
+            (λ _. (HeldBy self.old subpool place → ⊥) × (self.new ≡ self.old)) }
+        ensures storage { IsStorage self.new }
+    {
+        if !self.holds(subpool, place) {
+            return Err(NotHeld);
+        }
+        self.give(subpool, place);
+        Ok(())
+    }
+
     /// Takes back all that the subpool holds (Assembler Services Reference, FREEMAIN, subpool release).
     pub fn release_all(&mut self, subpool: SubpoolId)
         ensures released { ReleaseAll self.old subpool self.new }
@@ -133,6 +181,19 @@ impl Store {
     {
         self.below.release_all(subpool);
         self.above.release_all(subpool);
+    }
+
+    /// Whether the subpool holds each doubleword of a place of whole doublewords.
+    pub fn holds(&self, subpool: SubpoolId, place: Place) -> bool
+        requires { IsWhole place }
+        ensures holds { IsTrue result ↔ HeldBy self.now subpool place }
+        ensures storage { IsStorage self.now }
+    {
+        if is_below(place) {
+            self.below.holds(subpool, place)
+        } else {
+            self.above.holds(subpool, place)
+        }
     }
 
     /// The subpool that holds the doubleword of an address.
@@ -144,6 +205,29 @@ impl Store {
             self.below.holder(addr)
         } else {
             self.above.holder(addr)
+        }
+    }
+    /// The subpool that the page of an address is assigned to: the one that holds a doubleword of the page.
+    pub fn page_owner(&self, addr: Addr) -> Option<SubpoolId>
+        ensures { IsPageOwner self.now addr result }
+    {
+        if addr.get() < 0x100_0000 {
+            self.below.page_owner(addr)
+        } else {
+            self.above.page_owner(addr)
+        }
+    }
+
+    /// The bytes of a place that is held.
+    pub fn bytes(&self, place: Place) -> &[u8]
+        requires { AllHeld self.now place }
+        ensures len { length result.now ≡ place.len }
+        ensures bytes { (k : ℕ) → k < place.len → slice_get result.now k ≡ get self.now.bytes (place.addr + k) }
+    {
+        if is_below(place) {
+            self.below.part(place)
+        } else {
+            self.above.part(place)
         }
     }
 }
