@@ -1,0 +1,99 @@
+//! Which subpool each page of a region is assigned to.
+#![tactic(auto)]
+
+ghost use Rattle.std.specs.Prelude.{◌≡◌, ◌<◌, ◌≤◌, Some, None, IfOk, length, slice_set, count_by, replicate};
+ghost use Rattle.page_map.specs.Owners.{owner_of, is_of, is_usable};
+
+use mvs_model::error::OutOfMemory;
+use mvs_model::subpool::SubpoolId;
+use std::alloc::Global;
+use std::marker::Model;
+
+#[cfg(test)]
+mod tests;
+
+/// The subpool of each page of a region of at most 8,192 pages, by the page's index in the region.
+#[derive(Drop)]
+pub struct PageMap {
+    owners: Vec<Option<SubpoolId>>,
+}
+
+impl Model for PageMap {
+    ghost use Rattle.std.specs.Prelude.{ℕ, List, Option, length, ◌≤◌};
+
+    ghost Value = { List (Option ℕ) };
+
+    ghost view = { λ m. m.owners.items };
+
+    ghost invariant = { λ m. length m.owners.items ≤ 8192 };
+}
+
+impl PageMap {
+    /// So many pages, none of them assigned. With no pages it takes no memory.
+    pub fn new(alloc: Global, pages: usize) -> Result<PageMap, OutOfMemory>
+        requires { pages ≤ 8192 }
+        ensures { IfOk result (λ m. m ≡ replicate pages None) }
+    {
+        match vec![in alloc; None; pages] {
+            Ok(owners) => Ok(PageMap { owners }),
+            Err(_) => Err(OutOfMemory),
+        }
+    }
+
+    /// How many pages there are.
+    pub fn pages(&self) -> usize
+        ensures pages { result ≡ length self.now }
+        ensures most { result ≤ 8192 }
+    {
+        self.owners.len()
+    }
+
+    /// The subpool that a page is assigned to.
+    pub fn owner(&self, page: usize) -> Option<SubpoolId>
+        requires { page < length self.now }
+        ensures { result ≡ owner_of self.now page }
+    {
+        self.owners[page]
+    }
+
+    /// Assigns a page that is not assigned.
+    pub fn assign(&mut self, page: usize, subpool: SubpoolId)
+        requires within { page < length self.old }
+        requires free { owner_of self.old page ≡ None }
+        ensures { self.new ≡ slice_set self.old page (Some subpool) }
+    {
+        self.owners[page] = Some(subpool);
+    }
+
+    /// Gives a page up: it is not assigned then.
+    pub fn unassign(&mut self, page: usize)
+        requires { page < length self.old }
+        ensures { self.new ≡ slice_set self.old page None }
+    {
+        self.owners[page] = None;
+    }
+
+    /// Whether the subpool may use the page: no other subpool has it (Assembler Services Guide, subpools).
+    pub fn usable(&self, page: usize, subpool: SubpoolId) -> bool
+        requires { page < length self.now }
+        ensures { result ≡ is_usable subpool (owner_of self.now page) }
+    {
+        match self.owner(page) {
+            None => true,
+            Some(owner) => owner == subpool,
+        }
+    }
+
+    /// How many pages are assigned to the subpool.
+    pub fn pages_of(&self, subpool: SubpoolId) -> u32
+        ensures { result ≡ count_by (is_of subpool) self.now }
+    {
+        let mut count = 0u32;
+        for owner in &self.owners {
+            if *owner == Some(subpool) {
+                count += 1;
+            }
+        }
+        count
+    }
+}

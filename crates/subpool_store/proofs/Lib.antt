@@ -1,0 +1,11 @@
+pub mod Ranges
+pub mod Words
+pub mod BitRows
+pub mod Scan
+pub mod Exact
+pub mod Cover
+pub mod Change
+pub mod Bytes
+pub mod Methods
+pub mod Both
+pub mod Choice

@@ -1,0 +1,8 @@
+use Rattle.std.proofs.Common.{ap, subst, sym}
+use Rattle.subpool_store.specs.Bits.{bits_of}
+use Rattle.subpool_store.specs.Edits.{IsClear}
+use Rattle.subpool_store.proofs.BitRows.{clear_words}
+use Rattle.subpool_store.proofs.bit_list.BitList.new.Goals as goal
+
+pub returns-in-Ok : goal.returns-in-Ok
+returns-in-Ok c = clear_words c.args.words _ (c.in-Ok.ensures.items_if_clones_equal (λ y e. e))

@@ -1,0 +1,5 @@
+use Rattle.subpool_store.specs.Edits.{IsDropped}
+use Rattle.subpool_store.proofs.half.drop_pages.Given as goal
+
+abbrev pub invariant-loop-page : goal.invariant-loop-page
+invariant-loop-page l = IsDropped l.subpool l.fn.held l.fn.pages l.page l.held l.pages

@@ -1,0 +1,14 @@
+use Rattle.std.proofs.Common.{◌-◌, IfSome, length}
+use Rattle.subpool_store.specs.Search.{may_take, IsCandidate, BehindBest}
+use Rattle.subpool_store.specs.Walk.{IsWalk}
+use Rattle.subpool_store.proofs.search.find.Given as goal
+
+abbrev pub invariant-runs : goal.invariant-runs
+invariant-runs l = record {
+  walk : IsWalk l.held l.pages l.subpool l.walk;
+  found : IfSome l.best (IsCandidate (may_take l.held l.pages l.subpool) l.first l.want);
+  behind : BehindBest (may_take l.held l.pages l.subpool) l.first l.want l.best l.walk.start;
+}
+
+abbrev pub decreases-runs : goal.decreases-runs
+decreases-runs l = length l.held - l.walk.start

@@ -1,0 +1,46 @@
+-- The two regions together.
+use Rattle.std.specs.Prelude.{◌≡◌, ℕ, ◌≤◌, ◌⊎◌, Option, None, nat_lt, if◌then◌else◌}
+use Rattle.std.specs.Ordering.{nat_cmp}
+use Rattle.std.specs.FinMap.{FinMap, get}
+use Rattle.mvs_model.specs.Finite.{Changes}
+use Rattle.mvs_model.specs.Span.{Span}
+use Rattle.mvs_model.specs.Storage.{Storage, Regions, covers, has_address}
+use Rattle.mvs_model.specs.Table.{table}
+use Rattle.mvs_model.specs.Wanted.{Wanted}
+use Rattle.mvs_model.specs.declared.want.Side.TheVariants.{Below}
+use Rattle.subpool_store.specs.Half.{HalfState, IsSound, BestIn}
+
+-- one map up to a key, and another from there on
+abbrev pub joined_at : ℕ → FinMap nat_cmp ℕ → FinMap nat_cmp ℕ → ℕ → Option ℕ
+joined_at split m n k = if nat_lt k split then get m k else get n k
+
+-- the two maps as one, below a bound
+abbrev pub joined : ℕ → ℕ → FinMap nat_cmp ℕ → FinMap nat_cmp ℕ → FinMap nat_cmp ℕ
+joined bound split m n = table bound (joined_at split m n)
+
+-- the regions of the two halves
+abbrev pub regions_of : HalfState → HalfState → ℕ → Regions
+regions_of b a fill = record { below = b.pages; above = a.pages; fill = fill }
+
+-- the storage of the two halves
+abbrev pub store_of : HalfState → HalfState → ℕ → Storage
+store_of b a fill = record { regions = regions_of b a fill; held = joined 268435456 2097152 b.held a.held; bytes = joined 2147483648 16777216 b.bytes a.bytes }
+
+-- The region below and the region above.
+pub record IsStore (b a : HalfState) : Type 0 where
+  pub first_below : b.first ≡ 3072
+  pub first_above : a.first ≡ 2097152
+  pub few_below : b.pages ≤ 2048
+  pub few_above : a.pages ≤ 8192
+  pub sound_below : IsSound b
+  pub sound_above : IsSound a
+
+-- v is at the doublewords of the place and b at its addresses, and all else is as before.
+pub record Taken (old : Storage) (p : Span) (v b : Option ℕ) (new : Storage) : Type 0 where
+  pub regions : new.regions ≡ old.regions
+  pub held : Changes (get old.held) (covers p) v (get new.held)
+  pub bytes : Changes (get old.bytes) (has_address p) b (get new.bytes)
+
+-- the best place above, where a place above is wanted
+abbrev pub BestAbove : HalfState → ℕ → Wanted → Option Span → Type 0
+BestAbove a s want r = BestIn a s want r ⊎ ((want.side ≡ Below) × (r ≡ None))

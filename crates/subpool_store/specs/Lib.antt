@@ -1,0 +1,6 @@
+pub mod Bits
+pub mod Edits
+pub mod Half
+pub mod Joined
+pub mod Search
+pub mod Walk

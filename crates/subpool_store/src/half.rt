@@ -1,0 +1,268 @@
+//! One region.
+
+ghost use Rattle.std.specs.Prelude.{◌≡◌, ◌<◌, ◌≤◌, ◌+◌, ◌-◌, ◌*◌, ◌/◌, ◌%◌, ◌^◌, ◌↔◌, Some, None, MatchOption, ℕ, length, Bool, true, false, IfOk, IsTrue, slice_index, slice_index_or};
+ghost use Rattle.std.specs.FinMap.{get, empty};
+ghost use Rattle.mvs_model.specs.Storage.{IsWhole};
+ghost use Rattle.mvs_model.specs.Wanted.{IsWanted};
+ghost use Rattle.page_map.specs.Owners.{owner_of, is_usable};
+ghost use Rattle.subpool_store.specs.Edits.{IsAssigned, IsGivenUp, IsDropped};
+ghost use Rattle.subpool_store.specs.Half.{
+  AllHeldIn,
+  BestIn,
+  ChangedIn,
+  DroppedIn,
+  HeldIn,
+  IsSound,
+  OpenIn,
+  OwnsPage,
+  cell,
+};
+
+use crate::data::Data;
+use crate::held_map::HeldMap;
+use crate::run::Run;
+use crate::search::{Found, find};
+use mvs_model::error::OutOfMemory;
+use mvs_model::place::{Addr, Place};
+use mvs_model::subpool::SubpoolId;
+use mvs_model::want::Want;
+use page_map::PageMap;
+use std::alloc::Global;
+use std::marker::Model;
+
+// The indices of the doublewords of a place.
+fn run_of(first: u32, place: Place) -> Run
+    requires { first ≤ place.addr / 8 }
+    ensures start { result.start ≡ place.addr / 8 - first }
+    ensures end { result.end ≡ result.start + place.len / 8 }
+{
+    let start = (place.addr().get() / 8 - first) as usize;
+    Run {
+        start,
+        end: start + (place.len() / 8) as usize,
+    }
+}
+
+// Assigns the pages of a range that are not assigned.
+fn assign_pages(pages: &mut PageMap, subpool: SubpoolId, from: usize, to: usize)
+    requires ordered { from ≤ to }
+    requires within { to ≤ length pages.old }
+    requires usable { (p : ℕ) → from ≤ p → p < to → is_usable subpool (owner_of pages.old p) ≡ true }
+    ensures { IsAssigned pages.old from to subpool pages.new }
+{
+    for page in from..to {
+        if pages.owner(page).is_none() {
+            pages.assign(page, subpool);
+        }
+    }
+}
+
+// Gives up the pages of a range of which nothing is held.
+fn give_up_pages(held: &HeldMap, pages: &mut PageMap, from: usize, to: usize)
+    requires ordered { from ≤ to }
+    requires within { to ≤ length pages.old }
+    requires few { length pages.old ≤ 8192 }
+    requires sizes { length held.now ≡ 512 * length pages.old }
+    ensures { IsGivenUp held.now pages.old from to pages.new }
+{
+    for page in from..to {
+        if held.is_whole(page) {
+            pages.unassign(page);
+        }
+    }
+}
+
+// Whether the pages of a range are all the subpool's.
+fn are_of(pages: &PageMap, subpool: SubpoolId, from: usize, to: usize) -> bool
+    requires ordered { from ≤ to }
+    requires within { to ≤ length pages.now }
+    ensures { IsTrue result ↔ ((p : ℕ) → from ≤ p → p < to → owner_of pages.now p ≡ Some subpool) }
+{
+    for page in from..to {
+        if pages.owner(page) != Some(subpool) {
+            return false;
+        }
+    }
+    true
+}
+
+// Whether the subpool holds each doubleword of a run.
+fn holds_run(held: &HeldMap, pages: &PageMap, subpool: SubpoolId, run: Run) -> bool
+    requires some { run.start < run.end }
+    requires within { run.end ≤ length held.now }
+    requires sizes { length held.now ≡ 512 * length pages.now }
+    ensures { IsTrue result ↔ ((i : ℕ) → run.start ≤ i → i < run.end → cell held.now pages.now i ≡ Some subpool) }
+{
+    if !are_of(pages, subpool, run.start / 512, (run.end - 1) / 512 + 1) {
+        return false;
+    }
+    held.are_held(run)
+}
+
+// Gives up the pages of the subpool, and what is held of them.
+fn drop_pages(held: &mut HeldMap, pages: &mut PageMap, subpool: SubpoolId)
+    requires sizes { length held.old ≡ 512 * length pages.old }
+    ensures { IsDropped subpool held.old pages.old (length pages.old) held.new pages.new }
+{
+    for page in 0..pages.pages() {
+        if pages.owner(page) == Some(subpool) {
+            pages.unassign(page);
+            held.start(page);
+        }
+    }
+}
+
+// Who holds a doubleword.
+fn cell(held: &HeldMap, pages: &PageMap, index: usize) -> Option<SubpoolId>
+    requires within { index < length held.now }
+    requires sizes { length held.now ≡ 512 * length pages.now }
+    ensures { result ≡ cell held.now pages.now index }
+{
+    if held.is_held(index) {
+        pages.owner(index / 512)
+    } else {
+        None
+    }
+}
+
+/// The doublewords of a region that are held, the owners of its pages, and its bytes.
+#[derive(Drop)]
+pub struct Half {
+    first: u32,
+    held: HeldMap,
+    pages: PageMap,
+    data: Data,
+}
+
+impl Model for Half {
+    ghost use Rattle.subpool_store.specs.Half.{HalfState, half_code, half_of, IsHalf};
+
+    ghost Value = { HalfState };
+
+    ghost coded = { half_code };
+
+    ghost view = { λ h. half_of h.first h.held h.pages h.data };
+
+    ghost invariant = { λ h. IsHalf h.first h.held h.pages h.data };
+}
+
+impl Half {
+    // A region of so many pages, from its first doubleword on, with nothing held.
+    pub fn new(alloc: Global, first: u32, pages: usize) -> Result<Half, OutOfMemory>
+        requires few { pages ≤ 8192 }
+        requires aligned { first % 512 ≡ 0 }
+        requires end { 8 * (first + 512 * pages) ≤ 2 ^ 31 }
+        requires one_side { first < 2097152 → first + 512 * pages ≤ 2097152 }
+        ensures empty { IfOk result (λ h. h ≡ record { first = first; pages = pages; held = empty; bytes = empty }) }
+        ensures sound { IfOk result IsSound }
+    {
+        Ok(Half {
+            first,
+            held: HeldMap::new(alloc, pages)?,
+            pages: PageMap::new(alloc, pages)?,
+            data: Data::new(alloc, pages)?,
+        })
+    }
+
+    // A longest open place that meets what is wanted.
+    pub fn find(&self, subpool: SubpoolId, want: &Want) -> Found
+        ensures best { BestIn self.now subpool want.now result.place }
+        ensures wanted { IsWanted want.now }
+    {
+        find(self.first, &self.held, &self.pages, subpool, want)
+    }
+
+    // Gives an open place to the subpool and fills it.
+    pub fn take(&mut self, subpool: SubpoolId, place: Place, fill: u8)
+        requires open { OpenIn self.old subpool place }
+        requires whole { IsWhole place }
+        requires some { 8 ≤ place.len }
+        ensures taken { ChangedIn self.old place (Some subpool) (Some fill) self.new }
+        ensures sound { IsSound self.new }
+    {
+        let run = run_of(self.first, place);
+        self.held.take(run);
+        assign_pages(
+            &mut self.pages,
+            subpool,
+            run.start / 512,
+            (run.end - 1) / 512 + 1,
+        );
+        self.data.fill(8 * run.start, 8 * run.end, fill);
+    }
+
+    // Whether the subpool holds each doubleword of the place.
+    pub fn holds(&self, subpool: SubpoolId, place: Place) -> bool
+        requires whole { IsWhole place }
+        requires some { 8 ≤ place.len }
+        ensures { IsTrue result ↔ HeldIn self.now subpool place }
+    {
+        if place.addr().get() / 8 < self.first {
+            return false;
+        }
+        let run = run_of(self.first, place);
+        if 512 * self.pages.pages() < run.end {
+            return false;
+        }
+        holds_run(&self.held, &self.pages, subpool, run)
+    }
+
+    // Takes back a place that the subpool holds.
+    pub fn give(&mut self, subpool: SubpoolId, place: Place)
+        requires held { HeldIn self.old subpool place }
+        requires whole { IsWhole place }
+        requires some { 8 ≤ place.len }
+        ensures given { ChangedIn self.old place None None self.new }
+        ensures sound { IsSound self.new }
+    {
+        let run = run_of(self.first, place);
+        self.held.give(run);
+        give_up_pages(
+            &self.held,
+            &mut self.pages,
+            run.start / 512,
+            (run.end - 1) / 512 + 1,
+        );
+    }
+
+    // Takes back all that the subpool holds.
+    pub fn release_all(&mut self, subpool: SubpoolId)
+        ensures dropped { DroppedIn self.old subpool self.new }
+        ensures sound { IsSound self.new }
+    {
+        drop_pages(&mut self.held, &mut self.pages, subpool);
+    }
+
+    // Who holds the doubleword of an address.
+    pub fn holder(&self, addr: Addr) -> Option<SubpoolId>
+        ensures { result ≡ get self.now.held (addr / 8) }
+    {
+        let at = addr.get() / 8;
+        if at < self.first || 512 * self.pages.pages() <= (at - self.first) as usize {
+            return None;
+        }
+        cell(&self.held, &self.pages, (at - self.first) as usize)
+    }
+
+    // The subpool that the page of an address is assigned to.
+    pub fn page_owner(&self, addr: Addr) -> Option<SubpoolId>
+        ensures { OwnsPage self.now (addr / 4096) result }
+    {
+        let page = addr.get() / 4096;
+        if page < self.first / 512 || self.pages.pages() <= (page - self.first / 512) as usize {
+            return None;
+        }
+        self.pages.owner((page - self.first / 512) as usize)
+    }
+
+    // The bytes of a place.
+    pub fn part(&self, place: Place) -> &[u8]
+        requires { AllHeldIn self.now place }
+        ensures len { length result.now ≡ place.len }
+        ensures each { (k : ℕ) → k < place.len → get self.now.bytes (place.addr + k) ≡ Some (slice_index result.now k) }
+    {
+        let len = place.len() as usize;
+        let from = (place.addr().get() - 8 * self.first) as usize;
+        self.data.part(from, from + len)
+    }
+}

@@ -1,0 +1,124 @@
+//! The search for a place in one region.
+
+ghost use Rattle.std.specs.Prelude.{◌≡◌, ◌<◌, ◌≤◌, ◌+◌, ◌-◌, ◌*◌, ◌^◌, ◌⊎◌, ◌↔◌, ℕ, IfSome, IsTrue, length};
+ghost use Rattle.mvs_model.specs.Span.{Span};
+ghost use Rattle.mvs_model.specs.Storage.{IsLength, IsRun};
+ghost use Rattle.mvs_model.specs.Wanted.{IsWanted};
+ghost use Rattle.subpool_store.specs.Search.{
+  may_take,
+  Beats,
+  IsCandidate,
+  IsExact,
+  IsOnlyLength,
+  IsShorter,
+  LongestIn,
+};
+
+use crate::held_map::HeldMap;
+use crate::run::Run;
+use crate::walk::Walk;
+use boundary_loc::{first_in, longest_in};
+use mvs_model::place::{Addr, Place};
+use mvs_model::subpool::SubpoolId;
+use mvs_model::want::Want;
+use page_map::PageMap;
+
+/// What a search found, and how many page entries and free runs it examined.
+#[derive(Clone, Copy)]
+pub struct Found {
+    pub place: Option<Place>,
+    pub steps: u32,
+}
+
+impl Found {
+    fn new(place: Option<Place>, steps: u32) -> Found
+        ensures { result.place ≡ place }
+    {
+        Found { place, steps }
+    }
+}
+
+// The bytes of a run.
+fn run_place(first: u32, run: Run) -> Place
+    requires end { 8 * (first + run.end) ≤ 2 ^ 31 }
+    requires some { run.start < run.end }
+    ensures addr { result.addr ≡ 8 * (first + run.start) }
+    ensures len { result.len ≡ 8 * (run.end - run.start) }
+{
+    Place::new(
+        Addr::new(8 * (first + run.start as u32)),
+        8 * (run.end - run.start) as u32,
+    )
+}
+
+// The length that is wanted, where it is one alone.
+fn only_length(want: &Want) -> Option<u32>
+    ensures only { IfSome result (IsOnlyLength want.now) }
+    ensures wanted { IsWanted want.now }
+{
+    if want.least() == want.most() {
+        Some(want.least())
+    } else {
+        None
+    }
+}
+
+// A longest place of a run: the lowest one, where one length alone is wanted.
+fn best_in(run: Place, want: &Want, only: Option<u32>) -> Option<Place>
+    requires run { IsRun run }
+    requires wanted { IsWanted want.now }
+    requires only { IfSome only (IsOnlyLength want.now) }
+    ensures { LongestIn run want.now result }
+{
+    match only {
+        Some(len) => first_in(run, want, len),
+        None => longest_in(run, want),
+    }
+}
+
+// The longer of two places, the first one if they are of one length.
+pub fn longer(one: Option<Place>, other: Option<Place>) -> Option<Place>
+    ensures either { (result ≡ one) ⊎ ((result ≡ other) × IsShorter one other) }
+    ensures one { (n : ℕ) → Beats one n → Beats result n }
+    ensures other { (n : ℕ) → Beats other n → Beats result n }
+{
+    match (one, other) {
+        (Some(a), Some(b)) => { if a.len() < b.len() { Some(b) } else { Some(a) } }
+        (Some(a), None) => Some(a),
+        (None, b) => b,
+    }
+}
+
+// Whether no length that is wanted is greater than that of the place.
+pub fn is_longest(place: &Option<Place>, want: &Want) -> bool
+    ensures longest { IsTrue result → (n : ℕ) → IsLength want.now n → Beats place.now n }
+    ensures wanted { IsWanted want.now }
+{
+    let most = want.most();
+    match place {
+        Some(place) => most <= place.len(),
+        None => false,
+    }
+}
+
+// A longest place that meets what is wanted and whose doublewords the subpool may take. Of several that are
+// equally long it is the lowest one.
+pub fn find(first: u32, held: &HeldMap, pages: &PageMap, subpool: SubpoolId, want: &Want) -> Found
+    requires exact { IsExact held.now pages.now }
+    requires end { 8 * (first + length held.now) ≤ 2 ^ 31 }
+    requires one_side { first < 2097152 → first + length held.now ≤ 2097152 }
+    ensures found { IfSome result.place (IsCandidate (may_take held.now pages.now subpool) first want.now) }
+    ensures longest { (q : Span) → IsCandidate (may_take held.now pages.now subpool) first want.now q → Beats result.place q.len }
+    ensures wanted { IsWanted want.now }
+{
+    let only = only_length(want);
+    let mut walk = Walk::new();
+    let mut best = None;
+    'runs: while let Some(run) = walk.next_run(held, pages, subpool) {
+        best = longer(best, best_in(run_place(first, run), want, only));
+        if is_longest(&best, want) {
+            return Found::new(best, walk.steps);
+        }
+    }
+    Found::new(best, walk.steps)
+}

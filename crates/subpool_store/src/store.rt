@@ -1,0 +1,233 @@
+//! Storage of both regions.
+
+ghost use Rattle.std.specs.Prelude.{◌≡◌, ◌<◌, ◌≤◌, ◌+◌, ◌*◌, ◌/◌, ◌%◌, ◌^◌, ◌↔◌, Some, None, MatchBool, MatchOption, MatchResult, IfOk, IsTrue, ℕ, length, slice_get};
+ghost use Rattle.std.specs.FinMap.{get, empty};
+ghost use Rattle.mvs_model.specs.Storage.{
+  AllHeld,
+  Chosen,
+  Grant,
+  HeldBy,
+  IsPageOwner,
+  IsStorage,
+  IsWhole,
+  NoPlace,
+  Open,
+  Release,
+  ReleaseAll,
+  holder,
+};
+ghost use Rattle.subpool_store.specs.Joined.{BestAbove, Taken};
+
+use crate::half::Half;
+use crate::search::{is_longest, longer};
+use mvs_model::error::OutOfMemory;
+use mvs_model::place::{Addr, Place};
+use mvs_model::subpool::SubpoolId;
+use mvs_model::want::{Placement, Side, Want};
+use std::alloc::Global;
+use std::marker::Model;
+use thiserror::Error;
+
+/// The subpool does not hold each doubleword of the place.
+#[derive(Clone, Copy, Debug, PartialEq, Eq, Error)]
+#[error("storage is not held by the subpool")]
+pub struct NotHeld;
+
+/// The storage of a step: which subpool holds a doubleword, and which byte stands at an address, in the region
+/// below 16 megabytes and in the region above.
+#[derive(Drop)]
+pub struct Store {
+    below: Half,
+    above: Half,
+    fill: u8,
+    placement: Placement,
+}
+
+impl Model for Store {
+    ghost use Rattle.mvs_model.specs.Storage.{Storage, storage_code};
+    ghost use Rattle.subpool_store.specs.Joined.{store_of, IsStore};
+
+    ghost Value = { Storage };
+
+    ghost coded = { storage_code };
+
+    ghost view = { λ s. store_of s.below s.above s.fill };
+
+    ghost invariant = { λ s. IsStore s.below s.above };
+}
+
+// Whether the place lies below 16 megabytes.
+fn is_below(place: Place) -> bool
+    ensures below { MatchBool result (place.addr + place.len ≤ 0x1000000) (0x1000000 < place.addr + place.len) }
+    ensures some { 1 ≤ place.len }
+{
+    u64::from(place.addr().get()) + u64::from(place.len()) <= 0x100_0000
+}
+
+// The best place in the region above, if a place may be there.
+fn find_above(above: &Half, subpool: SubpoolId, want: &Want) -> Option<Place>
+    ensures { BestAbove above.now subpool want.now result }
+{
+    match want.side() {
+        Side::Either => above.find(subpool, want).place,
+        Side::Below => None,
+    }
+}
+
+impl Store {
+    /// So many pages below and above, with nothing held. `fill` is the byte that a grant leaves in each place.
+    pub fn new(
+        alloc: Global,
+        below: u32,
+        above: u32,
+        fill: u8,
+        placement: Placement,
+    ) -> Result<Store, OutOfMemory>
+        requires some { 1 ≤ below }
+        requires below { below ≤ 2048 }
+        requires above { above ≤ 8192 }
+        ensures empty { IfOk result
+            (λ s. s ≡ record { regions = record { below = below; above = above; fill = fill }; held = empty; bytes = empty }) }
+        ensures storage { IfOk result IsStorage }
+    {
+        Ok(Store {
+            below: Half::new(alloc, 3072, below as usize)?,
+            above: Half::new(alloc, 2_097_152, above as usize)?,
+            fill,
+            placement,
+        })
+    }
+
+    // The place to take for what is wanted: the longest one, above if one of that length is above.
+    fn search(&self, subpool: SubpoolId, want: &Want) -> Option<Place>
+        ensures chosen { MatchOption result
+            (NoPlace self.now.regions (holder self.now) subpool want.now)
+            (Chosen self.now.regions (holder self.now) subpool want.now) }
+        ensures storage { IsStorage self.now }
+    {
+        let above = find_above(&self.above, subpool, want);
+        if is_longest(&above, want) {
+            return above;
+        }
+        longer(above, self.below.find(subpool, want).place)
+    }
+
+    // Gives an open place to the subpool and fills it.
+    fn take(&mut self, subpool: SubpoolId, place: Place)
+        requires open { Open self.old.regions (holder self.old) subpool place }
+        requires whole { IsWhole place }
+        requires some { 8 ≤ place.len }
+        ensures taken { Taken self.old place (Some subpool) (Some self.old.regions.fill) self.new }
+        ensures storage { IsStorage self.new }
+    {
+        if is_below(place) {
+            self.below.take(subpool, place, self.fill);
+        } else {
+            self.above.take(subpool, place, self.fill);
+        }
+    }
+
+    /// Obtains what is wanted: the greatest length of those that are wanted for which there is a place, and the
+    /// lowest such place above 16 megabytes, or below where none is above. None where there is no place, and
+    /// then nothing changes (Assembler Services Reference, GETMAIN; that the lowest place is taken is this
+    /// project's choice).
+    pub fn obtain(&mut self, subpool: SubpoolId, want: &Want) -> Option<Place>
+        ensures grant { MatchOption result
+            (NoPlace self.old.regions (holder self.old) subpool want.now × (self.new ≡ self.old))
+            (λ p. Grant self.old subpool want.now p self.new) }
+        ensures storage { IsStorage self.new }
+    {
+        let Some(place) = self.search(subpool, want) else {
+            return None;
+        };
+        self.take(subpool, place);
+        Some(place)
+    }
+
+    // Takes back a place that the subpool holds.
+    fn give(&mut self, subpool: SubpoolId, place: Place)
+        requires held { HeldBy self.old subpool place }
+        requires whole { IsWhole place }
+        ensures given { Taken self.old place None None self.new }
+        ensures storage { IsStorage self.new }
+    {
+        if is_below(place) {
+            self.below.give(subpool, place);
+        } else {
+            self.above.give(subpool, place);
+        }
+    }
+
+    /// Releases a place of whole doublewords. It is refused where the subpool does not hold all of it, and then
+    /// nothing changes (Assembler Services Reference, FREEMAIN).
+    pub fn release(&mut self, subpool: SubpoolId, place: Place) -> Result<(), NotHeld>
+        requires { IsWhole place }
+        ensures released { MatchResult result
+            (λ _. Release self.old subpool place self.new)
+            (λ _. (HeldBy self.old subpool place → ⊥) × (self.new ≡ self.old)) }
+        ensures storage { IsStorage self.new }
+    {
+        if !self.holds(subpool, place) {
+            return Err(NotHeld);
+        }
+        self.give(subpool, place);
+        Ok(())
+    }
+
+    /// Takes back all that the subpool holds (Assembler Services Reference, FREEMAIN, subpool release).
+    pub fn release_all(&mut self, subpool: SubpoolId)
+        ensures released { ReleaseAll self.old subpool self.new }
+        ensures storage { IsStorage self.new }
+    {
+        self.below.release_all(subpool);
+        self.above.release_all(subpool);
+    }
+
+    /// Whether the subpool holds each doubleword of a place of whole doublewords.
+    pub fn holds(&self, subpool: SubpoolId, place: Place) -> bool
+        requires { IsWhole place }
+        ensures holds { IsTrue result ↔ HeldBy self.now subpool place }
+        ensures storage { IsStorage self.now }
+    {
+        if is_below(place) {
+            self.below.holds(subpool, place)
+        } else {
+            self.above.holds(subpool, place)
+        }
+    }
+
+    /// The subpool that holds the doubleword of an address.
+    pub fn held(&self, addr: Addr) -> Option<SubpoolId>
+        ensures held { result ≡ holder self.now (addr / 8) }
+        ensures storage { IsStorage self.now }
+    {
+        if addr.get() < 0x100_0000 {
+            self.below.holder(addr)
+        } else {
+            self.above.holder(addr)
+        }
+    }
+    /// The subpool that the page of an address is assigned to: the one that holds a doubleword of the page.
+    pub fn page_owner(&self, addr: Addr) -> Option<SubpoolId>
+        ensures { IsPageOwner self.now addr result }
+    {
+        if addr.get() < 0x100_0000 {
+            self.below.page_owner(addr)
+        } else {
+            self.above.page_owner(addr)
+        }
+    }
+
+    /// The bytes of a place that is held.
+    pub fn bytes(&self, place: Place) -> &[u8]
+        requires { AllHeld self.now place }
+        ensures len { length result.now ≡ place.len }
+        ensures bytes { (k : ℕ) → k < place.len → slice_get result.now k ≡ get self.now.bytes (place.addr + k) }
+    {
+        if is_below(place) {
+            self.below.part(place)
+        } else {
+            self.above.part(place)
+        }
+    }
+}
