@@ -1,6 +1,8 @@
 //! Requests that obtain.
 
-ghost use Rattle.std.specs.Prelude.{◌≡◌, MatchOption};
+ghost use Rattle.std.specs.Prelude.{◌≡◌, ℕ, MatchOption, Ok, Err, if◌then◌else◌};
+ghost use Rattle.mvs_model.specs.declared.request.Reply.TheVariants.{Rc4};
+ghost use Rattle.mvs_model.specs.Codes as table;
 ghost use Rattle.mvs_model.specs.Wanted.{wanted_of};
 ghost use Rattle.mvs_model.specs.Changes.{GrantTo, ShortOf};
 ghost use Rattle.mvs_model.specs.Steps.{ObtainStep, side_for};
@@ -40,10 +42,23 @@ fn obtain_area(
         Some(subpool) => store.obtain(subpool, want),
         None => {
             let subpool = tasks.spare(t, number);
-            let place = store.obtain(subpool, want)?;
+            let Some(place) = store.obtain(subpool, want) else {
+                return None;
+            };
             tasks.bind(t, number, subpool);
             Some(place)
         }
+    }
+}
+
+// What a refusal is answered: 4 for a conditional form, else an abend.
+fn refused(form: Form, code: Code) -> Result<Reply, Code>
+    ensures { result ≡ (if table.is_conditional form then Ok Rc4 else Err code) }
+{
+    if is_conditional(form) {
+        Ok(Reply::Rc4)
+    } else {
+        Err(code)
     }
 }
 
@@ -69,7 +84,6 @@ pub fn obtain(
     let side = form_side(form, side(ask.loc(), tasks.residence(t)));
     match obtain_area(store, tasks, t, number, &ask.want(side)) {
         Some(place) => Ok(Reply::Granted(place)),
-        None if is_conditional(form) => Ok(Reply::Rc4),
-        None => Err(short(form)),
+        None => refused(form, short(form)),
     }
 }
