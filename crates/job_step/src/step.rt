@@ -69,6 +69,7 @@ fn act(
     requires built { IsBuilt request.now }
     ensures answer { let old = seen store.old tasks.old.owners in let name = name_of tasks.old t in
         Answers (Acts old name request.now) old name result (seen store.new tasks.new.owners) }
+    ensures no_abend { IfOk result (λ reply. is_abend reply ≡ false) }
     ensures storage { IsStorage store.new }
     ensures names { (id : ℕ) → name_at tasks.new id ≡ name_at tasks.old id }
 {
@@ -76,6 +77,19 @@ fn act(
         Request::Obtain { form, number, ask } => obtain(store, tasks, t, *form, *number, ask),
         _ => unreachable!(),
     }
+}
+
+// Ends a task that abends, with its descendants and what they own.
+fn abend(store: &mut Store, tasks: &mut Tasks, t: TaskId, code: Code) -> Reply
+    requires task { IsTask tasks.old t }
+    requires storage { IsStorage store.old }
+    ensures abends { Abends (seen store.old tasks.old.owners) (name_of tasks.old t) code result (seen store.new tasks.new.owners) }
+    ensures is_abend { is_abend result ≡ true }
+    ensures storage { IsStorage store.new }
+{
+    let gone = tasks.end(t);
+    release_each(store, gone.freed.as_slice());
+    Reply::Abended(code, gone.fallen)
 }
 
 impl Step {
@@ -106,17 +120,6 @@ impl Step {
         self.abended
     }
 
-    // Ends a task that abends, with its descendants and what they own.
-    fn abend(&mut self, t: TaskId, code: Code, name: &Name) -> Reply
-        requires { true ≡ true }
-        ensures { Abends self.old.state name.now code result self.new.state }
-    {
-        let gone = self.tasks.end(t);
-        release_each(&mut self.store, gone.freed.as_slice());
-        self.abended = true;
-        Reply::Abended(code, gone.fallen)
-    }
-
     /// Serves a request of a task, which need not be active. It always replies.
     pub fn request(&mut self, name: &Name, request: &Request) -> Reply
         requires { IsBuilt request.now }
@@ -128,7 +131,10 @@ impl Step {
         };
         match act(&mut self.store, &mut self.tasks, t, request) {
             Ok(reply) => reply,
-            Err(code) => self.abend(t, code, name),
+            Err(code) => {
+                self.abended = true;
+                abend(&mut self.store, &mut self.tasks, t, code)
+            }
         }
     }
 }

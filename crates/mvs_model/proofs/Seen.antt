@@ -17,9 +17,11 @@ use Rattle.mvs_model.specs.Storage.{Storage, Regions, holder as held_by, IsStora
 use Rattle.mvs_model.specs.Owners.{Owners, SubpoolOf, Enters}
 use Rattle.mvs_model.specs.Pools.{Pool, in_parts, in_taken}
 use Rattle.mvs_model.specs.State.{State, Holding, plain, subpool_in, holder, is_plain, in_cell, granted}
+use Rattle.mvs_model.specs.Card.{StepCard}
+use Rattle.mvs_model.specs.Start.{regions_of, first_owners, start}
 use Rattle.mvs_model.specs.View.{in_pools, behind, holding, without_bytes, seen}
 use Rattle.mvs_model.specs.Changes.{GrantTo, ShortOf}
-use Rattle.mvs_model.proofs.Tables.{get-table_all}
+use Rattle.mvs_model.proofs.Tables.{get-table_all, same_maps}
 use Rattle.mvs_model.proofs.Made.{get-retained}
 
 -- without pools no doubleword lies in a part, and no address in a cell
@@ -90,3 +92,28 @@ grant_seen st new o after t number s want p is now sub enters g = record {
   at : (b : Bool) (v : Option ℕ) → option_map plain (cond b (Some s) v) ≡ cond b (Some (plain s)) (option_map plain v)
   at true v = refl
   at false v = refl
+
+-- storage at the start of a step, and the state that it is
+bare : Regions → Storage
+bare r = record { regions = r; held = empty; bytes = empty }
+
+none_bare : (r : Regions) (d : ℕ) → holding (bare r) empty d ≡ None
+unfolding bare
+none_bare r d = ap (option_map (λ s. record { subpool = s; pooled = in_pools empty d })) (get-empty nat_cmp d)
+
+held_bare : (r : Regions) (o : Owners) → (seen (bare r) o).held ≡ empty
+unfolding bare
+held_bare r o = same_maps _ _ (λ d. get-table_all (behind r) (holding (bare r) empty) (λ k l. none_bare r k) d ∙ none_bare r d ∙ sym (get-empty nat_cmp d))
+
+bytes_bare : (r : Regions) (o : Owners) → (seen (bare r) o).bytes ≡ empty
+unfolding bare
+bytes_bare r o = same_maps _ _ (λ a. get-retained nat_cmp-IsAntisymmetric empty (granted (without_bytes (bare r) o empty)) a ∙ at (granted (without_bytes (bare r) o empty) a) (get-empty nat_cmp a) ∙ sym (get-empty nat_cmp a)) where
+  at : {v : Option ℕ} (b : Bool) → v ≡ None → cond b v None ≡ None
+  at true e = e
+  at false e = refl
+
+pub start_seen : (card : StepCard) → seen (record { regions = regions_of card; held = empty; bytes = empty }) (first_owners card.name card.residence) ≡ start card
+unfolding bare
+start_seen card =
+    let o = first_owners card.name card.residence in
+    λ i. record { regions = regions_of card; held = held_bare (regions_of card) o i; bytes = bytes_bare (regions_of card) o i; owners = o; pools = empty }

@@ -14,7 +14,10 @@ use Rattle.mvs_model.specs.Storage.{Storage, holder as held_by, IsStorage, Relea
 use Rattle.mvs_model.specs.Owners.{Owners, IsFallen, ends_with, Ends}
 use Rattle.mvs_model.specs.State.{Holding, plain, granted}
 use Rattle.mvs_model.specs.View.{seen}
+use Rattle.mvs_model.specs.declared.code.Code.{Code}
+use Rattle.mvs_model.specs.declared.request.Reply.TheVariants.{Abended}
 use Rattle.mvs_model.specs.Changes.{Drops, End}
+use Rattle.mvs_model.specs.Steps.{Abends}
 use Rattle.mvs_model.proofs.Elements.{one_of_contained, contained_one_of}
 use Rattle.mvs_model.proofs.Seen.{held_seen, granted_seen, bytes_seen}
 
@@ -63,8 +66,8 @@ releases_next old mid new done s each one = record {
 }
 
 -- the same by an index
-pub releases_more : (old mid new : Storage) (subpools : List ℕ) (i s : ℕ) → i < length subpools → s ≡ get_or subpools i 0 → ReleaseEach old (take i subpools) mid → ReleaseAll mid s new → ReleaseEach old (take (i + 1) subpools) new
-releases_more old mid new subpools i s l e each one = subst (λ xs. ReleaseEach old xs new) (ap (λ x. take i subpools ++ x ∷ []) e ∙ sym (take_more subpools i 0 l)) (releases_next old mid new (take i subpools) s each one)
+pub releases_more : (old mid new : Storage) (subpools : List ℕ) (i s : ℕ) → i < length subpools → s ≡ get_or subpools i s → ReleaseEach old (take i subpools) mid → ReleaseAll mid s new → ReleaseEach old (take (i + 1) subpools) new
+releases_more old mid new subpools i s l e each one = subst (λ xs. ReleaseEach old xs new) (ap (λ x. take i subpools ++ x ∷ []) e ∙ sym (take_more subpools i s l)) (releases_next old mid new (take i subpools) s each one)
 
 same_test : (a b : Bool) → (a ≡ true → b ≡ true) → (b ≡ true → a ≡ true) → a ≡ b
 same_test true b f g = sym (f refl)
@@ -116,3 +119,9 @@ end_seen st new o after t fallen freed is now is_fallen ends frees each = record
         at None (Some x) e = absurd (let f : true ≡ false = e in cc)
         at (Some s) None e = none_picked (is_one_of freed s)
         at (Some s) (Some x) e = picked (is_one_of freed s) s x
+
+-- an abend of a task
+pub abends_seen : (st new : Storage) (o after : Owners) (t : Name) (code : Code) (fallen : List Name) (freed : List ℕ) → IsStorage st → IsStorage new → IsFallen o t fallen → Ends o t fallen after
+    → ((s : ℕ) → Contains freed s ↔ (ends_with o t fallen s ≡ true)) → ReleaseEach st freed new → Abends (seen st o) t code (Abended code fallen) (seen new after)
+unfolding end_seen
+abends_seen st new o after t code fallen freed is now is_fallen ends frees each = (end_seen st new o after t fallen freed is now is_fallen ends frees each, refl)

@@ -1,6 +1,6 @@
 //! Requests that obtain.
 
-ghost use Rattle.std.specs.Prelude.{◌≡◌, ℕ, MatchOption, Ok, Err, if◌then◌else◌};
+ghost use Rattle.std.specs.Prelude.{◌≡◌, ℕ, false, IfOk, MatchOption, Ok, Err, if◌then◌else◌};
 ghost use Rattle.mvs_model.specs.declared.request.Reply.TheVariants.{Rc4};
 ghost use Rattle.mvs_model.specs.Codes as table;
 ghost use Rattle.mvs_model.specs.Wanted.{wanted_of};
@@ -8,6 +8,7 @@ ghost use Rattle.mvs_model.specs.Changes.{GrantTo, ShortOf};
 ghost use Rattle.mvs_model.specs.Steps.{ObtainStep, side_for};
 ghost use Rattle.mvs_model.specs.Storage.{IsStorage};
 ghost use Rattle.task_owner.specs.Directory.{IsTask, name_of, name_at};
+ghost use Rattle.mvs_model.specs.Runs.{is_abend};
 ghost use Rattle.mvs_model.specs.View.{seen};
 ghost use Rattle.request_forms.specs.Answers.{Answers};
 
@@ -75,6 +76,7 @@ pub fn obtain(
     requires storage { IsStorage store.old }
     ensures answer { let old = seen store.old tasks.old.owners in let name = name_of tasks.old t in
         Answers (ObtainStep old name form number (wanted_of ask.now (side_for old name form ask.now.loc))) old name result (seen store.new tasks.new.owners) }
+    ensures no_abend { IfOk result (λ reply. is_abend reply ≡ false) }
     ensures storage { IsStorage store.new }
     ensures names { (id : ℕ) → name_at tasks.new id ≡ name_at tasks.old id }
 {
