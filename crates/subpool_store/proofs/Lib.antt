@@ -9,3 +9,5 @@ pub mod Bytes
 pub mod Methods
 pub mod Both
 pub mod Choice
+pub mod Lent
+pub mod LentHalf

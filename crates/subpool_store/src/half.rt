@@ -1,6 +1,7 @@
 //! One region.
 
 ghost use Rattle.std.specs.Prelude.{◌≡◌, ◌<◌, ◌≤◌, ◌+◌, ◌-◌, ◌*◌, ◌/◌, ◌%◌, ◌^◌, ◌↔◌, Some, None, MatchOption, ℕ, length, Bool, true, false, IfOk, IsTrue, slice_index, slice_index_or};
+ghost use Rattle.std.specs.Borrow.{sem};
 ghost use Rattle.std.specs.FinMap.{get, empty};
 ghost use Rattle.mvs_model.specs.Storage.{IsWhole};
 ghost use Rattle.mvs_model.specs.Wanted.{IsWanted};
@@ -17,6 +18,7 @@ ghost use Rattle.subpool_store.specs.Half.{
   OwnsPage,
   cell,
 };
+ghost use Rattle.subpool_store.specs.LendsHalf.{LendsHalf};
 
 use crate::data::Data;
 use crate::held_map::HeldMap;
@@ -264,5 +266,17 @@ impl Half {
         let len = place.len() as usize;
         let from = (place.addr().get() - 8 * self.first) as usize;
         self.data.part(from, from + len)
+    }
+
+    // Lends the bytes of a place.
+    pub fn part_mut(&mut self, place: Place) -> &mut [u8]
+        requires { AllHeldIn self.old place }
+        ensures* writes_back { sem 𝓛 (LendsHalf self.entry place result) }
+        ensures len { length result.now ≡ place.len }
+        ensures each { (k : ℕ) → k < place.len → get self.old.bytes (place.addr + k) ≡ Some (slice_index result.now k) }
+    {
+        let len = place.len() as usize;
+        let from = (place.addr().get() - 8 * self.first) as usize;
+        self.data.part_mut(from, from + len)
     }
 }

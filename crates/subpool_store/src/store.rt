@@ -1,6 +1,7 @@
 //! Storage of both regions.
 
 ghost use Rattle.std.specs.Prelude.{◌≡◌, ◌<◌, ◌≤◌, ◌+◌, ◌*◌, ◌/◌, ◌%◌, ◌^◌, ◌↔◌, Some, None, MatchBool, MatchOption, MatchResult, IfOk, IsTrue, ℕ, length, slice_get};
+ghost use Rattle.std.specs.Borrow.{sem};
 ghost use Rattle.std.specs.FinMap.{get, empty};
 ghost use Rattle.mvs_model.specs.Storage.{
   AllHeld,
@@ -17,6 +18,7 @@ ghost use Rattle.mvs_model.specs.Storage.{
   holder,
 };
 ghost use Rattle.subpool_store.specs.Joined.{BestAbove, Taken};
+ghost use Rattle.subpool_store.specs.LendsBytes.{LendsBytes};
 
 use crate::half::Half;
 use crate::search::{is_longest, longer};
@@ -228,6 +230,21 @@ impl Store {
             self.below.part(place)
         } else {
             self.above.part(place)
+        }
+    }
+
+    /// Lends the bytes of a place that is held: what is written back is what they are then, and all else is as
+    /// before.
+    pub fn bytes_mut(&mut self, place: Place) -> &mut [u8]
+        requires { AllHeld self.old place }
+        ensures* writes_back { sem 𝓛 (LendsBytes self.entry place result) }
+        ensures len { length result.now ≡ place.len }
+        ensures bytes { (k : ℕ) → k < place.len → slice_get result.now k ≡ get self.old.bytes (place.addr + k) }
+    {
+        if is_below(place) {
+            self.below.part_mut(place)
+        } else {
+            self.above.part_mut(place)
         }
     }
 }
