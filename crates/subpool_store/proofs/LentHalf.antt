@@ -1,5 +1,5 @@
 -- What a region is after a write through some of its bytes.
-use Rattle.std.proofs.Common.{◌≡◌, ℕ, ◌+◌, ◌-◌, ◌*◌, ◌/◌, ◌<◌, ◌≤◌, ◌⊎◌, ◌&&◌, Bool, true, false, cond, Option, Some, None, is_some, List, length, get_or, min, refl, sym, ap, ◌∙◌, inl, inr, arith}
+use Rattle.std.proofs.Common.{◌≡◌, ℕ, ◌+◌, ◌-◌, ◌*◌, ◌/◌, ◌<◌, ◌≤◌, ◌⊎◌, ◌&&◌, Bool, true, false, cond, Option, Some, None, is_some, List, length, get_or, min, refl, subst, sym, ap, ◌∙◌, inl, inr, arith}
 use Rattle.std.proofs.lemmas.Bool.{cases_Bool, cases_lt, cond-true, cond-false, lt-ltb, le-ltb, true≢false}
 use Rattle.std.proofs.lemmas.Bool.Decides.{nat_tests}
 use Rattle.std.proofs.lemmas.List.{get_or_past}
@@ -7,13 +7,13 @@ use Rattle.std.proofs.lemmas.List.FromFn.{get_or-map-range_with_len, length-map-
 use Rattle.std.specs.Ordering.{nat_cmp}
 use Rattle.std.specs.FinMap.{FinMap, get}
 use Rattle.mvs_model.specs.Span.{Span}
-use Rattle.mvs_model.specs.Storage.{Storage}
+use Rattle.mvs_model.specs.Storage.{AllHeld, IsStorage, Storage, has_address}
 use Rattle.mvs_model.proofs.Tables.{get-table_all, same_maps}
 use Rattle.subpool_store.specs.Bits.{in_range}
 use Rattle.subpool_store.specs.Half.{HalfState, IsHalf, IsSound, byte_at, bytes_of, cell, half_of, shifted}
 use Rattle.subpool_store.specs.Joined.{IsStore, regions_of, store_of}
-use Rattle.subpool_store.specs.Written.{half_written, over, overlaid, overwritten, side_end, written}
-use Rattle.subpool_store.proofs.Both.{high_byte, low_byte, new_above, new_below, past_byte}
+use Rattle.subpool_store.specs.Written.{half_written, over, overlaid, overwritten, Puts, side_end, written}
+use Rattle.subpool_store.proofs.Both.{high_byte, low_byte, new_above, new_below, past_byte, storage_of}
 use Rattle.subpool_store.proofs.Bytes.{get-bytes_of}
 use Rattle.subpool_store.proofs.Exact.{holder_at, holder_some, shifted_none, cell_none}
 use Rattle.subpool_store.proofs.Methods.{set_within}
@@ -189,3 +189,48 @@ module _ (b a : HalfState) (fill : ℕ) (st : Storage) (both : IsStore b a) (is 
 
         pointwise : (k : ℕ) → get (store_of b (half_written a at w) fill).bytes k ≡ get (overwritten (store_of b a fill).bytes at (min (at + length w) 2147483648) w) k
         pointwise k = by k (cases_lt k 16777216) (cases_lt k 2147483648) ∙ sym (new k)
+
+-- bytes written over those of a place that is held, as many as it has, stand there
+pub puts : (st : Storage) (p : Span) (w : List ℕ) → IsStorage st → AllHeld st p → ((k : ℕ) → 2147483648 ≤ k → get st.bytes k ≡ None) → p.addr + p.len ≤ side_end p.addr → length w ≡ p.len →
+    IsStorage (written st p w) → Puts st p w (written st p w)
+puts st p w storage held none one_side size new = record { regions = refl; held = refl; bytes = at; storage = new } where
+  side : p.addr + length w ≤ side_end p.addr
+  side = omega arith
+  inside : (k : ℕ) → has_address p k ≡ true → (p.addr ≤ k) × (k < p.addr + p.len)
+  inside k hit = grind (arith, nat_tests)
+  outside : (k : ℕ) → has_address p k ≡ false → p.addr ≤ k → p.addr + p.len ≤ k
+  outside k out from = grind (arith, nat_tests)
+  some : (k : ℕ) → has_address p k ≡ true → is_some (get st.bytes k) ≡ true
+  some k hit = let h = inside k hit in let from : p.addr ≤ k = h.0 in let to : k < p.addr + p.len = h.1 in storage.bytes k ∙ held (k / 8) (omega arith, omega arith)
+  range : (k : ℕ) (b : Bool) → has_address p k ≡ b → in_range p.addr (min (p.addr + length w) (side_end p.addr)) k ≡ b
+  range k true hit = let h = inside k hit in in_range_from p.addr (min (p.addr + length w) (side_end p.addr)) k h.0 (omega (arith, h.1))
+  range k false out = out_of_range_from p.addr (min (p.addr + length w) (side_end p.addr)) k (λ from. let past : p.addr + p.len ≤ k = outside k out from in omega arith)
+  by : (k : ℕ) (b : Bool) → has_address p k ≡ b → over (get st.bytes) p.addr (min (p.addr + length w) (side_end p.addr)) w k ≡ cond b (Some (get_or w (k - p.addr) 0)) (get st.bytes k)
+  by k true hit = (λ i. cond (range k true hit i && some k hit i) (Some (get_or w (k - p.addr) 0)) (get st.bytes k))
+  by k false out = over_out (get st.bytes) p.addr (min (p.addr + length w) (side_end p.addr)) w k (range k false out)
+  at : (k : ℕ) → get (written st p w).bytes k ≡ cond (has_address p k) (Some (get_or w (k - p.addr) 0)) (get st.bytes k)
+  at k = get-overwritten st.bytes p.addr (min (p.addr + length w) (side_end p.addr)) w none k ∙ by k (has_address p k) refl
+
+module _ (b a : HalfState) (fill : ℕ) (st : Storage) (both : IsStore b a) (is : store_of b a fill ≡ st) (p : Span) (held : AllHeld st p) (w : List ℕ) (size : length w ≡ p.len) where
+  storage : IsStorage st
+  storage = subst IsStorage is (storage_of b a fill both)
+
+  none_past_st : (k : ℕ) → 2147483648 ≤ k → get st.bytes k ≡ None
+  none_past_st k past = sym (ap (λ t. get t.bytes k) is) ∙ past_byte b a fill k past
+
+  pub puts_below : 1 ≤ p.len → p.addr + p.len ≤ 16777216 → Puts st p w (written st p w)
+  puts_below some low =
+      puts st p w storage held none_past_st (subst (λ e. p.addr + p.len ≤ e) (sym (cond-true _ _ _ (lt-ltb p.addr 16777216 (omega arith)))) low) size
+      (subst IsStorage (lends_below b a fill st both is p.addr w (omega arith) p refl) (storage_of (half_written b p.addr w) a fill (kept_below b a fill st both is p.addr w)))
+
+  pub puts_above : 1 ≤ p.len → 16777216 ≤ p.addr → Puts st p w (written st p w)
+  puts_above some high =
+      puts st p w storage held none_past_st (subst (λ e. p.addr + p.len ≤ e) (sym (cond-false _ _ _ (le-ltb p.addr 16777216 high))) ends) size
+      (subst IsStorage (lends_above b a fill st both is p.addr w high p refl) (storage_of b (half_written a p.addr w) fill (kept_above b a fill st both is p.addr w))) where
+    ends : p.addr + p.len ≤ 2147483648
+    ends = by (get st.bytes (p.addr + p.len - 1)) refl (storage.bytes (p.addr + p.len - 1) ∙ held ((p.addr + p.len - 1) / 8) (omega arith, omega arith)) where
+      by : (o : Option ℕ) → get st.bytes (p.addr + p.len - 1) ≡ o → is_some (get st.bytes (p.addr + p.len - 1)) ≡ true → p.addr + p.len ≤ 2147483648
+      by o e hit = elim (cases_lt (p.addr + p.len - 1) 2147483648) [
+        | inl low ↦ omega arith
+        | inr past ↦ absurd (true≢false (sym hit ∙ ap is_some (none_past_st (p.addr + p.len - 1) past)))
+      ]

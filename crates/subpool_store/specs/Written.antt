@@ -1,10 +1,10 @@
 -- What a list of bytes and a map of bytes have once bytes were written over them.
-use Rattle.std.specs.Prelude.{ℕ, ◌+◌, ◌-◌, ◌&&◌, min, List, map, Option, Some, length, is_some, nat_lt, slice_index, if◌then◌else◌}
+use Rattle.std.specs.Prelude.{◌≡◌, ℕ, ◌+◌, ◌-◌, ◌&&◌, min, List, map, Option, Some, length, is_some, nat_lt, slice_index, if◌then◌else◌}
 use Rattle.std.specs.List.{range_with_len}
 use Rattle.std.specs.Ordering.{nat_cmp}
 use Rattle.std.specs.FinMap.{FinMap, get}
 use Rattle.mvs_model.specs.Span.{Span}
-use Rattle.mvs_model.specs.Storage.{Storage}
+use Rattle.mvs_model.specs.Storage.{IsStorage, Storage, has_address}
 use Rattle.mvs_model.specs.Table.{table}
 use Rattle.subpool_store.specs.Bits.{in_range}
 use Rattle.subpool_store.specs.Half.{HalfState}
@@ -32,3 +32,10 @@ half_written h a w = record { first = h.first; pages = h.pages; held = h.held; b
 -- Storage with the bytes written over those of a place, on its side of 16 megabytes.
 abbrev pub written : Storage → Span → List ℕ → Storage
 written st p w = record { regions = st.regions; held = st.held; bytes = overwritten st.bytes p.addr (min (p.addr + length w) (side_end p.addr)) w }
+
+-- The bytes stand at the place now, one after another, and all else is as before.
+pub record Puts (old : Storage) (p : Span) (w : List ℕ) (new : Storage) : Type 0 where
+  pub regions : new.regions ≡ old.regions
+  pub held : new.held ≡ old.held
+  pub bytes : (k : ℕ) → get new.bytes k ≡ (if has_address p k then Some (slice_index w (k - p.addr)) else get old.bytes k)
+  pub storage : IsStorage new

@@ -1,6 +1,6 @@
 //! Storage of both regions.
 
-ghost use Rattle.std.specs.Prelude.{◌≡◌, ◌<◌, ◌≤◌, ◌+◌, ◌*◌, ◌/◌, ◌%◌, ◌^◌, ◌↔◌, Some, None, MatchBool, MatchOption, MatchResult, IfOk, IsTrue, ℕ, length, slice_get};
+ghost use Rattle.std.specs.Prelude.{◌≡◌, ◌<◌, ◌≤◌, ◌+◌, ◌*◌, ◌/◌, ◌%◌, ◌^◌, ◌↔◌, Some, None, MatchBool, MatchOption, MatchResult, IfOk, IsTrue, List, ℕ, length, slice_get};
 ghost use Rattle.std.specs.Borrow.{sem};
 ghost use Rattle.std.specs.FinMap.{get, empty};
 ghost use Rattle.mvs_model.specs.Storage.{
@@ -19,6 +19,7 @@ ghost use Rattle.mvs_model.specs.Storage.{
 };
 ghost use Rattle.subpool_store.specs.Joined.{BestAbove, Taken};
 ghost use Rattle.subpool_store.specs.LendsBytes.{LendsBytes};
+ghost use Rattle.subpool_store.specs.Written.{Puts, written};
 
 use crate::half::Half;
 use crate::search::{is_longest, longer};
@@ -238,6 +239,9 @@ impl Store {
     pub fn bytes_mut(&mut self, place: Place) -> &mut [u8]
         requires { AllHeld self.old place }
         ensures* writes_back { sem 𝓛 (LendsBytes self.entry place result) }
+
+        // What the storage is once the loan is over, where `w` was left behind the result.
+        ensures written { (w : List ℕ) → length w ≡ place.len → Puts self.old place w (written self.old place w) }
         ensures len { length result.now ≡ place.len }
         ensures bytes { (k : ℕ) → k < place.len → slice_get result.now k ≡ get self.old.bytes (place.addr + k) }
     {
