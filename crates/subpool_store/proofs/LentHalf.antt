@@ -196,18 +196,24 @@ pub puts : (st : Storage) (p : Span) (w : List ℕ) → IsStorage st → AllHeld
 puts st p w storage held none one_side size new = record { regions = refl; held = refl; bytes = at; storage = new } where
   side : p.addr + length w ≤ side_end p.addr
   side = omega arith
+
   inside : (k : ℕ) → has_address p k ≡ true → (p.addr ≤ k) × (k < p.addr + p.len)
   inside k hit = grind (arith, nat_tests)
+
   outside : (k : ℕ) → has_address p k ≡ false → p.addr ≤ k → p.addr + p.len ≤ k
   outside k out from = grind (arith, nat_tests)
+
   some : (k : ℕ) → has_address p k ≡ true → is_some (get st.bytes k) ≡ true
   some k hit = let h = inside k hit in let from : p.addr ≤ k = h.0 in let to : k < p.addr + p.len = h.1 in storage.bytes k ∙ held (k / 8) (omega arith, omega arith)
+
   range : (k : ℕ) (b : Bool) → has_address p k ≡ b → in_range p.addr (min (p.addr + length w) (side_end p.addr)) k ≡ b
   range k true hit = let h = inside k hit in in_range_from p.addr (min (p.addr + length w) (side_end p.addr)) k h.0 (omega (arith, h.1))
   range k false out = out_of_range_from p.addr (min (p.addr + length w) (side_end p.addr)) k (λ from. let past : p.addr + p.len ≤ k = outside k out from in omega arith)
+
   by : (k : ℕ) (b : Bool) → has_address p k ≡ b → over (get st.bytes) p.addr (min (p.addr + length w) (side_end p.addr)) w k ≡ cond b (Some (get_or w (k - p.addr) 0)) (get st.bytes k)
   by k true hit = (λ i. cond (range k true hit i && some k hit i) (Some (get_or w (k - p.addr) 0)) (get st.bytes k))
   by k false out = over_out (get st.bytes) p.addr (min (p.addr + length w) (side_end p.addr)) w k (range k false out)
+
   at : (k : ℕ) → get (written st p w).bytes k ≡ cond (has_address p k) (Some (get_or w (k - p.addr) 0)) (get st.bytes k)
   at k = get-overwritten st.bytes p.addr (min (p.addr + length w) (side_end p.addr)) w none k ∙ by k (has_address p k) refl
 
@@ -227,10 +233,10 @@ module _ (b a : HalfState) (fill : ℕ) (st : Storage) (both : IsStore b a) (is 
   puts_above some high =
       puts st p w storage held none_past_st (subst (λ e. p.addr + p.len ≤ e) (sym (cond-false _ _ _ (le-ltb p.addr 16777216 high))) ends) size
       (subst IsStorage (lends_above b a fill st both is p.addr w high p refl) (storage_of b (half_written a p.addr w) fill (kept_above b a fill st both is p.addr w))) where
-    ends : p.addr + p.len ≤ 2147483648
-    ends = by (get st.bytes (p.addr + p.len - 1)) refl (storage.bytes (p.addr + p.len - 1) ∙ held ((p.addr + p.len - 1) / 8) (omega arith, omega arith)) where
-      by : (o : Option ℕ) → get st.bytes (p.addr + p.len - 1) ≡ o → is_some (get st.bytes (p.addr + p.len - 1)) ≡ true → p.addr + p.len ≤ 2147483648
-      by o e hit = elim (cases_lt (p.addr + p.len - 1) 2147483648) [
-        | inl low ↦ omega arith
-        | inr past ↦ absurd (true≢false (sym hit ∙ ap is_some (none_past_st (p.addr + p.len - 1) past)))
-      ]
+        ends : p.addr + p.len ≤ 2147483648
+        ends = by (get st.bytes (p.addr + p.len - 1)) refl (storage.bytes (p.addr + p.len - 1) ∙ held ((p.addr + p.len - 1) / 8) (omega arith, omega arith)) where
+          by : (o : Option ℕ) → get st.bytes (p.addr + p.len - 1) ≡ o → is_some (get st.bytes (p.addr + p.len - 1)) ≡ true → p.addr + p.len ≤ 2147483648
+          by o e hit = elim (cases_lt (p.addr + p.len - 1) 2147483648) [
+            | inl low ↦ omega arith
+            | inr past ↦ absurd (true≢false (sym hit ∙ ap is_some (none_past_st (p.addr + p.len - 1) past)))
+          ]

@@ -11,3 +11,4 @@ pub mod Both
 pub mod Choice
 pub mod Lent
 pub mod LentHalf
+pub mod Counts

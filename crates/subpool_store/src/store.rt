@@ -15,6 +15,7 @@ ghost use Rattle.mvs_model.specs.Storage.{
   Open,
   Release,
   ReleaseAll,
+  held_bytes,
   holder,
 };
 ghost use Rattle.subpool_store.specs.Joined.{BestAbove, Taken};
@@ -210,6 +211,13 @@ impl Store {
             self.above.holder(addr)
         }
     }
+    /// How many bytes the subpool holds.
+    pub fn held_bytes(&self, subpool: SubpoolId) -> u32
+        ensures { result ≡ held_bytes self.now subpool }
+    {
+        8 * (self.below.count(subpool) + self.above.count(subpool))
+    }
+
     /// The subpool that the page of an address is assigned to: the one that holds a doubleword of the page.
     pub fn page_owner(&self, addr: Addr) -> Option<SubpoolId>
         ensures { IsPageOwner self.now addr result }

@@ -26,7 +26,7 @@ returns-then-is_below c =
       record {
         writes_back = tt;
         written = λ w size. puts_below s.below s.above s.fill c.args.self.now c.self.invariant c.self.view_is c.args.place c.requires w size c.is_below.ensures.some c.if-is_below.ensures.below;
-      len = c.part_mut.ensures.len;
+        len = c.part_mut.ensures.len;
         bytes = bytes_below s.below s.above s.fill c.args.self.now c.self.invariant c.self.view_is 0 c.args.place c.is_below.ensures.some c.part_mut.result.now c.part_mut.ensures.len low c.requires c.part_mut.ensures.each;
       },
     )
@@ -39,7 +39,7 @@ returns-else-is_below c =
       record {
         writes_back = tt;
         written = λ w size. puts_above s.below s.above s.fill c.args.self.now c.self.invariant c.self.view_is c.args.place c.requires w size c.is_below.ensures.some high;
-      len = c.part_mut-else-is_below.ensures.len;
+        len = c.part_mut-else-is_below.ensures.len;
         bytes = bytes_above s.below s.above s.fill c.args.self.now c.self.invariant c.self.view_is 0 c.args.place c.is_below.ensures.some c.part_mut-else-is_below.result.now c.part_mut-else-is_below.ensures.len high c.requires c.part_mut-else-is_below.ensures.each;
       },
     )
