@@ -9,3 +9,6 @@ pub mod Bytes
 pub mod Methods
 pub mod Both
 pub mod Choice
+pub mod Lent
+pub mod LentHalf
+pub mod Counts

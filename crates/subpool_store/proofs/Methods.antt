@@ -18,7 +18,7 @@ use Rattle.subpool_store.proofs.Bytes.{get-bytes_of, cells_change, holders_chang
 use Rattle.subpool_store.proofs.Change.{page_index, pages_usable, taken_cell, taken_exact, given_cell, given_exact, dropped_cell, dropped_exact}
 use Rattle.subpool_store.proofs.Exact.{holder_at, holder_some, holder_index, shifted_at, shifted_none, cell_at, cell_none, cell_some, open_from, open_of}
 
-set_within : (bits : List Bool) (i : ℕ) → get_or bits i false ≡ true → i < length bits
+pub set_within : (bits : List Bool) (i : ℕ) → get_or bits i false ≡ true → i < length bits
 set_within bits i set = elim (cases_lt i (length bits)) [ inl low ↦ low | inr high ↦ absurd (let e : false ≡ true = sym (get_or_past bits i false high) ∙ set in cc) ]
 
 -- an empty region

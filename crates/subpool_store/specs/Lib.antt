@@ -4,3 +4,7 @@ pub mod Half
 pub mod Joined
 pub mod Search
 pub mod Walk
+pub mod Written
+pub mod LendsData
+pub mod LendsHalf
+pub mod LendsBytes

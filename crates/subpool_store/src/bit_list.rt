@@ -1,7 +1,8 @@
 //! A long list of bits, in words.
 
-ghost use Rattle.std.specs.Prelude.{◌≡◌, ◌<◌, ◌≤◌, ◌*◌, ◌-◌, ℕ, MatchOption, length, not, false, slice_index_or, IfOk, if◌then◌else◌};
+ghost use Rattle.std.specs.Prelude.{◌≡◌, ◌<◌, ◌≤◌, ◌*◌, ◌+◌, ◌-◌, ℕ, MatchOption, length, not, false, slice_index_or, IfOk, if◌then◌else◌};
 ghost use Rattle.std.specs.Int.{bit_at};
+ghost use Rattle.mvs_model.specs.Finite.{count_below};
 ghost use Rattle.subpool_store.specs.Bits.{bit_of, in_range, digit};
 ghost use Rattle.subpool_store.specs.Edits.{IsClear, IsMarked};
 
@@ -93,6 +94,20 @@ fn mark(words: &mut [u64], from: usize, to: usize, value: bool)
     }
 }
 
+// How many bits of some words are set.
+fn count(words: &[u64], from: usize, to: usize) -> u32
+    requires ordered { from ≤ to }
+    requires within { to ≤ length words.now }
+    requires small { length words.now ≤ 65536 }
+    ensures { result ≡ count_below (64 * (to - from)) (λ i. bit_of words.now (64 * from + i)) }
+{
+    let mut count = 0;
+    for index in from..to {
+        count += words[index].count_ones();
+    }
+    count
+}
+
 /// At most 65,536 words of 64 bits each.
 #[derive(Drop)]
 pub struct BitList {
@@ -141,5 +156,14 @@ impl BitList {
         ensures { IsMarked self.old from to value self.new }
     {
         mark(&mut self.words, from, to, value);
+    }
+
+    // How many bits of some words are set.
+    pub fn count(&self, from: usize, to: usize) -> u32
+        requires ordered { from ≤ to }
+        requires within { 64 * to ≤ length self.now }
+        ensures { result ≡ count_below (64 * (to - from)) (λ i. slice_index_or self.now (64 * from + i) false) }
+    {
+        count(&self.words, from, to)
     }
 }

@@ -2,7 +2,9 @@
 
 ghost use Rattle.std.specs.Prelude.{◌≡◌, ◌<◌, ◌≤◌, ◌+◌, ◌-◌, ◌*◌, ℕ, IfOk, length, slice_index, if◌then◌else◌};
 ghost use Rattle.subpool_store.specs.Bits.{in_range};
+ghost use Rattle.std.specs.Borrow.{sem};
 ghost use Rattle.subpool_store.specs.Edits.{IsFilled};
+ghost use Rattle.subpool_store.specs.LendsData.{LendsData};
 
 use mvs_model::error::OutOfMemory;
 use std::alloc::Global;
@@ -63,5 +65,16 @@ impl Data {
         ensures each { (k : ℕ) → k < to - from → slice_index result.now k ≡ slice_index self.now (from + k) }
     {
         &self.bytes[from..to]
+    }
+
+    // Lends the bytes of a range.
+    pub fn part_mut(&mut self, from: usize, to: usize) -> &mut [u8]
+        requires ordered { from ≤ to }
+        requires within { to ≤ length self.old }
+        ensures* writes_back { sem 𝓛 (LendsData self.entry from result) }
+        ensures len { length result.now ≡ to - from }
+        ensures each { (k : ℕ) → k < to - from → slice_index result.now k ≡ slice_index self.old (from + k) }
+    {
+        self.bytes.slice_mut(from..to)
     }
 }

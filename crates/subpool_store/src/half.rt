@@ -1,7 +1,9 @@
 //! One region.
 
-ghost use Rattle.std.specs.Prelude.{◌≡◌, ◌<◌, ◌≤◌, ◌+◌, ◌-◌, ◌*◌, ◌/◌, ◌%◌, ◌^◌, ◌↔◌, Some, None, MatchOption, ℕ, length, Bool, true, false, IfOk, IsTrue, slice_index, slice_index_or};
+ghost use Rattle.std.specs.Prelude.{◌≡◌, ◌<◌, ◌≤◌, ◌+◌, ◌-◌, ◌*◌, ◌/◌, ◌%◌, ◌^◌, ◌↔◌, Some, None, MatchBool, MatchOption, ℕ, length, Bool, true, false, ◌==◌, IfOk, IsTrue, slice_index, slice_index_or};
+ghost use Rattle.std.specs.Borrow.{sem};
 ghost use Rattle.std.specs.FinMap.{get, empty};
+ghost use Rattle.mvs_model.specs.Finite.{count_below, has};
 ghost use Rattle.mvs_model.specs.Storage.{IsWhole};
 ghost use Rattle.mvs_model.specs.Wanted.{IsWanted};
 ghost use Rattle.page_map.specs.Owners.{owner_of, is_usable};
@@ -17,6 +19,7 @@ ghost use Rattle.subpool_store.specs.Half.{
   OwnsPage,
   cell,
 };
+ghost use Rattle.subpool_store.specs.LendsHalf.{LendsHalf};
 
 use crate::data::Data;
 use crate::held_map::HeldMap;
@@ -110,6 +113,41 @@ fn drop_pages(held: &mut HeldMap, pages: &mut PageMap, subpool: SubpoolId)
             held.start(page);
         }
     }
+}
+
+// Whether the page is the subpool's.
+fn is_own(pages: &PageMap, subpool: SubpoolId, page: usize) -> bool
+    requires { page < length pages.now }
+    ensures { MatchBool result (owner_of pages.now page ≡ Some subpool) (owner_of pages.now page ≡ Some subpool → ⊥) }
+{
+    pages.owner(page) == Some(subpool)
+}
+
+// How many doublewords of a page the subpool holds.
+fn count_page(held: &HeldMap, pages: &PageMap, subpool: SubpoolId, page: usize) -> u32
+    requires sizes { length held.now ≡ 512 * length pages.now }
+    requires few { length pages.now ≤ 8192 }
+    requires within { page < length pages.now }
+    ensures { result ≡ count_below 512 (λ i. has (λ t. t == subpool) (cell held.now pages.now (512 * page + i))) }
+{
+    if is_own(pages, subpool, page) {
+        held.count(page)
+    } else {
+        0
+    }
+}
+
+// How many doublewords the subpool holds.
+fn count(held: &HeldMap, pages: &PageMap, subpool: SubpoolId) -> u32
+    requires sizes { length held.now ≡ 512 * length pages.now }
+    requires few { length pages.now ≤ 8192 }
+    ensures { result ≡ count_below (512 * length pages.now) (λ i. has (λ t. t == subpool) (cell held.now pages.now i)) }
+{
+    let mut count = 0;
+    for page in 0..pages.pages() {
+        count += count_page(held, pages, subpool, page);
+    }
+    count
 }
 
 // Who holds a doubleword.
@@ -244,6 +282,14 @@ impl Half {
         cell(&self.held, &self.pages, (at - self.first) as usize)
     }
 
+    // How many doublewords the subpool holds.
+    pub fn count(&self, subpool: SubpoolId) -> u32
+        ensures count { result ≡ count_below (512 * self.now.pages) (λ i. has (λ t. t == subpool) (get self.now.held (self.now.first + i))) }
+        ensures most { result ≤ 4194304 }
+    {
+        count(&self.held, &self.pages, subpool)
+    }
+
     // The subpool that the page of an address is assigned to.
     pub fn page_owner(&self, addr: Addr) -> Option<SubpoolId>
         ensures { OwnsPage self.now (addr / 4096) result }
@@ -264,5 +310,17 @@ impl Half {
         let len = place.len() as usize;
         let from = (place.addr().get() - 8 * self.first) as usize;
         self.data.part(from, from + len)
+    }
+
+    // Lends the bytes of a place.
+    pub fn part_mut(&mut self, place: Place) -> &mut [u8]
+        requires { AllHeldIn self.old place }
+        ensures* writes_back { sem 𝓛 (LendsHalf self.entry place result) }
+        ensures len { length result.now ≡ place.len }
+        ensures each { (k : ℕ) → k < place.len → get self.old.bytes (place.addr + k) ≡ Some (slice_index result.now k) }
+    {
+        let len = place.len() as usize;
+        let from = (place.addr().get() - 8 * self.first) as usize;
+        self.data.part_mut(from, from + len)
     }
 }

@@ -1,6 +1,7 @@
 //! Which doublewords of a region are held: a bit for each.
 
 ghost use Rattle.std.specs.Prelude.{◌≡◌, ◌<◌, ◌≤◌, ◌+◌, ◌*◌, ◌↔◌, ℕ, IfOk, MatchOption, MatchBool, IsTrue, false, true, length, slice_index_or};
+ghost use Rattle.mvs_model.specs.Finite.{count_below};
 ghost use Rattle.subpool_store.specs.Edits.{IsClear, IsMarked, IsFreeRun, HasNoBit, HasBit};
 
 use crate::bit_list::BitList;
@@ -109,5 +110,14 @@ impl HeldMap {
         ensures { IsTrue result ↔ ((i : ℕ) → run.start ≤ i → i < run.end → slice_index_or self.now i false ≡ true) }
     {
         self.bits.scan(run.start, run.end, false) == run.end
+    }
+
+    // How many doublewords of a page are held.
+    pub fn count(&self, page: usize) -> u32
+        requires few { page < 8192 }
+        requires within { 512 * page + 512 ≤ length self.now }
+        ensures { result ≡ count_below 512 (λ i. slice_index_or self.now (512 * page + i) false) }
+    {
+        self.bits.count(8 * page, 8 * page + 8)
     }
 }

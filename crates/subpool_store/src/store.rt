@@ -1,6 +1,7 @@
 //! Storage of both regions.
 
-ghost use Rattle.std.specs.Prelude.{◌≡◌, ◌<◌, ◌≤◌, ◌+◌, ◌*◌, ◌/◌, ◌%◌, ◌^◌, ◌↔◌, Some, None, MatchBool, MatchOption, MatchResult, IfOk, IsTrue, ℕ, length, slice_get};
+ghost use Rattle.std.specs.Prelude.{◌≡◌, ◌<◌, ◌≤◌, ◌+◌, ◌*◌, ◌/◌, ◌%◌, ◌^◌, ◌↔◌, Some, None, MatchBool, MatchOption, MatchResult, IfOk, IsTrue, List, ℕ, length, slice_get};
+ghost use Rattle.std.specs.Borrow.{sem};
 ghost use Rattle.std.specs.FinMap.{get, empty};
 ghost use Rattle.mvs_model.specs.Storage.{
   AllHeld,
@@ -14,9 +15,12 @@ ghost use Rattle.mvs_model.specs.Storage.{
   Open,
   Release,
   ReleaseAll,
+  held_bytes,
   holder,
 };
 ghost use Rattle.subpool_store.specs.Joined.{BestAbove, Taken};
+ghost use Rattle.subpool_store.specs.LendsBytes.{LendsBytes};
+ghost use Rattle.subpool_store.specs.Written.{Puts, written};
 
 use crate::half::Half;
 use crate::search::{is_longest, longer};
@@ -207,6 +211,13 @@ impl Store {
             self.above.holder(addr)
         }
     }
+    /// How many bytes the subpool holds.
+    pub fn held_bytes(&self, subpool: SubpoolId) -> u32
+        ensures { result ≡ held_bytes self.now subpool }
+    {
+        8 * (self.below.count(subpool) + self.above.count(subpool))
+    }
+
     /// The subpool that the page of an address is assigned to: the one that holds a doubleword of the page.
     pub fn page_owner(&self, addr: Addr) -> Option<SubpoolId>
         ensures { IsPageOwner self.now addr result }
@@ -228,6 +239,24 @@ impl Store {
             self.below.part(place)
         } else {
             self.above.part(place)
+        }
+    }
+
+    /// Lends the bytes of a place that is held: what is written back is what they are then, and all else is as
+    /// before.
+    pub fn bytes_mut(&mut self, place: Place) -> &mut [u8]
+        requires { AllHeld self.old place }
+        ensures* writes_back { sem 𝓛 (LendsBytes self.entry place result) }
+
+        // What the storage is once the loan is over, where `w` was left behind the result.
+        ensures written { (w : List ℕ) → length w ≡ place.len → Puts self.old place w (written self.old place w) }
+        ensures len { length result.now ≡ place.len }
+        ensures bytes { (k : ℕ) → k < place.len → slice_get result.now k ≡ get self.old.bytes (place.addr + k) }
+    {
+        if is_below(place) {
+            self.below.part_mut(place)
+        } else {
+            self.above.part_mut(place)
         }
     }
 }

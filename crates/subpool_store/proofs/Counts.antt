@@ -1,0 +1,191 @@
+-- How many numbers below a bound pass a test.
+use Rattle.std.proofs.Common.{List, length, get_or, Option, Some, None, ◌≡◌, ℕ, zero, suc, ◌+◌, ◌-◌, ◌*◌, ◌/◌, ◌%◌, ◌^◌, ◌<◌, ◌≤◌, Bool, true, false, cond, eqb, refl, sym, ap, ◌∙◌, subst, inl, inr, arith, add-suc}
+use Rattle.std.proofs.lemmas.Bool.{cases_eq, eq-eqb, ne_eqb}
+use Rattle.std.proofs.lemmas.Nat.{pow_pos, ones_cat, ones_le_self, div-add-mod'}
+use Rattle.std.proofs.lemmas.Nat.Bits.{bit_at_cat_low}
+use Rattle.std.specs.Int.{bit_at}
+use Rattle.std.proofs.Math.Nat.{div-lt_iff_lt-mul, mod-lt, pow-suc}
+use lib.Count.{ones, ones_in}
+use Rattle.std.specs.FinMap.{get}
+use Rattle.mvs_model.specs.Finite.{count_below, has}
+use Rattle.mvs_model.specs.Storage.{Storage, end_of, holds}
+use Rattle.page_map.specs.Owners.{owner_of}
+use Rattle.subpool_store.specs.Bits.{bit_of}
+use Rattle.subpool_store.specs.Half.{HalfState, cell, half_of, held_of}
+use Rattle.subpool_store.specs.Joined.{IsStore, regions_of, store_of}
+use Rattle.subpool_store.proofs.Both.{high_holder, low_holder}
+use Rattle.subpool_store.proofs.Exact.{holder_index}
+
+pub count_same : (n : ℕ) (f g : ℕ → Bool) → ((i : ℕ) → i < n → f i ≡ g i) → count_below n f ≡ count_below n g
+unfolding count_below
+count_same zero f g same = refl
+count_same (suc n) f g same =
+    let rest : count_below n f ≡ count_below n g = count_same n f g (λ i low. same i (omega arith)) in
+    ap (λ b. cond b 1 0 + count_below n f) (same n (omega arith)) ∙ ap (λ r. cond (g n) 1 0 + r) rest
+
+pub count_none : (n : ℕ) (f : ℕ → Bool) → ((i : ℕ) → i < n → f i ≡ false) → count_below n f ≡ 0
+unfolding count_below
+count_none zero f none = refl
+count_none (suc n) f none = ap (λ b. cond b 1 0 + count_below n f) (none n (omega arith)) ∙ (let rest : count_below n f ≡ 0 = count_none n f (λ i low. none i (omega arith)) in let e : 0 + count_below n f ≡ 0 = omega arith in e)
+
+pub count_most : (n : ℕ) (f : ℕ → Bool) → count_below n f ≤ n
+unfolding count_below
+count_most zero f = omega arith
+count_most (suc n) f = let rest : count_below n f ≤ n = count_most n f in let one : cond (f n) 1 0 ≤ 1 = at (f n) in omega arith where
+  at : (b : Bool) → cond b 1 0 ≤ 1
+  at true = omega arith
+  at false = omega arith
+
+-- the count of two parts, one after the other
+pub count_split : (n a b : ℕ) (f : ℕ → Bool) → n ≡ a + b → count_below n f ≡ count_below a f + count_below b (λ i. f (a + i))
+unfolding count_below
+count_split n a zero f is = ap (λ k. count_below k f) (let e : n ≡ a = omega arith in e) ∙ (let e : count_below a f ≡ count_below a f + 0 = omega arith in e)
+count_split n a (suc b) f is =
+    let next : n ≡ suc (a + b) = omega arith in
+    let rest : count_below (a + b) f ≡ count_below a f + count_below b (λ i. f (a + i)) = count_split (a + b) a b f refl in
+    ap (λ k. count_below k f) next ∙ (let e : cond (f (a + b)) 1 0 + count_below (a + b) f ≡ count_below a f + (cond (f (a + b)) 1 0 + count_below b (λ i. f (a + i))) = omega arith in e)
+
+-- the count of a middle part, where nothing else passes
+pub count_middle : (n x y z : ℕ) (f : ℕ → Bool) → n ≡ x + (y + z) → ((i : ℕ) → i < x → f i ≡ false) → ((i : ℕ) → x + y ≤ i → i < n → f i ≡ false) → count_below n f ≡ count_below y (λ i. f (x + i))
+count_middle n x y z f is before behind =
+    let one : count_below n f ≡ count_below x f + count_below (y + z) (λ i. f (x + i)) = count_split n x (y + z) f is in
+    let two : count_below (y + z) (λ i. f (x + i)) ≡ count_below y (λ i. f (x + i)) + count_below z (λ i. f (x + (y + i))) = count_split (y + z) y z (λ i. f (x + i)) refl in
+    let none : count_below x f ≡ 0 = count_none x f before in
+    let rest : count_below z (λ i. f (x + (y + i))) ≡ 0 = count_none z (λ i. f (x + (y + i))) (λ i low. behind (x + (y + i)) (omega arith) (omega arith)) in
+    omega arith
+
+ones_one : ones 1 ≡ 1
+unfolding ones ones_in
+ones_one = refl
+
+ones_small : (q : ℕ) → q < 2 → ones q ≡ q
+ones_small q small = elim (cases_eq q 1) [
+  | inl one ↦ ap ones one ∙ ones_one ∙ sym one
+  | inr other ↦ let zero : q ≡ 0 = omega arith in let less : ones q ≤ q = ones_le_self q in omega arith
+]
+
+digit_of : (q : ℕ) → q < 2 → cond (eqb (q % 2) 1) 1 0 ≡ q
+digit_of q small = elim (cases_eq q 1) [
+  | inl one ↦ ap (λ x. cond (eqb (x % 2) 1) 1 0) one ∙ sym one
+  | inr other ↦ let zero : q ≡ 0 = omega arith in ap (λ x. cond (eqb (x % 2) 1) 1 0) zero ∙ sym zero
+]
+
+quotient_small : (n p : ℕ) → 0 < p → n < 2 * p → n / p < 2
+quotient_small n p some small = (div-lt_iff_lt-mul some).1 small
+
+-- the ones of a number are counted bit by bit
+pub ones-count : (d n : ℕ) → n < 2 ^ d → ones n ≡ count_below d (λ i. eqb (bit_at n i) 1)
+unfolding count_below
+ones-count zero n small = let less : ones n ≤ n = ones_le_self n in let one : n < 1 = small in omega arith
+ones-count (suc d) n small =
+    let is : n / 2 ^ d * 2 ^ d + n % 2 ^ d ≡ n = div-add-mod' n (2 ^ d) in
+    let double : 2 ^ suc d ≡ 2 ^ d * 2 = pow-suc 2 d in
+    let high : n / 2 ^ d < 2 = quotient_small n (2 ^ d) (pow_pos d) (omega (arith, double)) in
+    let low : n % 2 ^ d < 2 ^ d = mod-lt n (pow_pos d) in
+    let rest : count_below d (λ i. eqb (bit_at (n % 2 ^ d) i) 1) ≡ count_below d (λ i. eqb (bit_at n i) 1) =
+    count_same d (λ i. eqb (bit_at (n % 2 ^ d) i) 1) (λ i. eqb (bit_at n i) 1) (λ i below. ap (λ x. eqb x 1) (sym (bit_at_cat_low (n / 2 ^ d) d (n % 2 ^ d) i below) ∙ ap (λ x. bit_at x i) is)) in
+    sym (ap ones is)
+    ∙ ones_cat d (n / 2 ^ d) (n % 2 ^ d) low
+    ∙ ap (λ x. x + ones (n % 2 ^ d)) (ones_small (n / 2 ^ d) high ∙ sym (digit_of (n / 2 ^ d) high))
+    ∙ ap (λ x. cond (eqb (bit_at n d) 1) 1 0 + x) (ones-count d (n % 2 ^ d) low ∙ rest)
+
+-- the count of one word more
+pub count_word : (ws : List ℕ) (from k n : ℕ) → n ≡ 64 * k → get_or ws (from + k) 0 < 2 ^ 64 →
+    count_below (n + 64) (λ i. bit_of ws (64 * from + i)) ≡ count_below n (λ i. bit_of ws (64 * from + i)) + ones (get_or ws (from + k) 0)
+count_word ws from k n is small =
+    count_split (n + 64) n 64 (λ i. bit_of ws (64 * from + i)) refl
+    ∙ ap (λ x. count_below n (λ i. bit_of ws (64 * from + i)) + x) (count_same 64 (λ i. bit_of ws (64 * from + (n + i))) (λ i. eqb (bit_at (get_or ws (from + k) 0) i) 1) same ∙ sym (ones-count 64 (get_or ws (from + k) 0) small)) where
+      same : (i : ℕ) → i < 64 → bit_of ws (64 * from + (n + i)) ≡ eqb (bit_at (get_or ws (from + k) 0) i) 1
+      same i low =
+          let word : (64 * from + (n + i)) / 64 ≡ from + k = omega arith in
+          let place : (64 * from + (n + i)) % 64 ≡ i = omega arith in
+          ap (λ w. eqb (bit_at (get_or ws w 0) ((64 * from + (n + i)) % 64)) 1) word ∙ ap (λ j. eqb (bit_at (get_or ws (from + k) 0) j) 1) place
+
+pub count_empty : (n : ℕ) (f : ℕ → Bool) → n ≡ 0 → 0 ≡ count_below n f
+count_empty n f none = sym (count_none n f (λ i low. absurd (omega arith)))
+
+pub count_next : (ws : List ℕ) (from index count : ℕ) → from ≤ index → get_or ws index 0 < 2 ^ 64 → count ≡ count_below (64 * (index - from)) (λ i. bit_of ws (64 * from + i)) →
+    count + ones (get_or ws index 0) ≡ count_below (64 * (index + 1 - from)) (λ i. bit_of ws (64 * from + i))
+count_next ws from index count ordered small is =
+    let at : from + (index - from) ≡ index = omega arith in
+    let next : 64 * (index - from) + 64 ≡ 64 * (index + 1 - from) = omega arith in
+    ap (λ x. x + ones (get_or ws index 0)) is
+    ∙ ap (λ j. count_below (64 * (index - from)) (λ i. bit_of ws (64 * from + i)) + ones (get_or ws j 0)) (sym at)
+    ∙ sym (count_word ws from (index - from) (64 * (index - from)) refl (subst (λ j. get_or ws j 0 < 2 ^ 64) (sym at) small))
+    ∙ ap (λ n. count_below n (λ i. bit_of ws (64 * from + i))) next
+
+-- the doublewords of s in a page of its own, and in another one
+pub count_own : (bits : List Bool) (pages : List (Option ℕ)) (s p : ℕ) → owner_of pages p ≡ Some s →
+    count_below 512 (λ i. get_or bits (512 * p + i) false) ≡ count_below 512 (λ i. has (λ t. eqb t s) (cell bits pages (512 * p + i)))
+count_own bits pages s p owned = count_same 512 (λ i. get_or bits (512 * p + i) false) (λ i. has (λ t. eqb t s) (cell bits pages (512 * p + i))) same where
+  by : (b : Bool) → b ≡ has (λ t. eqb t s) (cond b (Some s) None)
+  by true = sym (eq-eqb s s refl)
+  by false = refl
+
+  same : (i : ℕ) → i < 512 → get_or bits (512 * p + i) false ≡ has (λ t. eqb t s) (cell bits pages (512 * p + i))
+  same i low =
+      let page : (512 * p + i) / 512 ≡ p = omega arith in
+      by (get_or bits (512 * p + i) false) ∙ ap (λ o. has (λ t. eqb t s) (cond (get_or bits (512 * p + i) false) o None)) (sym (ap (owner_of pages) page ∙ owned))
+
+pub count_other : (bits : List Bool) (pages : List (Option ℕ)) (s p : ℕ) → (owner_of pages p ≡ Some s → ⊥) →
+    0 ≡ count_below 512 (λ i. has (λ t. eqb t s) (cell bits pages (512 * p + i)))
+count_other bits pages s p other = sym (count_none 512 (λ i. has (λ t. eqb t s) (cell bits pages (512 * p + i))) not_held) where
+  by : (b : Bool) (o : Option ℕ) → (o ≡ Some s → ⊥) → has (λ t. eqb t s) (cond b o None) ≡ false
+  by false o h = refl
+  by true None h = refl
+  by true (Some t) h = ne_eqb t s (λ e. h (ap Some e))
+
+  not_held : (i : ℕ) → i < 512 → has (λ t. eqb t s) (cell bits pages (512 * p + i)) ≡ false
+  not_held i low =
+      let page : (512 * p + i) / 512 ≡ p = omega arith in
+      by (get_or bits (512 * p + i) false) (owner_of pages ((512 * p + i) / 512)) (λ e. other (sym (ap (owner_of pages) page) ∙ e))
+
+-- the count of one page more
+pub count_page : (f : ℕ → Bool) (p count more : ℕ) → count ≡ count_below (512 * p) f → more ≡ count_below 512 (λ i. f (512 * p + i)) → count + more ≡ count_below (512 * (p + 1)) f
+count_page f p count more is next = (λ i. is i + next i) ∙ sym (count_split (512 * (p + 1)) (512 * p) 512 f (omega arith))
+
+-- the doublewords of s in a region, read off its map
+pub count_half : (first : ℕ) (bits : List Bool) (pages : List (Option ℕ)) (bytes : List ℕ) (h : HalfState) → half_of first bits pages bytes ≡ h → (s : ℕ) →
+    count_below (512 * length pages) (λ i. has (λ t. eqb t s) (cell bits pages i)) ≡ count_below (512 * h.pages) (λ i. has (λ t. eqb t s) (get h.held (h.first + i)))
+count_half first bits pages bytes h is s =
+    count_same (512 * length pages) (λ i. has (λ t. eqb t s) (cell bits pages i)) (λ i. has (λ t. eqb t s) (get (held_of first bits pages) (first + i))) (λ i _. ap (has (λ t. eqb t s)) (sym (holder_index first bits pages i)))
+    ∙ ap (λ g. count_below (512 * g.pages) (λ i. has (λ t. eqb t s) (get g.held (g.first + i)))) is
+
+-- the doublewords of s in both regions together
+pub count_both : (b a : HalfState) (fill : ℕ) (st : Storage) → IsStore b a → store_of b a fill ≡ st → (s : ℕ) →
+    count_below (512 * b.pages) (λ i. has (λ t. eqb t s) (get b.held (b.first + i))) + count_below (512 * a.pages) (λ i. has (λ t. eqb t s) (get a.held (a.first + i)))
+    ≡ count_below (end_of st.regions) (holds st s)
+count_both b a fill st both is s =
+    sym (λ i. low i + high i)
+    ∙ sym (count_split (end_of (regions_of b a fill)) 2097152 (512 * a.pages) (holds (store_of b a fill) s) refl)
+    ∙ ap (λ t. count_below (end_of t.regions) (holds t s)) is where
+      first_b : b.first ≡ 3072
+      first_b = both.first_below
+
+      few_b : b.pages ≤ 2048
+      few_b = both.few_below
+
+      first_a : a.first ≡ 2097152
+      first_a = both.first_above
+
+      few_a : a.pages ≤ 8192
+      few_a = both.few_above
+
+      outside : (i : ℕ) → (b.first ≤ i → b.first + 512 * b.pages ≤ i) → i < 2097152 → holds (store_of b a fill) s i ≡ false
+      outside i out low = ap (has (λ t. eqb t s)) (low_holder b a fill i low) ∙ by (get b.held i) refl where
+        by : (o : Option ℕ) → get b.held i ≡ o → has (λ t. eqb t s) (get b.held i) ≡ false
+        by None e = ap (has (λ t. eqb t s)) e
+        by (Some t) e = let in_half = both.sound_below.bounded i t e in let to : i < b.first + 512 * b.pages = in_half.1 in let past : b.first + 512 * b.pages ≤ i = out in_half.0 in absurd (omega arith)
+
+      low : count_below 2097152 (holds (store_of b a fill) s) ≡ count_below (512 * b.pages) (λ i. has (λ t. eqb t s) (get b.held (b.first + i)))
+      low =
+          let f : b.first ≡ 3072 = first_b in
+          let m : b.pages ≤ 2048 = few_b in
+          count_middle 2097152 3072 (512 * b.pages) (2097152 - 3072 - 512 * b.pages) (holds (store_of b a fill) s) (omega arith) (λ i before. outside i (λ from. absurd (omega arith)) (omega arith)) (λ i behind to. outside i (λ _. omega arith) to)
+          ∙ count_same (512 * b.pages) (λ i. holds (store_of b a fill) s (3072 + i)) (λ i. has (λ t. eqb t s) (get b.held (b.first + i))) (λ i inside. ap (has (λ t. eqb t s)) (low_holder b a fill (3072 + i) (omega arith) ∙ ap (λ x. get b.held (x + i)) (sym first_b)))
+
+      high : count_below (512 * a.pages) (λ i. holds (store_of b a fill) s (2097152 + i)) ≡ count_below (512 * a.pages) (λ i. has (λ t. eqb t s) (get a.held (a.first + i)))
+      high =
+          let f : a.first ≡ 2097152 = first_a in
+          let m : a.pages ≤ 8192 = few_a in
+          count_same (512 * a.pages) (λ i. holds (store_of b a fill) s (2097152 + i)) (λ i. has (λ t. eqb t s) (get a.held (a.first + i))) (λ i inside. ap (has (λ t. eqb t s)) (high_holder b a fill (2097152 + i) (omega arith) (omega arith) ∙ ap (λ x. get a.held (x + i)) (sym first_a)))

@@ -1,0 +1,41 @@
+-- What a list of bytes and a map of bytes have once bytes were written over them.
+use Rattle.std.specs.Prelude.{◌≡◌, ℕ, ◌+◌, ◌-◌, ◌&&◌, min, List, map, Option, Some, length, is_some, nat_lt, slice_index, if◌then◌else◌}
+use Rattle.std.specs.List.{range_with_len}
+use Rattle.std.specs.Ordering.{nat_cmp}
+use Rattle.std.specs.FinMap.{FinMap, get}
+use Rattle.mvs_model.specs.Span.{Span}
+use Rattle.mvs_model.specs.Storage.{IsStorage, Storage, has_address}
+use Rattle.mvs_model.specs.Table.{table}
+use Rattle.subpool_store.specs.Bits.{in_range}
+use Rattle.subpool_store.specs.Half.{HalfState}
+
+-- the list with the bytes written over it from an index on, as far as it goes
+unfoldable pub overlaid : List ℕ → ℕ → List ℕ → List ℕ
+overlaid xs at w = map (λ k. if in_range at (at + length w) k then slice_index w (k - at) else slice_index xs k) (range_with_len 0 (length xs))
+
+-- what is at a key, with the bytes written over those from one key up to another
+abbrev pub over : (ℕ → Option ℕ) → ℕ → ℕ → List ℕ → ℕ → Option ℕ
+over m from to w k = if in_range from to k && is_some (m k) then Some (slice_index w (k - from)) else m k
+
+-- the map with the bytes written over it: keys come and go nowhere
+abbrev pub overwritten : FinMap nat_cmp ℕ → ℕ → ℕ → List ℕ → FinMap nat_cmp ℕ
+overwritten m from to w = table 2147483648 (over (get m) from to w)
+
+-- where the addresses end on the side of 16 megabytes on which an address is
+abbrev pub side_end : ℕ → ℕ
+side_end a = if nat_lt a 16777216 then 16777216 else 2147483648
+
+-- a region with the bytes written over those from an address on
+abbrev pub half_written : HalfState → ℕ → List ℕ → HalfState
+half_written h a w = record { first = h.first; pages = h.pages; held = h.held; bytes = overwritten h.bytes a (a + length w) w }
+
+-- Storage with the bytes written over those of a place, on its side of 16 megabytes.
+abbrev pub written : Storage → Span → List ℕ → Storage
+written st p w = record { regions = st.regions; held = st.held; bytes = overwritten st.bytes p.addr (min (p.addr + length w) (side_end p.addr)) w }
+
+-- The bytes stand at the place now, one after another, and all else is as before.
+pub record Puts (old : Storage) (p : Span) (w : List ℕ) (new : Storage) : Type 0 where
+  pub regions : new.regions ≡ old.regions
+  pub held : new.held ≡ old.held
+  pub bytes : (k : ℕ) → get new.bytes k ≡ (if has_address p k then Some (slice_index w (k - p.addr)) else get old.bytes k)
+  pub storage : IsStorage new
