@@ -1,6 +1,6 @@
 //! Edges that are worked out by hand.
 
-ghost use Rattle.std.specs.Prelude.{◌≡◌, ◌≤◌, ◌<◌, ◌+◌, ◌%◌, ◌^◌, IfSome, length, All};
+ghost use Rattle.std.specs.Prelude.{◌≡◌, ◌≤◌, ◌<◌, ◌^◌, IfSome};
 ghost use Rattle.mvs_model.specs.Storage.{IsRun};
 ghost use Rattle.mvs_model.specs.Wanted.{IsExponent};
 ghost use Rattle.mvs_model.specs.Span.{span};

@@ -1,6 +1,6 @@
 //! Operands, read by tables of what a statement takes.
 
-ghost use Rattle.std.specs.Prelude.{◌≡◌, ◌+◌, ◌<◌, ◌==◌, ℕ, length, ◌≤◌, MatchOption, map, replicate, None, IfOk, IfSome, IfOk};
+ghost use Rattle.std.specs.Prelude.{◌≡◌, ◌+◌, ◌<◌, length, ◌≤◌, replicate, None, IfOk, IfSome};
 ghost use Rattle.mvsjob.specs.Operands.{value_at, place_of, key_place, placed, positional_at, keyword_at, equals_at, operand_at, operands_at, pieces_after, Leaves, LeavesNumber, AreOf};
 ghost use Rattle.mvs_model.specs.Name.{padded};
 ghost use Rattle.mvsjob.specs.Pieces.{pieces_of};
