@@ -39,7 +39,13 @@ fn task(rt: &impl Abort, tasks: &Tasks, name: &Name) -> TaskId
     tasks.find(name).expect(rt, "an active task")
 }
 
-fn attach(rt: &impl Abort, tasks: &mut Tasks, mother: &Name, name: &Name, gifts: &Gifts) -> Option<Code> {
+fn attach(
+    rt: &impl Abort,
+    tasks: &mut Tasks,
+    mother: &Name,
+    name: &Name,
+    gifts: &Gifts,
+) -> Option<Code> {
     let mother = task(rt, tasks, mother);
     match tasks.attach(mother, name, gifts, Residence::Below) {
         Ok(_) => None,
@@ -74,7 +80,10 @@ fn each_call(rt: HostRuntime) {
     let (job_name, a) = (name(&rt, b"JOB"), name(&rt, b"A"));
     let mut tasks = job(&rt, rt.alloc());
     assert!(rt; tasks.find(&a).is_none());
-    assert_eq!(rt; tasks.residence(task(&rt, &tasks, &job_name)), Residence::Above);
+    assert_eq!(rt;
+        tasks.residence(task(&rt, &tasks, &job_name)),
+        Residence::Above
+    );
     assert_eq!(rt; subpool(&rt, &tasks, &job_name, 5), None);
     assert!(rt; !owns(&rt, &tasks, &job_name, 5));
     let first = obtain(&rt, &mut tasks, &job_name, 5);
@@ -82,7 +91,10 @@ fn each_call(rt: HostRuntime) {
     assert!(rt; owns(&rt, &tasks, &job_name, 5));
     assert_eq!(rt; tasks.label(first), Some((number(&rt, 5), job_name)));
     assert!(rt; !tasks.has_active_subtasks(task(&rt, &tasks, &job_name)));
-    assert_eq!(rt; attach(&rt, &mut tasks, &job_name, &a, &gifts(&rt, 0, 0)), None);
+    assert_eq!(rt;
+        attach(&rt, &mut tasks, &job_name, &a, &gifts(&rt, 0, 0)),
+        None
+    );
     assert!(rt; tasks.has_active_subtasks(task(&rt, &tasks, &job_name)));
     assert_eq!(rt; tasks.residence(task(&rt, &tasks, &a)), Residence::Below);
     let second = obtain(&rt, &mut tasks, &a, 5);
@@ -102,25 +114,54 @@ fn task_limit_and_names_used_again(rt: HostRuntime) {
     let none = gifts(&rt, 0, 0);
     let mut tasks = job(&rt, rt.alloc());
     for n in 0..31u8 {
-        assert_eq!(rt; attach(&rt, &mut tasks, &job_name, &numbered(&rt, n), &none), None);
+        assert_eq!(rt;
+            attach(&rt, &mut tasks, &job_name, &numbered(&rt, n), &none),
+            None
+        );
     }
-    assert_eq!(rt; attach(&rt, &mut tasks, &job_name, &numbered(&rt, 31), &none), Some(Code::User(4005)));
-    assert_eq!(rt; attach(&rt, &mut tasks, &job_name, &numbered(&rt, 7), &none), Some(Code::User(4009)));
+    assert_eq!(rt;
+        attach(&rt, &mut tasks, &job_name, &numbered(&rt, 31), &none),
+        Some(Code::User(4005))
+    );
+    assert_eq!(rt;
+        attach(&rt, &mut tasks, &job_name, &numbered(&rt, 7), &none),
+        Some(Code::User(4009))
+    );
     let t = task(&rt, &tasks, &numbered(&rt, 7));
     assert!(rt; tasks.end(t).freed.as_slice().is_empty());
-    assert_eq!(rt; attach(&rt, &mut tasks, &job_name, &numbered(&rt, 7), &none), None);
-    assert_eq!(rt; attach(&rt, &mut tasks, &job_name, &numbered(&rt, 31), &none), Some(Code::User(4005)));
+    assert_eq!(rt;
+        attach(&rt, &mut tasks, &job_name, &numbered(&rt, 7), &none),
+        None
+    );
+    assert_eq!(rt;
+        attach(&rt, &mut tasks, &job_name, &numbered(&rt, 31), &none),
+        Some(Code::User(4005))
+    );
 }
 
 #[test]
 fn given_while_a_sibling_shares_it(rt: HostRuntime) {
-    let (job_name, a, b, c) = (name(&rt, b"JOB"), name(&rt, b"A"), name(&rt, b"B"), name(&rt, b"C"));
+    let (job_name, a, b, c) = (
+        name(&rt, b"JOB"),
+        name(&rt, b"A"),
+        name(&rt, b"B"),
+        name(&rt, b"C"),
+    );
     let mut tasks = job(&rt, rt.alloc());
     let five = obtain(&rt, &mut tasks, &job_name, 5);
-    assert_eq!(rt; attach(&rt, &mut tasks, &job_name, &a, &gifts(&rt, 0, 1 << 5)), None);
-    assert_eq!(rt; attach(&rt, &mut tasks, &a, &c, &gifts(&rt, 1 << 5, 0)), Some(Code::User(4003)));
+    assert_eq!(rt;
+        attach(&rt, &mut tasks, &job_name, &a, &gifts(&rt, 0, 1 << 5)),
+        None
+    );
+    assert_eq!(rt;
+        attach(&rt, &mut tasks, &a, &c, &gifts(&rt, 1 << 5, 0)),
+        Some(Code::User(4003))
+    );
     assert!(rt; tasks.find(&c).is_none());
-    assert_eq!(rt; attach(&rt, &mut tasks, &job_name, &b, &gifts(&rt, 1 << 5, 0)), None);
+    assert_eq!(rt;
+        attach(&rt, &mut tasks, &job_name, &b, &gifts(&rt, 1 << 5, 0)),
+        None
+    );
     assert_eq!(rt; subpool(&rt, &tasks, &job_name, 5), None);
     assert_eq!(rt; subpool(&rt, &tasks, &a, 5), Some(five));
     assert!(rt; !owns(&rt, &tasks, &a, 5));
@@ -140,7 +181,10 @@ fn shares_what_she_does_not_have(rt: HostRuntime) {
     let everything = Gifts::new(2, 12, true).expect(&rt, "gifts");
     assert_eq!(rt; attach(&rt, &mut tasks, &job_name, &a, &everything), None);
     for value in [0, 2, 3] {
-        assert_eq!(rt; subpool(&rt, &tasks, &a, value), subpool(&rt, &tasks, &job_name, value));
+        assert_eq!(rt;
+            subpool(&rt, &tasks, &a, value),
+            subpool(&rt, &tasks, &job_name, value)
+        );
         assert!(rt; owns(&rt, &tasks, &job_name, value));
         assert!(rt; !owns(&rt, &tasks, &a, value));
     }
