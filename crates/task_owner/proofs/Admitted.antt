@@ -1,5 +1,5 @@
 -- All that the admission of a subtask ensures, of the value of `Tasks`.
-use Rattle.std.proofs.Common.{◌≡◌, ◌≢◌, ℕ, ◌<◌, Bool, true, false, List, Option, Some, None, is_some, sym, ap, subst, ◌∙◌}
+use Rattle.std.proofs.Common.{◌≡◌, ◌≢◌, ℕ, ◌<◌, true, false, List, Option, Some, None, is_some, sym, ap, subst, ◌∙◌}
 use Rattle.std.specs.Option.{option_map}
 use Rattle.std.specs.FinMap.{get}
 use Rattle.slab.specs.Slab.{Slab, get as slot}
@@ -47,7 +47,7 @@ module _ (old now next : Slab Seat) (owned left : List (Option Owned)) (d : Dire
   own n r o g h q =
       let z = sound.owners r o q in
       let there : get (directory old.slots owned).owners.owner r ≡ Some x.0.name =
-        owns_given x.0.name gifts (directory old.slots owned).owners given n r (number_low x.0 n r h) g (view-entry old.slots owned x.0.name n ∙ ap (λ v. entry_of v n) (found old.slots m x.0 sound.distinct x.1) ∙ h) in
+      owns_given x.0.name gifts (directory old.slots owned).owners given n r (number_low x.0 n r h) g (view-entry old.slots owned x.0.name n ∙ ap (λ v. entry_of v n) (found old.slots m x.0 sound.distinct x.1) ∙ h) in
       let same : Some z.0.name ≡ Some x.0.name = sym (view-owner old.slots owned r ∙ ap (owner_name old.slots) q ∙ ap (option_map (λ (v : Seat). v.name)) z.1) ∙ there in
       let alike : z.0.name ≡ x.0.name = cc in
       sound.distinct o.owner m z.0 x.0 z.1 x.1 alike

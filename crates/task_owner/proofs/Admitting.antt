@@ -1,23 +1,22 @@
 -- A subtask is admitted, and its mother hands over what she gives and shares.
-use Rattle.std.proofs.Common.{◌≡◌, ◌≢◌, ℕ, ◌+◌, ◌<◌, Bool, true, false, cond, not, ◌&&◌, ◌||◌, ◌==◌, List, Option, Some, None, is_some, IsSome, eqb, ltb, sym, ap, subst, refl, ◌∙◌, arith, ◌⊎◌, inl, inr}
+use Rattle.std.proofs.Common.{◌≡◌, ◌≢◌, ℕ, ◌+◌, ◌<◌, Bool, true, false, cond, ◌&&◌, ◌||◌, ◌==◌, List, Option, Some, None, is_some, IsSome, eqb, ltb, sym, ap, subst, refl, ◌∙◌, arith, ◌⊎◌, inl, inr}
 use Rattle.std.proofs.lemmas.Bool.{eq-eqb, eqb-true}
 use Rattle.std.proofs.lemmas.Bool.Decides.{nat_tests}
 use Rattle.std.specs.Option.{option_map}
-use Rattle.std.specs.FinMap.{get}
 use Rattle.mvs_model.specs.declared.name.Name.{Name}
 use Rattle.mvs_model.specs.declared.want.Residence.{Residence}
 use Rattle.mvs_model.specs.Name.{same_name}
 use Rattle.mvs_model.specs.Presents.{Presents, gives, shares}
-use Rattle.mvs_model.specs.Finite.{has, any_below}
-use Rattle.mvs_model.specs.Owners.{Task, entry, handed, is_given}
+use Rattle.mvs_model.specs.Finite.{has}
+use Rattle.mvs_model.specs.Owners.{entry, is_given}
 use Rattle.mvs_model.proofs.Orders.{same_name_is, same_name_self}
-use Rattle.task_owner.specs.Directory.{Directory, name_at}
+use Rattle.task_owner.specs.Directory.{name_at}
 use Rattle.task_owner.specs.Seats.{item_at, name_of_seat, number_of, seat_named, mother_of, task_of, entry_of, owner_name, directory, IsSound}
-use Rattle.task_owner.specs.Handing.{Leaves, Admits, taken, left_over, is_handed, passed_on}
+use Rattle.task_owner.specs.Handing.{Leaves, Admits, taken, is_handed, passed_on}
 use Rattle.task_owner.specs.declared.seat.Seat.{Seat}
 use Rattle.task_owner.specs.declared.seat.Owned.{Owned}
 use Rattle.task_owner.proofs.Places.{same_or_not, number_cases, of_some}
-use Rattle.task_owner.proofs.Reading.{found, found_at, not_found, name_cases, number_low, low_number, view-task, view-entry, view-owner, view-name}
+use Rattle.task_owner.proofs.Reading.{found, found_at, not_found, name_cases, number_low, view-task, view-entry, view-owner, view-name}
 use Rattle.task_owner.proofs.Labels.{same_test}
 use Rattle.task_owner.proofs.AnyBelow.{found_below, passing_below}
 
@@ -71,16 +70,18 @@ module _ (seats mid next : List (Option Seat)) (owned left : List (Option Owned)
         let f : Some x ≡ Some z = sym at ∙ ap (item_at seats) (sym p.1) ∙ h in
         let same : x ≡ z = cc in
         let y = left_here.0 in
-        let r = left_here.2 in
-        (y, rest k (not_key k z h) ∙ ap (item_at mid) p.1 ∙ left_here.1,
-         subst (λ (v : Seat). Stays gifts m k v y) same (record {
-           name = r.name;
-           mother = r.mother;
-           residence = r.residence;
-           numbers = λ n.
-             by_low n (item_at y.numbers n) (item_at x.numbers n) (gives gifts n) None (r.numbers n) refl
-             ∙ ap (λ b. cond (b && gives gifts n) None (number_of x n)) (sym p.0);
-         }))
+        let r = left_here.2 in (
+          y,
+          rest k (not_key k z h) ∙ ap (item_at mid) p.1 ∙ left_here.1,
+          subst (λ (v : Seat). Stays gifts m k v y) same (record {
+            name = r.name;
+            mother = r.mother;
+            residence = r.residence;
+            numbers = λ n.
+                by_low n (item_at y.numbers n) (item_at x.numbers n) (gives gifts n) None (r.numbers n) refl
+                ∙ ap (λ b. cond (b && gives gifts n) None (number_of x n)) (sym p.0);
+          }),
+        )
     by (inr d) = (z, rest k (not_key k z h) ∙ others k d.1 ∙ h, record { name = refl; mother = refl; residence = refl; numbers = λ n. ap (λ b. cond (b && gives gifts n) None (number_of z n)) (sym d.0) })
 
   -- a task now is the new one, or was there
@@ -89,6 +90,7 @@ module _ (seats mid next : List (Option Seat)) (owned left : List (Option Owned)
     was : k ≢ key → (k ≡ m) ⊎ (k ≢ m) → (z : Seat) × (item_at seats k ≡ Some z)
     was d (inl e) = (x, ap (item_at seats) e ∙ at)
     was d (inr f) = (y, sym (others k f) ∙ sym (rest k d) ∙ h)
+
     by : (k ≡ key) ⊎ (k ≢ key) → ((k ≡ key) × (y ≡ w)) ⊎ ((z : Seat) × (item_at seats k ≡ Some z) × Stays gifts m k z y)
     by (inl e) = inl (e, (let f : Some y ≡ Some w = sym h ∙ ap (item_at next) e ∙ here in cc))
     by (inr d) =
@@ -245,6 +247,7 @@ module _ (seats mid next : List (Option Seat)) (owned left : List (Option Owned)
         ∙ (λ i. Some (record { mother = mother_of next (a.5.mother i); residence = a.5.residence i }))
         ∙ ap (λ o. Some (record { mother = o; residence = z.residence })) (mother_kept a.0 z a.2 z.mother refl)
         ∙ sym (ap (option_map (task_of seats)) h)
+
     by : ((same_name name q ≡ true) × (name ≡ q)) ⊎ ((same_name name q ≡ false) × (name ≢ q)) → option_map (task_of next) (seat_named next q) ≡ cond (same_name name q) (Some (record { mother = Some x.name; residence = residence })) (option_map (task_of seats) (seat_named seats q))
     by (inl p) =
         ap (λ t. option_map (task_of next) (seat_named next t)) (sym p.1) ∙ ap (option_map (task_of next)) named_new
@@ -257,18 +260,20 @@ module _ (seats mid next : List (Option Seat)) (owned left : List (Option Owned)
     none_either : (b : Bool) → ◌≡◌ {A = Option ℕ} None (cond b None None)
     none_either true = refl
     none_either false = refl
+
     two : (o : Option Seat) → seat_named seats q ≡ o → name ≢ q → entry_of (seat_named next q) n ≡ cond (same_name q x.name && gives gifts n) None (entry_of (seat_named seats q) n)
     two None h d = ap (λ o. entry_of o n) (named_none q d h) ∙ none_either (same_name q x.name && gives gifts n) ∙ ap (λ o. cond (same_name q x.name && gives gifts n) None (entry_of o n)) (sym h)
     two (Some z) h d =
         let a = named_old q z h in
         let test : eqb a.0 m ≡ same_name q x.name = same_test (eqb a.0 m) (same_name q x.name)
-          (λ t.
-             let f : Some z ≡ Some x = sym a.2 ∙ ap (item_at seats) (eqb-true a.0 m t) ∙ at in
-             let same : z ≡ x = cc in
-             ap (λ t. same_name t x.name) (sym a.3 ∙ ap (λ (v : Seat). v.name) same) ∙ same_name_self x.name)
-          (λ t. eq-eqb a.0 m (sound.distinct a.0 m z x a.2 at (a.3 ∙ same_name_is q x.name t))) in
+        (λ t.
+        let f : Some z ≡ Some x = sym a.2 ∙ ap (item_at seats) (eqb-true a.0 m t) ∙ at in
+        let same : z ≡ x = cc in
+        ap (λ t. same_name t x.name) (sym a.3 ∙ ap (λ (v : Seat). v.name) same) ∙ same_name_self x.name)
+        (λ t. eq-eqb a.0 m (sound.distinct a.0 m z x a.2 at (a.3 ∙ same_name_is q x.name t))) in
         ap (λ o. entry_of o n) a.4 ∙ a.5.numbers n ∙ ap (λ b. cond (b && gives gifts n) None (number_of z n)) test
         ∙ ap (λ o. cond (same_name q x.name && gives gifts n) None (entry_of o n)) (sym h)
+
     by : ((same_name q name ≡ true) × (q ≡ name)) ⊎ ((same_name q name ≡ false) × (q ≢ name))
         → entry_of (seat_named next q) n ≡ cond (same_name q name) (cond (gives gifts n || shares gifts n) (number_of x n) None) (cond (same_name q x.name && gives gifts n) None (entry_of (seat_named seats q) n))
     by (inl p) =
@@ -291,11 +296,13 @@ module _ (seats mid next : List (Option Seat)) (owned left : List (Option Owned)
         let o = sound.entries m n s x at number in
         let mine = own n s o.0 g number o.1 in
         ap (has (is_handed gifts m)) o.1 ∙ (λ i. eq-eqb o.0.owner m mine i && (ap (gives gifts) o.2 ∙ g) i)
+
     there : is_given (directory seats owned).owners x.name gifts s ≡ true → has (is_handed gifts m) (item_at owned s) ≡ true
     there t =
         let r = passing_below (λ n. gives gifts n && has (λ r. r == s) (entry (directory seats owned).owners x.name n)) 128 t in
         let both = both_true (gives gifts r.0) (has (λ r. r == s) (entry (directory seats owned).owners x.name r.0)) r.2 in
         there_at r.0 r.1 both.0 (entry (directory seats owned).owners x.name r.0) refl both.1
+
     back_at : (o : Option Owned) → item_at owned s ≡ o → has (is_handed gifts m) o ≡ true → is_given (directory seats owned).owners x.name gifts s ≡ true
     back_at None e t = absurd (let f : false ≡ true = t in cc)
     back_at (Some o) e t =
@@ -306,6 +313,7 @@ module _ (seats mid next : List (Option Seat)) (owned left : List (Option Owned)
         let number : number_of x o.number ≡ Some s = ap (λ (v : Seat). number_of v o.number) (sym same) ∙ z.2 in
         found_below (λ n. gives gifts n && has (λ r. r == s) (entry (directory seats owned).owners x.name n)) o.number 128 (number_low x o.number s number)
         (λ i. both.1 i && (ap (has (λ r. r == s)) (mother_entry o.number ∙ number) ∙ eq-eqb s s refl) i)
+
     back : has (is_handed gifts m) (item_at owned s) ≡ true → is_given (directory seats owned).owners x.name gifts s ≡ true
     back t = back_at (item_at owned s) refl t
 
@@ -316,6 +324,7 @@ module _ (seats mid next : List (Option Seat)) (owned left : List (Option Owned)
     by (Some o) e = ap (owner_name next) (passed_some s o e) ∙ two (is_handed gifts m o) where
       z : (z : Seat) × (item_at seats o.owner ≡ Some z) × (number_of z o.number ≡ Some s)
       z = sound.owners s o e
+
       two : (b : Bool) → name_of_seat next (cond b (record { owner = key; number = o.number }) o).owner ≡ cond b (Some name) (name_of_seat seats o.owner)
       two true = ap (option_map (λ (v : Seat). v.name)) here
       two false = name_kept o.owner (not_key o.owner z.0 z.1)
@@ -324,8 +333,8 @@ module _ (seats mid next : List (Option Seat)) (owned left : List (Option Owned)
   admits = record {
     tasks = λ q. view-task next left q ∙ tasks_at q ∙ ap (cond (same_name name q) (Some (record { mother = Some x.name; residence = residence }))) (sym (view-task seats owned q));
     table = λ q n.
-      view-entry next left q n ∙ entries_at q n
-      ∙ (λ i. cond (same_name q name) (cond (gives gifts n || shares gifts n) (sym (mother_entry n) i) None) (cond (same_name q x.name && gives gifts n) None (sym (view-entry seats owned q n) i)));
+        view-entry next left q n ∙ entries_at q n
+        ∙ (λ i. cond (same_name q name) (cond (gives gifts n || shares gifts n) (sym (mother_entry n) i) None) (cond (same_name q x.name && gives gifts n) None (sym (view-entry seats owned q n) i)));
     owner = λ s. view-owner next left s ∙ owners_at s ∙ (λ i. cond (sym (given_is s) i) (Some name) (sym (view-owner seats owned s) i));
   }
 

@@ -1,5 +1,5 @@
 -- A mother first gets what she shares, and then the subtask is admitted.
-use Rattle.std.proofs.Common.{◌≡◌, ℕ, ◌<◌, Bool, false, List, [], Option, Some, None, is_some, unwrap_or, sym, ap, subst, ◌∙◌}
+use Rattle.std.proofs.Common.{◌≡◌, ℕ, ◌<◌, false, [], Option, Some, is_some, unwrap_or, sym, ap, subst, ◌∙◌}
 use Rattle.std.specs.FinMap.{get, len}
 use Rattle.mvs_model.specs.declared.name.Name.{Name}
 use Rattle.mvs_model.specs.declared.want.Residence.{Residence}

@@ -1,10 +1,10 @@
 -- A task gets a subpool under a number.
-use Rattle.std.proofs.Common.{◌≡◌, ◌≢◌, ℕ, ◌<◌, Bool, true, false, cond, ◌&&◌, List, length, Option, Some, None, is_some, IsSome, slice_set, eqb, ltb, sym, ap, subst, refl, ◌∙◌, ◌⊎◌, inl, inr}
+use Rattle.std.proofs.Common.{◌≡◌, ◌≢◌, ℕ, ◌<◌, true, false, cond, ◌&&◌, List, length, Option, Some, None, IsSome, slice_set, eqb, ltb, sym, ap, subst, refl, ◌∙◌, ◌⊎◌, inl, inr}
 use Rattle.std.specs.Option.{option_map}
 use Rattle.std.specs.FinMap.{get, same_map}
 use Rattle.mvs_model.specs.declared.name.Name.{Name}
 use Rattle.mvs_model.specs.Name.{same_name}
-use Rattle.mvs_model.specs.Owners.{Binds, Owners}
+use Rattle.mvs_model.specs.Owners.{Binds}
 use Rattle.mvs_model.proofs.Orders.{name_cmp_total, name_cmp-IsAntisymmetric}
 use Rattle.task_owner.specs.Directory.{Directory, name_at, name_of}
 use Rattle.task_owner.specs.Seats.{item_at, name_of_seat, number_of, seat_named, mother_of, task_of, entry_of, owner_name, directory, IsSound, Distinct}
@@ -123,9 +123,9 @@ module _ (seats next : List (Option Seat)) (owned : List (Option Owned)) (key n 
     same_named q d = same_lookup seats next q sound.distinct bound_sound.distinct
         (λ k y h e. others k (λ p. (let f : Some y ≡ Some x = sym h ∙ ap (item_at seats) p ∙ at in let same : y ≡ x = cc in d (sym e ∙ ap (λ (z : Seat). z.name) same))) ∙ h)
         (λ k y h e. by k y e (split k y h)) where
-      by : (k : ℕ) (y : Seat) → y.name ≡ q → ((k ≡ key) × (y ≡ now)) ⊎ ((k ≢ key) × (item_at seats k ≡ Some y)) → item_at seats k ≡ Some y
-      by k y e (inl r) = absurd (d (sym e ∙ ap (λ (z : Seat). z.name) r.1))
-      by k y e (inr r) = r.1
+          by : (k : ℕ) (y : Seat) → y.name ≡ q → ((k ≡ key) × (y ≡ now)) ⊎ ((k ≢ key) × (item_at seats k ≡ Some y)) → item_at seats k ≡ Some y
+          by k y e (inl r) = absurd (d (sym e ∙ ap (λ (z : Seat). z.name) r.1))
+          by k y e (inr r) = r.1
 
     named_now : seat_named next x.name ≡ Some now
     named_now = found next key now bound_sound.distinct entered
@@ -145,6 +145,7 @@ module _ (seats next : List (Option Seat)) (owned : List (Option Owned)) (key n 
       mapped : (o : Option Seat) → option_map (task_of next) o ≡ option_map (task_of seats) o
       mapped None = refl
       mapped (Some y) = ap Some (same_task y)
+
       by : ((same_name q x.name ≡ true) × (q ≡ x.name)) ⊎ ((same_name q x.name ≡ false) × (q ≢ x.name)) → option_map (task_of next) (seat_named next q) ≡ option_map (task_of seats) (seat_named seats q)
       by (inl r) =
           ap (λ t. option_map (task_of next) (seat_named next t)) r.1 ∙ ap (option_map (task_of next)) named_now ∙ ap Some (same_task now)
@@ -169,6 +170,7 @@ module _ (seats next : List (Option Seat)) (owned : List (Option Owned)) (key n 
       names : (o : Option Owned) → owner_name next o ≡ owner_name seats o
       names None = refl
       names (Some o) = names_kept o.owner
+
       by : ((eqb r s ≡ true) × (r ≡ s)) ⊎ ((eqb r s ≡ false) × (r ≢ s)) → owner_name next (item_at owners_next r) ≡ cond (eqb r s) (Some x.name) (owner_name seats (item_at owned r))
       by (inl p) = ap (λ i. owner_name next (item_at owners_next i)) p.1 ∙ ap (owner_name next) owned_here ∙ ap (option_map (λ z. z.name)) entered ∙ ap (λ b. cond b (Some x.name) (owner_name seats (item_at owned r))) (sym p.0)
       by (inr p) = ap (owner_name next) (set_apart owned s r (Some by_key) p.1) ∙ names (item_at owned r) ∙ ap (λ b. cond b (Some x.name) (owner_name seats (item_at owned r))) (sym p.0)
@@ -188,4 +190,4 @@ module _ (seats next : List (Option Seat)) (owned : List (Option Owned)) (key n 
     binds_at d id num e f g =
         subst (λ t. Binds d.owners t num s (directory next owners_next).owners) (sym (name_is seats owned d key id e f sound x at))
         (subst (λ (v : Directory). Binds v.owners x.name num s (directory next owners_next).owners) e
-          (subst (λ m. Binds (directory seats owned).owners x.name m s (directory next owners_next).owners) g binds))
+        (subst (λ m. Binds (directory seats owned).owners x.name m s (directory next owners_next).owners) g binds))

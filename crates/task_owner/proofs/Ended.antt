@@ -1,5 +1,5 @@
 -- All that the end of a task ensures, of the value of `Tasks`.
-use Rattle.std.proofs.Common.{◌≡◌, ℕ, ◌<◌, ◌≤◌, Bool, true, false, cond, not, ◌↔◌, List, length, Option, Some, None, is_some, nat_eq, ltb, sym, ap, subst, refl, ◌∙◌, arith}
+use Rattle.std.proofs.Common.{◌≡◌, ℕ, ◌≤◌, Bool, true, false, cond, not, ◌↔◌, List, length, Option, Some, nat_eq, ltb, sym, ap, subst, ◌∙◌, arith}
 use Rattle.std.proofs.lemmas.Bool.{eqb-true}
 use Rattle.std.proofs.lemmas.Bool.Decides.{nat_tests}
 use Rattle.std.proofs.lemmas.Cmp.{nat_eq_equiv}

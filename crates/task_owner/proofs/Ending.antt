@@ -1,21 +1,17 @@
 -- A task ends, with its descendants.
-use Rattle.std.proofs.Common.{◌≡◌, ◌≢◌, ℕ, ◌<◌, ◌≤◌, Bool, true, false, cond, not, ◌||◌, List, Option, Some, None, is_some, IsSome, sym, ap, subst, refl, ◌∙◌, arith, ◌⊎◌, inl, inr}
-use Rattle.std.specs.List.{list_any}
+use Rattle.std.proofs.Common.{◌≡◌, ℕ, Bool, true, false, cond, not, ◌||◌, List, Option, Some, None, is_some, IsSome, sym, ap, subst, refl, ◌∙◌}
 use Rattle.std.specs.Option.{option_map}
 use Rattle.std.specs.FinMap.{get}
-use Rattle.slab.specs.Slab.{Slab}
 use Rattle.mvs_model.specs.declared.name.Name.{Name}
-use Rattle.mvs_model.specs.Name.{same_name}
 use Rattle.mvs_model.specs.Finite.{Keeps, kept, has}
-use Rattle.mvs_model.specs.Owners.{Task, goes, ends_with, Ends}
-use Rattle.mvs_model.proofs.Orders.{same_name_self}
-use Rattle.task_owner.specs.Directory.{Directory, name_at}
+use Rattle.mvs_model.specs.Owners.{goes, Ends}
+use Rattle.task_owner.specs.Directory.{name_at}
 use Rattle.task_owner.specs.Seats.{item_at, name_of_seat, number_of, seat_named, mother_of, task_of, entry_of, owner_name, directory, IsSound, MothersActive}
 use Rattle.task_owner.specs.Family.{has_owner, Trims, IsTrimmed}
 use Rattle.task_owner.specs.declared.seat.Seat.{Seat}
 use Rattle.task_owner.specs.declared.seat.Owned.{Owned}
 use Rattle.task_owner.proofs.Places.{of_some}
-use Rattle.task_owner.proofs.Reading.{found, found_at, not_found, name_cases, view-task, view-entry, view-owner, view-name}
+use Rattle.task_owner.proofs.Reading.{found, found_at, not_found, view-task, view-entry, view-owner, view-name}
 use Rattle.task_owner.proofs.Families.{kept_back, not_true}
 use Rattle.task_owner.proofs.Trimming.{numbers_kept}
 
@@ -65,26 +61,26 @@ module _ (seats mid next : List (Option Seat)) (owned left : List (Option Owned)
   ended_sound = record {
     distinct = λ j k v w hv hw e. let a = before j v hv in let b = before k w hw in sound.distinct j k a.0 b.0 (from_mid j a.0 a.1).0 (from_mid k b.0 b.1).0 (sym a.2.name ∙ e ∙ b.2.name);
     mothers = λ k m w h e.
-      let a = before k w h in
-      let z = of_some (item_at mid m) (closed k m a.0 a.1 (sym a.2.mother ∙ e)) in
-      ap is_some (trimmed m z.0 z.1).1;
+        let a = before k w h in
+        let z = of_some (item_at mid m) (closed k m a.0 a.1 (sym a.2.mother ∙ e)) in
+        ap is_some (trimmed m z.0 z.1).1;
     ranked = (sound.ranked.0, λ k m w h e. let a = before k w h in sound.ranked.1 k m a.0 (from_mid k a.0 a.1).0 (sym a.2.mother ∙ e));
     first = λ j k v w hv hw e f. let a = before j v hv in let b = before k w hw in sound.first j k a.0 b.0 (from_mid j a.0 a.1).0 (from_mid k b.0 b.1).0 (sym a.2.mother ∙ e) (sym b.2.mother ∙ f);
     entries = λ k n s w h e.
-      let a = before k w h in
-      let r = kept_back (has_owner left) (number_of a.0 n) s (sym (numbers_kept left a.0 w a.2 n) ∙ e) in
-      let o = of_some (item_at left s) r.1 in
-      let p = sound.entries k n s a.0 (from_mid k a.0 a.1).0 r.0 in
-      let f : Some p.0 ≡ Some o.0 = sym p.1 ∙ (owner_back s o.0 o.1).0 in
-      (p.0, o.1 ∙ sym f, p.2);
+        let a = before k w h in
+        let r = kept_back (has_owner left) (number_of a.0 n) s (sym (numbers_kept left a.0 w a.2 n) ∙ e) in
+        let o = of_some (item_at left s) r.1 in
+        let p = sound.entries k n s a.0 (from_mid k a.0 a.1).0 r.0 in
+        let f : Some p.0 ≡ Some o.0 = sym p.1 ∙ (owner_back s o.0 o.1).0 in
+        (p.0, o.1 ∙ sym f, p.2);
     owners = λ s o h.
-      let b = owner_back s o h in
-      let z = of_some (item_at mid o.owner) b.1 in
-      let x = sound.owners s o b.0 in
-      let w = trimmed o.owner z.0 z.1 in
-      let f : Some x.0 ≡ Some z.0 = sym x.1 ∙ (from_mid o.owner z.0 z.1).0 in
-      let same : x.0 ≡ z.0 = cc in
-      (w.0, w.1, numbers_kept left z.0 w.0 w.2 o.number ∙ ap (kept (has_owner left)) (ap (λ v. number_of v o.number) (sym same) ∙ x.2) ∙ stays (has_owner left) s (ap is_some h));
+        let b = owner_back s o h in
+        let z = of_some (item_at mid o.owner) b.1 in
+        let x = sound.owners s o b.0 in
+        let w = trimmed o.owner z.0 z.1 in
+        let f : Some x.0 ≡ Some z.0 = sym x.1 ∙ (from_mid o.owner z.0 z.1).0 in
+        let same : x.0 ≡ z.0 = cc in
+        (w.0, w.1, numbers_kept left z.0 w.0 w.2 o.number ∙ ap (kept (has_owner left)) (ap (λ v. number_of v o.number) (sym same) ∙ x.2) ∙ stays (has_owner left) s (ap is_some h));
   }
 
   -- what is found by a name that goes, and by one that stays
@@ -144,10 +140,13 @@ module _ (seats mid next : List (Option Seat)) (owned left : List (Option Owned)
     by (Some o) e = two (goes t fallen x.0.name) refl ∙ sym named where
       x : (x : Seat) × (item_at seats o.owner ≡ Some x) × (number_of x o.number ≡ Some s)
       x = sound.owners s o e
+
       named : kept (λ q. not (goes t fallen q)) (owner_name seats (item_at owned s)) ≡ cond (not (goes t fallen x.0.name)) (Some x.0.name) None
       named = ap (λ p. kept (λ q. not (goes t fallen q)) (owner_name seats p)) e ∙ ap (λ p. kept (λ q. not (goes t fallen q)) (option_map (λ (y : Seat). y.name) p)) x.1
+
       now : item_at left s ≡ cond (not (goes t fallen x.0.name)) (Some o) None
       now = freed s ∙ ap (kept (λ (p : Owned). is_some (item_at mid p.owner))) e ∙ ap (λ b. cond b (Some o) None) (owner_stays s o x.0 x.1)
+
       two : (b : Bool) → goes t fallen x.0.name ≡ b → owner_name next (item_at left s) ≡ cond (not (goes t fallen x.0.name)) (Some x.0.name) None
       two true g = ap (owner_name next) (now ∙ ap (λ b. cond (not b) (Some o) None) g) ∙ sym (ap (λ b. cond (not b) (Some x.0.name) None) g)
       two false g =
@@ -161,6 +160,7 @@ module _ (seats mid next : List (Option Seat)) (owned left : List (Option Owned)
     twice : (b : Bool) → not (not b) ≡ b
     twice true = refl
     twice false = refl
+
     by : (o : Option Owned) → item_at owned s ≡ o → has (λ (o : Owned). not (is_some (item_at mid o.owner))) o ≡ has (goes t fallen) (owner_name seats o)
     by None e = refl
     by (Some o) e =
@@ -191,6 +191,7 @@ module _ (seats mid next : List (Option Seat)) (owned left : List (Option Owned)
         where
           a : (k : ℕ) × (w : Seat) × (item_at mid k ≡ Some x) × (seat_named next q ≡ Some w) × Trims left x w
           a = after q g x h
+
           agree : (o : Option ℕ) → number_of x n ≡ o → kept (has_owner left) o ≡ kept (λ s. not (has (goes t fallen) (owner_name seats (item_at owned s)))) o
           agree None e = refl
           agree (Some s) e =
@@ -201,8 +202,8 @@ module _ (seats mid next : List (Option Seat)) (owned left : List (Option Owned)
   ends = record {
     tasks = λ q. view-task next left q ∙ tasks_at q ∙ ap (kept (λ _. not (goes t fallen q))) (sym (view-task seats owned q));
     table = λ e.
-      view-entry next left e.0 e.1 ∙ entries_at e.0 e.1 ∙ ap (kept (λ s. not (goes t fallen e.0 || has (goes t fallen) (owner_name seats (item_at owned s))))) (sym (view-entry seats owned e.0 e.1))
-      ∙ (λ i. kept (λ s. not (goes t fallen e.0 || has (goes t fallen) (sym (view-owner seats owned s) i))) (get (directory seats owned).owners.table e));
+        view-entry next left e.0 e.1 ∙ entries_at e.0 e.1 ∙ ap (kept (λ s. not (goes t fallen e.0 || has (goes t fallen) (owner_name seats (item_at owned s))))) (sym (view-entry seats owned e.0 e.1))
+        ∙ (λ i. kept (λ s. not (goes t fallen e.0 || has (goes t fallen) (sym (view-owner seats owned s) i))) (get (directory seats owned).owners.table e));
     owner = λ s. view-owner next left s ∙ owners_at s ∙ ap (kept (λ q. not (goes t fallen q))) (sym (view-owner seats owned s));
   }
 

@@ -1,11 +1,11 @@
 -- A mother gets a subpool under each number that she shares.
-use Rattle.std.proofs.Common.{◌≡◌, ◌≢◌, ℕ, suc, ◌+◌, ◌<◌, List, [], unwrap_or, Bool, true, false, cond, not, ◌&&◌, Option, Some, None, eqb, sym, ap, subst, refl, ◌∙◌, arith, ◌⊎◌, inl, inr}
+use Rattle.std.proofs.Common.{◌≡◌, ◌≢◌, ℕ, suc, ◌+◌, ◌<◌, [], unwrap_or, Bool, true, false, cond, not, ◌&&◌, Option, Some, None, eqb, sym, ap, subst, refl, ◌∙◌, arith, ◌⊎◌, inl, inr}
 use Rattle.std.specs.FinMap.{get}
 use Rattle.std.specs.Option.{MatchOption}
 use Rattle.mvs_model.specs.declared.name.Name.{Name}
 use Rattle.mvs_model.specs.Name.{same_name}
 use Rattle.mvs_model.specs.Presents.{Presents, gives, shares}
-use Rattle.mvs_model.specs.Finite.{has, any_below}
+use Rattle.mvs_model.specs.Finite.{has}
 use Rattle.mvs_model.specs.Owners.{Owners, entry, owns, Binds, Enters, EntersBelow, none, passed, entered, gives_shared}
 use Rattle.mvs_model.proofs.Orders.{same_name_is, same_name_self}
 use Rattle.task_owner.specs.Directory.{Directory, name_at, name_of}
@@ -26,10 +26,10 @@ pub one_entered : (old now next : Directory) (t n : ℕ) (gifts : Presents) → 
     → SharesBelow old t gifts (n + 1) next
 one_entered old now next t n gifts r h g names = record {
   made =
-    (let e : suc n ≡ n + 1 = omega arith in
-     let same : name_of now t ≡ name_of old t = ap (λ o. unwrap_or o []) (r.names t) in
-     let here : GetsEntry now.owners (name_of old t) n next.owners = subst (λ q. GetsEntry now.owners q n next.owners) same g in
-     subst (λ m. EntersBelow old.owners (name_of old t) (shares gifts) m next.owners) e (entered here.subpool r.made h here.chosen here.entered));
+      (let e : suc n ≡ n + 1 = omega arith in
+      let same : name_of now t ≡ name_of old t = ap (λ o. unwrap_or o []) (r.names t) in
+      let here : GetsEntry now.owners (name_of old t) n next.owners = subst (λ q. GetsEntry now.owners q n next.owners) same g in
+      subst (λ m. EntersBelow old.owners (name_of old t) (shares gifts) m next.owners) e (entered here.subpool r.made h here.chosen here.entered));
   names = λ id. names id ∙ r.names id;
 }
 
@@ -68,6 +68,7 @@ module _ (t : Name) (gifts : Presents) where
         let no' : false ≡ true = sym (ap not mine) ∙ f in cc
     two n l true g None e f = let no' : false ≡ true = f in cc
     two n l false g p e f = let no' : false ≡ true = f in cc
+
     by : (b : Bool) → gives_shared o t gifts ≡ b → b ≡ false
     by false e = refl
     by true e = let r = passing_below (λ n. gives gifts n && has (λ s. not (owns o t s)) (entry o t n)) 128 e in absurd (two r.0 r.1 (gives gifts r.0) refl (entry o t r.0) refl r.2)
@@ -78,6 +79,7 @@ module _ (t : Name) (gifts : Presents) where
   bound_owned old new k s b h n r l g e = b.owner r ∙ at (number_cases r s) (number_cases n k) where
     entry_is : entry new t n ≡ cond (eqb n k) (Some s) (entry old t n)
     entry_is = b.table (t, n) ∙ ap (λ c. cond (c && eqb n k) (Some s) (entry old t n)) (same_name_self t)
+
     at : ((eqb r s ≡ true) × (r ≡ s)) ⊎ ((eqb r s ≡ false) × (r ≢ s)) → ((eqb n k ≡ true) × (n ≡ k)) ⊎ ((eqb n k ≡ false) × (n ≢ k)) → cond (eqb r s) (Some t) (get old.owner r) ≡ Some t
     at (inl p) q = ap (λ c. cond c (Some t) (get old.owner r)) p.0
     at (inr p) (inl q) =

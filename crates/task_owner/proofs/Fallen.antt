@@ -1,5 +1,5 @@
 -- The names that fell are those of the descendants, and in strict order once sorted.
-use Rattle.std.proofs.Common.{◌≡◌, ◌≢◌, ℕ, ◌+◌, ◌<◌, ◌≤◌, Bool, true, false, cond, not, ◌||◌, ◌↔◌, List, [], ◌∷◌, length, Option, Some, None, count_by, sym, ap, subst, refl, ◌∙◌, arith, ◌⊎◌, inl, inr}
+use Rattle.std.proofs.Common.{◌≡◌, ℕ, ◌+◌, ◌<◌, ◌≤◌, Bool, true, false, cond, not, ◌||◌, List, [], ◌∷◌, Option, Some, None, count_by, sym, ap, subst, refl, ◌∙◌, arith, ◌⊎◌, inl, inr}
 use Rattle.std.proofs.lemmas.Cmp.{eq_by_cmp_equiv}
 use Rattle.std.proofs.lemmas.List.Sums.{sum_by-cons}
 use Rattle.std.proofs.lemmas.List.Sorted.{list_any-IsPermutation, sum_by-IsPermutation}
@@ -8,7 +8,6 @@ use Rattle.std.proofs.lemmas.Map.Views.{Contains-from_any, list_any-from_Contain
 use Rattle.std.specs.List.{list_any, Contains, dedup, dedup_from}
 use Rattle.std.specs.List.Sorted.{IsSorted, IsPermutation, IsStrictlySortedBy}
 use Rattle.std.specs.Option.{option_map}
-use Rattle.std.specs.FinMap.{get}
 use Rattle.slab.specs.Slab.{Slab}
 use Rattle.mvs_model.specs.declared.name.Name.{Name}
 use Rattle.mvs_model.specs.Name.{name_cmp, same_name}
@@ -30,8 +29,8 @@ apart x y ys once = by (same_name y x) refl where
   by false e = refl
   by true e =
       let all : count_by (same_name y) (x ∷ y ∷ ys) ≡ 1 + (1 + count_by (same_name y) ys) =
-        sum_by-cons (λ z. cond (same_name y z) 1 0) x (y ∷ ys) ∙ ap (λ n. cond (same_name y x) 1 0 + n) (sum_by-cons (λ z. cond (same_name y z) 1 0) y ys)
-        ∙ (λ i. cond (e i) 1 0 + (cond (same_name_self y i) 1 0 + count_by (same_name y) ys)) in
+      sum_by-cons (λ z. cond (same_name y z) 1 0) x (y ∷ ys) ∙ ap (λ n. cond (same_name y x) 1 0 + n) (sum_by-cons (λ z. cond (same_name y z) 1 0) y ys)
+      ∙ (λ i. cond (e i) 1 0 + (cond (same_name_self y i) 1 0 + count_by (same_name y) ys)) in
       absurd (omega (arith, once, all))
 
 rest_once : (x : Name) (xs : List Name) → ((q : Name) → count_by (same_name q) (x ∷ xs) ≤ 1) → (q : Name) → count_by (same_name q) xs ≤ 1
@@ -80,9 +79,11 @@ module _ (seats : List (Option Seat)) (owned : List (Option Owned)) (t : ℕ) (y
           record { key = k; seat = x; here = a; name = b; mother_key = m; mother = f; mother_seat = z.0; mother_here = z.1; mother_name = z.2 }
 
   pub is_mother : (k m : ℕ) (x z : Seat) → item_at seats k ≡ Some x → x.mother ≡ Some m → item_at seats m ≡ Some z → IsMother (directory seats owned).owners z.name x.name
-  is_mother k m x z hx e hz =
-      (task_of seats x, view-task seats owned x.name ∙ ap (option_map (task_of seats)) (found seats k x sound.distinct hx),
-       ap (mother_of seats) e ∙ ap (option_map (λ (w : Seat). w.name)) hz)
+  is_mother k m x z hx e hz = (
+    task_of seats x,
+    view-task seats owned x.name ∙ ap (option_map (task_of seats)) (found seats k x sound.distinct hx),
+    ap (mother_of seats) e ∙ ap (option_map (λ (w : Seat). w.name)) hz,
+  )
 
   -- what is below descends
   descends : (k : ℕ) → Below seats t k → (x : Seat) → item_at seats k ≡ Some x → Descends (directory seats owned).owners y.name x.name
@@ -121,11 +122,14 @@ module _ (seats : List (Option Seat)) (owned : List (Option Owned)) (t : ℕ) (y
     listed n q g mother d = by (item_at mid r.key) refl where
       r : Attached seats n q
       r = attached n q mother
+
       mother_out : item_at mid r.mother_key ≡ None
       mother_out = out r.mother_key ∙ ap (kept (λ (x : Seat). not (goes y.name names x.name))) r.mother_here ∙ ap (λ b. cond (not b) (Some r.mother_seat) None) (ap (goes y.name names) r.mother_name ∙ g)
+
       two : (same_name q y.name ≡ true) ⊎ (list_any (same_name q) names ≡ true) → list_any (same_name q) names ≡ true
       two (inl e) = absurd (not_itself (subst (Descends (directory seats owned).owners y.name) (same_name_is q y.name e) d))
       two (inr e) = e
+
       by : (o : Option Seat) → item_at mid r.key ≡ o → list_any (same_name q) names ≡ true
       by None e =
           let lost : goes y.name names r.seat.name ≡ true = not_false (goes y.name names r.seat.name) (dropped_fails (λ (x : Seat). not (goes y.name names x.name)) r.seat (ap (kept (λ (x : Seat). not (goes y.name names x.name))) (sym r.here) ∙ sym (out r.key) ∙ e)) in
@@ -146,12 +150,13 @@ module _ (seats : List (Option Seat)) (owned : List (Option Owned)) (t : ℕ) (y
 pub fallen_is : (old now : Slab Seat) (owned : List (Option Owned)) (t : ℕ) (y : Seat) (names fallen : List Name) → IsSound old.slots owned → item_at old.slots t ≡ Some y → Falls old t y.name names now → MothersActive now.slots
     → IsSorted name_cmp fallen → IsPermutation names fallen → IsFallen (directory old.slots owned).owners y.name fallen
 fallen_is old now owned t y names fallen sound at r closed sorted same = record {
-    sorted = strictly fallen sorted (λ q. let e = sum_by-IsPermutation (λ x. cond (same_name q x) 1 0) names fallen same in subst (λ n. n ≤ 1) (sym e) (r.once q));
-    descendants = λ q. (there q, back q);
-  } where
+  sorted = strictly fallen sorted (λ q. let e = sum_by-IsPermutation (λ x. cond (same_name q x) 1 0) names fallen same in subst (λ n. n ≤ 1) (sym e) (r.once q));
+  descendants = λ q. (there q, back q);
+} where
   there : (q : Name) → Contains fallen q → Descends (directory old.slots owned).owners y.name q
   there q h =
       let b = r.below q (list_any-IsPermutation (same_name q) names fallen same ∙ list_any-from_Contains (eq_by_cmp_equiv name_cmp_total) q fallen h) in
       subst (Descends (directory old.slots owned).owners y.name) b.3 (descends old.slots owned t y sound at b.0 b.4 b.1 b.2)
+
   back : (q : Name) → Descends (directory old.slots owned).owners y.name q → Contains fallen q
   back q d = Contains-from_any same_name_is q fallen (sym (list_any-IsPermutation (same_name q) names fallen same) ∙ all_listed old.slots owned t y sound at now.slots names r.kept closed q d)

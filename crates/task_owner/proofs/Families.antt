@@ -1,5 +1,5 @@
 -- A task and its descendants are taken out, and their names listed.
-use Rattle.std.proofs.Common.{◌≡◌, ◌≢◌, ℕ, ◌+◌, ◌<◌, ◌≤◌, Bool, true, false, cond, not, ◌||◌, List, [], ◌∷◌, ◌++◌, length, length-append, Option, Some, None, IsSome, count_by, sym, ap, subst, refl, ◌∙◌, arith, ◌⊎◌, inl, inr}
+use Rattle.std.proofs.Common.{◌≡◌, ◌≢◌, ℕ, ◌+◌, ◌≤◌, Bool, true, false, cond, not, ◌||◌, List, [], ◌∷◌, ◌++◌, length, length-append, Option, Some, None, count_by, sym, ap, subst, refl, ◌∙◌, arith, ◌⊎◌, inl, inr}
 use Rattle.std.proofs.lemmas.List.Folds.{list_any-append}
 use Rattle.std.proofs.lemmas.List.Sums.{sum_by-cons, sum_by-append}
 use Rattle.std.specs.List.{list_any}
@@ -83,6 +83,7 @@ once_more : (q x : Name) (names : List Name) → count_by (same_name q) names �
 once_more q x names once absent = by (name_cases q x) where
   all : count_by (same_name q) (names ++ x ∷ []) ≡ count_by (same_name q) names + (cond (same_name q x) 1 0 + 0)
   all = sum_by-append (λ y. cond (same_name q y) 1 0) names (x ∷ []) ∙ ap (λ n. count_by (same_name q) names + n) (sum_by-cons (λ y. cond (same_name q y) 1 0) x [])
+
   by : ((same_name q x ≡ true) × (q ≡ x)) ⊎ ((same_name q x ≡ false) × (q ≢ x)) → count_by (same_name q) (names ++ x ∷ []) ≤ 1
   by (inl r) =
       let none : count_by (same_name q) names ≡ 0 = count_none (same_name q) names (ap (λ n. list_any (same_name n) names) r.1 ∙ absent) in
@@ -96,12 +97,12 @@ module _ (old : Slab Seat) (t : ℕ) (first : Seat) (distinct : Distinct old.slo
   -- the first
   pub falls_first : (now : Slab Seat) (names : List Name) → names ≡ [] → Updates old now t None → slab_len now + 1 ≡ slab_len old → now.capacity ≡ old.capacity → Falls old t first.name names now
   falls_first now names empty u len capacity = subst (λ ns. Falls old t first.name ns now) (sym empty) (record {
-      kept = λ k. kept_at k (same_or_not k t);
-      below = λ q h. absurd (let e : false ≡ true = h in cc);
-      once = λ q. omega arith;
-      len = omega arith;
-      capacity = capacity;
-    }) where
+    kept = λ k. kept_at k (same_or_not k t);
+    below = λ q h. absurd (let e : false ≡ true = h in cc);
+    once = λ q. omega arith;
+    len = omega arith;
+    capacity = capacity;
+  }) where
     kept_at : (k : ℕ) → (k ≡ t) ⊎ (k ≢ t) → get now k ≡ kept (λ y. not (goes first.name [] y.name)) (get old k)
     kept_at k (inl e) =
         ap (get now) e ∙ u.changed ∙ ap (λ b. cond (not (b || false)) (Some first) None) (sym (same_name_self first.name))
@@ -139,8 +140,10 @@ module _ (old : Slab Seat) (t : ℕ) (first : Seat) (distinct : Distinct old.slo
     below_here = by (either_true (same_name z.0.name first.name) (list_any (same_name z.0.name) names) fell) where
       z : (z : Seat) × (get old m ≡ Some z)
       z = of_some (get old m) (mothers key m x was.0 mother)
+
       fell : goes first.name names z.0.name ≡ true
       fell = not_false (goes first.name names z.0.name) (dropped_fails (λ (y : Seat). not (goes first.name names y.name)) z.0 (ap (kept (λ (y : Seat). not (goes first.name names y.name))) (sym z.1) ∙ sym (r.kept m) ∙ gone))
+
       by : (same_name z.0.name first.name ≡ true) ⊎ (list_any (same_name z.0.name) names ≡ true) → Below old.slots t key
       by (inl p) =
           let e : m ≡ t = distinct m t z.0 first z.1 at (same_name_is z.0.name first.name p) in
@@ -152,12 +155,12 @@ module _ (old : Slab Seat) (t : ℕ) (first : Seat) (distinct : Distinct old.slo
 
     pub falls_more : (next_names : List Name) → next_names ≡ names ++ x.name ∷ [] → slab_len next + 1 ≡ slab_len now → next.capacity ≡ now.capacity → Falls old t first.name next_names next
     falls_more next_names e len capacity = subst (λ ns. Falls old t first.name ns next) (sym e) (record {
-        kept = λ k. kept_more k (same_or_not k key);
-        below = λ q h. below q (either_true (list_any (same_name q) names) (same_name q x.name || false) (sym (list_any-append (same_name q) names (x.name ∷ [])) ∙ h));
-        once = λ q. once_more q x.name names (r.once q) absent;
-        len = (let long : length (names ++ x.name ∷ []) ≡ length names + 1 = length-append names (x.name ∷ []) in let before = r.len in omega arith);
-        capacity = capacity ∙ r.capacity;
-      }) where
+      kept = λ k. kept_more k (same_or_not k key);
+      below = λ q h. below q (either_true (list_any (same_name q) names) (same_name q x.name || false) (sym (list_any-append (same_name q) names (x.name ∷ [])) ∙ h));
+      once = λ q. once_more q x.name names (r.once q) absent;
+      len = (let long : length (names ++ x.name ∷ []) ≡ length names + 1 = length-append names (x.name ∷ []) in let before = r.len in omega arith);
+      capacity = capacity ∙ r.capacity;
+    }) where
       below : (q : Name) → (list_any (same_name q) names ≡ true) ⊎ ((same_name q x.name || false) ≡ true) → (k : ℕ) × (y : Seat) × (get old k ≡ Some y) × (y.name ≡ q) × Below old.slots t k
       below q (inl h) = r.below q h
       below q (inr h) = (key, x, was.0, sym (same_name_is q x.name (sym (or_false (same_name q x.name)) ∙ h)), below_here)

@@ -1,5 +1,5 @@
 -- The subpools whose owner is not active are listed.
-use Rattle.std.proofs.Common.{◌≡◌, ◌≢◌, ℕ, ◌+◌, ◌<◌, ◌≤◌, Bool, true, false, cond, not, is_some, ◌||◌, List, [], ◌∷◌, ◌++◌, length, length-append, Option, Some, None, eqb, ltb, nat_eq, sym, ap, subst, refl, ◌∙◌, arith, ◌⊎◌, inl, inr}
+use Rattle.std.proofs.Common.{◌≡◌, ◌≢◌, ℕ, ◌+◌, ◌<◌, Bool, true, false, cond, not, is_some, ◌||◌, List, [], ◌∷◌, ◌++◌, length, length-append, Option, Some, None, eqb, ltb, nat_eq, sym, ap, subst, refl, ◌∙◌, arith, ◌⊎◌, inl, inr}
 use Rattle.std.proofs.lemmas.Bool.Decides.{nat_tests}
 use Rattle.std.proofs.lemmas.List.Folds.{list_any-append}
 use Rattle.std.specs.List.{list_any, AllByRecursion}
@@ -88,11 +88,11 @@ module _ (active : Slab Seat) (owned : List (Option Owned)) where
 
   pub freed_more : (n : ℕ) (freed next : List ℕ) → FreedBelow active owned n freed → falls_free active owned n ≡ true → next ≡ freed ++ n ∷ [] → FreedBelow active owned (n + 1) next
   freed_more n freed next r h e = subst (λ xs. FreedBelow active owned (n + 1) xs) (sym e) (record {
-      sorted = sorted_push freed n r.sorted r.below;
-      below = below_push freed n r.below;
-      len = (let l = r.len in let long : length (freed ++ n ∷ []) ≡ length freed + 1 = length-append freed (n ∷ []) in omega arith);
-      each = λ s. list_any-append (nat_eq s) freed (n ∷ []) ∙ at s (number_cases s n);
-    }) where
+    sorted = sorted_push freed n r.sorted r.below;
+    below = below_push freed n r.below;
+    len = (let l = r.len in let long : length (freed ++ n ∷ []) ≡ length freed + 1 = length-append freed (n ∷ []) in omega arith);
+    each = λ s. list_any-append (nat_eq s) freed (n ∷ []) ∙ at s (number_cases s n);
+  }) where
     at : (s : ℕ) → ((eqb s n ≡ true) × (s ≡ n)) ⊎ ((eqb s n ≡ false) × (s ≢ n)) → (list_any (nat_eq s) freed || (nat_eq s n || false)) ≡ cond (ltb s (n + 1)) (falls_free active owned s) false
     at s (inl p) =
         ap (λ b. list_any (nat_eq s) freed || (b || false)) p.0 ∙ or_true (list_any (nat_eq s) freed) ∙ sym h ∙ sym (within n (falls_free active owned n))

@@ -1,10 +1,10 @@
 -- The fields of `Tasks` keep what callers rely on.
-use Rattle.std.proofs.Common.{◌≡◌, ℕ, zero, suc, ◌<◌, ◌≤◌, Bool, true, false, List, length, Option, Some, None, is_some, count_by, sym, ap, subst, refl, ◌∙◌, arith, ◌⊎◌, inl, inr}
+use Rattle.std.proofs.Common.{◌≡◌, ℕ, zero, suc, ◌<◌, ◌≤◌, true, List, length, Option, Some, None, is_some, count_by, sym, ap, subst, refl, ◌∙◌, arith, ◌⊎◌, inl, inr}
 use Rattle.std.proofs.lemmas.Bool.{cases_lt}
 use Rattle.std.specs.Option.{option_map}
-use Rattle.std.specs.FinMap.{get, len}
+use Rattle.std.specs.FinMap.{get}
 use Rattle.mvs_model.specs.declared.name.Name.{Name}
-use Rattle.mvs_model.specs.Owners.{Task, Owners, is_active, entry, IsMother, Descends, subtask, further}
+use Rattle.mvs_model.specs.Owners.{Task, is_active, entry, IsMother, Descends, subtask, further}
 use Rattle.task_owner.specs.Directory.{Directory}
 use Rattle.task_owner.specs.Kept.{IsFirst, OwnersKept}
 use Rattle.task_owner.specs.Seats.{item_at, number_of, seat_named, mother_of, task_of, entry_of, owner_name, directory, IsSound}
@@ -84,21 +84,21 @@ module _ (seats : List (Option Seat)) (owned : List (Option Owned)) (sound : IsS
     one_first = one_first;
     reached = λ x h. let task = of_some (get (directory seats owned).owners.tasks x) h in let k = key_of x task.0 task.1 in reached x k.0 k.1 k.2 k.3;
     no_cycle = λ t d. let task = of_some (get (directory seats owned).owners.tasks t) (descends_active t t d) in let k = key_of t task.0 task.1 in
-      not_itself seats owned k.0 k.1 sound k.2 (subst (λ n. Descends (directory seats owned).owners n n) (sym k.3) d);
+        not_itself seats owned k.0 k.1 sound k.2 (subst (λ n. Descends (directory seats owned).owners n n) (sym k.3) d);
     owned = λ t s h. its_number t s (item_at owned s) refl (sym (view-owner seats owned s) ∙ h);
     has_owner = λ t n s h.
-      let k = entry_key t n s h in
-      let o = sound.entries k.0 n s k.1 k.2 k.4 in
-      let z = sound.owners s o.0 o.1 in
-      ap is_some (view-owner seats owned s ∙ ap (owner_name seats) o.1 ∙ ap (option_map (λ (v : Seat). v.name)) z.1);
+        let k = entry_key t n s h in
+        let o = sound.entries k.0 n s k.1 k.2 k.4 in
+        let z = sound.owners s o.0 o.1 in
+        ap is_some (view-owner seats owned s ∙ ap (owner_name seats) o.1 ∙ ap (option_map (λ (v : Seat). v.name)) z.1);
     one_number = λ t q m n s g h.
-      let j = entry_key t m s g in
-      let k = entry_key q n s h in
-      let a = sound.entries j.0 m s j.1 j.2 j.4 in
-      let b = sound.entries k.0 n s k.1 k.2 k.4 in
-      let f : Some a.0 ≡ Some b.0 = sym a.1 ∙ b.1 in
-      let same : a.0 ≡ b.0 = cc in
-      sym a.2 ∙ ap (λ (o : Owned). o.number) same ∙ b.2;
+        let j = entry_key t m s g in
+        let k = entry_key q n s h in
+        let a = sound.entries j.0 m s j.1 j.2 j.4 in
+        let b = sound.entries k.0 n s k.1 k.2 k.4 in
+        let f : Some a.0 ≡ Some b.0 = sym a.1 ∙ b.1 in
+        let same : a.0 ≡ b.0 = cc in
+        sym a.2 ∙ ap (λ (o : Owned). o.number) same ∙ b.2;
     active = λ t n s h. let k = entry_key t n s h in is_there k.0 k.1 t k.2 k.3;
     numbers = λ t n s h. let k = entry_key t n s h in number_low k.1 n s k.4;
     subpools = λ t s h. low t s (sym (view-owner seats owned s) ∙ h);

@@ -1,15 +1,14 @@
 -- Owners of subpools: what is read off, and the lowest subpool without one.
-use Rattle.std.proofs.Common.{◌≡◌, ℕ, ◌<◌, Bool, true, false, List, Option, Some, None, is_some, IsSome, eqb, sym, ap, subst, refl, ◌∙◌, arith}
+use Rattle.std.proofs.Common.{◌≡◌, ℕ, ◌<◌, Bool, true, false, List, Option, Some, None, is_some, IsSome, eqb, sym, ap, subst, refl, ◌∙◌}
 use Rattle.std.proofs.lemmas.Bool.{eq-eqb, eqb-true}
 use Rattle.std.specs.Option.{option_map}
 use Rattle.std.specs.FinMap.{get}
-use Rattle.mvs_model.specs.declared.name.Name.{Name}
 use Rattle.mvs_model.specs.Name.{same_name}
 use Rattle.mvs_model.specs.Finite.{has}
 use Rattle.mvs_model.specs.Owners.{entry, owns, IsSpare}
 use Rattle.mvs_model.proofs.Orders.{same_name_is, same_name_self}
 use Rattle.task_owner.specs.Directory.{Directory, IsTask, name_of}
-use Rattle.task_owner.specs.Seats.{item_at, name_of_seat, number_of, seat_named, entry_of, owner_name, directory, IsSound}
+use Rattle.task_owner.specs.Seats.{item_at, number_of, entry_of, owner_name, directory, IsSound}
 use Rattle.task_owner.specs.declared.seat.Seat.{Seat}
 use Rattle.task_owner.specs.declared.seat.Owned.{Owned}
 use Rattle.task_owner.proofs.Places.{of_some}
@@ -30,13 +29,15 @@ module _ (seats : List (Option Seat)) (owned : List (Option Owned)) (d : Directo
 
   module _ (sound : IsSound seats owned) where
     pub labelled : (o : Owned) (x : Seat) → item_at owned s ≡ Some o → item_at seats o.owner ≡ Some x → (get d.owners.owner s ≡ Some x.name) × (entry d.owners x.name o.number ≡ Some s)
-    labelled o x h at =
-        (owner_is ∙ ap (owner_name seats) h ∙ ap (option_map (λ y. y.name)) at,
-         subst (λ (v : Directory). entry v.owners x.name o.number ≡ Some s) e
-         (view-entry seats owned x.name o.number ∙ ap (λ y. entry_of y o.number) (found seats o.owner x sound.distinct at) ∙ ap (λ z. number_of z o.number) same ∙ r.2))
+    labelled o x h at = (
+      owner_is ∙ ap (owner_name seats) h ∙ ap (option_map (λ y. y.name)) at,
+      subst (λ (v : Directory). entry v.owners x.name o.number ≡ Some s) e
+          (view-entry seats owned x.name o.number ∙ ap (λ y. entry_of y o.number) (found seats o.owner x sound.distinct at) ∙ ap (λ z. number_of z o.number) same ∙ r.2),
+    )
       where
         r : (y : Seat) × (item_at seats o.owner ≡ Some y) × (number_of y o.number ≡ Some s)
         r = sound.owners s o h
+
         same : x ≡ r.0
         same = let f : Some x ≡ Some r.0 = sym at ∙ r.1 in cc
 
@@ -61,9 +62,9 @@ module _ (seats : List (Option Seat)) (owned : List (Option Owned)) (d : Directo
           let y = sound.owners s o h in
           same_test (eqb o.owner key) (same_name x.0.name y.0.name)
           (λ t.
-             let g : Some y.0 ≡ Some x.0 = sym y.1 ∙ ap (item_at seats) (eqb-true o.owner key t) ∙ x.1 in
-             let same : y.0 ≡ x.0 = cc in
-             ap (λ (z : Seat). same_name x.0.name z.name) same ∙ same_name_self x.0.name)
+          let g : Some y.0 ≡ Some x.0 = sym y.1 ∙ ap (item_at seats) (eqb-true o.owner key t) ∙ x.1 in
+          let same : y.0 ≡ x.0 = cc in
+          ap (λ (z : Seat). same_name x.0.name z.name) same ∙ same_name_self x.0.name)
           (λ t. eq-eqb o.owner key (sound.distinct o.owner key y.0 x.0 y.1 x.1 (sym (same_name_is x.0.name y.0.name t))))
           ∙ ap (λ n. same_name n y.0.name) (sym (name_is seats owned d key id e f sound x.0 x.1))
           ∙ sym (ap (has (same_name (name_of d id))) (labelled o y.0 h y.1).0)

@@ -5,6 +5,7 @@ pub mod Subtasks
 pub mod Room
 pub mod Starting
 pub mod Binding
+pub mod Bound
 pub mod Families
 pub mod Freed
 pub mod Trimming

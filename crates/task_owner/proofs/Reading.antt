@@ -1,22 +1,21 @@
 -- What the view of `Tasks` says at a key and at a name.
-use Rattle.std.proofs.Common.{◌≡◌, ◌≢◌, ℕ, zero, suc, ◌+◌, ◌<◌, ◌≤◌, Bool, true, false, cond, ◌&&◌, ◌||◌, List, [], ◌∷◌, map, length, Option, Some, None, is_some, IsSome, unwrap_or, slice_index_or, replicate, eqb, ltb, sym, ap, subst, refl, ◌∙◌, arith, ◌⊎◌, inl, inr}
+use Rattle.std.proofs.Common.{◌≡◌, ◌≢◌, ℕ, zero, suc, ◌<◌, Bool, true, false, cond, ◌&&◌, ◌||◌, List, [], ◌∷◌, length, Option, Some, None, IsSome, unwrap_or, slice_index_or, ltb, sym, ap, subst, refl, ◌∙◌, arith, ◌⊎◌, inl, inr}
 use Rattle.std.proofs.lemmas.Bool.Decides.{nat_tests}
 use Rattle.std.specs.List.{list_any}
 use Rattle.std.specs.Option.{option_map}
 use Rattle.std.specs.FinMap.{get}
 use Rattle.mvs_model.specs.declared.name.Name.{Name}
-use Rattle.mvs_model.specs.Name.{name_cmp, same_name}
-use Rattle.mvs_model.specs.Owners.{entry_cmp, Task, entry}
-use Rattle.mvs_model.specs.Keyed.{keyed, pairs_below}
-use Rattle.mvs_model.specs.Table.{table}
+use Rattle.mvs_model.specs.Name.{same_name}
+use Rattle.mvs_model.specs.Owners.{entry}
+use Rattle.mvs_model.specs.Keyed.{pairs_below}
 use Rattle.mvs_model.proofs.Keyed.{get-keyed_all, any-pairs_below}
 use Rattle.mvs_model.proofs.Orders.{name_cmp_total, entry_cmp_total, name_cmp-IsAntisymmetric, entry_cmp-IsAntisymmetric, same_name_is, same_name_self}
 use Rattle.mvs_model.proofs.Tables.{get-table_all}
 use Rattle.task_owner.specs.Directory.{Directory, name_at, IsTask, name_of, residence_of}
-use Rattle.task_owner.specs.Seats.{item_at, name_of_seat, number_of, seat_named, names, mother_of, task_of, entry_of, owner_name, directory, IsSound, Distinct}
+use Rattle.task_owner.specs.Seats.{item_at, name_of_seat, number_of, seat_named, names, task_of, entry_of, owner_name, directory, IsSound, Distinct}
 use Rattle.task_owner.specs.declared.seat.Seat.{Seat}
 use Rattle.task_owner.specs.declared.seat.Owned.{Owned}
-use Rattle.task_owner.proofs.Places.{at_map, past_end, of_mapped, of_some, same_default}
+use Rattle.task_owner.proofs.Places.{at_map, past_end, of_some, same_default}
 
 -- two names are the same or not, and the test says which
 pub name_cases : (a b : Name) → ((same_name a b ≡ true) × (a ≡ b)) ⊎ ((same_name a b ≡ false) × (a ≢ b))
@@ -114,7 +113,7 @@ module _ (seats : List (Option Seat)) (owned : List (Option Owned)) (d : Directo
     task_is =
         ap (get d.owners.tasks) name_is
         ∙ subst (λ (v : Directory). get v.owners.tasks x.name ≡ Some (task_of seats x)) e
-          (view-task seats owned x.name ∙ ap (option_map (task_of seats)) (found seats key x sound.distinct h))
+        (view-task seats owned x.name ∙ ap (option_map (task_of seats)) (found seats key x sound.distinct h))
 
     pub residence_is : residence_of d.owners (name_of d id) ≡ Some x.residence
     residence_is = ap (option_map (λ task. task.residence)) task_is
@@ -123,7 +122,7 @@ module _ (seats : List (Option Seat)) (owned : List (Option Owned)) (d : Directo
     entry_is n =
         ap (λ t. entry d.owners t n) name_is
         ∙ subst (λ (v : Directory). entry v.owners x.name n ≡ number_of x n) e
-          (view-entry seats owned x.name n ∙ ap (λ o. entry_of o n) (found seats key x sound.distinct h))
+        (view-entry seats owned x.name n ∙ ap (λ o. entry_of o n) (found seats key x sound.distinct h))
 
 -- below 128 the number is what the array has
 pub low_number : (n : ℕ) (o : Option ℕ) → n < 128 → cond (ltb n 128) o None ≡ o

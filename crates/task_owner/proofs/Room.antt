@@ -1,5 +1,5 @@
 -- That a spare subpool exists, by counting what stands under the numbers of the tasks.
-use Rattle.std.proofs.Common.{◌≡◌, ◌≢◌, ℕ, zero, suc, ◌+◌, ◌*◌, ◌<◌, ◌≤◌, Bool, true, false, cond, ◌&&◌, ◌||◌, List, [], ◌∷◌, ◌++◌, map, length, Option, Some, None, is_some, IsSome, slice_index_or, count_by, eqb, ltb, sym, ap, subst, refl, ◌∙◌, arith, ◌⊎◌, inl, inr, length-append}
+use Rattle.std.proofs.Common.{◌≡◌, ◌≢◌, ℕ, zero, suc, ◌+◌, ◌*◌, ◌<◌, ◌≤◌, Bool, true, false, cond, ◌||◌, List, [], ◌∷◌, ◌++◌, length, Option, Some, None, is_some, IsSome, count_by, eqb, ltb, sym, ap, refl, ◌∙◌, arith, ◌⊎◌, inl, inr, length-append}
 use Rattle.std.proofs.lemmas.Bool.Decides.{nat_tests}
 use Rattle.std.proofs.lemmas.List.Folds.{list_any-append}
 use Rattle.std.proofs.lemmas.List.Sums.{sum_by-cons}
@@ -28,11 +28,14 @@ kept r s [] n h = h
 kept r s (x ∷ xs) n h = by (eqb s x) (same s x) h (kept r s xs n) where
   same : (a b : ℕ) → eqb a b ≡ true → a ≡ b
   same a b e = grind (arith, nat_tests)
+
   later : eqb r s ≡ false
   later = grind (arith, nat_tests)
+
   either : (b c d : Bool) → (b || c) ≡ true → (c ≡ true → d ≡ true) → (b || d) ≡ true
   either true c d h f = refl
   either false c d h f = f h
+
   by : (b : Bool) → (b ≡ true → s ≡ x) → (eqb r x || list_any (eqb r) xs) ≡ true → (list_any (eqb r) xs ≡ true → list_any (eqb r) (without s xs) ≡ true) → list_any (eqb r) (cond b xs (x ∷ without s xs)) ≡ true
   by true f h g = sym (ap (λ b. b || list_any (eqb r) xs) (sym (ap (eqb r) (f refl)) ∙ later)) ∙ h
   by false f h g = either (eqb r x) (list_any (eqb r) xs) (list_any (eqb r) (without s xs)) h g

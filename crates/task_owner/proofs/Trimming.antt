@@ -1,5 +1,5 @@
 -- What a task has once the entries of subpools without an owner are dropped.
-use Rattle.std.proofs.Common.{◌≡◌, ℕ, Bool, true, false, cond, List, Option, Some, None, ltb, ap, refl, sym, ◌∙◌}
+use Rattle.std.proofs.Common.{◌≡◌, ℕ, Bool, true, false, cond, List, Option, None, ltb, ap, refl, ◌∙◌}
 use Rattle.mvs_model.specs.Finite.{kept}
 use Rattle.task_owner.specs.Seats.{item_at, number_of}
 use Rattle.task_owner.specs.Family.{Trims, has_owner}

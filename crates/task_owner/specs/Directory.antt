@@ -1,5 +1,5 @@
 -- What a contract sees of `Tasks`.
-use Rattle.std.specs.Prelude.{◌≡◌, ℕ, List, [], Option, Some, None, IsSome, unwrap_or, slice_index_or, refl}
+use Rattle.std.specs.Prelude.{ℕ, List, [], Option, None, IsSome, unwrap_or, slice_index_or, refl}
 use Rattle.std.specs.Option.{option_map}
 use Rattle.std.specs.Coded.{Coded, code_by, coded×, coded_list, coded_option}
 use Rattle.std.specs.FinMap.{get}

@@ -1,14 +1,14 @@
 -- What stands between while a task and its descendants are taken out. No public clause cites this module.
-use Rattle.std.specs.Prelude.{◌≡◌, ℕ, ◌+◌, ◌<◌, ◌≤◌, List, length, Bool, true, false, not, Option, Some, None, IsSome, is_some, is_none, count_by, nat_eq, nat_lt, if◌then◌else◌}
+use Rattle.std.specs.Prelude.{◌≡◌, ℕ, ◌+◌, ◌<◌, ◌≤◌, List, length, Bool, true, false, not, Option, Some, None, is_some, count_by, nat_eq, nat_lt, if◌then◌else◌}
 use Rattle.std.specs.List.{list_any, AllByRecursion}
 use Rattle.std.specs.List.Sorted.{IsStrictlySortedBy}
 use Rattle.std.specs.Ordering.{nat_cmp}
 use Rattle.slab.specs.Slab.{Slab, get, slab_len}
 use Rattle.mvs_model.specs.declared.name.Name.{Name}
 use Rattle.mvs_model.specs.Name.{same_name}
-use Rattle.mvs_model.specs.Finite.{Keeps, kept, has}
+use Rattle.mvs_model.specs.Finite.{Keeps, has}
 use Rattle.mvs_model.specs.Owners.{goes}
-use Rattle.task_owner.specs.Seats.{item_at, number_of}
+use Rattle.task_owner.specs.Seats.{item_at}
 use Rattle.task_owner.specs.declared.seat.Seat.{Seat}
 use Rattle.task_owner.specs.declared.seat.Owned.{Owned}
 

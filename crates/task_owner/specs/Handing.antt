@@ -1,5 +1,5 @@
 -- What stands between while a mother hands over what she gives and shares. No public clause cites this module.
-use Rattle.std.specs.Prelude.{◌≡◌, ℕ, ◌+◌, ◌<◌, ◌==◌, ◌&&◌, ◌||◌, List, Bool, not, Option, Some, None, if◌then◌else◌}
+use Rattle.std.specs.Prelude.{◌≡◌, ℕ, ◌<◌, ◌==◌, ◌&&◌, ◌||◌, List, Bool, not, Option, Some, None, if◌then◌else◌}
 use Rattle.mvs_model.specs.Presents.{Presents, gives, shares}
 use Rattle.std.specs.FinMap.{get}
 use Rattle.mvs_model.specs.declared.name.Name.{Name}

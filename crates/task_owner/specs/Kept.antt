@@ -1,5 +1,5 @@
 -- What holds of the tasks and their subpools at all times.
-use Rattle.std.specs.Prelude.{◌≡◌, ◌⊎◌, ℕ, ◌<◌, ◌≤◌, true, Option, Some, None, IsSome}
+use Rattle.std.specs.Prelude.{◌≡◌, ◌⊎◌, ℕ, ◌<◌, ◌≤◌, true, Some, None, IsSome}
 use Rattle.std.specs.FinMap.{get, len}
 use Rattle.mvs_model.specs.declared.name.Name.{Name}
 use Rattle.mvs_model.specs.Owners.{Task, Owners, is_active, entry, IsMother, Descends}

@@ -77,7 +77,10 @@ fn free_each(active: &Slab<Seat>, owned: &mut [Option<Owned>])
 }
 
 // Takes the owner from each subpool whose owner is not active; these subpools.
-pub(crate) fn free_subpools(active: &Slab<Seat>, owned: &mut Vec<Option<Owned>>) -> ShortList<SubpoolId, 0, 4096>
+pub(crate) fn free_subpools(
+    active: &Slab<Seat>,
+    owned: &mut Vec<Option<Owned>>,
+) -> ShortList<SubpoolId, 0, 4096>
     requires { length owned.old.items ≡ 4096 }
     ensures freed { FreedBelow active.now owned.old.items 4096 result }
     ensures kept { Keeps (item_at owned.old.items) (λ _ o. is_owner_active active.now o) (item_at owned.new.items) }

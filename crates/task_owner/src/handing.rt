@@ -37,7 +37,11 @@ fn leave(numbers: &mut [Option<SubpoolId>; 128], gifts: &Gifts)
 }
 
 // Takes what the task at the key gives; what it gives and shares.
-pub(crate) fn hand_over(active: &mut Slab<Seat>, mother: usize, gifts: &Gifts) -> [Option<SubpoolId>; 128]
+pub(crate) fn hand_over(
+    active: &mut Slab<Seat>,
+    mother: usize,
+    gifts: &Gifts,
+) -> [Option<SubpoolId>; 128]
     requires { IsSome (get active.old mother) }
     ensures taken { (x : Seat) → get active.old mother ≡ Some x → (n : ℕ) → n < 128 → item_at result n ≡ taken gifts.now x.numbers n }
     ensures left { (x : Seat) → get active.old mother ≡ Some x → (y : Seat) × (get active.new mother ≡ Some y) × Leaves gifts.now x y }

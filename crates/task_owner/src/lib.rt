@@ -5,5 +5,7 @@ mod family;
 mod handing;
 mod seat;
 mod tasks;
+#[cfg(test)]
+mod tests;
 
 pub use tasks::{Gone, TaskId, Tasks};

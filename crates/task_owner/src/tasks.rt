@@ -14,7 +14,9 @@ ghost use Rattle.task_owner.specs.Directory.{name_at, IsTask, name_of, residence
 
 use crate::family::{drop_entries, free_subpools, remove_family};
 use crate::handing::{hand_over, pass_on};
-use crate::seat::{Owned, Seat, enter, find_key, first_spare, has_child, no_owners, number_at, seat_at};
+use crate::seat::{
+    Owned, Seat, enter, find_key, first_spare, has_child, no_owners, number_at, seat_at,
+};
 use mvs_model::code::Code;
 use mvs_model::error::OutOfMemory;
 use mvs_model::gifts::Gifts;
@@ -182,7 +184,13 @@ impl Tasks {
     /// Attaches a subtask. The mother first gets a subpool under each number that she shares and does not have. Refused
     /// are, in this order, a name that is active (user 4009), a task beyond 32 (user 4005), and the gift of a subpool
     /// that the mother does not own (user 4003).
-    pub fn attach(&mut self, mother: TaskId, name: &Name, gifts: &Gifts, residence: Residence) -> Result<TaskId, Code>
+    pub fn attach(
+        &mut self,
+        mother: TaskId,
+        name: &Name,
+        gifts: &Gifts,
+        residence: Residence,
+    ) -> Result<TaskId, Code>
         requires { IsTask self.old mother }
         ensures attached { OnOk result (Attach self.old.owners (name_of self.old mother) name.now gifts.now residence self.new.owners) }
         ensures granted { OnOk result (attach_refusal self.old.owners (name_of self.old mother) name.now gifts.now ≡ None) }
@@ -313,7 +321,10 @@ impl Tasks {
         ensures { MatchOption result (get self.now.owners.owner subpool ≡ None) (λ r. (get self.now.owners.owner subpool ≡ Some r.1) × (entry self.now.owners r.1 r.0 ≡ Some subpool)) }
     {
         match self.owned[subpool.get() as usize] {
-            Some(owned) => Some((number_at(owned.number), seat_at(&self.active, owned.owner).name)),
+            Some(owned) => Some((
+                number_at(owned.number),
+                seat_at(&self.active, owned.owner).name,
+            )),
             None => None,
         }
     }

@@ -1,4 +1,4 @@
-use Rattle.std.proofs.Common.{◌≡◌, ◌<◌, ◌≤◌, ◌+◌, ◌∙◌, sym, ap, arith, length, count_by, is_some}
+use Rattle.std.proofs.Common.{◌≡◌, ◌∙◌, arith}
 use Rattle.std.specs.FinMap.{len}
 use Rattle.slab.specs.Slab.{slab_len}
 use Rattle.task_owner.proofs.tasks.Tasks.admit.Goals as goal
@@ -16,16 +16,18 @@ insert_reserved-key-requires c =
 
 pub invariant_of-self : goal.invariant_of-self
 invariant_of-self c =
-    let few : len c.args.self.now.owners.tasks ≡ slab_len c.self.inside.active = len_is _ _ _ c.self.view_is c.self.invariant.0 in
-    ((admitted c.self.inside.active c.hand_over-numbers.new.active c.insert_reserved-key.new.self c.self.inside.owned.items c.pass_on.new.owned.items _ _ _ c.self.view_is c.mother.view_is c.self.invariant.0 c.requires.active
-       c.args.name.now c.args.gifts.now c.args.residence c.hand_over-numbers.result c.insert_reserved-key.result c.requires.new c.requires.owned c.hand_over-numbers.ensures.taken c.hand_over-numbers.ensures.left
-       c.hand_over-numbers.ensures.others c.insert_reserved-key.ensures.was_vacant c.insert_reserved-key.ensures.updates.changed c.insert_reserved-key.ensures.updates.others c.pass_on.ensures.passed).sound,
-     c.pass_on.ensures.len ∙ c.self.invariant.1, omega (arith, few, c.requires.room, c.hand_over-numbers.ensures.len, c.insert_reserved-key.ensures.len),
-     omega (arith, c.self.invariant.3, c.hand_over-numbers.ensures.capacity, c.insert_reserved-key.ensures.capacity))
+    let few : len c.args.self.now.owners.tasks ≡ slab_len c.self.inside.active = len_is _ _ _ c.self.view_is c.self.invariant.0 in (
+      (admitted c.self.inside.active c.hand_over-numbers.new.active c.insert_reserved-key.new.self c.self.inside.owned.items c.pass_on.new.owned.items _ _ _ c.self.view_is c.mother.view_is c.self.invariant.0 c.requires.active
+          c.args.name.now c.args.gifts.now c.args.residence c.hand_over-numbers.result c.insert_reserved-key.result c.requires.new c.requires.owned c.hand_over-numbers.ensures.taken c.hand_over-numbers.ensures.left
+          c.hand_over-numbers.ensures.others c.insert_reserved-key.ensures.was_vacant c.insert_reserved-key.ensures.updates.changed c.insert_reserved-key.ensures.updates.others c.pass_on.ensures.passed).sound,
+      c.pass_on.ensures.len ∙ c.self.invariant.1,
+      omega (arith, few, c.requires.room, c.hand_over-numbers.ensures.len, c.insert_reserved-key.ensures.len),
+      omega (arith, c.self.invariant.3, c.hand_over-numbers.ensures.capacity, c.insert_reserved-key.ensures.capacity),
+    )
 
 pub returns : goal.returns
 returns c =
     let r = admitted c.self.inside.active c.hand_over-numbers.new.active c.insert_reserved-key.new.self c.self.inside.owned.items c.pass_on.new.owned.items _ _ _ c.self.view_is c.mother.view_is c.self.invariant.0 c.requires.active
-       c.args.name.now c.args.gifts.now c.args.residence c.hand_over-numbers.result c.insert_reserved-key.result c.requires.new c.requires.owned c.hand_over-numbers.ensures.taken c.hand_over-numbers.ensures.left
-       c.hand_over-numbers.ensures.others c.insert_reserved-key.ensures.was_vacant c.insert_reserved-key.ensures.updates.changed c.insert_reserved-key.ensures.updates.others c.pass_on.ensures.passed in
+    c.args.name.now c.args.gifts.now c.args.residence c.hand_over-numbers.result c.insert_reserved-key.result c.requires.new c.requires.owned c.hand_over-numbers.ensures.taken c.hand_over-numbers.ensures.left
+    c.hand_over-numbers.ensures.others c.insert_reserved-key.ensures.was_vacant c.insert_reserved-key.ensures.updates.changed c.insert_reserved-key.ensures.updates.others c.pass_on.ensures.passed in
     record { admits = r.admits; named = r.named; fresh = r.fresh; others = r.others }

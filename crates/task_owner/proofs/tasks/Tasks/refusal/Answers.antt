@@ -1,7 +1,6 @@
-use Rattle.std.proofs.Common.{◌≡◌, ◌<◌, ◌≤◌, true, false, refl, sym, ◌∙◌, arith}
-use Rattle.mvs_model.specs.Owners.{is_active, gives_shared}
+use Rattle.std.proofs.Common.{true, false, refl, sym, ◌∙◌, arith}
+use Rattle.mvs_model.specs.Owners.{gives_shared}
 use Rattle.task_owner.specs.Directory.{name_of}
-use Rattle.slab.specs.Slab.{slab_len}
 use Rattle.task_owner.proofs.tasks.Tasks.refusal.Goals as goal
 use Rattle.task_owner.proofs.Refusing.{refusal_by, full, not_full}
 
