@@ -17,16 +17,8 @@ use Rattle.task_owner.specs.declared.seat.Seat.{Seat}
 use Rattle.task_owner.specs.declared.seat.Owned.{Owned}
 use Rattle.task_owner.proofs.Places.{same_or_not, number_cases, of_some}
 use Rattle.task_owner.proofs.Reading.{found, found_at, not_found, name_cases, number_low, view-task, view-entry, view-owner, view-name}
-use Rattle.task_owner.proofs.Labels.{same_test}
+use Rattle.task_owner.proofs.Tests.{same_test, both_true}
 use Rattle.task_owner.proofs.AnyBelow.{found_below, passing_below}
-
-both_true : (a b : Bool) → (a && b) ≡ true → (a ≡ true) × (b ≡ true)
-both_true true b h = (refl, h)
-both_true false b h = absurd (let e : false ≡ true = h in cc)
-
-either : (b : Bool) → (b ≡ true) ⊎ (b ≡ false)
-either true = inl refl
-either false = inr refl
 
 -- a task that stays: it has lost what the mother at the key gives
 record Stays (gifts : Presents) (m k : ℕ) (old now : Seat) : Type 0 where

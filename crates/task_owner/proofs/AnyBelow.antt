@@ -2,6 +2,7 @@
 use Rattle.std.proofs.Common.{◌≡◌, ℕ, zero, suc, ◌+◌, ◌<◌, ◌≢◌, ◌==◌, Bool, true, false, ◌||◌, sym, ap, refl, ◌∙◌, arith, ◌⊎◌, inl, inr}
 use Rattle.mvs_model.specs.Finite.{any_below}
 use Rattle.task_owner.proofs.Places.{number_cases}
+use Rattle.task_owner.proofs.Tests.{or_true}
 
 module _ (test : ℕ → Bool) where
   pub none_below : any_below test 0 ≡ false
@@ -11,10 +12,6 @@ module _ (test : ℕ → Bool) where
   pub none_more : (n : ℕ) → any_below test n ≡ false → test n ≡ false → any_below test (n + 1) ≡ false
   unfolding any_below
   none_more n h e = let s : n + 1 ≡ suc n = omega arith in ap (any_below test) s ∙ (λ i. e i || h i)
-
-  or_true : (b : Bool) → (b || true) ≡ true
-  or_true true = refl
-  or_true false = refl
 
   -- one that passes is found; what is found passes
   pub found_below : (n m : ℕ) → n < m → test n ≡ true → any_below test m ≡ true

@@ -12,27 +12,8 @@ use Rattle.task_owner.specs.declared.seat.Seat.{Seat}
 use Rattle.task_owner.specs.declared.seat.Owned.{Owned}
 use Rattle.task_owner.proofs.Places.{of_some}
 use Rattle.task_owner.proofs.Reading.{found, found_at, not_found, view-task, view-entry, view-owner, view-name}
-use Rattle.task_owner.proofs.Families.{kept_back, not_true}
+use Rattle.task_owner.proofs.Tests.{kept_back, not_true, passing_kept, none_kept, all_kept}
 use Rattle.task_owner.proofs.Trimming.{numbers_kept}
-
--- a value that passes the test is kept; nothing is kept of nothing
-stays : {X : Type 0} (f : X → Bool) (x : X) → f x ≡ true → kept f (Some x) ≡ Some x
-stays f x e = ap (λ b. cond b (Some x) None) e
-
-drops : {X : Type 0} (f : X → Bool) (x : X) → f x ≡ false → kept f (Some x) ≡ None
-drops f x e = ap (λ b. cond b (Some x) None) e
-
-none_kept : {X : Type 0} (o : Option X) → kept (λ _. false) o ≡ None
-none_kept None = refl
-none_kept (Some x) = refl
-
--- at a constant test, and one that a value decides
-kept_by : {X : Type 0} (b : Bool) (o : Option X) → b ≡ false → kept (λ _. b) o ≡ None
-kept_by b o e = ap (λ c. kept (λ _. c) o) e ∙ none_kept o
-
-all_kept : {X : Type 0} (b : Bool) (o : Option X) → b ≡ true → kept (λ _. b) o ≡ o
-all_kept b None e = refl
-all_kept b (Some x) e = ap (λ c. cond c (Some x) None) e
 
 module _ (seats mid next : List (Option Seat)) (owned left : List (Option Owned)) (t : Name) (fallen : List Name) (sound : IsSound seats owned)
     (out : Keeps (item_at seats) (λ _ (x : Seat). not (goes t fallen x.name)) (item_at mid))
@@ -80,7 +61,7 @@ module _ (seats mid next : List (Option Seat)) (owned left : List (Option Owned)
         let w = trimmed o.owner z.0 z.1 in
         let f : Some x.0 ≡ Some z.0 = sym x.1 ∙ (from_mid o.owner z.0 z.1).0 in
         let same : x.0 ≡ z.0 = cc in
-        (w.0, w.1, numbers_kept left z.0 w.0 w.2 o.number ∙ ap (kept (has_owner left)) (ap (λ v. number_of v o.number) (sym same) ∙ x.2) ∙ stays (has_owner left) s (ap is_some h));
+        (w.0, w.1, numbers_kept left z.0 w.0 w.2 o.number ∙ ap (kept (has_owner left)) (ap (λ v. number_of v o.number) (sym same) ∙ x.2) ∙ passing_kept (has_owner left) s (ap is_some h));
   }
 
   -- what is found by a name that goes, and by one that stays
@@ -116,7 +97,7 @@ module _ (seats mid next : List (Option Seat)) (owned left : List (Option Owned)
   tasks_at q = by (goes t fallen q) refl where
     by : (b : Bool) → goes t fallen q ≡ b → option_map (task_of next) (seat_named next q) ≡ kept (λ _. not b) (option_map (task_of seats) (seat_named seats q))
     by true g = ap (option_map (task_of next)) (gone q g) ∙ sym (none_kept (option_map (task_of seats) (seat_named seats q)))
-    by false g = two (seat_named seats q) refl ∙ sym (all_kept true (option_map (task_of seats) (seat_named seats q)) refl) where
+    by false g = two (seat_named seats q) refl ∙ sym (all_kept (option_map (task_of seats) (seat_named seats q))) where
       two : (o : Option Seat) → seat_named seats q ≡ o → option_map (task_of next) (seat_named next q) ≡ option_map (task_of seats) (seat_named seats q)
       two None h = ap (option_map (task_of next)) (after_none q h) ∙ sym (ap (option_map (task_of seats)) h)
       two (Some x) h =

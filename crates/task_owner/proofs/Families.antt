@@ -14,51 +14,9 @@ use Rattle.task_owner.specs.Family.{Falls, Below, child, lower}
 use Rattle.task_owner.specs.declared.seat.Seat.{Seat}
 use Rattle.task_owner.proofs.Places.{same_or_not, of_some}
 use Rattle.task_owner.proofs.Reading.{name_cases}
+use Rattle.task_owner.proofs.Tests.{or_true, or_false, either_true, both_false, not_true, not_false, kept_back, dropped_fails, same_kept}
 
--- what is kept was there and passes the test
-pub kept_back : {X : Type 0} (f : X → Bool) (o : Option X) (x : X) → kept f o ≡ Some x → (o ≡ Some x) × (f x ≡ true)
-kept_back {X} f None x e = absurd (let h : ◌≡◌ {A = Option X} None (Some x) = e in cc)
-kept_back {X} f (Some y) x e = by (f y) refl e where
-  by : (b : Bool) → f y ≡ b → cond b (Some y) None ≡ Some x → (Some y ≡ Some x) × (f x ≡ true)
-  by true t h = let same : y ≡ x = cc in (h, ap f (sym same) ∙ t)
-  by false t h = absurd (let g : ◌≡◌ {A = Option X} None (Some x) = h in cc)
-
--- what is not kept fails it
-pub dropped_fails : {X : Type 0} (f : X → Bool) (x : X) → kept f (Some x) ≡ None → f x ≡ false
-dropped_fails {X} f x e = by (f x) refl e where
-  by : (b : Bool) → f x ≡ b → cond b (Some x) None ≡ None → f x ≡ false
-  by true t h = absurd (let g : ◌≡◌ {A = Option X} None (Some x) = sym h in cc)
-  by false t h = t
-
--- two tests that agree on the value keep it alike
-same_kept : {X : Type 0} (f g : X → Bool) (o : Option X) → ((x : X) → o ≡ Some x → f x ≡ g x) → kept f o ≡ kept g o
-same_kept f g None h = refl
-same_kept f g (Some x) h = ap (λ b. cond b (Some x) None) (h x refl)
-
-pub or_true : (b : Bool) → (b || true) ≡ true
-or_true true = refl
-or_true false = refl
-
-or_false : (b : Bool) → (b || false) ≡ b
-or_false true = refl
-or_false false = refl
-
-pub either_true : (b c : Bool) → (b || c) ≡ true → (b ≡ true) ⊎ (c ≡ true)
-either_true true c h = inl refl
-either_true false c h = inr h
-
-both_false : (b c : Bool) → (b || c) ≡ false → (b ≡ false) × (c ≡ false)
-both_false true c h = absurd (let e : true ≡ false = h in cc)
-both_false false c h = (refl, h)
-
-pub not_true : (b : Bool) → not b ≡ true → b ≡ false
-not_true true h = absurd (let e : false ≡ true = h in cc)
-not_true false h = refl
-
-pub not_false : (b : Bool) → not b ≡ false → b ≡ true
-not_false true h = refl
-not_false false h = absurd (let e : true ≡ false = h in cc)
-
+-- the same tests, grouped otherwise
 one_more : (a b c : Bool) → (a || (b || (c || false))) ≡ ((a || b) || c)
 one_more true b c = refl
 one_more false true c = refl
@@ -68,6 +26,7 @@ one_more false false c = or_false c
 goes_more : (t : Name) (names : List Name) (x q : Name) → goes t (names ++ x ∷ []) q ≡ (goes t names q || same_name q x)
 goes_more t names x q = ap (λ b. same_name q t || b) (list_any-append (same_name q) names (x ∷ [])) ∙ one_more (same_name q t) (list_any (same_name q) names) (same_name q x)
 
+-- none passes where the list has none that does
 count_none : {X : Type 0} (p : X → Bool) (xs : List X) → list_any p xs ≡ false → count_by p xs ≡ 0
 count_none p [] h = refl
 count_none {X} p (x ∷ xs) h =
@@ -79,6 +38,7 @@ at_most_one : (b : Bool) → cond b 1 0 ≤ 1
 at_most_one true = omega arith
 at_most_one false = omega arith
 
+-- a new name stands once at the end
 once_more : (q x : Name) (names : List Name) → count_by (same_name q) names ≤ 1 → list_any (same_name x) names ≡ false → count_by (same_name q) (names ++ x ∷ []) ≤ 1
 once_more q x names once absent = by (name_cases q x) where
   all : count_by (same_name q) (names ++ x ∷ []) ≡ count_by (same_name q) names + (cond (same_name q x) 1 0 + 0)

@@ -13,6 +13,7 @@ use Rattle.task_owner.specs.Family.{FreedBelow, falls_free, is_owner_active}
 use Rattle.task_owner.specs.declared.seat.Seat.{Seat}
 use Rattle.task_owner.specs.declared.seat.Owned.{Owned}
 use Rattle.task_owner.proofs.Places.{number_cases}
+use Rattle.task_owner.proofs.Tests.{or_true, or_false}
 
 -- whether the owner is not active
 abbrev is_lost : Slab Seat → Owned → Bool
@@ -21,6 +22,7 @@ is_lost active o = not (is_owner_active active o)
 less : (m n : ℕ) → m < n → nat_cmp m n ≡ Less
 less m n h = grind (arith, nat_tests)
 
+-- a greater number at the end of a rising list
 above : (x n : ℕ) (xs : List ℕ) → AllByRecursion (λ y. nat_cmp x y ≡ Less) xs → x < n → AllByRecursion (λ y. nat_cmp x y ≡ Less) (xs ++ n ∷ [])
 above x n [] h p = (less x n p, tt)
 above x n (y ∷ ys) h p = (h.0, above x n ys h.1 p)
@@ -37,14 +39,6 @@ below_push (x ∷ xs) n b = ((let h = b.0 in omega arith), below_push xs n b.1)
 still_below : (xs : List ℕ) (n : ℕ) → AllByRecursion (λ y. y < n) xs → AllByRecursion (λ y. y < n + 1) xs
 still_below [] n b = tt
 still_below (x ∷ xs) n b = ((let h = b.0 in omega arith), still_below xs n b.1)
-
-or_true : (b : Bool) → (b || true) ≡ true
-or_true true = refl
-or_true false = refl
-
-or_false : (b : Bool) → (b || false) ≡ b
-or_false true = refl
-or_false false = refl
 
 within : (n : ℕ) (b : Bool) → cond (ltb n (n + 1)) b false ≡ b
 within n b = grind (arith, nat_tests)

@@ -1,5 +1,5 @@
 -- Owners of subpools: what is read off, and the lowest subpool without one.
-use Rattle.std.proofs.Common.{◌≡◌, ℕ, ◌<◌, Bool, true, false, List, Option, Some, None, is_some, IsSome, eqb, sym, ap, subst, refl, ◌∙◌}
+use Rattle.std.proofs.Common.{◌≡◌, ℕ, ◌<◌, false, List, Option, Some, None, is_some, IsSome, eqb, sym, ap, subst, refl, ◌∙◌}
 use Rattle.std.proofs.lemmas.Bool.{eq-eqb, eqb-true}
 use Rattle.std.specs.Option.{option_map}
 use Rattle.std.specs.FinMap.{get}
@@ -13,12 +13,7 @@ use Rattle.task_owner.specs.declared.seat.Seat.{Seat}
 use Rattle.task_owner.specs.declared.seat.Owned.{Owned}
 use Rattle.task_owner.proofs.Places.{of_some}
 use Rattle.task_owner.proofs.Reading.{found, view-entry, view-owner, the_seat, name_is}
-
--- two tests that hold alike are one
-pub same_test : (a b : Bool) → (a ≡ true → b ≡ true) → (b ≡ true → a ≡ true) → a ≡ b
-same_test true b f g = sym (f refl)
-same_test false true f g = g refl
-same_test false false f g = refl
+use Rattle.task_owner.proofs.Tests.{same_test}
 
 module _ (seats : List (Option Seat)) (owned : List (Option Owned)) (d : Directory) (s : ℕ) (e : directory seats owned ≡ d) where
   owner_is : get d.owners.owner s ≡ owner_name seats (item_at owned s)

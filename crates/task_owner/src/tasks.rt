@@ -71,14 +71,15 @@ impl Model for Tasks {
 /// What goes with a task that ends.
 #[derive(Drop)]
 pub struct Gone {
-    /// Its descendants, in byte order of their names.
+    /// Its descendants, in byte order of their names (the order is this project's choice).
     pub fallen: Fallen,
     /// The subpools that it and its descendants owned, in rising order.
     pub freed: ShortList<SubpoolId, 0, 4096>,
 }
 
 impl Tasks {
-    /// The job step task alone, which has no subpool yet, with room for 32 tasks. No later call takes memory.
+    /// The job step task alone, which has no subpool yet, with room for 32 tasks (that many are this project's choice). No
+    /// later call takes memory.
     pub fn new(alloc: Global, name: Name, residence: Residence) -> Result<Tasks, OutOfMemory>
         ensures { IfOk result (λ d. d.owners ≡ first_owners name residence) }
     {
@@ -117,7 +118,7 @@ impl Tasks {
         has_child(&self.active, t.key)
     }
 
-    /// Where the task's program resides.
+    /// Where the task's program resides (Assembler Services Reference, GETMAIN, LOC=RES).
     pub fn residence(&self, t: TaskId) -> Residence
         requires { IsTask self.now t }
         ensures { residence_of self.now.owners (name_of self.now t) ≡ Some result }
@@ -125,7 +126,8 @@ impl Tasks {
         seat_at(&self.active, t.key).residence
     }
 
-    /// The subpool that the task has under the number.
+    /// The subpool that the task has under the number, its own or one that it shares (Assembler Services Guide, owning and
+    /// sharing subpools).
     pub fn subpool(&self, t: TaskId, number: SubNo) -> Option<SubpoolId>
         requires { IsTask self.now t }
         ensures { result ≡ entry self.now.owners (name_of self.now t) number }
@@ -155,7 +157,8 @@ impl Tasks {
         }
     }
 
-    /// The lowest subpool that no task owns, for a number under which the task has none.
+    /// The lowest subpool that no task owns, for a number under which the task has none. That it is the lowest is this
+    /// project's choice.
     pub fn spare(&self, t: TaskId, number: SubNo) -> SubpoolId
         requires active { IsTask self.now t }
         requires none { entry self.now.owners (name_of self.now t) number ≡ None }
@@ -181,9 +184,11 @@ impl Tasks {
         });
     }
 
-    /// Attaches a subtask. The mother first gets a subpool under each number that she shares and does not have. Refused
+    /// Attaches a subtask (Assembler Services Reference, ATTACH, GSPV and SHSPV). The mother first gets a subpool under
+    /// each number that she shares and does not have; a number that she gives and does not have is passed over. Refused
     /// are, in this order, a name that is active (user 4009), a task beyond 32 (user 4005), and the gift of a subpool
-    /// that the mother does not own (user 4003).
+    /// that the mother does not own (user 4003). The refusals and what becomes of missing numbers are this project's
+    /// choice.
     pub fn attach(
         &mut self,
         mother: TaskId,
@@ -298,7 +303,8 @@ impl Tasks {
         TaskId { key }
     }
 
-    /// Ends the task and its descendants: the subpools that they own fall free, and no task has one of these any more.
+    /// Ends the task and its descendants: the subpools that they own fall free, and no task has one of these any more
+    /// (Assembler Services Guide, owning and sharing subpools).
     pub fn end(&mut self, t: TaskId) -> Gone
         requires { IsTask self.old t }
         ensures fallen { IsFallen self.old.owners (name_of self.old t) result.fallen }
