@@ -56,7 +56,10 @@ fn joined_run(rt: HostRuntime) -> Result<(), Fail> {
     let one = SubpoolId::new(1);
     let mut store = Store::new(rt.alloc(), 3, 0, 0, Placement::Low)?;
     let all = Want::fixed(Length::new(12288), Exponent::new(3), Side::Below);
-    assert_eq!(rt; store.obtain(one, &all), Some(Place::new(Addr::new(0x6000), 12288)));
+    assert_eq!(rt;
+        store.obtain(one, &all),
+        Some(Place::new(Addr::new(0x6000), 12288))
+    );
     let middle = Place::new(Addr::new(0x6800), 8192);
     assert!(rt; store.release(one, middle).is_ok());
     let want = Want::fixed(Length::new(8192), Exponent::new(3), Side::Below);
@@ -71,7 +74,10 @@ fn exact_fit(rt: HostRuntime) -> Result<(), Fail> {
     let one = SubpoolId::new(1);
     let mut store = Store::new(rt.alloc(), 1, 0, 0, Placement::Low)?;
     let page = Want::fixed(Length::new(4096), Exponent::new(3), Side::Below);
-    assert_eq!(rt; store.obtain(one, &page), Some(Place::new(Addr::new(0x6000), 4096)));
+    assert_eq!(rt;
+        store.obtain(one, &page),
+        Some(Place::new(Addr::new(0x6000), 4096))
+    );
     for k in 0..256u32 {
         let hole = Place::new(Addr::new(8 * (2 * k + 0xC01)), 8);
         assert!(rt; store.release(one, hole).is_ok());
@@ -80,7 +86,10 @@ fn exact_fit(rt: HostRuntime) -> Result<(), Fail> {
     assert_eq!(rt; store.obtain(one, &two), None);
     assert_eq!(rt; store.below.find(one, &two).steps, 257);
     let hole = Want::fixed(Length::new(8), Exponent::new(3), Side::Below);
-    assert_eq!(rt; store.obtain(one, &hole), Some(Place::new(Addr::new(0x6008), 8)));
+    assert_eq!(rt;
+        store.obtain(one, &hole),
+        Some(Place::new(Addr::new(0x6008), 8))
+    );
     // The page, the run that serves, and the one behind it, which shows that the first does not go on.
     assert_eq!(rt; store.below.find(one, &hole).steps, 3);
     Ok(())
@@ -94,11 +103,26 @@ fn above_first_and_lowest(rt: HostRuntime) -> Result<(), Fail> {
     let mut store = Store::new(rt.alloc(), 2, 1, 0, Placement::Low)?;
     let want = Want::fixed(Length::new(2048), Exponent::new(3), Side::Either);
     let below = Want::fixed(Length::new(2048), Exponent::new(3), Side::Below);
-    assert_eq!(rt; store.obtain(one, &want), Some(Place::new(Addr::new(0x1000000), 2048)));
-    assert_eq!(rt; store.obtain(two, &want), Some(Place::new(Addr::new(0x6000), 2048)));
-    assert_eq!(rt; store.obtain(one, &want), Some(Place::new(Addr::new(0x1000800), 2048)));
-    assert_eq!(rt; store.obtain(one, &want), Some(Place::new(Addr::new(0x7000), 2048)));
-    assert_eq!(rt; store.obtain(two, &below), Some(Place::new(Addr::new(0x6800), 2048)));
+    assert_eq!(rt;
+        store.obtain(one, &want),
+        Some(Place::new(Addr::new(0x1000000), 2048))
+    );
+    assert_eq!(rt;
+        store.obtain(two, &want),
+        Some(Place::new(Addr::new(0x6000), 2048))
+    );
+    assert_eq!(rt;
+        store.obtain(one, &want),
+        Some(Place::new(Addr::new(0x1000800), 2048))
+    );
+    assert_eq!(rt;
+        store.obtain(one, &want),
+        Some(Place::new(Addr::new(0x7000), 2048))
+    );
+    assert_eq!(rt;
+        store.obtain(two, &below),
+        Some(Place::new(Addr::new(0x6800), 2048))
+    );
     assert_eq!(rt; store.obtain(two, &below), None);
     Ok(())
 }
@@ -111,12 +135,24 @@ fn greatest_length(rt: HostRuntime) -> Result<(), Fail> {
     let mut store = Store::new(rt.alloc(), 2, 1, 0, Placement::Low)?;
     let most = Ask::fixed(Length::new(16384), Exponent::new(3), Loc::Any);
     let want = most.at_least(Length::new(8)).want(Side::Either);
-    assert_eq!(rt; store.obtain(one, &want), Some(Place::new(Addr::new(0x6000), 8192)));
+    assert_eq!(rt;
+        store.obtain(one, &want),
+        Some(Place::new(Addr::new(0x6000), 8192))
+    );
     store.release_all(one);
     let page = Want::fixed(Length::new(4096), Exponent::new(3), Side::Below);
-    assert_eq!(rt; store.obtain(two, &page), Some(Place::new(Addr::new(0x6000), 4096)));
-    assert_eq!(rt; store.obtain(one, &want), Some(Place::new(Addr::new(0x1000000), 4096)));
-    assert_eq!(rt; store.obtain(one, &want), Some(Place::new(Addr::new(0x7000), 4096)));
+    assert_eq!(rt;
+        store.obtain(two, &page),
+        Some(Place::new(Addr::new(0x6000), 4096))
+    );
+    assert_eq!(rt;
+        store.obtain(one, &want),
+        Some(Place::new(Addr::new(0x1000000), 4096))
+    );
+    assert_eq!(rt;
+        store.obtain(one, &want),
+        Some(Place::new(Addr::new(0x7000), 4096))
+    );
     assert_eq!(rt; store.obtain(one, &want), None);
     Ok(())
 }
@@ -128,9 +164,15 @@ fn each_page_once(rt: HostRuntime) -> Result<(), Fail> {
     let two = SubpoolId::new(2);
     let mut store = Store::new(rt.alloc(), 2048, 0, 0, Placement::Low)?;
     let least = Want::fixed(Length::new(8), Exponent::new(3), Side::Below);
-    assert_eq!(rt; store.obtain(one, &least), Some(Place::new(Addr::new(0x6000), 8)));
+    assert_eq!(rt;
+        store.obtain(one, &least),
+        Some(Place::new(Addr::new(0x6000), 8))
+    );
     let rest = Want::fixed(Length::new(8_384_512), Exponent::new(3), Side::Below);
-    assert_eq!(rt; store.obtain(two, &rest), Some(Place::new(Addr::new(0x7000), 8_384_512)));
+    assert_eq!(rt;
+        store.obtain(two, &rest),
+        Some(Place::new(Addr::new(0x7000), 8_384_512))
+    );
     let want = Want::fixed(Length::new(8192), Exponent::new(3), Side::Below);
     assert_eq!(rt; store.obtain(one, &want), None);
     assert_eq!(rt; store.below.find(one, &want).steps, 2049);
