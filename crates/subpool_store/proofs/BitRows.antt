@@ -1,11 +1,11 @@
 -- The bits of words, as the calls of a list of bits state them.
-use Rattle.std.proofs.Common.{◌≡◌, ℕ, ◌+◌, ◌*◌, ◌/◌, ◌<◌, ◌≤◌, Bool, true, false, not, cond, eqb, ◌%◌, List, length, get_or, replicate, refl, sym, ap, ◌∙◌, inl, inr, arith}
-use Rattle.std.proofs.lemmas.Bool.{cases_lt, cases_Bool, both_ways}
+use Rattle.std.proofs.Common.{◌≡◌, ℕ, ◌*◌, ◌/◌, ◌<◌, ◌≤◌, Bool, false, cond, eqb, ◌%◌, List, length, get_or, replicate, sym, ap, ◌∙◌, inl, inr, arith}
+use Rattle.std.proofs.lemmas.Bool.{cases_lt}
 use Rattle.std.proofs.lemmas.List.{get_or-replicate, get_or_past, length-replicate}
 use Rattle.std.proofs.lemmas.Nat.Bits.{bit_at-zero}
 use Rattle.std.specs.Int.{bit_at}
 use Rattle.subpool_store.specs.Bits.{in_range, bit_of, bits_of}
-use Rattle.subpool_store.specs.Edits.{IsClear, IsMarked, IsFreeRun, HasNoBit, HasBit}
+use Rattle.subpool_store.specs.Edits.{IsClear, IsMarked}
 use Rattle.subpool_store.proofs.Words.{get_or-bits_of, length-bits_of}
 
 -- no bit of words that are zero is set

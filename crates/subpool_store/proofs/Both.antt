@@ -1,14 +1,14 @@
 -- What the two regions together hold, and how it changes with one of them.
-use Rattle.std.proofs.Common.{◌≡◌, ℕ, ◌+◌, ◌-◌, ◌*◌, ◌/◌, ◌%◌, ◌^◌, ◌<◌, ◌≤◌, ◌⊎◌, not, eqb, Bool, true, false, cond, ltb, Option, Some, None, is_some, MatchOption, refl, sym, ap, ◌∙◌, subst, inl, inr, arith}
+use Rattle.std.proofs.Common.{◌≡◌, ℕ, ◌+◌, ◌*◌, ◌/◌, ◌^◌, ◌<◌, ◌≤◌, ◌⊎◌, not, eqb, Bool, true, false, cond, ltb, Option, Some, None, is_some, refl, sym, ap, ◌∙◌, inl, inr, arith}
 use Rattle.std.proofs.lemmas.Bool.{cases_lt, lt-ltb, le-ltb, cond-true, cond-false}
 use Rattle.std.proofs.lemmas.Bool.Decides.{nat_tests}
 use Rattle.std.specs.Ordering.{nat_cmp}
 use Rattle.std.specs.FinMap.{FinMap, get, empty, get-empty}
-use Rattle.mvs_model.specs.Finite.{Changes, Keeps, kept, has}
+use Rattle.mvs_model.specs.Finite.{Changes, kept, has}
 use Rattle.mvs_model.specs.Span.{Span, span}
-use Rattle.mvs_model.specs.Storage.{Covers, covers, has_address, InRegion, IsStorage, LiesIn, MayTake, Open, ReleaseAll, Storage, holder, holds}
+use Rattle.mvs_model.specs.Storage.{covers, has_address, InRegion, IsStorage, ReleaseAll, holder}
 use Rattle.mvs_model.proofs.Tables.{get-table, table_changes, table_some, same_maps}
-use Rattle.subpool_store.specs.Half.{HalfState, IsSound, OpenIn, ChangedIn, DroppedIn}
+use Rattle.subpool_store.specs.Half.{HalfState, IsSound, ChangedIn, DroppedIn}
 use Rattle.subpool_store.specs.Joined.{joined, joined_at, regions_of, store_of, IsStore, Taken}
 
 -- what two joined maps have

@@ -1,5 +1,5 @@
 -- A place is open in the two regions together where it is in one of them, and the choice between them.
-use Rattle.std.proofs.Common.{◌≡◌, ℕ, ◌+◌, ◌-◌, ◌*◌, ◌/◌, ◌^◌, ◌<◌, ◌≤◌, ◌⊎◌, Option, Some, None, MatchOption, IsSome, is_some, List, length, get_or, refl, sym, ap, ◌∙◌, subst, inl, inr, arith}
+use Rattle.std.proofs.Common.{◌≡◌, ℕ, ◌+◌, ◌-◌, ◌*◌, ◌/◌, ◌<◌, ◌≤◌, ◌⊎◌, Option, Some, None, MatchOption, IsSome, is_some, List, length, get_or, refl, sym, ap, ◌∙◌, subst, inl, inr, arith}
 use Rattle.std.proofs.lemmas.Bool.{cases_lt, false≢true}
 use Rattle.std.proofs.lemmas.Option.{slice_get-get_or}
 use Rattle.std.specs.List.{slice_get}
@@ -7,7 +7,6 @@ use Rattle.std.specs.FinMap.{get}
 use Rattle.mvs_model.specs.Span.{Span, span}
 use Rattle.mvs_model.specs.Storage.{AllHeld, Chosen, Covers, HeldBy, IsLength, IsPageOwner, LiesIn, MayTake, Meets, NoPlace, Open, Places, Storage, holder}
 use Rattle.mvs_model.specs.Wanted.{Wanted, IsWanted}
-use Rattle.mvs_model.specs.declared.want.Side.TheVariants.{Below}
 use Rattle.subpool_store.specs.Half.{AllHeldIn, BestIn, ChangedIn, HalfState, HeldIn, IsBest, OpenIn, OwnsPage}
 use Rattle.subpool_store.specs.Joined.{BestAbove, IsStore, Taken, regions_of, store_of}
 use Rattle.subpool_store.specs.Search.{Beats, IsShorter}

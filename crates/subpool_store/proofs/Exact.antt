@@ -6,10 +6,10 @@ use Rattle.std.proofs.lemmas.List.{get_or_default, get_or_past}
 use Rattle.std.proofs.lemmas.Option.{none-some}
 use Rattle.std.specs.FinMap.{get}
 use Rattle.mvs_model.specs.Span.{Span}
-use Rattle.mvs_model.specs.Storage.{MayTake, Covers, LiesIn}
+use Rattle.mvs_model.specs.Storage.{MayTake}
 use Rattle.mvs_model.proofs.Tables.{get-table_all}
 use Rattle.page_map.specs.Owners.{owner_of, is_usable}
-use Rattle.subpool_store.specs.Half.{HalfState, shifted, cell, IsHalf, held_of, half_of, OpenIn}
+use Rattle.subpool_store.specs.Half.{shifted, cell, IsHalf, held_of, half_of, OpenIn}
 use Rattle.subpool_store.specs.Search.{may_take, AllPass}
 
 pub shifted_at : {X : Type 0} → (first : ℕ) (f : ℕ → Option X) (d : ℕ) → first ≤ d → shifted first f d ≡ f (d - first)

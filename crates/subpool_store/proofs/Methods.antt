@@ -1,19 +1,18 @@
 -- What the methods of a region owe, over its parts.
-use Rattle.std.proofs.Common.{◌≡◌, ℕ, ◌+◌, ◌-◌, ◌*◌, ◌/◌, ◌%◌, ◌^◌, ◌<◌, ◌≤◌, not, eqb, Bool, true, false, cond, Option, Some, None, is_some, IsSome, IfSome, List, length, get_or, replicate, ◌⊎◌, refl, sym, ap, ◌∙◌, subst, inl, inr, arith}
+use Rattle.std.proofs.Common.{◌≡◌, ℕ, ◌+◌, ◌-◌, ◌*◌, ◌/◌, ◌%◌, ◌^◌, ◌<◌, ◌≤◌, Bool, true, false, cond, Option, Some, None, is_some, IsSome, IfSome, List, length, get_or, replicate, ◌⊎◌, refl, sym, ap, ◌∙◌, subst, inl, inr, arith}
 use Rattle.std.proofs.lemmas.Bool.{cases_lt, cond-true, false≢true}
 use Rattle.std.proofs.lemmas.List.{get_or_past, get_or-replicate, length-replicate}
 use Rattle.std.proofs.lemmas.Option.{none-some, same_Some}
 use Rattle.std.specs.Ordering.{nat_cmp}
 use Rattle.std.specs.FinMap.{get, empty, get-empty}
 use Rattle.mvs_model.specs.Span.{Span}
-use Rattle.mvs_model.specs.Storage.{Covers, IsLength, IsWhole, LiesIn, Meets, PageRule}
+use Rattle.mvs_model.specs.Storage.{Covers, IsWhole, LiesIn}
 use Rattle.mvs_model.specs.Wanted.{Wanted, IsWanted}
 use Rattle.mvs_model.proofs.Tables.{same_maps}
 use Rattle.page_map.specs.Owners.{owner_of, is_usable}
-use Rattle.subpool_store.specs.Bits.{in_range}
 use Rattle.subpool_store.specs.Edits.{IsClear, IsMarked, IsAssigned, IsGivenUp, IsDropped, IsFilled}
-use Rattle.subpool_store.specs.Half.{HalfState, cell, shifted, byte_at, IsHalf, IsSound, held_of, bytes_of, half_of, OpenIn, HeldIn, BestIn, IsBest, ChangedIn, DroppedIn, AllHeldIn, OwnsPage}
-use Rattle.subpool_store.specs.Search.{AllPass, Beats, IsCandidate, IsExact, may_take}
+use Rattle.subpool_store.specs.Half.{HalfState, cell, shifted, IsHalf, IsSound, held_of, bytes_of, half_of, OpenIn, HeldIn, BestIn, ChangedIn, DroppedIn, AllHeldIn, OwnsPage}
+use Rattle.subpool_store.specs.Search.{Beats, IsCandidate, IsExact, may_take}
 use Rattle.subpool_store.proofs.Bytes.{get-bytes_of, cells_change, holders_change, taken_bytes, given_bytes, dropped_holders, dropped_bytes}
 use Rattle.subpool_store.proofs.Change.{page_index, pages_usable, taken_cell, taken_exact, given_cell, given_exact, dropped_cell, dropped_exact}
 use Rattle.subpool_store.proofs.Exact.{holder_at, holder_some, holder_index, shifted_at, shifted_none, cell_at, cell_none, cell_some, open_from, open_of}

@@ -1,10 +1,10 @@
 -- One pass over the runs finds each place.
-use Rattle.std.proofs.Common.{◌≡◌, ℕ, ◌+◌, ◌-◌, ◌*◌, ◌/◌, ◌%◌, ◌<◌, ◌≤◌, Bool, true, false, Option, None, Some, MatchOption, IfSome, ◌⊎◌, refl, sym, ap, ◌∙◌, subst, inl, inr, arith}
+use Rattle.std.proofs.Common.{◌≡◌, ℕ, ◌+◌, ◌-◌, ◌*◌, ◌/◌, ◌%◌, ◌<◌, ◌≤◌, Bool, true, false, Option, None, Some, MatchOption, IfSome, ◌⊎◌, sym, ap, ◌∙◌, subst, inl, inr, arith}
 use Rattle.std.proofs.lemmas.Bool.{both_ways, cases_lt}
 use Rattle.mvs_model.specs.Span.{Span}
 use Rattle.mvs_model.specs.Storage.{IsLength, IsRun, InRun, Meets}
 use Rattle.mvs_model.specs.Wanted.{Wanted, IsWanted}
-use Rattle.subpool_store.specs.Search.{AllPass, Beats, BehindBest, IsCandidate, IsLongestIn, IsNextRun, IsShorter, LongestIn}
+use Rattle.subpool_store.specs.Search.{AllPass, Beats, BehindBest, IsCandidate, IsNextRun, IsShorter, LongestIn}
 
 -- the first doubleword of such a place passes
 pub first_passes : (test : ℕ → Bool) (first : ℕ) (q : Span) → 8 ≤ q.len → q.addr % 8 ≡ 0 → AllPass test first q → (first ≤ q.addr / 8) × (test (q.addr / 8 - first) ≡ true)

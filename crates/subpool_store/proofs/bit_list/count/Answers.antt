@@ -1,4 +1,4 @@
-use Rattle.std.proofs.Common.{◌<◌, ◌≤◌, ◌+◌, ◌-◌, ◌*◌, ◌^◌, get_or, arith}
+use Rattle.std.proofs.Common.{◌<◌, ◌≤◌, ◌^◌, get_or, arith}
 use Rattle.std.proofs.lemmas.Nat.{ones-le}
 use lib.Count.{ones}
 use Rattle.subpool_store.proofs.Counts.{count_empty, count_next}

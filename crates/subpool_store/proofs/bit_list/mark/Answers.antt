@@ -1,4 +1,4 @@
-use Rattle.std.proofs.Common.{◌<◌, ◌≤◌, ◌+◌, ◌*◌, ◌/◌, length, arith}
+use Rattle.std.proofs.Common.{◌≤◌, arith}
 use Rattle.subpool_store.proofs.Words.{mark_more}
 use Rattle.subpool_store.proofs.bit_list.mark.Goals as goal
 

@@ -1,4 +1,4 @@
-use Rattle.std.proofs.Common.{◌≡◌, ◌<◌, ◌≤◌, ◌-◌, ◌%◌, ℕ, cond}
+use Rattle.std.proofs.Common.{◌≡◌, ◌≤◌, ◌-◌, ℕ, cond}
 use Rattle.subpool_store.specs.Bits.{bit_of, in_range}
 use Rattle.subpool_store.proofs.bit_list.mark.Given as goal
 

@@ -1,6 +1,6 @@
-use Rattle.std.proofs.Common.{◌≡◌, ◌<◌, ◌≤◌, ◌+◌, ◌*◌, ◌/◌, inl, inr, arith}
+use Rattle.std.proofs.Common.{◌≤◌, ◌+◌, ◌*◌, ◌/◌, inl, inr, arith}
 use Rattle.std.proofs.lemmas.Bool.{cases_lt}
-use Rattle.subpool_store.proofs.Words.{skips, finds}
+use Rattle.subpool_store.proofs.Words.{skips}
 use Rattle.subpool_store.proofs.bit_list.scan.Goals as goal
 
 pub words-preserved : goal.words-preserved

@@ -1,4 +1,4 @@
-use Rattle.std.proofs.Common.{◌≡◌, ◌<◌, ◌≤◌, ◌-◌, ◌%◌, ℕ, not}
+use Rattle.std.proofs.Common.{◌≡◌, ◌<◌, ◌≤◌, ◌-◌, ℕ, not}
 use Rattle.subpool_store.specs.Bits.{bit_of}
 use Rattle.subpool_store.proofs.bit_list.scan.Given as goal
 

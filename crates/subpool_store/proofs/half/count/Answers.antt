@@ -1,4 +1,4 @@
-use Rattle.std.proofs.Common.{◌<◌, ◌≤◌, ◌+◌, ◌*◌, eqb, refl, arith}
+use Rattle.std.proofs.Common.{◌≤◌, ◌+◌, ◌*◌, eqb, refl, arith}
 use Rattle.mvs_model.specs.Finite.{count_below, has}
 use Rattle.subpool_store.specs.Half.{cell}
 use Rattle.subpool_store.proofs.Counts.{count_empty, count_most, count_page}

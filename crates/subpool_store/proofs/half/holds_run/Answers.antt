@@ -1,4 +1,4 @@
-use Rattle.std.proofs.Common.{false, true, ◌≡◌, refl, arith}
+use Rattle.std.proofs.Common.{false, true, ◌≡◌, refl}
 use Rattle.subpool_store.proofs.Methods.{run_of_cells, cells_of_run, bits_of_run}
 use Rattle.subpool_store.proofs.half.holds_run.Goals as goal
 

@@ -1,8 +1,7 @@
-use Rattle.std.proofs.Common.{None, refl, ap, ◌≡◌, ◌≤◌, ◌<◌, sym, subst, arith}
+use Rattle.std.proofs.Common.{None, refl, ap, sym, subst, arith}
 use Rattle.std.proofs.lemmas.Bool.{false≢true}
 use Rattle.mvs_model.specs.Span.{Span}
 use Rattle.subpool_store.specs.Walk.{IsWalk}
-use Rattle.subpool_store.specs.declared.walk.Walk.{Walk}
 use Rattle.subpool_store.specs.Search.{may_take, BehindBest, Beats, IsCandidate}
 use Rattle.subpool_store.proofs.Scan.{best_anywhere, best_behind, best_found, best_of_all}
 use Rattle.subpool_store.proofs.search.find.Goals as goal

@@ -1,6 +1,3 @@
-use Rattle.std.proofs.Common.{ap, subst, sym}
-use Rattle.subpool_store.specs.Bits.{bits_of}
-use Rattle.subpool_store.specs.Edits.{IsClear}
 use Rattle.subpool_store.proofs.BitRows.{clear_words}
 use Rattle.subpool_store.proofs.bit_list.BitList.new.Goals as goal
 

@@ -1,6 +1,6 @@
-use Rattle.std.proofs.Common.{ℕ, Bool, List, ◌≡◌, not, ap, subst, sym, arith, ◌∙◌}
+use Rattle.std.proofs.Common.{◌≡◌, ap, arith, ◌∙◌}
 use Rattle.subpool_store.specs.Bits.{bits_of}
-use Rattle.subpool_store.proofs.BitRows.{bit_is, size_is, bits_skipped}
+use Rattle.subpool_store.proofs.BitRows.{bit_is, size_is}
 use Rattle.subpool_store.proofs.bit_list.BitList.scan.Goals as goal
 
 pub scan-requires-clause-within : goal.scan-requires-clause-within

@@ -1,4 +1,4 @@
-use Rattle.std.proofs.Common.{◌≡◌, ◌≤◌, ◌-◌, ◌+◌, ap, ◌∙◌, length, refl, arith}
+use Rattle.std.proofs.Common.{◌≡◌, ◌≤◌, ap, ◌∙◌, length, refl, arith}
 use Rattle.subpool_store.specs.Written.{overlaid}
 use Rattle.subpool_store.proofs.Lent.{lends_to, part_reads}
 use Rattle.subpool_store.proofs.data.Data.part_mut.Goals as goal

@@ -1,5 +1,5 @@
-use Rattle.std.proofs.Common.{◌≡◌, ◌≤◌, ◌*◌, ◌∙◌, length, eqb, arith}
-use Rattle.mvs_model.specs.Finite.{count_below, has}
+use Rattle.std.proofs.Common.{◌≤◌, ◌*◌, ◌∙◌, length, eqb, arith}
+use Rattle.mvs_model.specs.Finite.{has}
 use Rattle.subpool_store.specs.Half.{cell}
 use Rattle.subpool_store.proofs.Counts.{count_half, count_most}
 use Rattle.subpool_store.proofs.half.Half.count.Goals as goal

@@ -1,4 +1,4 @@
-use Rattle.std.proofs.Common.{◌≡◌, ◌-◌, ◌/◌, ◌*◌, length, subst, sym, ap, ◌∙◌, arith}
+use Rattle.std.proofs.Common.{◌≡◌, ◌-◌, ◌/◌, subst, sym, ap, ◌∙◌, arith}
 use Rattle.page_map.specs.Owners.{owner_of}
 use Rattle.subpool_store.specs.Half.{OwnsPage}
 use Rattle.subpool_store.proofs.Methods.{no_page, page_owner}

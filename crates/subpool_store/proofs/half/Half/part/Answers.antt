@@ -1,4 +1,4 @@
-use Rattle.std.proofs.Common.{◌≡◌, ◌-◌, ◌+◌, ◌<◌, ◌≤◌, ◌*◌, length, subst, sym, ap, ◌∙◌, get_or, arith}
+use Rattle.std.proofs.Common.{◌≡◌, ◌-◌, ◌+◌, ◌*◌, length, ap, ◌∙◌, get_or, arith}
 use Rattle.mvs_model.specs.Storage.{LiesIn}
 use Rattle.subpool_store.proofs.Methods.{all_inside, part_bytes}
 use Rattle.subpool_store.proofs.half.Half.part.Goals as goal

@@ -1,4 +1,4 @@
-use Rattle.std.proofs.Common.{◌≡◌, ◌-◌, ◌+◌, ◌<◌, ◌≤◌, ◌*◌, length, refl, sym, ap, ◌∙◌, get_or, arith}
+use Rattle.std.proofs.Common.{◌≡◌, ◌-◌, ◌+◌, ◌*◌, length, refl, ap, ◌∙◌, get_or, arith}
 use Rattle.mvs_model.specs.Storage.{LiesIn}
 use Rattle.subpool_store.proofs.LentHalf.{lends_half, overlaid_half}
 use Rattle.subpool_store.proofs.Methods.{all_inside, part_bytes}

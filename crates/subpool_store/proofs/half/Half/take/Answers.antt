@@ -1,4 +1,3 @@
-use Rattle.std.proofs.Common.{arith}
 use Rattle.subpool_store.proofs.Methods.{half_sound, open_usable, take_half, take_changes}
 use Rattle.subpool_store.proofs.half.Half.take.Goals as goal
 

@@ -1,4 +1,4 @@
-use Rattle.std.proofs.Common.{◌≤◌, ◌<◌, arith}
+use Rattle.std.proofs.Common.{◌<◌, arith}
 use Rattle.subpool_store.proofs.Choice.{above_from, all_below, all_above, bytes_below, bytes_above}
 use Rattle.subpool_store.proofs.store.Store.bytes.Goals as goal
 

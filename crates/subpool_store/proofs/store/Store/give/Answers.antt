@@ -1,4 +1,4 @@
-use Rattle.std.proofs.Common.{◌≤◌, ◌<◌, arith}
+use Rattle.std.proofs.Common.{◌<◌, arith}
 use Rattle.subpool_store.proofs.Both.{storage_of, new_below, new_above}
 use Rattle.subpool_store.proofs.Choice.{above_from, some_held, held_below, held_above, below_given, above_given}
 use Rattle.subpool_store.proofs.store.Store.give.Goals as goal

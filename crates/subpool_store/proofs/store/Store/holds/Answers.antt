@@ -1,4 +1,4 @@
-use Rattle.std.proofs.Common.{◌≤◌, ◌<◌, subst, arith}
+use Rattle.std.proofs.Common.{◌<◌, subst, arith}
 use Rattle.mvs_model.specs.Storage.{IsStorage}
 use Rattle.subpool_store.proofs.Both.{storage_of}
 use Rattle.subpool_store.proofs.Choice.{above_from, some_held, held_below, held_above, below_held, above_held}

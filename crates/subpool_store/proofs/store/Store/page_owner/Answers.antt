@@ -1,4 +1,4 @@
-use Rattle.std.proofs.Common.{◌≡◌, ◌≤◌, ◌<◌, arith}
+use Rattle.std.proofs.Common.{◌≡◌, ◌<◌, arith}
 use Rattle.subpool_store.proofs.Choice.{owner_below, owner_above}
 use Rattle.subpool_store.proofs.store.Store.page_owner.Goals as goal
 

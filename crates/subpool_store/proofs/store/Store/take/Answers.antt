@@ -1,4 +1,4 @@
-use Rattle.std.proofs.Common.{◌≤◌, ◌<◌, ◌≡◌, ap, subst, sym, Some, arith}
+use Rattle.std.proofs.Common.{◌<◌, ◌≡◌, ap, subst, Some, arith}
 use Rattle.subpool_store.specs.Joined.{Taken, store_of}
 use Rattle.subpool_store.proofs.Both.{storage_of, new_below, new_above}
 use Rattle.subpool_store.proofs.Choice.{open_in_below, open_in_above, open_high, below_taken, above_taken}
