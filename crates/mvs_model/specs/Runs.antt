@@ -113,7 +113,7 @@ is_abend (Abended code fallen) = true
 is_abend _ = false
 
 -- the text of a grant
-abbrev grant_text : Asked → Span → List ℕ
+abbrev pub grant_text : Asked → Span → List ℕ
 grant_text (asked.Obtain form number ask true area) p = codes "RC 0 LENGTH " ++ hex 8 p.len
 grant_text _ p = codes "RC 0"
 
@@ -161,7 +161,7 @@ abbrev pub Asks : ℕ → Job → Name → Asked → Option Request → List ℕ
 Asks number old t a None text new = Tells number old t (codes "NO NAME") text new
 Asks number old t a (Some r) text new = Makes number old t a r text new
 
-abbrev where_text : Option Span → List ℕ
+abbrev pub where_text : Option Span → List ℕ
 where_text None = codes "NO NAME"
 where_text (Some p) = codes "AT " ++ hex 8 p.addr
 

@@ -1,6 +1,6 @@
 -- What calls of a writer leave, where its bytes are known.
 use Rattle.std.specs.Prelude.{◌≡◌, ℕ, List, ◌++◌, MatchResult, Result, Option}
-use Rattle.std.specs.Io.KnownBytes.{Appends}
+use Rattle.std.specs.Io.KnownBytes.{Appends, Consumes}
 
 -- known bytes grow by a front of some bytes
 abbrev pub AppendsFront : Option (List ℕ) → Option (List ℕ) → List ℕ → Type 0
@@ -9,3 +9,7 @@ AppendsFront old new bytes = (front : List ℕ) × (rest : List ℕ) × (bytes �
 -- all the bytes were appended, or at a failure a front of them
 abbrev pub WritesAll : {X E : Type 0} → Option (List ℕ) → Option (List ℕ) → Result X E → List ℕ → Type 0
 WritesAll old new r bytes = MatchResult r (λ _. Appends old new bytes) (λ _. AppendsFront old new bytes)
+
+-- The reader told some bytes, and some were written, of which P holds.
+abbrev pub Exchanges : Option (List ℕ) → Option (List ℕ) → Option (List ℕ) → Option (List ℕ) → (List ℕ → List ℕ → Type 0) → Type 0
+Exchanges unread left before after P = (told : List ℕ) × (written : List ℕ) × Consumes unread left told × Appends before after written × P told written

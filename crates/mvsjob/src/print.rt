@@ -73,6 +73,17 @@ pub fn at_said(addr: Addr) -> Text
     text
 }
 
+/// What a grant of a variable request is answered: its length in bytes.
+pub fn length_said(len: u32) -> Text
+    ensures text { result ≡ codes "RC 0 LENGTH " ++ hex 8 len }
+    ensures short { length result ≤ 120 }
+{
+    let mut text = Text::new();
+    text.push_all(b"RC 0 LENGTH ");
+    text.push_last(16, 8, len);
+    text
+}
+
 // The code of an abend: a system code in three hexadecimal digits, a user code in four decimal ones.
 fn push_code(text: &mut Text, code: Code)
     requires { length text.old ≤ 100 }

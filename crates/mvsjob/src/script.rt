@@ -2,6 +2,7 @@
 
 ghost use Rattle.std.specs.Prelude.{◌≡◌};
 ghost use Rattle.mvs_model.specs.Runs.{IsLine};
+ghost use Rattle.mvsjob.specs.Built.{IsBuiltLine};
 ghost use Rattle.mvsjob.specs.Lines.{is_in_place, statement_at, line_of};
 
 use crate::script::fields::{is_blank, is_plain, next_word};
@@ -51,6 +52,7 @@ fn read_statement(line: &[u8], first: bool) -> Result<Line, Fault>
 pub fn read_line(line: &[u8], first: bool) -> Result<Line, Fault>
     ensures line { result ≡ line_of line.now first }
     ensures in_range { IsLine first result }
+    ensures built { IsBuiltLine result }
 {
     if line.len() > LONGEST {
         return Err(Fault::TooLong);

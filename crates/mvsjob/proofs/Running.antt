@@ -1,0 +1,80 @@
+-- A script that is run, a line at a time.
+use Rattle.std.proofs.Common.{◌≡◌, ℕ, ◌+◌, List, [], ◌∷◌, ◌++◌, length, Option, Some, None, Bool, true, false, Result, Ok, Err, inl, inr, ap, refl, ◌∙◌, sym, append-nil, arith, subst, cond, codes}
+use Rattle.std.proofs.KnownBytes.{Appends-nil, Appends-trans}
+use Rattle.std.specs.Io.KnownBytes.{Appends, Keeps}
+use Rattle.mvs_model.specs.declared.outcome.Outcome.{Outcome}
+use Rattle.mvs_model.specs.declared.outcome.Outcome.TheVariants.{Clean, ScriptFault, SomeAbend}
+use Rattle.mvs_model.specs.declared.line.Fault.TheVariants.{OutOfPlace}
+use Rattle.mvs_model.specs.Texts.{fault_text}
+use Rattle.mvs_model.specs.Runs.{Job, Stage, Before, Closes, Faults, IsPrinting, IsPrintingFront, ServesRead, is_before, lines_of}
+use Rattle.mvs_model.proofs.Going.{Reaches, reaches_start, reaches_next, reaches_fault, reaches_end, front_so_far, front_in_line, front_in_fault, front_at_end}
+use Rattle.mvsjob.specs.declared.job.Stop.{Stop}
+use Rattle.mvsjob.specs.Lines.{line_of}
+use Rattle.mvsjob.specs.Serving.{RunsLine, stage_of}
+use Rattle.mvsjob.specs.Writing.{AppendsFront}
+use Rattle.mvsjob.proofs.Appending.{Appends-kept}
+use Rattle.mvsjob.proofs.InRanges.{line_of-IsReader}
+
+-- What stands between two moments of a writer is the printing of a run up to here.
+pub record Progress (start now : Option (List ℕ)) (script : List ℕ) (number : ℕ) (stage : Stage) (left : List (List ℕ)) : Type 0 where
+  pub written : List ℕ
+  pub appended : Appends start now written
+  pub reached : Reaches line_of (lines_of script) written number stage left
+
+-- the whole printing, or a front of one
+abbrev pub Printed : Option (List ℕ) → Option (List ℕ) → List ℕ → Outcome → Type 0
+Printed start now script outcome = (written : List ℕ) × Appends start now written × IsPrinting line_of script written outcome
+
+abbrev pub PrintedFront : Option (List ℕ) → Option (List ℕ) → List ℕ → Type 0
+PrintedFront start now script = (written : List ℕ) × Appends start now written × IsPrintingFront line_of script written
+
+pub progress_start : (start : Option (List ℕ)) (script : List ℕ) → Progress start start script 1 Before (lines_of script)
+progress_start start script = record { written = []; appended = Appends-nil start; reached = reaches_start line_of line_of-IsReader (lines_of script) }
+
+module _ (start now later : Option (List ℕ)) (script : List ℕ) (number : ℕ) (old : Stage) (left : List (List ℕ)) (p : Progress start now script number old left) where
+  -- a line that lets the job go on
+  pub progress_next : (new : Stage) (l : List ℕ) (lines : List (List ℕ)) → left ≡ l ∷ lines → RunsLine now later number old (line_of l (is_before old)) new (Ok true) → Progress start later script (number + 1) new lines
+  progress_next new l lines e r = record {
+    written = p.written ++ r.0;
+    appended = Appends-trans start now later p.written r.0 p.appended r.1;
+    reached = reaches_next line_of line_of-IsReader (lines_of script) p.written r.0 number old new l lines (rw e at p.reached) r.2;
+  }
+
+  -- a line with a fault
+  pub progress_fault : (new : Stage) (l : List ℕ) (lines : List (List ℕ)) → left ≡ l ∷ lines → RunsLine now later number old (line_of l (is_before old)) new (Ok false) → Printed start later script ScriptFault
+  progress_fault new l lines e r =
+      (p.written ++ r.0, Appends-trans start now later p.written r.0 p.appended r.1, reaches_fault line_of line_of-IsReader (lines_of script) p.written r.0 number old l lines (rw e at p.reached) r.2)
+
+  -- the job stops in a line
+  pub progress_stopped : (new : Stage) (l : List ℕ) (lines : List (List ℕ)) (stop : Stop) → left ≡ l ∷ lines → RunsLine now later number old (line_of l (is_before old)) new (Err stop) → PrintedFront start later script
+  progress_stopped new l lines stop e (inl kept) = (p.written, Appends-kept start now later p.written p.appended kept, front_so_far line_of line_of-IsReader (lines_of script) p.written number old left p.reached)
+  progress_stopped new l lines stop e (inr (text, inl serves, front)) =
+      (p.written ++ front.0, Appends-trans start now later p.written front.0 p.appended front.3,
+       front_in_line line_of line_of-IsReader (lines_of script) p.written text front.0 front.1 number old serves.0 l lines front.2 (rw e at p.reached) serves.1)
+  progress_stopped new l lines stop e (inr (text, inr faults, front)) =
+      (p.written ++ front.0, Appends-trans start now later p.written front.0 p.appended front.3,
+       front_in_fault line_of line_of-IsReader (lines_of script) p.written text front.0 front.1 number old l lines front.2 (rw e at p.reached) faults)
+
+  -- the end of the lines
+  pub progress_end : (text : List ℕ) (outcome : Outcome) → left ≡ [] → Appends now later text → Closes number old text outcome → Printed start later script outcome
+  progress_end text outcome e a closes = (p.written ++ text, Appends-trans start now later p.written text p.appended a, reaches_end line_of line_of-IsReader (lines_of script) p.written text number old outcome (rw e at p.reached) closes)
+
+  -- the job stops at the end
+  pub progress_in_end : (text : List ℕ) (outcome : Outcome) → left ≡ [] → AppendsFront now later text → Closes number old text outcome → PrintedFront start later script
+  progress_in_end text outcome e front closes =
+      (p.written ++ front.0, Appends-trans start now later p.written front.0 p.appended front.3,
+       front_at_end line_of line_of-IsReader (lines_of script) p.written text front.0 front.1 number old outcome front.2 (rw e at p.reached) closes)
+
+pub no_lines : (bytes : List ℕ) → length bytes ≡ 0 → lines_of bytes ≡ []
+no_lines [] e = refl
+no_lines (b ∷ bytes) e = absurd (omega arith)
+
+-- the end of a job before its step, and in it
+pub closes_before : (number : ℕ) (o : Option Job) → o ≡ None → Closes number (stage_of o) (fault_text number OutOfPlace) ScriptFault
+closes_before number o is = subst (λ o. Closes number (stage_of o) (fault_text number OutOfPlace) ScriptFault) (sym is) (refl, refl)
+
+pub closes_abended : (number : ℕ) (o : Option Job) (job : Job) → o ≡ Some job → job.abended ≡ true → Closes number (stage_of o) (codes "STEP ENDED RC 8\n") SomeAbend
+closes_abended number o job is b = subst (λ o. Closes number (stage_of o) (codes "STEP ENDED RC 8\n") SomeAbend) (sym is) (ap (λ b. cond b (codes "STEP ENDED RC 8\n") (codes "STEP ENDED RC 0\n")) (sym b), ap (λ b. cond b SomeAbend Clean) (sym b))
+
+pub closes_clean : (number : ℕ) (o : Option Job) (job : Job) → o ≡ Some job → job.abended ≡ false → Closes number (stage_of o) (codes "STEP ENDED RC 0\n") Clean
+closes_clean number o job is b = subst (λ o. Closes number (stage_of o) (codes "STEP ENDED RC 0\n") Clean) (sym is) (ap (λ b. cond b (codes "STEP ENDED RC 8\n") (codes "STEP ENDED RC 0\n")) (sym b), ap (λ b. cond b SomeAbend Clean) (sym b))

@@ -1,0 +1,14 @@
+use Rattle.std.proofs.Common.{◌≡◌, ◌∙◌, [], ap, sym}
+use Rattle.std.proofs.lemmas.Result.{err_from_is_err_and}
+use Rattle.std.proofs.KnownBytes.{Appends-nil}
+use Rattle.mvs_model.specs.Runs.{Before, lines_of}
+use Rattle.mvsjob.specs.Lines.{line_of}
+use Rattle.mvsjob.proofs.InRanges.{line_of-IsReader}
+use Rattle.mvs_model.proofs.Going.{front_so_far, reaches_start}
+use Rattle.mvsjob.proofs.run.run_job.Goals as goal
+
+pub returns-in_err-script-clause-fault : goal.returns-in_err-script-clause-fault
+returns-in_err-script-clause-fault g c =
+    let p = err_from_is_err_and c.from_residual.result c.from_residual.ensures.1 in
+    let b = c.in_err-script.ensures.bytes in
+    rw (p.1) (b.0, [], b.1, Appends-nil _, (front_so_far line_of line_of-IsReader (lines_of b.0) [] 1 Before (lines_of b.0) (reaches_start line_of line_of-IsReader (lines_of b.0)), λ e. b.2 (sym p.2 ∙ e)))

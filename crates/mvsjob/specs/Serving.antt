@@ -1,0 +1,38 @@
+-- What a call does that serves a line.
+use Rattle.std.specs.Prelude.{◌≡◌, refl, ◌⊎◌, ℕ, List, Option, Some, None, Result, Ok, Err, MatchResult, Bool, true, false}
+use Rattle.std.specs.Coded.{Coded, code_by, coded×, coded_bool}
+use Rattle.std.specs.FinMap as map
+use Rattle.std.specs.Io.KnownBytes.{Appends, Consumes, Keeps}
+use Rattle.mvs_model.specs.declared.line.Line.{Line}
+use Rattle.mvs_model.specs.declared.line.Fault.{Fault}
+use Rattle.mvs_model.specs.Span.{Span, span_code}
+use Rattle.mvs_model.specs.Name.{name_cmp, name_code}
+use Rattle.mvs_model.specs.State.{State, state_code}
+use Rattle.mvs_model.specs.Runs.{Job, Stage, Before, In, ServesRead, Faults}
+use Rattle.mvsjob.specs.declared.job.Stop.{Stop}
+use Rattle.mvsjob.specs.Writing.{AppendsFront}
+
+abbrev pub job_code : Coded Job
+job_code = code_by (State × (map.FinMap name_cmp Span × Bool)) (coded× state_code (coded× (map.code name_code span_code) coded_bool)) (λ j. (j.state, (j.names, j.abended))) (λ p. record { state = p.0; names = p.1.0; abended = p.1.1 }) (λ _. refl)
+
+-- how a job stands: before its step, or in it
+abbrev pub stage_of : Option Job → Stage
+stage_of None = Before
+stage_of (Some job) = In job
+
+-- A text of these was written, and this is the state after it; or the call stopped, when it had written nothing or a front of
+-- such a text.
+abbrev pub Performs : {X : Type 0} → (List ℕ → X → Type 0) → Option (List ℕ) → Option (List ℕ) → X → Result Unit Stop → Type 0
+Performs P before after new result = MatchResult result
+    (λ _. (text : List ℕ) × Appends before after text × P text new)
+    (λ _. Keeps before after ⊎ ((text : List ℕ) × (later : _) × P text later × AppendsFront before after text))
+
+-- what a line prints: what it is answered, or its fault
+abbrev pub LinePrints : ℕ → Stage → Result Line Fault → List ℕ → Type 0
+LinePrints number old read text = ((new : Stage) × ServesRead number old read text new) ⊎ Faults number read text
+
+-- What the call for one line does: the line is served and the job goes on; it has a fault, which is printed; or the call stops.
+abbrev pub RunsLine : Option (List ℕ) → Option (List ℕ) → ℕ → Stage → Result Line Fault → Stage → Result Bool Stop → Type 0
+RunsLine before after number old read new (Ok true) = (text : List ℕ) × Appends before after text × ServesRead number old read text new
+RunsLine before after number old read new (Ok false) = (text : List ℕ) × Appends before after text × Faults number read text
+RunsLine before after number old read new (Err stop) = Keeps before after ⊎ ((text : List ℕ) × LinePrints number old read text × AppendsFront before after text)
