@@ -17,7 +17,7 @@ use Rattle.task_owner.specs.declared.seat.Seat.{Seat}
 use Rattle.task_owner.specs.declared.seat.Owned.{Owned}
 use Rattle.task_owner.proofs.Places.{same_or_not, number_cases, of_some}
 use Rattle.task_owner.proofs.Reading.{found, found_at, not_found, name_cases, number_low, view-task, view-entry, view-owner, view-name}
-use Rattle.task_owner.proofs.Tests.{same_test, both_true}
+use Rattle.task_owner.proofs.Bools.{same_test, both_true}
 use Rattle.task_owner.proofs.AnyBelow.{found_below, passing_below}
 
 -- a task that stays: it has lost what the mother at the key gives

@@ -2,7 +2,7 @@
 use Rattle.std.proofs.Common.{◌≡◌, ℕ, zero, suc, ◌+◌, ◌<◌, ◌≢◌, ◌==◌, Bool, true, false, ◌||◌, sym, ap, refl, ◌∙◌, arith, ◌⊎◌, inl, inr}
 use Rattle.mvs_model.specs.Finite.{any_below}
 use Rattle.task_owner.proofs.Places.{number_cases}
-use Rattle.task_owner.proofs.Tests.{or_true}
+use Rattle.task_owner.proofs.Bools.{or_true}
 
 module _ (test : ℕ → Bool) where
   pub none_below : any_below test 0 ≡ false

@@ -12,7 +12,7 @@ use Rattle.task_owner.specs.declared.seat.Seat.{Seat}
 use Rattle.task_owner.specs.declared.seat.Owned.{Owned}
 use Rattle.task_owner.proofs.Places.{of_some}
 use Rattle.task_owner.proofs.Reading.{found, found_at, not_found, view-task, view-entry, view-owner, view-name}
-use Rattle.task_owner.proofs.Tests.{kept_back, not_true, passing_kept, none_kept, all_kept}
+use Rattle.task_owner.proofs.Bools.{kept_back, not_true, passing_kept, none_kept, all_kept}
 use Rattle.task_owner.proofs.Trimming.{numbers_kept}
 
 module _ (seats mid next : List (Option Seat)) (owned left : List (Option Owned)) (t : Name) (fallen : List Name) (sound : IsSound seats owned)

@@ -20,7 +20,7 @@ use Rattle.task_owner.specs.declared.seat.Seat.{Seat}
 use Rattle.task_owner.specs.declared.seat.Owned.{Owned}
 use Rattle.task_owner.proofs.Places.{of_some, of_mapped}
 use Rattle.task_owner.proofs.Reading.{found, found_at, view-task}
-use Rattle.task_owner.proofs.Tests.{kept_back, dropped_fails, not_false, either_true, or_true}
+use Rattle.task_owner.proofs.Bools.{kept_back, dropped_fails, not_false, either_true, or_true}
 
 -- a list that has each name once loses nothing where neighbours that are alike are joined
 apart : (x y : Name) (ys : List Name) → count_by (same_name y) (x ∷ y ∷ ys) ≤ 1 → same_name y x ≡ false

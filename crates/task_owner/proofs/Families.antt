@@ -14,7 +14,7 @@ use Rattle.task_owner.specs.Family.{Falls, Below, child, lower}
 use Rattle.task_owner.specs.declared.seat.Seat.{Seat}
 use Rattle.task_owner.proofs.Places.{same_or_not, of_some}
 use Rattle.task_owner.proofs.Reading.{name_cases}
-use Rattle.task_owner.proofs.Tests.{or_true, or_false, either_true, both_false, not_true, not_false, kept_back, dropped_fails, same_kept}
+use Rattle.task_owner.proofs.Bools.{or_true, or_false, either_true, both_false, not_true, not_false, kept_back, dropped_fails, same_kept}
 
 -- the same tests, grouped otherwise
 one_more : (a b c : Bool) → (a || (b || (c || false))) ≡ ((a || b) || c)

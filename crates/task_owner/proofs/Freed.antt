@@ -13,7 +13,7 @@ use Rattle.task_owner.specs.Family.{FreedBelow, falls_free, is_owner_active}
 use Rattle.task_owner.specs.declared.seat.Seat.{Seat}
 use Rattle.task_owner.specs.declared.seat.Owned.{Owned}
 use Rattle.task_owner.proofs.Places.{number_cases}
-use Rattle.task_owner.proofs.Tests.{or_true, or_false}
+use Rattle.task_owner.proofs.Bools.{or_true, or_false}
 
 -- whether the owner is not active
 abbrev is_lost : Slab Seat → Owned → Bool

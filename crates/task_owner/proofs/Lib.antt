@@ -1,4 +1,4 @@
-pub mod Tests
+pub mod Bools
 pub mod Places
 pub mod Reading
 pub mod Labels
