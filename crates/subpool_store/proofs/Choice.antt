@@ -179,7 +179,7 @@ module _ (b a : HalfState) (fill : ℕ) (st : Storage) (both : IsStore b a) (is 
   pub high_is : (d : ℕ) → 2097152 ≤ d → d < 268435456 → get a.held d ≡ holder st d
   high_is d high small = sym (high_holder b a fill d high small) ∙ ap (λ t. holder t d) is
 
-  module _ (s : ℕ) (p : Span) (some : 1 ≤ p.len) where
+  module _ (p : Span) (some : 1 ≤ p.len) where
     -- a place that is held from below 16 megabytes on ends there
     pub below_ends : p.addr < 0x1000000 → ((d : ℕ) → Covers p d → IsSome (holder st d)) → p.addr + p.len ≤ 0x1000000
     below_ends low held = elim (cases_lt 0x1000000 (p.addr + p.len)) [
@@ -195,39 +195,6 @@ module _ (b a : HalfState) (fill : ℕ) (st : Storage) (both : IsStore b a) (is 
       | inr up ↦ up
       | inl low ↦ let ends : p.addr + p.len ≤ 0x1000000 = below_ends low held in absurd (omega arith)
     ]
-
-    pub some_held : HeldBy st s p → (d : ℕ) → Covers p d → IsSome (holder st d)
-    some_held held d covered = ap is_some (held d covered)
-
-    pub held_below : p.addr < 0x1000000 → HeldBy st s p → HeldIn b s p
-    held_below low held d covered = let ends : p.addr + p.len ≤ 0x1000000 = below_ends low (some_held held) in low_is d (omega arith) ∙ held d covered
-
-    pub held_above : 0x1000000 ≤ p.addr → HeldBy st s p → HeldIn a s p
-    held_above high held d covered = high_is d (omega arith) (held_small d s (held d covered)) ∙ held d covered
-
-    pub below_held : HeldIn b s p → HeldBy st s p
-    below_held held d covered =
-        let first : b.first ≡ 3072 = both.first_below in
-        let few : b.pages ≤ 2048 = both.few_below in
-        let last : d < b.first + 512 * b.pages = (both.sound_below.bounded d s (held d covered)).1 in
-        sym (low_is d (omega arith)) ∙ held d covered
-
-    pub above_held : HeldIn a s p → HeldBy st s p
-    above_held held d covered =
-        let first : a.first ≡ 2097152 = both.first_above in
-        let few : a.pages ≤ 8192 = both.few_above in
-        let bound = both.sound_above.bounded d s (held d covered) in
-        let low : a.first ≤ d = bound.0 in
-        let last : d < a.first + 512 * a.pages = bound.1 in
-        sym (high_is d (omega arith) (omega arith)) ∙ held d covered
-
-    pub below_given : (b' : HalfState) → p.addr < 0x1000000 → HeldBy st s p → ChangedIn b p None None b' → Taken st p None None (store_of b' a fill)
-    below_given b' low held change = subst (λ t. Taken t p None None (store_of b' a fill)) is (below_changes b a fill b' p None None (below_ends low (some_held held)) change)
-
-    pub above_given : (a' : HalfState) → 0x1000000 ≤ p.addr → HeldBy st s p → ChangedIn a p None None a' → Taken st p None None (store_of b a' fill)
-    above_given a' high held change =
-        let last : (p.addr + p.len - 1) / 8 < 268435456 = held_small ((p.addr + p.len - 1) / 8) s (held ((p.addr + p.len - 1) / 8) (omega arith, omega arith)) in
-        subst (λ t. Taken t p None None (store_of b a' fill)) is (above_changes b a fill a' p None None high (omega arith) change)
 
     -- the place is held in the region where it begins
     pub all_below : p.addr < 0x1000000 → AllHeld st p → AllHeldIn b p
@@ -254,6 +221,40 @@ module _ (b a : HalfState) (fill : ℕ) (st : Storage) (both : IsStore b a) (is 
           by : (o : Option ℕ) → holder st ((p.addr + k) / 8) ≡ o → IsSome o → (p.addr + k) / 8 < 268435456
           by None e none = absurd (false≢true none)
           by (Some t) e _ = held_small ((p.addr + k) / 8) t e
+
+  module _ (s : ℕ) (p : Span) (some : 1 ≤ p.len) where
+    pub some_held : HeldBy st s p → (d : ℕ) → Covers p d → IsSome (holder st d)
+    some_held held d covered = ap is_some (held d covered)
+
+    pub held_below : p.addr < 0x1000000 → HeldBy st s p → HeldIn b s p
+    held_below low held d covered = let ends : p.addr + p.len ≤ 0x1000000 = below_ends p some low (some_held held) in low_is d (omega arith) ∙ held d covered
+
+    pub held_above : 0x1000000 ≤ p.addr → HeldBy st s p → HeldIn a s p
+    held_above high held d covered = high_is d (omega arith) (held_small d s (held d covered)) ∙ held d covered
+
+    pub below_held : HeldIn b s p → HeldBy st s p
+    below_held held d covered =
+        let first : b.first ≡ 3072 = both.first_below in
+        let few : b.pages ≤ 2048 = both.few_below in
+        let last : d < b.first + 512 * b.pages = (both.sound_below.bounded d s (held d covered)).1 in
+        sym (low_is d (omega arith)) ∙ held d covered
+
+    pub above_held : HeldIn a s p → HeldBy st s p
+    above_held held d covered =
+        let first : a.first ≡ 2097152 = both.first_above in
+        let few : a.pages ≤ 8192 = both.few_above in
+        let bound = both.sound_above.bounded d s (held d covered) in
+        let low : a.first ≤ d = bound.0 in
+        let last : d < a.first + 512 * a.pages = bound.1 in
+        sym (high_is d (omega arith) (omega arith)) ∙ held d covered
+
+    pub below_given : (b' : HalfState) → p.addr < 0x1000000 → HeldBy st s p → ChangedIn b p None None b' → Taken st p None None (store_of b' a fill)
+    below_given b' low held change = subst (λ t. Taken t p None None (store_of b' a fill)) is (below_changes b a fill b' p None None (below_ends p some low (some_held held)) change)
+
+    pub above_given : (a' : HalfState) → 0x1000000 ≤ p.addr → HeldBy st s p → ChangedIn a p None None a' → Taken st p None None (store_of b a' fill)
+    above_given a' high held change =
+        let last : (p.addr + p.len - 1) / 8 < 268435456 = held_small ((p.addr + p.len - 1) / 8) s (held ((p.addr + p.len - 1) / 8) (omega arith, omega arith)) in
+        subst (λ t. Taken t p None None (store_of b a' fill)) is (above_changes b a fill a' p None None high (omega arith) change)
 
   -- the owner of a page is the one in its region
   pub owner_below : (x : ℕ) (o : Option ℕ) → x < 0x1000000 → OwnsPage b (x / 4096) o → IsPageOwner st x o

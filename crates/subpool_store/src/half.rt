@@ -169,7 +169,7 @@ pub struct Half {
     first: u32,
     held: HeldMap,
     pages: PageMap,
-    data: Data,
+    bytes: Data,
 }
 
 impl Model for Half {
@@ -179,9 +179,9 @@ impl Model for Half {
 
     ghost coded = { half_code };
 
-    ghost view = { λ h. half_of h.first h.held h.pages h.data };
+    ghost view = { λ h. half_of h.first h.held h.pages h.bytes };
 
-    ghost invariant = { λ h. IsHalf h.first h.held h.pages h.data };
+    ghost invariant = { λ h. IsHalf h.first h.held h.pages h.bytes };
 }
 
 impl Half {
@@ -198,7 +198,7 @@ impl Half {
             first,
             held: HeldMap::new(alloc, pages)?,
             pages: PageMap::new(alloc, pages)?,
-            data: Data::new(alloc, pages)?,
+            bytes: Data::new(alloc, pages)?,
         })
     }
 
@@ -226,7 +226,7 @@ impl Half {
             run.start / 512,
             (run.end - 1) / 512 + 1,
         );
-        self.data.fill(8 * run.start, 8 * run.end, fill);
+        self.bytes.fill(8 * run.start, 8 * run.end, fill);
     }
 
     // Whether the subpool holds each doubleword of the place.
@@ -309,7 +309,7 @@ impl Half {
     {
         let len = place.len() as usize;
         let from = (place.addr().get() - 8 * self.first) as usize;
-        self.data.part(from, from + len)
+        self.bytes.part(from, from + len)
     }
 
     // Lends the bytes of a place.
@@ -321,6 +321,6 @@ impl Half {
     {
         let len = place.len() as usize;
         let from = (place.addr().get() - 8 * self.first) as usize;
-        self.data.part_mut(from, from + len)
+        self.bytes.part_mut(from, from + len)
     }
 }

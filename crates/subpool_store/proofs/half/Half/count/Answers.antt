@@ -5,7 +5,7 @@ use Rattle.subpool_store.proofs.Counts.{count_half, count_most}
 use Rattle.subpool_store.proofs.half.Half.count.Goals as goal
 
 pub returns-clause-count : goal.returns-clause-count
-returns-clause-count c = let s = c.self.inside in c.count.ensures ∙ count_half s.first s.held s.pages s.«data» c.args.self.now c.self.view_is c.args.subpool
+returns-clause-count c = let s = c.self.inside in c.count.ensures ∙ count_half s.first s.held s.pages s.bytes c.args.self.now c.self.view_is c.args.subpool
 
 pub returns-clause-most : goal.returns-clause-most
 returns-clause-most c =

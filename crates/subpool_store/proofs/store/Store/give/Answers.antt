@@ -9,7 +9,7 @@ give-requires-clause-held c = let s = c.self.inside in let low : c.args.place.ad
 pub give-requires-else-is_below-clause-held : goal.give-requires-else-is_below-clause-held
 give-requires-else-is_below-clause-held c =
     let s = c.self.inside in
-    let high = above_from s.below s.above s.fill c.args.self.now c.self.invariant c.self.view_is c.args.subpool c.args.place c.is_below.ensures.some (some_held s.below s.above s.fill c.args.self.now c.self.invariant c.self.view_is c.args.subpool c.args.place c.is_below.ensures.some c.requires.held) c.if-is_below.ensures.below in
+    let high = above_from s.below s.above s.fill c.args.self.now c.self.invariant c.self.view_is c.args.place c.is_below.ensures.some (some_held s.below s.above s.fill c.args.self.now c.self.invariant c.self.view_is c.args.subpool c.args.place c.is_below.ensures.some c.requires.held) c.if-is_below.ensures.below in
     held_above s.below s.above s.fill c.args.self.now c.self.invariant c.self.view_is c.args.subpool c.args.place c.is_below.ensures.some high c.requires.held
 
 pub returns-then-is_below-clause-given : goal.returns-then-is_below-clause-given
@@ -21,7 +21,7 @@ returns-then-is_below-clause-storage c = let s = c.self.inside in storage_of c.g
 pub returns-else-is_below-clause-given : goal.returns-else-is_below-clause-given
 returns-else-is_below-clause-given c =
     let s = c.self.inside in
-    let high = above_from s.below s.above s.fill c.args.self.now c.self.invariant c.self.view_is c.args.subpool c.args.place c.is_below.ensures.some (some_held s.below s.above s.fill c.args.self.now c.self.invariant c.self.view_is c.args.subpool c.args.place c.is_below.ensures.some c.requires.held) c.if-is_below.ensures.below in
+    let high = above_from s.below s.above s.fill c.args.self.now c.self.invariant c.self.view_is c.args.place c.is_below.ensures.some (some_held s.below s.above s.fill c.args.self.now c.self.invariant c.self.view_is c.args.subpool c.args.place c.is_below.ensures.some c.requires.held) c.if-is_below.ensures.below in
     above_given s.below s.above s.fill c.args.self.now c.self.invariant c.self.view_is c.args.subpool c.args.place c.is_below.ensures.some _ high c.requires.held c.give-else-is_below.ensures.given
 
 pub returns-else-is_below-clause-storage : goal.returns-else-is_below-clause-storage

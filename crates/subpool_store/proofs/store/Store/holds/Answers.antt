@@ -20,7 +20,7 @@ returns-else-is_below-clause-holds c =
     let s = c.self.inside in (
       λ hit. above_held s.below s.above s.fill c.args.self.now c.self.invariant c.self.view_is c.args.subpool c.args.place c.is_below.ensures.some (c.holds-else-is_below.ensures.0 hit),
       λ held.
-          let high = above_from s.below s.above s.fill c.args.self.now c.self.invariant c.self.view_is c.args.subpool c.args.place c.is_below.ensures.some (some_held s.below s.above s.fill c.args.self.now c.self.invariant c.self.view_is c.args.subpool c.args.place c.is_below.ensures.some held) c.if-is_below.ensures.below in
+          let high = above_from s.below s.above s.fill c.args.self.now c.self.invariant c.self.view_is c.args.place c.is_below.ensures.some (some_held s.below s.above s.fill c.args.self.now c.self.invariant c.self.view_is c.args.subpool c.args.place c.is_below.ensures.some held) c.if-is_below.ensures.below in
           c.holds-else-is_below.ensures.1 (held_above s.below s.above s.fill c.args.self.now c.self.invariant c.self.view_is c.args.subpool c.args.place c.is_below.ensures.some high held),
     )
 
