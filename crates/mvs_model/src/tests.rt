@@ -271,8 +271,9 @@ fn healthy_reader(rt: HostRuntime) {
     assert!(rt; reader.into_inner().is_empty());
 }
 
+// Calls that always fail would meet the contracts of a Watched: over a writer that works they are wrong.
 #[test]
-fn healthy_writer(rt: HostRuntime) {
+fn watched_always_fails(rt: HostRuntime) {
     let mut writer = Watched::new(Vec::new(rt.alloc()));
     assert_eq!(rt; writer.write(b"ab"), Ok(2));
     assert_eq!(rt; writer.write(b""), Ok(0));
