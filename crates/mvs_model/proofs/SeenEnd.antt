@@ -1,22 +1,22 @@
 -- The end of a task, over a store and the owners.
 use Rattle.std.proofs.Common.{◌≡◌, ℕ, ◌+◌, ◌/◌, ◌<◌, Bool, true, false, cond, List, [], ◌∷◌, ◌++◌, length, take, get_or, Option, Some, None, refl, sym, ap, ◌∙◌, subst, arith}
 use Rattle.std.specs.Prelude.{is_some, not, ◌||◌, ◌==◌, ◌↔◌}
-use Rattle.std.specs.List.{list_any, Contains}
+use Rattle.std.specs.List.{Contains}
 use Rattle.std.specs.Option.{option_map}
 use Rattle.std.proofs.lemmas.Bool.Decides.{nat_tests}
 use Rattle.std.proofs.lemmas.List.{take_more}
 use Rattle.std.proofs.lemmas.List.Folds.{list_any-append}
-use Rattle.std.specs.FinMap.{get, empty, get-empty}
+use Rattle.std.specs.FinMap.{get, get-empty}
 use Rattle.mvs_model.specs.declared.name.Name.{Name}
 use Rattle.mvs_model.specs.Name.{name_cmp}
-use Rattle.mvs_model.specs.Finite.{Keeps, kept, has}
+use Rattle.mvs_model.specs.Finite.{kept, has}
 use Rattle.mvs_model.specs.Storage.{Storage, holder as held_by, IsStorage, ReleaseAll, is_one_of, ReleaseEach}
 use Rattle.mvs_model.specs.Owners.{Owners, IsFallen, ends_with, Ends}
-use Rattle.mvs_model.specs.State.{Holding, plain, granted}
+use Rattle.mvs_model.specs.State.{plain, granted}
 use Rattle.mvs_model.specs.View.{seen}
 use Rattle.mvs_model.specs.declared.code.Code.{Code}
 use Rattle.mvs_model.specs.declared.request.Reply.TheVariants.{Abended}
-use Rattle.mvs_model.specs.Changes.{Drops, End}
+use Rattle.mvs_model.specs.Changes.{End}
 use Rattle.mvs_model.specs.Steps.{Abends}
 use Rattle.mvs_model.proofs.Elements.{one_of_contained, contained_one_of}
 use Rattle.mvs_model.proofs.Seen.{held_seen, granted_seen, bytes_seen}

@@ -16,5 +16,7 @@ pub mod report;
 pub mod request;
 pub mod short_list;
 pub mod subpool;
+#[cfg(test)]
+mod tests;
 pub mod want;
 pub mod watched;
