@@ -33,6 +33,7 @@ pub record IsSized (pool : Pool) : Type 0 where
   pub primary : 1 ≤ pool.primary
   pub secondary : 1 ≤ pool.secondary
 
+-- Each pool is.
 abbrev pub PoolsSized : State → Type 0
 PoolsSized st = (name : Name) (pool : Pool) → get st.pools name ≡ Some pool → IsSized pool
 
