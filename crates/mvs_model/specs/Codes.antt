@@ -1,5 +1,6 @@
 -- The completion codes of the storage requests, and which forms are conditional. (System Codes; that each family has one
--- code for every cause, and which forms are in the third, is this project's choice)
+-- code for every cause, and which forms are in the third, is this project's choice: 878, B78, 978 and A78 serve all the forms
+-- of the third family, CPOOL included)
 use Rattle.std.specs.Prelude.{Bool, true, false}
 use Rattle.mvs_model.specs.declared.want.Side.{Side}
 use Rattle.mvs_model.specs.declared.want.Side.TheVariants.{Below}
@@ -10,7 +11,7 @@ use Rattle.mvs_model.specs.declared.code.Family.TheVariants.{E, R, X}
 use Rattle.mvs_model.specs.declared.code.Code.{Code}
 use Rattle.mvs_model.specs.declared.code.Code.TheVariants.{System}
 
--- the forms that have one set of codes
+-- the forms that have one set of codes. (this project's choice)
 abbrev pub family : Form → Family
 family form.R = R
 family form.Rc = X
@@ -49,26 +50,26 @@ form_side E side = Below
 form_side R side = Below
 form_side X side = side
 
--- shortage
+-- shortage. (System Codes)
 abbrev pub short : Family → Code
 short E = System 0x804
 short R = System 0x80A
 short X = System 0x878
 
--- an invalid subpool number, of a request that obtains and of one that releases
+-- an invalid subpool number, of a request that obtains and of one that releases. (System Codes)
 abbrev pub bad_subpool : Family → Bool → Code
 bad_subpool E true = System 0xB04
 bad_subpool E false = System 0xB05
 bad_subpool R obtaining = System 0xB0A
 bad_subpool X obtaining = System 0xB78
 
--- an address that is not on a doubleword
+-- an address that is not on a doubleword. (System Codes)
 abbrev pub bad_address : Family → Code
 bad_address E = System 0x905
 bad_address R = System 0x90A
 bad_address X = System 0x978
 
--- storage that is not held
+-- storage that is not held. (System Codes)
 abbrev pub not_held : Family → Code
 not_held E = System 0xA05
 not_held R = System 0xA0A

@@ -15,6 +15,7 @@ pub mod Start
 pub mod Codes
 pub mod Changes
 pub mod Steps
+pub mod Kept
 pub mod WellFormed
 pub mod Texts
 pub mod Reports

@@ -27,20 +27,20 @@ pub record Pool : Type 0 where
   pub parts : List Part
   pub taken : set.FinSet nat_cmp
 
--- how long a part of so many cells is: sixteen bytes, a bit for each cell in whole doublewords, and the cells. (this
--- project's choice)
+-- how long a part of so many cells is: sixteen bytes, a bit for each cell in whole doublewords, and the cells in whole
+-- doublewords. (this project's choice)
 abbrev pub part_length : ℕ → ℕ → ℕ
 part_length size count = 16 + 8 * ((count + 63) / 64) + round8 (count * size)
 
--- what the place of a part has to meet
+-- what the place of a part has to meet: one length, on a doubleword. (this project's choice)
 abbrev pub part_want : ℕ → ℕ → Side → Wanted
 part_want size count side = record { least = part_length size count; most = part_length size count; start = 3; within = None; side = side }
 
--- the address of a part's first cell: the cells stand at its end
+-- the address of a part's first cell: the cells stand at its end. (this project's choice)
 abbrev pub first_cell : ℕ → Part → ℕ
 first_cell size part = part.place.addr + part.place.len - round8 (part.count * size)
 
--- A cell of the part begins at the address.
+-- A cell of the part begins at the address: the cells stand one behind the other. (this project's choice)
 abbrev pub IsCellOf : ℕ → Part → ℕ → Type 0
 IsCellOf size part c = (i : ℕ) × (i < part.count) × (c ≡ first_cell size part + i * size)
 

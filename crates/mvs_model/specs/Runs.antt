@@ -34,7 +34,7 @@ use Rattle.mvs_model.specs.Steps.{Step}
 use Rattle.mvs_model.specs.Texts.{hex, reply_line, abend_lines, data_lines, region_text, fault_text}
 use Rattle.mvs_model.specs.Reports.{subpools_text, map_text}
 
--- the lines of a script: each ends before a byte X'0A', and the last one also at the end of the script
+-- the lines of a script: each ends before a byte X'0A', and the last one also at the end of the script. (this project's choice)
 abbrev pub lines_of : List ℕ → List (List ℕ)
 lines_of [] = []
 lines_of (b ∷ bs) = if b == 10 then [] ∷ lines_of bs else onto_first b (lines_of bs)

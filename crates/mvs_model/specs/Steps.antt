@@ -57,6 +57,8 @@ side_for st t form loc = form_side (family form) (side_of loc (residence_of st.o
 abbrev pub is_invalid : ℕ → Bool
 is_invalid number = not (is_subpool_number number)
 
+-- An invalid subpool number abends; want of a place is a failure; else the place is granted. (Assembler Services Reference,
+-- GETMAIN; that the number is looked at first is this project's choice)
 abbrev pub ObtainStep : State → Name → Form → ℕ → Wanted → Reply → State → Type 0
 ObtainStep old t form number want reply new =
     MatchBool (is_invalid number)
@@ -64,6 +66,7 @@ ObtainStep old t form number want reply new =
     ((ShortOf old t number want × Fails (is_conditional form) old t (short (family form)) reply new)
     ⊎ ((p : Span) × (reply ≡ Granted p) × GrantTo old t number want p new))
 
+-- The same for a list: all its places are granted, or none. (Assembler Services Reference, GETMAIN)
 abbrev pub ObtainListStep : State → Name → Form → ℕ → List Wanted → Reply → State → Type 0
 ObtainListStep old t form number wants reply new =
     MatchBool (is_invalid number)
@@ -84,6 +87,9 @@ abbrev pub MayRelease : State → Option ℕ → List Span → Type 0
 MayRelease st None ps = ⊥
 MayRelease st (Some s) ps = Releasable st s ps
 
+-- An invalid subpool number abends, then a place that does not begin on a doubleword; places that are not all held are a
+-- failure; else all are freed. (Assembler Services Reference, FREEMAIN; the order of the causes, and that a failure frees
+-- nothing, is this project's choice)
 abbrev pub ReleaseStep : State → Name → Form → ℕ → List Span → Reply → State → Type 0
 ReleaseStep old t form number ps reply new =
     MatchBool (is_invalid number)
@@ -93,10 +99,13 @@ ReleaseStep old t form number ps reply new =
     (((MayRelease old (entry old.owners t number) (map whole ps) → ⊥) × Fails (is_conditional form) old t (not_held (family form)) reply new)
     ⊎ (MayRelease old (entry old.owners t number) (map whole ps) × (reply ≡ Rc0) × Frees old (map whole ps) new)))
 
+-- A number under which the task has no subpool releases nothing and is answered 0. (this project's choice)
 abbrev pub EmptiesEntry : State → Option ℕ → State → Type 0
 EmptiesEntry old None new = new ≡ old
 EmptiesEntry old (Some s) new = Empties old s new
 
+-- All of a subpool is released; subpool 0 may not be. (Assembler Services Reference, FREEMAIN; the code U4006 is this
+-- project's choice)
 abbrev pub ReleaseWholeStep : State → Name → Form → ℕ → Reply → State → Type 0
 ReleaseWholeStep old t form number reply new =
     MatchBool (is_invalid number)
@@ -121,6 +130,8 @@ abbrev pub Builds : State → Name → Name → ℕ → Plan → State → Type 
 Builds old t name number plan new =
     (s : ℕ) × SubpoolOf old.owners t number s × ((p : Span) × (o : Owners) × Enters old.owners t number s o × Extends old name (new_pool s plan) plan.primary p o new)
 
+-- CPOOL BUILD: the name must be new, at most 64 pools are there, and a first part must find a place. (Assembler Services
+-- Reference, CPOOL; the codes B78, U4008, U4007 and 878, and their order, are this project's choice)
 abbrev pub BuildStep : State → Name → Name → ℕ → Plan → Reply → State → Type 0
 BuildStep old t name number plan reply new =
     MatchBool (is_invalid number)
@@ -142,7 +153,7 @@ GetsMore old name pool reply new =
     (p : Span) × (mid : State) × Extends old name pool pool.secondary p old.owners mid
     × ((c : ℕ) × IsCellOf pool.cell_size (record { place = p; count = pool.secondary }) c × Gets mid name (with_part pool pool.secondary p) c reply new)
 
--- What becomes of CPOOL GET where no cell is free.
+-- What becomes of CPOOL GET where no cell is free. (Assembler Services Reference, CPOOL; the code 878 is this project's choice)
 abbrev pub GetsNone : State → Name → Name → Bool → Pool → Reply → State → Type 0
 GetsNone old t name conditional pool reply new =
     MatchBool conditional
@@ -150,12 +161,16 @@ GetsNone old t name conditional pool reply new =
     ((NoPlace old.regions (holder old) pool.subpool (part_want pool.cell_size pool.secondary pool.side) × Abends old t (short X) reply new)
     ⊎ GetsMore old name pool reply new)
 
+-- CPOOL GET: a free cell, where the pool has one. (Assembler Services Reference, CPOOL; the code U4002 for want of the pool is
+-- this project's choice)
 abbrev pub GetStep : State → Name → Name → Bool → Option Pool → Reply → State → Type 0
 GetStep old t name conditional None reply new = Abends old t (User 4002) reply new
 GetStep old t name conditional (Some pool) reply new =
     ((c : ℕ) × IsFreeCell pool c × Gets old name pool c reply new)
     ⊎ (((c : ℕ) → IsFreeCell pool c → ⊥) × GetsNone old t name conditional pool reply new)
 
+-- CPOOL FREE of a taken cell of the pool. (Assembler Services Reference, CPOOL; U4002 for want of the pool, and U4001 for an
+-- address where no taken cell of it begins, are this project's choice)
 abbrev pub FreeStep : State → Name → Name → ℕ → Option Pool → Reply → State → Type 0
 FreeStep old t name c None reply new = Abends old t (User 4002) reply new
 FreeStep old t name c (Some pool) reply new =
@@ -163,6 +178,7 @@ FreeStep old t name c (Some pool) reply new =
     (Abends old t (User 4001) reply new)
     ((reply ≡ Rc0) × GivesCell old name pool c new)
 
+-- CPOOL DELETE. (Assembler Services Reference, CPOOL; the code U4002 for want of the pool is this project's choice)
 abbrev pub DeleteStep : State → Name → Name → Option Pool → Reply → State → Type 0
 DeleteStep old t name None reply new = Abends old t (User 4002) reply new
 DeleteStep old t name (Some pool) reply new = (reply ≡ Rc0) × DropsPool old name pool new
@@ -180,9 +196,11 @@ abbrev pub AttachCase : State → Name → Name → Presents → Residence → O
 AttachCase old t name gifts residence (Some code) reply new = Abends old t code reply new
 AttachCase old t name gifts residence None reply new = (reply ≡ Attached) × Attaches old t name gifts residence new
 
+-- ATTACH. (Assembler Services Reference, ATTACH; its codes are this project's choice)
 abbrev pub AttachStep : State → Name → Name → Presents → Residence → Reply → State → Type 0
 AttachStep old t name gifts residence reply new = AttachCase old t name gifts residence (attach_refusal old.owners t name gifts) reply new
 
+-- A return ends the task; with an active subtask it abends A03. (System Codes, A03)
 abbrev pub ReturnStep : State → Name → Reply → State → Type 0
 ReturnStep old t reply new =
     MatchBool (has_subtask old.owners t)
@@ -193,7 +211,8 @@ ReturnStep old t reply new =
 abbrev pub all_granted : State → Span → Bool
 all_granted st p = all_below (λ i. granted st (p.addr + i)) p.len
 
--- A request that touches bytes abends where one of them may not be read and written.
+-- A request that touches bytes abends 0C4 where one of them may not be read and written. (System Codes, 0C4; that it is looked
+-- at byte by byte, and that no byte changes then, is this project's choice)
 abbrev pub Accesses : State → Name → Bool → Type 0 → Reply → State → Type 0
 Accesses old t allowed done reply new = MatchBool (not allowed) (Abends old t (System 0x0C4) reply new) ((reply ≡ Done) × done)
 
@@ -205,7 +224,7 @@ bytes_from a bytes x = slice_get bytes (x - a)
 abbrev pub moved_from : State → ℕ → ℕ → ℕ → Option ℕ
 moved_from old to from x = get old.bytes (from + (x - to))
 
--- what an active task's request may be answered
+-- What an active task's request may be answered.
 abbrev pub Acts : State → Name → Request → Reply → State → Type 0
 Acts old t (Obtain form number ask) reply new = ObtainStep old t form number (wanted_of ask (side_for old t form ask.loc)) reply new
 Acts old t (ObtainList form number lengths start) reply new = ObtainListStep old t form number (map (λ n. fixed_want n start Below) lengths) reply new

@@ -6,7 +6,7 @@ use Rattle.std.specs.FinMap.{get}
 use Rattle.mvs_model.specs.declared.name.Name.{Name}
 use Rattle.mvs_model.specs.Owners.{Task, is_active, entry, IsMother, Descends, subtask, further}
 use Rattle.task_owner.specs.Directory.{Directory}
-use Rattle.task_owner.specs.Kept.{IsFirst, OwnersKept}
+use Rattle.mvs_model.specs.Kept.{IsFirst, OwnersKept}
 use Rattle.task_owner.specs.Seats.{item_at, number_of, seat_named, mother_of, task_of, entry_of, owner_name, directory, IsSound}
 use Rattle.task_owner.specs.declared.seat.Seat.{Seat}
 use Rattle.task_owner.specs.declared.seat.Owned.{Owned}

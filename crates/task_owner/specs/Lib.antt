@@ -1,6 +1,4 @@
-pub mod Start
 pub mod Directory
 pub mod Seats
 pub mod Family
 pub mod Handing
-pub mod Kept

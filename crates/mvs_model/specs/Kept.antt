@@ -1,14 +1,16 @@
--- What holds of the tasks and their subpools at all times.
+-- What the tasks and their subpools keep in every state of a run, also when the job step task has ended.
 use Rattle.std.specs.Prelude.{◌≡◌, ◌⊎◌, ℕ, ◌<◌, ◌≤◌, true, Some, None, IsSome}
 use Rattle.std.specs.FinMap.{get, len}
 use Rattle.mvs_model.specs.declared.name.Name.{Name}
+use Rattle.mvs_model.specs.Subpool.{IsSubpoolNumber}
 use Rattle.mvs_model.specs.Owners.{Task, Owners, is_active, entry, IsMother, Descends}
 
--- the task is active and nobody attached it
+-- The task is active and nobody attached it.
 abbrev pub IsFirst : Owners → Name → Type 0
 IsFirst o t = (task : Task) × (get o.tasks t ≡ Some task) × (task.mother ≡ None)
 
--- The tasks are a family of at most 32, whose first one all the others descend from and of whom none descends from itself.
+-- At most 32 tasks are active. If any is, they are one family: one of them has no mother, all the others descend from it,
+-- and none descends from itself.
 -- The subpools that the tasks have are those that have an owner: each stands under one number, and its owner has it there.
 pub record OwnersKept (o : Owners) : Type 0 where
   pub few : len o.tasks ≤ 32
@@ -20,5 +22,5 @@ pub record OwnersKept (o : Owners) : Type 0 where
   pub has_owner : (t : Name) (n s : ℕ) → entry o t n ≡ Some s → IsSome (get o.owner s)
   pub one_number : (t q : Name) (m n s : ℕ) → entry o t m ≡ Some s → entry o q n ≡ Some s → m ≡ n
   pub active : (t : Name) (n s : ℕ) → entry o t n ≡ Some s → is_active o t ≡ true
-  pub numbers : (t : Name) (n s : ℕ) → entry o t n ≡ Some s → n < 128
+  pub numbers : (t : Name) (n s : ℕ) → entry o t n ≡ Some s → IsSubpoolNumber n
   pub subpools : (t : Name) (s : ℕ) → get o.owner s ≡ Some t → s < 4096
