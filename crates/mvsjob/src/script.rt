@@ -15,6 +15,7 @@ mod hex;
 mod name;
 mod number;
 mod operands;
+mod pair;
 mod pieces;
 mod statements;
 mod words;
