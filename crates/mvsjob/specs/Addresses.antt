@@ -1,5 +1,5 @@
 -- Addresses.
-use Rattle.std.specs.Prelude.{ℕ, ◌+◌, List, length, nat_lt, ◌==◌, ◌||◌, not, Bool, if◌then◌else◌, Option, Some, None, Result, Ok, Err, take, drop, position}
+use Rattle.std.specs.Prelude.{ℕ, ◌+◌, List, length, nat_lt, ◌==◌, ◌||◌, not, if◌then◌else◌, Option, Some, None, Result, Ok, Err, take, drop, position}
 use Rattle.std.specs.List.{list_all}
 use Rattle.mvs_model.specs.declared.line.Fault.{Fault}
 use Rattle.mvs_model.specs.declared.line.Fault.TheVariants.{InvalidOperand, OutOfRange}

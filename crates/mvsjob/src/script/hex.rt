@@ -17,7 +17,11 @@ fn hex_digit(byte: u8) -> u8
     ensures digit { result ≡ hex_digit byte }
     ensures small { result < 16 }
 {
-    if byte <= b'9' { byte - b'0' } else { byte - b'A' + 10 }
+    if byte <= b'9' {
+        byte - b'0'
+    } else {
+        byte - b'A' + 10
+    }
 }
 
 /// Whether each byte is a hexadecimal digit.

@@ -5,11 +5,14 @@ ghost use Rattle.mvsjob.specs.Operands.{value_at, place_of, key_place, placed, p
 ghost use Rattle.mvs_model.specs.Name.{padded};
 ghost use Rattle.mvsjob.specs.Pieces.{pieces_of};
 
+use crate::script::address::read_location;
+use crate::script::hex::read_byte;
 use crate::script::name::read_name;
 use crate::script::number::read_number;
+use crate::script::pair::read_pair;
 use crate::script::pieces::next_piece;
 use crate::script::words::{read_boundary, read_loc, read_residence, read_yes_no};
-use mvs_model::line::Fault;
+use mvs_model::line::{Fault, Location};
 use mvs_model::name::Name;
 use mvs_model::want::{Loc, Residence};
 
@@ -27,6 +30,12 @@ pub enum Kind {
     /// BELOW or ABOVE.
     Residence,
     Name,
+    /// Two hexadecimal digits.
+    Byte,
+    /// A largest and a smallest number from the first to the second, in parentheses.
+    Pair(u32, u32),
+    /// A name, a name with an offset, or hexadecimal digits in X'..'.
+    Address,
 }
 
 /// A keyword that a statement takes, padded with blanks, and what its value has to be.
@@ -44,6 +53,9 @@ pub enum Value {
     Loc(Loc),
     Residence(Residence),
     Name(Name),
+    Byte(u8),
+    Pair(u32, u32),
+    Address(Location),
 }
 
 // Reads a value of a kind.
@@ -57,6 +69,12 @@ fn read_value(kind: Kind, text: &[u8]) -> Result<Value, Fault>
         Kind::Loc => read_loc(text).map(|loc| Value::Loc(loc)),
         Kind::Residence => read_residence(text).map(|residence| Value::Residence(residence)),
         Kind::Name => read_name(text).map(|name| Value::Name(name)),
+        Kind::Byte => read_byte(text).map(|byte| Value::Byte(byte)),
+        Kind::Pair(least, most) => {
+            let (largest, smallest) = read_pair(least, most, text)?;
+            Some(Value::Pair(largest, smallest))
+        }
+        Kind::Address => Some(Value::Address(read_location(text)?)),
     };
     value.ok_or(Fault::InvalidOperand)
 }

@@ -1,9 +1,8 @@
 //! Pairs of numbers.
 
-ghost use Rattle.std.specs.Prelude.{◌≡◌, ◌≤◌, MatchOption, IfOk, Some, None};
+ghost use Rattle.std.specs.Prelude.{◌≡◌, MatchOption, Some, None};
 ghost use Rattle.mvsjob.specs.Pieces.{pieces_of};
 ghost use Rattle.mvsjob.specs.Pairs.{inside_at, two_of, in_order, pair_at};
-ghost use Rattle.mvsjob.specs.Numbers.{number_at};
 
 use crate::script::number::read_number;
 use crate::script::pieces::next_piece;
@@ -39,7 +38,9 @@ fn two(inner: &[u8]) -> Option<(&[u8], &[u8])>
 fn ordered(largest: Result<u32, Fault>, smallest: Result<u32, Fault>) -> Result<(u32, u32), Fault>
     ensures { result ≡ in_order largest smallest }
 {
-    if matches!(largest, Err(Fault::InvalidOperand)) || matches!(smallest, Err(Fault::InvalidOperand)) {
+    if matches!(largest, Err(Fault::InvalidOperand))
+        || matches!(smallest, Err(Fault::InvalidOperand))
+    {
         return Err(Fault::InvalidOperand);
     }
     let largest = largest?;
@@ -60,5 +61,8 @@ pub fn read_pair(least: u32, most: u32, text: &[u8]) -> Result<(u32, u32), Fault
     let Some((largest, smallest)) = two(inner) else {
         return Err(Fault::InvalidOperand);
     };
-    ordered(read_number(least, most, largest), read_number(least, most, smallest))
+    ordered(
+        read_number(least, most, largest),
+        read_number(least, most, smallest),
+    )
 }

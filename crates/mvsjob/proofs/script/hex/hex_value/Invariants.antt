@@ -7,5 +7,5 @@ abbrev pub invariant-loop-byte : goal.invariant-loop-byte
 invariant-loop-byte l = record {
   digits : list_all is_hex_digit (drop l.byte-index l.text) ≡ true;
   value : hex_value l.value (drop l.byte-index l.text) ≡ hex_value 0 l.text;
-  small : l.value < 16 ^ l.byte-index
+  small : l.value < 16 ^ l.byte-index;
 }
