@@ -29,6 +29,7 @@ pub enum Kind {
     Loc,
     /// BELOW or ABOVE.
     Residence,
+    /// One to eight of A to Z, 0 to 9, @, # and $, the first not a digit.
     Name,
     /// Two hexadecimal digits.
     Byte,
@@ -64,12 +65,12 @@ fn read_value(kind: Kind, text: &[u8]) -> Result<Value, Fault>
 {
     let value = match kind {
         Kind::Number(least, most) => Some(Value::Number(read_number(least, most, text)?)),
-        Kind::YesNo => read_yes_no(text).map(|yes| Value::YesNo(yes)),
-        Kind::Boundary => read_boundary(text).map(|exponent| Value::Number(exponent)),
-        Kind::Loc => read_loc(text).map(|loc| Value::Loc(loc)),
-        Kind::Residence => read_residence(text).map(|residence| Value::Residence(residence)),
-        Kind::Name => read_name(text).map(|name| Value::Name(name)),
-        Kind::Byte => read_byte(text).map(|byte| Value::Byte(byte)),
+        Kind::YesNo => read_yes_no(text).map(Value::YesNo),
+        Kind::Boundary => read_boundary(text).map(Value::Number),
+        Kind::Loc => read_loc(text).map(Value::Loc),
+        Kind::Residence => read_residence(text).map(Value::Residence),
+        Kind::Name => read_name(text).map(Value::Name),
+        Kind::Byte => read_byte(text).map(Value::Byte),
         Kind::Pair(least, most) => {
             let (largest, smallest) = read_pair(least, most, text)?;
             Some(Value::Pair(largest, smallest))
