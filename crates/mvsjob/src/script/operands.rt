@@ -63,21 +63,30 @@ pub enum Value {
 fn read_value(kind: Kind, text: &[u8]) -> Result<Value, Fault>
     ensures { result ≡ value_at kind text.now }
 {
-    let value = match kind {
-        Kind::Number(least, most) => Some(Value::Number(read_number(least, most, text)?)),
-        Kind::YesNo => read_yes_no(text).map(Value::YesNo),
-        Kind::Boundary => read_boundary(text).map(Value::Number),
-        Kind::Loc => read_loc(text).map(Value::Loc),
-        Kind::Residence => read_residence(text).map(Value::Residence),
-        Kind::Name => read_name(text).map(Value::Name),
-        Kind::Byte => read_byte(text).map(Value::Byte),
+    match kind {
+        Kind::Number(least, most) => Ok(Value::Number(read_number(least, most, text)?)),
+        Kind::YesNo => read_yes_no(text)
+            .map(Value::YesNo)
+            .ok_or(Fault::InvalidOperand),
+        Kind::Boundary => read_boundary(text)
+            .map(Value::Number)
+            .ok_or(Fault::InvalidOperand),
+        Kind::Loc => read_loc(text).map(Value::Loc).ok_or(Fault::InvalidOperand),
+        Kind::Residence => read_residence(text)
+            .map(Value::Residence)
+            .ok_or(Fault::InvalidOperand),
+        Kind::Name => read_name(text)
+            .map(Value::Name)
+            .ok_or(Fault::InvalidOperand),
+        Kind::Byte => read_byte(text)
+            .map(Value::Byte)
+            .ok_or(Fault::InvalidOperand),
         Kind::Pair(least, most) => {
             let (largest, smallest) = read_pair(least, most, text)?;
-            Some(Value::Pair(largest, smallest))
+            Ok(Value::Pair(largest, smallest))
         }
-        Kind::Address => Some(Value::Address(read_location(text)?)),
-    };
-    value.ok_or(Fault::InvalidOperand)
+        Kind::Address => Ok(Value::Address(read_location(text)?)),
+    }
 }
 
 // The text and blanks up to eight bytes.
