@@ -49,6 +49,9 @@ number_kept least most (Some (Some (value.YesNo b))) n kept e = absurd (cc)
 number_kept least most (Some (Some (value.Loc l))) n kept e = absurd (cc)
 number_kept least most (Some (Some (value.Residence r))) n kept e = absurd (cc)
 number_kept least most (Some (Some (value.Name m))) n kept e = absurd (cc)
+number_kept least most (Some (Some (value.Byte m))) n kept e = absurd (cc)
+number_kept least most (Some (Some (value.Pair l s))) n kept e = absurd (cc)
+number_kept least most (Some (Some (value.Address l))) n kept e = absurd (cc)
 
 -- what is read from no values on is of the kinds
 read_kept : (positional : List Kind) (keywords : List Keyword) (n : ℕ) (pieces : List (List ℕ)) (values : List (Option Value)) → operands_at positional keywords (replicate n None) 0 pieces ≡ Ok values → AreOf positional keywords values

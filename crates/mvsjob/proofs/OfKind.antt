@@ -1,6 +1,6 @@
 -- What is read by the tables is of the kinds of the tables.
 use Rattle.std.proofs.Common.{◌≡◌, ℕ, zero, suc, ◌+◌, ◌≤◌, Bool, true, false, cond, List, [], ◌∷◌, ◌++◌, length, take, drop, map, Option, Some, None, Result, Ok, Err, refl, ap, sym, ◌∙◌, subst, ◌⊎◌, inl, inr, arith}
-use Rattle.std.specs.Prelude.{replicate, slice_get, slice_set, nat_lt, ◌||◌, not, ◌==◌, bytes_eq, codes}
+use Rattle.std.specs.Prelude.{if◌then◌else◌, replicate, slice_get, slice_set, nat_lt, ◌||◌, not, ◌==◌, bytes_eq, codes}
 use Rattle.std.specs.List.{list_all}
 use Rattle.std.proofs.lemmas.Option.{slice_get-map}
 use Rattle.std.proofs.lemmas.Bool.Decides.{nat_tests}
@@ -15,6 +15,11 @@ use Rattle.mvsjob.specs.declared.script.operands.Value.TheVariants as value
 use Rattle.mvsjob.specs.Chains.{◌>>=◌, or_fault}
 use Rattle.mvsjob.specs.Numbers.{number_at, is_digit, value_of}
 use Rattle.mvsjob.specs.NameTexts.{name_at}
+use Rattle.mvsjob.specs.Hex.{byte_at}
+use Rattle.mvsjob.specs.Pairs.{pair_at, in_order, inside_at, two_of, is_malformed_number}
+use Rattle.mvsjob.specs.Pieces.{pieces_of}
+use Rattle.mvsjob.specs.Addresses.{location_at}
+use Rattle.std.proofs.lemmas.Bool.{cases_lt}
 use Rattle.mvsjob.specs.Choices.{yes_no_at, loc_at, residence_at}
 use Rattle.mvsjob.specs.Operands.{value_at, placed, positional_at, keyword_at, key_place, by_key, operand_at, operands_at, equals_at, is_malformed, is_set, IsOf, IsKept, AreOf}
 
@@ -42,6 +47,30 @@ number_in_range least most text n =
       in_range false true m e = absurd (cc)
       in_range false false m e = grind (arith, nat_tests)
 
+numbers_in_order : (l s : ℕ) (p : ℕ × ℕ) → cond (nat_lt l s) (Err OutOfRange) (ok (l, s)) ≡ Ok p → ((l, s) ≡ p) × (s ≤ l)
+numbers_in_order l s p e = elim (cases_lt l s) [
+  | inl less ↦ absurd (grind (arith, nat_tests))
+  | inr le ↦ (ok_same (l, s) p (grind (arith, nat_tests)), le)
+]
+
+-- so are the two numbers of a pair, which are in order
+pair_in_order : (largest smallest : Result ℕ Fault) (p : ℕ × ℕ) → in_order largest smallest ≡ Ok p → (largest ≡ Ok p.0) × (smallest ≡ Ok p.1) × (p.1 ≤ p.0)
+pair_in_order largest smallest p e = by_form (is_malformed_number largest || is_malformed_number smallest) e where
+  by_form : (malformed : Bool) → cond malformed (Err InvalidOperand) (largest >>= λ l. smallest >>= λ s. (if nat_lt l s then Err OutOfRange else Ok (l, s))) ≡ Ok p → (largest ≡ Ok p.0) × (smallest ≡ Ok p.1) × (p.1 ≤ p.0)
+  by_form true e = absurd (cc)
+  by_form false e =
+      let l = bind_ok largest (λ l. smallest >>= λ s. (if nat_lt l s then Err OutOfRange else Ok (l, s))) p e in
+      let s = bind_ok smallest (λ s. if nat_lt l.0 s then Err OutOfRange else Ok (l.0, s)) p l.2 in
+      let o = numbers_in_order l.0 s.0 p s.2 in
+      (l.1 ∙ ap (λ q. Ok q.0) o.0, s.1 ∙ ap (λ q. Ok q.1) o.0, subst (λ q. q.1 ≤ q.0) o.0 o.1)
+
+pair_in_range : (least most : ℕ) (text : List ℕ) (p : ℕ × ℕ) → pair_at least most text ≡ Ok p → (least ≤ p.1) × (p.1 ≤ p.0) × (p.0 ≤ most)
+pair_in_range least most text p e =
+    let inner = bind_ok (or_fault InvalidOperand (inside_at text)) (λ inner. or_fault InvalidOperand (two_of (pieces_of inner)) >>= λ items. in_order (number_at least most items.0) (number_at least most items.1)) p e in
+    let items = bind_ok (or_fault InvalidOperand (two_of (pieces_of inner.0))) (λ items. in_order (number_at least most items.0) (number_at least most items.1)) p inner.2 in
+    let numbers = pair_in_order (number_at least most items.0.0) (number_at least most items.0.1) p items.2 in
+    ((number_in_range least most items.0.1 p.1 numbers.1).0, numbers.2, (number_in_range least most items.0.0 p.0 numbers.0).1)
+
 -- a word that is read is of a kind that all such words are of
 some_of_kind : {A : Type 0} → (k : Kind) (f : A → Value) (o : Option A) (v : Value) → ((x : A) → IsOf k (f x)) → or_fault InvalidOperand (option_map f o) ≡ Ok v → IsOf k v
 some_of_kind k f None v all e = absurd (cc)
@@ -63,6 +92,15 @@ value_of_kind kind.Boundary text v e = boundary_of_kind (bytes_eq text (codes "D
 value_of_kind kind.Loc text v e = some_of_kind kind.Loc value.Loc (loc_at text) v (λ x. tt) e
 value_of_kind kind.Residence text v e = some_of_kind kind.Residence value.Residence (residence_at text) v (λ x. tt) e
 value_of_kind kind.Name text v e = some_of_kind kind.Name value.Name (name_at text) v (λ x. tt) e
+value_of_kind kind.Byte text v e = some_of_kind kind.Byte value.Byte (byte_at text) v (λ x. tt) e
+value_of_kind (kind.Pair least most) text v e =
+    let read = bind_ok (pair_at least most text) (λ p. Ok (value.Pair p.0 p.1)) v e in
+    let is : value.Pair read.0.0 read.0.1 ≡ v = ok_same (value.Pair read.0.0 read.0.1) v read.2 in
+    subst (IsOf (kind.Pair least most)) is (pair_in_range least most text read.0 read.1)
+value_of_kind kind.Address text v e =
+    let read = bind_ok (location_at text) (λ l. Ok (value.Address l)) v e in
+    let is : value.Address read.0 ≡ v = ok_same (value.Address read.0) v read.2 in
+    subst (IsOf kind.Address) is tt
 
 -- a list after a write
 slice_get-slice_set : {X : Type 0} → (xs : List X) (i : ℕ) (x : X) (j : ℕ) → (slice_get (slice_set xs i x) j ≡ slice_get xs j) ⊎ ((j ≡ i) × (slice_get (slice_set xs i x) j ≡ Some x))

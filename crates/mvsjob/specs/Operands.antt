@@ -14,6 +14,9 @@ use Rattle.mvsjob.specs.Chains.{◌>>=◌, or_fault}
 use Rattle.mvsjob.specs.Numbers.{number_at}
 use Rattle.mvsjob.specs.NameTexts.{name_at}
 use Rattle.mvsjob.specs.Pieces.{pieces_of}
+use Rattle.mvsjob.specs.Hex.{byte_at}
+use Rattle.mvsjob.specs.Pairs.{pair_at}
+use Rattle.mvsjob.specs.Addresses.{location_at}
 use Rattle.mvsjob.specs.Choices.{yes_no_at, boundary_at, loc_at, residence_at}
 
 -- the value of a kind that the text is
@@ -24,6 +27,9 @@ value_at kind.Boundary text = or_fault InvalidOperand (option_map value.Number (
 value_at kind.Loc text = or_fault InvalidOperand (option_map value.Loc (loc_at text))
 value_at kind.Residence text = or_fault InvalidOperand (option_map value.Residence (residence_at text))
 value_at kind.Name text = or_fault InvalidOperand (option_map value.Name (name_at text))
+value_at kind.Byte text = or_fault InvalidOperand (option_map value.Byte (byte_at text))
+value_at (kind.Pair least most) text = pair_at least most text >>= λ p. Ok (value.Pair p.0 p.1)
+value_at kind.Address text = location_at text >>= λ l. Ok (value.Address l)
 
 -- where a padded key stands in the table; where a keyword does
 abbrev pub place_of : List Keyword → List ℕ → Option ℕ
@@ -99,6 +105,9 @@ IsOf kind.Boundary (value.Number n) = (3 ≤ n) × (n ≤ 12)
 IsOf kind.Loc (value.Loc loc) = Unit {0}
 IsOf kind.Residence (value.Residence residence) = Unit {0}
 IsOf kind.Name (value.Name name) = Unit {0}
+IsOf kind.Byte (value.Byte byte) = Unit {0}
+IsOf (kind.Pair least most) (value.Pair largest smallest) = (least ≤ smallest) × (smallest ≤ largest) × (largest ≤ most)
+IsOf kind.Address (value.Address address) = Unit {0}
 IsOf _ _ = ⊥
 
 -- where there are a kind and a value, the value is of the kind

@@ -10,10 +10,13 @@ use crate::script::name::read_name;
 use crate::script::statements::{Operation, read_operands_of, read_operation};
 use mvs_model::line::{Fault, Line};
 
+mod address;
 mod fields;
+mod hex;
 mod name;
 mod number;
 mod operands;
+mod pair;
 mod pieces;
 mod statements;
 mod words;

@@ -1,6 +1,6 @@
 //! Decimal numbers.
 
-ghost use Rattle.std.specs.Prelude.{◌≡◌, ◌≤◌, length, true};
+ghost use Rattle.std.specs.Prelude.{◌≡◌, ◌≤◌, length, true, IfOk};
 ghost use Rattle.std.specs.List.{list_all};
 ghost use Rattle.mvsjob.specs.Numbers.{is_digit, value_of, number_at};
 
@@ -28,7 +28,8 @@ fn value(text: &[u8]) -> u64
 
 /// Reads a number from `least` to `most`. More than ten digits are out of range, whatever they write.
 pub fn read_number(least: u32, most: u32, text: &[u8]) -> Result<u32, Fault>
-    ensures { result ≡ number_at least most text.now }
+    ensures number { result ≡ number_at least most text.now }
+    ensures in_range { IfOk result (λ n. (least ≤ n) × (n ≤ most)) }
 {
     if text.is_empty() || !all_digits(text) {
         return Err(Fault::InvalidOperand);

@@ -5,11 +5,14 @@ ghost use Rattle.mvsjob.specs.Operands.{value_at, place_of, key_place, placed, p
 ghost use Rattle.mvs_model.specs.Name.{padded};
 ghost use Rattle.mvsjob.specs.Pieces.{pieces_of};
 
+use crate::script::address::read_location;
+use crate::script::hex::read_byte;
 use crate::script::name::read_name;
 use crate::script::number::read_number;
+use crate::script::pair::read_pair;
 use crate::script::pieces::next_piece;
 use crate::script::words::{read_boundary, read_loc, read_residence, read_yes_no};
-use mvs_model::line::Fault;
+use mvs_model::line::{Fault, Location};
 use mvs_model::name::Name;
 use mvs_model::want::{Loc, Residence};
 
@@ -26,7 +29,14 @@ pub enum Kind {
     Loc,
     /// BELOW or ABOVE.
     Residence,
+    /// One to eight of A to Z, 0 to 9, @, # and $, the first not a digit.
     Name,
+    /// Two hexadecimal digits.
+    Byte,
+    /// A largest and a smallest number from the first to the second, in parentheses.
+    Pair(u32, u32),
+    /// A name, a name with an offset, or hexadecimal digits in X'..'.
+    Address,
 }
 
 /// A keyword that a statement takes, padded with blanks, and what its value has to be.
@@ -44,21 +54,39 @@ pub enum Value {
     Loc(Loc),
     Residence(Residence),
     Name(Name),
+    Byte(u8),
+    Pair(u32, u32),
+    Address(Location),
 }
 
 // Reads a value of a kind.
 fn read_value(kind: Kind, text: &[u8]) -> Result<Value, Fault>
     ensures { result ≡ value_at kind text.now }
 {
-    let value = match kind {
-        Kind::Number(least, most) => Some(Value::Number(read_number(least, most, text)?)),
-        Kind::YesNo => read_yes_no(text).map(|yes| Value::YesNo(yes)),
-        Kind::Boundary => read_boundary(text).map(|exponent| Value::Number(exponent)),
-        Kind::Loc => read_loc(text).map(|loc| Value::Loc(loc)),
-        Kind::Residence => read_residence(text).map(|residence| Value::Residence(residence)),
-        Kind::Name => read_name(text).map(|name| Value::Name(name)),
-    };
-    value.ok_or(Fault::InvalidOperand)
+    match kind {
+        Kind::Number(least, most) => Ok(Value::Number(read_number(least, most, text)?)),
+        Kind::YesNo => read_yes_no(text)
+            .map(Value::YesNo)
+            .ok_or(Fault::InvalidOperand),
+        Kind::Boundary => read_boundary(text)
+            .map(Value::Number)
+            .ok_or(Fault::InvalidOperand),
+        Kind::Loc => read_loc(text).map(Value::Loc).ok_or(Fault::InvalidOperand),
+        Kind::Residence => read_residence(text)
+            .map(Value::Residence)
+            .ok_or(Fault::InvalidOperand),
+        Kind::Name => read_name(text)
+            .map(Value::Name)
+            .ok_or(Fault::InvalidOperand),
+        Kind::Byte => read_byte(text)
+            .map(Value::Byte)
+            .ok_or(Fault::InvalidOperand),
+        Kind::Pair(least, most) => {
+            let (largest, smallest) = read_pair(least, most, text)?;
+            Ok(Value::Pair(largest, smallest))
+        }
+        Kind::Address => Ok(Value::Address(read_location(text)?)),
+    }
 }
 
 // The text and blanks up to eight bytes.

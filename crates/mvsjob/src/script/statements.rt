@@ -13,11 +13,14 @@ use mvs_model::line::{Asked, Fault, Statement};
 use mvs_model::name::Name;
 use mvs_model::want::{Ask, Loc, Residence};
 
+/// The keywords of REGION that are built. The statement is this project's own.
 pub const REGION: [Keyword; 1] = [Keyword {
     key: *b"BELOW   ",
     kind: Kind::Number(1, 2_048),
 }];
 
+/// The keywords of GETMAIN R that are built: its length, and the name of the area, which is this project's choice
+/// (Assembler Services Reference, GETMAIN).
 pub const GETMAIN_R: [Keyword; 2] = [
     Keyword {
         key: *b"LV      ",
@@ -29,6 +32,7 @@ pub const GETMAIN_R: [Keyword; 2] = [
     },
 ];
 
+/// The operand of WHERE, the name of an area. The statement is this project's own.
 pub const WHERE: [Kind; 1] = [Kind::Name];
 
 // The number that a required operand says.

@@ -1,10 +1,14 @@
 //! Lines and their faults, worked out by hand from the notation.
 
+ghost use Rattle.std.specs.Prelude.{◌<◌, ◌≤◌, ◌^◌};
+
 use super::operands::{Keyword, Kind, Value, read_values};
 use super::read_line;
+use mvs_model::bounded::Offset;
 use mvs_model::code::Form;
-use mvs_model::line::{Asked, Fault, Line, Statement};
+use mvs_model::line::{Asked, Fault, Line, Location, Statement};
 use mvs_model::name::Name;
+use mvs_model::place::Addr;
 use mvs_model::want::{Ask, Loc, Residence, Side};
 
 // The first of the lines that is not answered by this fault.
@@ -345,6 +349,14 @@ const KEYWORDS: [Keyword; 5] = [
 
 const POSITIONAL: [Kind; 2] = [Kind::Name, Kind::Number(1, 9)];
 
+// Why a field was refused, if it was.
+fn fault_of<T: Copy>(values: Result<T, Fault>) -> Option<Fault> {
+    match values {
+        Ok(_) => None,
+        Err(fault) => Some(fault),
+    }
+}
+
 // The values of a field by tables of each kind.
 fn values(field: &[u8]) -> Result<[Option<Value>; 7], Fault> {
     read_values(&POSITIONAL, &KEYWORDS, Some(field))
@@ -442,14 +454,150 @@ fn operands_of_each_kind_have_their_faults(rt: HostRuntime) {
         b"STARTBDY=3,STARTBDY=",
     ];
     for field in malformed {
-        assert_eq!(rt; values(field).err(), Some(Fault::InvalidOperand));
+        assert_eq!(rt; fault_of(values(field)), Some(Fault::InvalidOperand));
     }
-    assert_eq!(rt; values(b"X,0,LOC=1").err(), Some(Fault::OutOfRange));
-    assert_eq!(rt; values(b"STARTBDY=2").err(), Some(Fault::OutOfRange));
-    assert_eq!(rt; values(b"STARTBDY=32").err(), Some(Fault::OutOfRange));
-    assert_eq!(rt; values(b"LOC=ANY,LOC=ANY").err(), Some(Fault::Repeated));
+    assert_eq!(rt; fault_of(values(b"X,0,LOC=1")), Some(Fault::OutOfRange));
+    assert_eq!(rt; fault_of(values(b"STARTBDY=2")), Some(Fault::OutOfRange));
+    assert_eq!(rt; fault_of(values(b"STARTBDY=32")), Some(Fault::OutOfRange));
+    assert_eq!(rt; fault_of(values(b"LOC=ANY,LOC=ANY")), Some(Fault::Repeated));
     assert_eq!(rt;
-        values(b"STARTBDY=3,STARTBDY=32,X").err(),
+        fault_of(values(b"STARTBDY=3,STARTBDY=32,X")),
         Some(Fault::Repeated)
+    );
+}
+
+const OTHER_KEYWORDS: [Keyword; 2] = [
+    Keyword {
+        key: *b"FILL    ",
+        kind: Kind::Byte,
+    },
+    Keyword {
+        key: *b"LV      ",
+        kind: Kind::Pair(1, 0x7FFF_FFFF),
+    },
+];
+
+const OTHER_POSITIONAL: [Kind; 1] = [Kind::Address];
+
+// The values of a field by other tables.
+fn other_values(field: &[u8]) -> Result<[Option<Value>; 3], Fault> {
+    read_values(&OTHER_POSITIONAL, &OTHER_KEYWORDS, Some(field))
+}
+
+// The first of the fields that does not have this fault.
+fn other_exception<'a>(fields: &[&'a [u8]], fault: Fault) -> Option<&'a [u8]> {
+    for field in fields {
+        if fault_of(other_values(field)) != Some(fault) {
+            return Some(*field);
+        }
+    }
+    None
+}
+
+#[test]
+fn addresses_are_names_or_digits(rt: HostRuntime) {
+    let absolute = |value: u32| -> Result<[Option<Value>; 3], Fault>
+        requires { value < 2 ^ 31 }
+    {
+        Ok([
+            Some(Value::Address(Location::Absolute(Addr::new(value)))),
+            None,
+            None,
+        ])
+    };
+    assert_eq!(rt; other_values(b"X'0'"), absolute(0));
+    assert_eq!(rt; other_values(b"X'00006FA0'"), absolute(0x6FA0));
+    assert_eq!(rt; other_values(b"X'7FFFFFFF'"), absolute(0x7FFF_FFFF));
+    let named = |offset: u32| -> Result<[Option<Value>; 3], Fault>
+        requires { offset ≤ 33554431 }
+    {
+        Ok([
+            Name::new(b"X").map(|name| Value::Address(Location::Named(name, Offset::new(offset)))),
+            None,
+            None,
+        ])
+    };
+    assert_eq!(rt; other_values(b"X"), named(0));
+    assert_eq!(rt; other_values(b"X+0"), named(0));
+    assert_eq!(rt; other_values(b"X+33554431"), named(33_554_431));
+    let malformed: [&[u8]; 15] = [
+        b"X''",
+        b"X'",
+        b"X'000000000'",
+        b"X'6000",
+        b"X'60G0'",
+        b"X'6a00'",
+        b"x'6000'",
+        b"X'6000'+8",
+        b"X+",
+        b"+8",
+        b"X+8+8",
+        b"X-8",
+        b"X+X'8'",
+        b"1X+8",
+        b"1X+99999999999",
+    ];
+    assert_eq!(rt; other_exception(&malformed, Fault::InvalidOperand), None);
+    let far: [&[u8]; 4] = [
+        b"X'80000000'",
+        b"X'FFFFFFFF'",
+        b"X+33554432",
+        b"X+00000000001",
+    ];
+    assert_eq!(rt; other_exception(&far, Fault::OutOfRange), None);
+}
+
+#[test]
+fn bytes_and_pairs_are_read(rt: HostRuntime) {
+    assert_eq!(rt;
+        other_values(b"FILL=00"),
+        Ok([None, Some(Value::Byte(0)), None])
+    );
+    assert_eq!(rt;
+        other_values(b"FILL=A9,LV=(4096,8)"),
+        Ok([None, Some(Value::Byte(0xA9)), Some(Value::Pair(4096, 8))])
+    );
+    assert_eq!(rt;
+        other_values(b"LV=(2147483647,2147483647),FILL=FF"),
+        Ok([
+            None,
+            Some(Value::Byte(0xFF)),
+            Some(Value::Pair(0x7FFF_FFFF, 0x7FFF_FFFF))
+        ])
+    );
+    let malformed: [&[u8]; 19] = [
+        b"FILL=",
+        b"FILL=5",
+        b"FILL=000",
+        b"FILL=0a",
+        b"FILL=G0",
+        b"FILL=X'00'",
+        b"LV=8",
+        b"LV=()",
+        b"LV=(",
+        b"LV=)",
+        b"LV=(8)",
+        b"LV=(8,8,8)",
+        b"LV=(8,)",
+        b"LV=(,8)",
+        b"LV=(8,8",
+        b"LV=((8),8)",
+        b"LV=(0,X)",
+        b"LV=(X,0)",
+        b"LV=8,8)",
+    ];
+    assert_eq!(rt; other_exception(&malformed, Fault::InvalidOperand), None);
+    let far: [&[u8]; 6] = [
+        b"LV=(8,9)",
+        b"LV=(0,0)",
+        b"LV=(8,0)",
+        b"LV=(2147483648,8)",
+        b"LV=(8,2147483648)",
+        b"LV=(99999999999,8)",
+    ];
+    assert_eq!(rt; other_exception(&far, Fault::OutOfRange), None);
+    assert_eq!(rt;
+        other_exception(&[b"LV=(8,8),LV=(8,9)", b"FILL=00,FILL=01"], Fault::Repeated),
+        None
     );
 }
