@@ -1,5 +1,5 @@
 -- How far a step has come.
-use Rattle.std.specs.Prelude.{Bool, true, false, refl}
+use Rattle.std.specs.Prelude.{Bool, refl}
 use Rattle.std.specs.Coded.{Coded, code_by, coded×, coded_bool}
 use Rattle.mvs_model.specs.State.{State, state_code}
 use Rattle.mvs_model.specs.declared.request.Request.{Request}

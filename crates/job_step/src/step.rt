@@ -58,12 +58,7 @@ fn release_each(store: &mut Store, subpools: &[SubpoolId])
 }
 
 // What an active task's request is answered, before an abend ends the task.
-fn act(
-    store: &mut Store,
-    tasks: &mut Tasks,
-    t: TaskId,
-    request: &Request,
-) -> Result<Reply, Code>
+fn act(store: &mut Store, tasks: &mut Tasks, t: TaskId, request: &Request) -> Result<Reply, Code>
     requires task { IsTask tasks.old t }
     requires storage { IsStorage store.old }
     requires built { IsBuilt request.now }

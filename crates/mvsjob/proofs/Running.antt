@@ -48,12 +48,16 @@ module _ (start now later : Option (List ℕ)) (script : List ℕ) (number : ℕ
   -- the job stops in a line
   pub progress_stopped : (new : Stage) (l : List ℕ) (lines : List (List ℕ)) (stop : Stop) → left ≡ l ∷ lines → RunsLine now later number old (line_of l (is_before old)) new (Err stop) → PrintedFront start later script
   progress_stopped new l lines stop e (inl kept) = (p.written, Appends-kept start now later p.written p.appended kept, front_so_far line_of line_of-IsReader (lines_of script) p.written number old left p.reached)
-  progress_stopped new l lines stop e (inr (text, inl serves, front)) =
-      (p.written ++ front.0, Appends-trans start now later p.written front.0 p.appended front.3,
-       front_in_line line_of line_of-IsReader (lines_of script) p.written text front.0 front.1 number old serves.0 l lines front.2 (rw e at p.reached) serves.1)
-  progress_stopped new l lines stop e (inr (text, inr faults, front)) =
-      (p.written ++ front.0, Appends-trans start now later p.written front.0 p.appended front.3,
-       front_in_fault line_of line_of-IsReader (lines_of script) p.written text front.0 front.1 number old l lines front.2 (rw e at p.reached) faults)
+  progress_stopped new l lines stop e (inr (text, inl serves, front)) = (
+    p.written ++ front.0,
+    Appends-trans start now later p.written front.0 p.appended front.3,
+    front_in_line line_of line_of-IsReader (lines_of script) p.written text front.0 front.1 number old serves.0 l lines front.2 (rw e at p.reached) serves.1,
+  )
+  progress_stopped new l lines stop e (inr (text, inr faults, front)) = (
+    p.written ++ front.0,
+    Appends-trans start now later p.written front.0 p.appended front.3,
+    front_in_fault line_of line_of-IsReader (lines_of script) p.written text front.0 front.1 number old l lines front.2 (rw e at p.reached) faults,
+  )
 
   -- the end of the lines
   pub progress_end : (text : List ℕ) (outcome : Outcome) → left ≡ [] → Appends now later text → Closes number old text outcome → Printed start later script outcome
@@ -61,9 +65,11 @@ module _ (start now later : Option (List ℕ)) (script : List ℕ) (number : ℕ
 
   -- the job stops at the end
   pub progress_in_end : (text : List ℕ) (outcome : Outcome) → left ≡ [] → AppendsFront now later text → Closes number old text outcome → PrintedFront start later script
-  progress_in_end text outcome e front closes =
-      (p.written ++ front.0, Appends-trans start now later p.written front.0 p.appended front.3,
-       front_at_end line_of line_of-IsReader (lines_of script) p.written text front.0 front.1 number old outcome front.2 (rw e at p.reached) closes)
+  progress_in_end text outcome e front closes = (
+    p.written ++ front.0,
+    Appends-trans start now later p.written front.0 p.appended front.3,
+    front_at_end line_of line_of-IsReader (lines_of script) p.written text front.0 front.1 number old outcome front.2 (rw e at p.reached) closes,
+  )
 
 pub no_lines : (bytes : List ℕ) → length bytes ≡ 0 → lines_of bytes ≡ []
 no_lines [] e = refl

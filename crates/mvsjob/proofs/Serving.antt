@@ -51,14 +51,14 @@ asked_does number old t s a text new is active asks = subst (λ s. Does number o
 pub where_does : (number : ℕ) (old : Job) (t : Name) (s : Statement) (name : Name) (place : Option Span) → s ≡ says.Where name → is_active old.state.owners t ≡ true → place ≡ get old.names name → Does number old t s (reply_line number t (where_text place)) old
 where_does number old t s name place is active lies =
     subst (λ s. Does number old t s (reply_line number t (where_text place)) old) (sym is)
-      (does_said number old t (says.Where name) _ old active (ap (λ o. reply_line number t (where_text o)) lies, refl))
+    (does_said number old t (says.Where name) _ old active (ap (λ o. reply_line number t (where_text o)) lies, refl))
 
 -- What is said of a region is what its statement prints.
 pub begins_said : (number : ℕ) (t : Name) (s : Statement) (card : StepCard) (said : List ℕ) (job : Job) → Begins number t s (region_text number card) (In (first_job card))
     → card.name ≡ t → said ≡ codes "REGION BELOW " ++ decimal card.below ++ codes " ABOVE " ++ decimal card.above → job ≡ first_job card → Begins number t s (reply_line number t said) (In job)
 begins_said number t s card said job begins name is start =
     subst (λ j. Begins number t s (reply_line number t said) (In j)) (sym start)
-      (subst (λ text. Begins number t s text (In (first_job card))) (λ i. reply_line number (name i) (sym is i)) begins)
+    (subst (λ text. Begins number t s text (In (first_job card))) (λ i. reply_line number (name i) (sym is i)) begins)
 
 -- In a step a statement is served as it says.
 pub serves_in : (number : ℕ) (old : Option Job) (job : Job) (t : Name) (s : Statement) (text : List ℕ) (new : Job) → old ≡ Some job → Does number job t s text new → Serves number (stage_of old) (line.Statement t s) text (In new)

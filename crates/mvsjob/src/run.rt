@@ -116,3 +116,6 @@ pub fn run_job<R: Read, W: Write>(
         Err(Stop::Memory) => Err(RunFault::Memory),
     }
 }
+
+#[cfg(test)]
+mod tests;

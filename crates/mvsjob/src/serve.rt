@@ -18,8 +18,8 @@ use mvs_model::line::{Asked, Statement};
 use mvs_model::name::Name;
 use mvs_model::place::Place;
 use mvs_model::request::{Reply, Request};
-use mvs_model::watched::{Failed, Watched};
 use mvs_model::want::Placement;
+use mvs_model::watched::{Failed, Watched};
 use std::alloc::Global;
 use std::io::Write;
 use std::marker::Model;
@@ -50,7 +50,10 @@ fn resolve(names: &Names, asked: &Asked) -> Option<Request>
 {
     match asked {
         Asked::Obtain {
-            form, number, ask, ..
+            form,
+            number,
+            ask,
+            ..
         } => Some(Request::Obtain {
             form: *form,
             number: *number,

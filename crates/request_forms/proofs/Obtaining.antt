@@ -1,6 +1,6 @@
 -- What is obtained from a store is obtained from the machine.
-use Rattle.std.proofs.Common.{◌≡◌, ℕ, ◌<◌, ◌≤◌, ◌⊎◌, inl, inr, Bool, true, false, cond, Option, Some, None, Ok, Err, refl, sym, ap, ◌∙◌, subst, arith}
-use Rattle.std.specs.Prelude.{not, MatchOption, nat_lt}
+use Rattle.std.proofs.Common.{◌≡◌, ℕ, ◌<◌, ◌≤◌, inl, inr, Bool, true, false, cond, Option, Some, None, Ok, Err, refl, sym, ap, subst, arith}
+use Rattle.std.specs.Prelude.{MatchOption}
 use Rattle.std.specs.Bool.{MatchBool}
 use Rattle.std.proofs.lemmas.Bool.Decides.{nat_tests}
 use Rattle.mvs_model.specs.declared.name.Name.{Name}
@@ -10,7 +10,6 @@ use Rattle.mvs_model.specs.declared.want.Residence.{Residence}
 use Rattle.mvs_model.specs.declared.want.Residence.TheVariants.{Below}
 use Rattle.std.specs.Option.{option_map, unwrap_or}
 use Rattle.std.specs.FinMap.{get}
-use Rattle.mvs_model.specs.declared.request.Reply.{Reply}
 use Rattle.mvs_model.specs.declared.request.Reply.TheVariants.{Rc4, Granted}
 use Rattle.mvs_model.specs.Span.{Span}
 use Rattle.mvs_model.specs.Wanted.{Wanted, side_of}
@@ -20,7 +19,7 @@ use Rattle.mvs_model.specs.State.{State}
 use Rattle.mvs_model.specs.View.{seen}
 use Rattle.mvs_model.specs.Codes.{family, form_side, is_conditional, short, bad_subpool}
 use Rattle.mvs_model.specs.Changes.{GrantTo, ShortOf}
-use Rattle.mvs_model.specs.Steps.{Abends, Fails, side_for, is_invalid, ObtainStep}
+use Rattle.mvs_model.specs.Steps.{Fails, side_for, is_invalid, ObtainStep}
 use Rattle.mvs_model.proofs.Seen.{no_place_seen, grant_seen}
 use Rattle.request_forms.specs.Answers.{Answers}
 

@@ -13,7 +13,8 @@ pub fn family(form: Form) -> Family
     match form {
         Form::R => Family::R,
         Form::Ec | Form::Eu | Form::Vc | Form::Vu | Form::Lc | Form::Lu => Family::E,
-        Form::Rc | Form::Ru | Form::Vrc | Form::Vru | Form::Storage | Form::StorageConditional => Family::X,
+        Form::Rc | Form::Ru | Form::Vrc | Form::Vru | Form::Storage | Form::StorageConditional =>
+            Family::X,
     }
 }
 

@@ -8,4 +8,4 @@ use Rattle.mvsjob.proofs.job.run_statement.Goals as goal
 pub returns-in-Some-clause-served : goal.returns-in-Some-clause-served
 returns-in-Some-clause-served g c =
     performs_as In (Does c.args.number c.in-Some.running c.args.task.now c.args.statement.now) (Serves c.args.number (stage_of c.args.stage.now) (line.Statement c.args.task.now c.args.statement.now)) _ _ c.serve.new.self c.serve.result
-      (λ text new does. serves_in c.args.number c.args.stage.now c.in-Some.running c.args.task.now c.args.statement.now text new c.in-Some.is does) c.serve.ensures.served
+    (λ text new does. serves_in c.args.number c.args.stage.now c.in-Some.running c.args.task.now c.args.statement.now text new c.in-Some.is does) c.serve.ensures.served

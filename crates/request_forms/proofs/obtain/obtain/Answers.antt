@@ -1,4 +1,4 @@
-use Rattle.std.proofs.Common.{◌≡◌, sym, ap, ◌∙◌, subst}
+use Rattle.std.proofs.Common.{ap, ◌∙◌, subst}
 use Rattle.mvs_model.specs.Wanted.{wanted_of, side_of}
 use Rattle.mvs_model.specs.Changes.{ShortOf}
 use Rattle.mvs_model.specs.Codes.{family, form_side}

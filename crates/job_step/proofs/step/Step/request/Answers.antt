@@ -1,4 +1,4 @@
-use Rattle.std.proofs.Common.{◌≡◌, ◌∙◌, ap, sym, subst, true, false, MatchBool, not, ◌||◌, [], Option}
+use Rattle.std.proofs.Common.{◌≡◌, ◌∙◌, ap, sym, subst, true, MatchBool, not, ◌||◌, [], Option}
 use Rattle.std.specs.Option.{unwrap_or}
 use Rattle.std.proofs.Math.Bool.{or-false}
 use Rattle.mvs_model.specs.State.{State}
@@ -25,7 +25,7 @@ returns-in-Err-clause-step c =
     let old = seen c.self.inside.store c.self.inside.tasks.owners in
     let new = seen c.abend.new.store c.abend.new.tasks.owners in
     let abends = subst (λ st. Abends st (name_of c.self.inside.tasks c.in-Some.t) c.in-Err.code c.abend.result new) c.in-Err.ensures.answer.0
-      (subst (λ name. Abends (seen c.act.new.store c.act.new.tasks.owners) name c.in-Err.code c.abend.result new) (ap of_name (c.in-Err.ensures.names c.in-Some.t)) c.abend.ensures.abends) in
+    (subst (λ name. Abends (seen c.act.new.store c.act.new.tasks.owners) name c.in-Err.code c.abend.result new) (ap of_name (c.in-Err.ensures.names c.in-Some.t)) c.abend.ensures.abends) in
     let acts = subst (λ name. Acts old name c.args.request.now c.abend.result new) (ap of_name c.in-Some.ensures.named) (c.in-Err.ensures.answer.1 c.abend.result new abends) in
     subst (λ st. Step st c.args.name.now c.args.request.now c.abend.result new) (ap (λ p. p.state) c.self.view_is)
-      (active_step old c.args.name.now c.args.request.now c.abend.result new (sym c.in-Some.ensures.active) acts)
+    (active_step old c.args.name.now c.args.request.now c.abend.result new (sym c.in-Some.ensures.active) acts)

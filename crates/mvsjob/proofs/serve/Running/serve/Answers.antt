@@ -23,4 +23,4 @@ pub returns-in-Request-clause-served : goal.returns-in-Request-clause-served
 returns-in-Request-clause-served g c =
     let active : is_active c.args.self.now.state.owners c.args.task.now ≡ true = rw (← c.self.view_is) (sym c.is_active.ensures ∙ c.if-not-is_active.false) in
     performs_as (λ job. job) (Asks c.args.number c.args.self.now c.args.task.now c.in-Request.asked (resolved c.args.self.now.names c.in-Request.asked)) (Does c.args.number c.args.self.now c.args.task.now c.args.statement.now) _ _ c.ask.new.self c.ask.result
-      (λ text new asks. asked_does c.args.number c.args.self.now c.args.task.now c.args.statement.now c.in-Request.asked text new c.in-Request.is active asks) c.ask.ensures.served
+    (λ text new asks. asked_does c.args.number c.args.self.now c.args.task.now c.args.statement.now c.in-Request.asked text new c.in-Request.is active asks) c.ask.ensures.served
