@@ -1,5 +1,5 @@
 -- A line that is read is one of those that are built.
-use Rattle.std.proofs.Common.{◌≡◌, ℕ, Bool, true, false, cond, List, Result, Ok, Err, None}
+use Rattle.std.proofs.Common.{ℕ, Bool, true, false, cond, List, Result, Ok, Err, None}
 use Rattle.std.specs.Prelude.{[], replicate, bytes_eq, codes, not, slice_get}
 use Rattle.mvs_model.specs.declared.name.Name.{Name}
 use Rattle.mvs_model.specs.declared.line.Fault.{Fault}
@@ -17,7 +17,7 @@ use Rattle.mvsjob.specs.Chains.{◌>>=◌, or_fault}
 use Rattle.mvsjob.specs.Fields.{word_of, after_word}
 use Rattle.mvsjob.specs.NameTexts.{name_at}
 use Rattle.mvsjob.specs.Operands.{operands_at}
-use Rattle.mvsjob.specs.Statements.{number_of, name_of, region_at, region_of, getmain_r, getmain_r_at, getmain_r_of, getmain_at, where_at, where_of, form_of, statement_of, operation_of, pieces_in}
+use Rattle.mvsjob.specs.Statements.{number_of, name_of, region_of, getmain_r, getmain_r_at, getmain_r_of, where_of, form_of, statement_of, operation_of, pieces_in}
 use Rattle.mvsjob.specs.Lines.{statement_at, is_in_place}
 
 -- the same of what an operation says

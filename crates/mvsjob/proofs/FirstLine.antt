@@ -1,5 +1,5 @@
 -- The first line of some bytes.
-use Rattle.std.proofs.Common.{◌≡◌, ◌≢◌, ℕ, ◌+◌, ◌-◌, ◌≤◌, ◌<◌, List, [], ◌∷◌, ◌++◌, length, take, drop, get_or, arith, ap, refl, ◌∙◌, sym, add-one, true, false, ne_eqb, nat_eq, zero, suc}
+use Rattle.std.proofs.Common.{◌≡◌, ℕ, ◌<◌, List, [], ◌∷◌, length, take, drop, get_or, arith, refl, ◌∙◌, ne_eqb, zero, suc}
 use Rattle.std.specs.List.{onto_first}
 use Rattle.mvs_model.specs.Runs.{lines_of}
 

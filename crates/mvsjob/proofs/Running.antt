@@ -1,12 +1,12 @@
 -- A script that is run, a line at a time.
-use Rattle.std.proofs.Common.{◌≡◌, ℕ, ◌+◌, List, [], ◌∷◌, ◌++◌, length, Option, Some, None, Bool, true, false, Result, Ok, Err, inl, inr, ap, refl, ◌∙◌, sym, append-nil, arith, subst, cond, codes}
+use Rattle.std.proofs.Common.{◌≡◌, ℕ, ◌+◌, List, [], ◌∷◌, ◌++◌, length, Option, Some, None, true, false, Ok, Err, inl, inr, ap, refl, sym, arith, subst, cond, codes}
 use Rattle.std.proofs.KnownBytes.{Appends-nil, Appends-trans}
-use Rattle.std.specs.Io.KnownBytes.{Appends, Keeps}
+use Rattle.std.specs.Io.KnownBytes.{Appends}
 use Rattle.mvs_model.specs.declared.outcome.Outcome.{Outcome}
 use Rattle.mvs_model.specs.declared.outcome.Outcome.TheVariants.{Clean, ScriptFault, SomeAbend}
 use Rattle.mvs_model.specs.declared.line.Fault.TheVariants.{OutOfPlace}
 use Rattle.mvs_model.specs.Texts.{fault_text}
-use Rattle.mvs_model.specs.Runs.{Job, Stage, Before, Closes, Faults, IsPrinting, IsPrintingFront, ServesRead, is_before, lines_of}
+use Rattle.mvs_model.specs.Runs.{Job, Stage, Before, Closes, IsPrinting, IsPrintingFront, is_before, lines_of}
 use Rattle.mvs_model.proofs.Going.{Reaches, reaches_start, reaches_next, reaches_fault, reaches_end, front_so_far, front_in_line, front_in_fault, front_at_end}
 use Rattle.mvsjob.specs.declared.job.Stop.{Stop}
 use Rattle.mvsjob.specs.Lines.{line_of}

@@ -1,8 +1,8 @@
 -- What a call does that serves a line.
-use Rattle.std.specs.Prelude.{◌≡◌, refl, ◌⊎◌, ℕ, List, Option, Some, None, Result, Ok, Err, MatchResult, Bool, true, false}
+use Rattle.std.specs.Prelude.{refl, ◌⊎◌, ℕ, List, Option, Some, None, Result, Ok, Err, MatchResult, Bool, true, false}
 use Rattle.std.specs.Coded.{Coded, code_by, coded×, coded_bool}
 use Rattle.std.specs.FinMap as map
-use Rattle.std.specs.Io.KnownBytes.{Appends, Consumes, Keeps}
+use Rattle.std.specs.Io.KnownBytes.{Appends, Keeps}
 use Rattle.mvs_model.specs.declared.line.Line.{Line}
 use Rattle.mvs_model.specs.declared.line.Fault.{Fault}
 use Rattle.mvs_model.specs.Span.{Span, span_code}

@@ -1,4 +1,4 @@
-use Rattle.std.proofs.Common.{◌≡◌, ◌∙◌, sym, ap}
+use Rattle.std.proofs.Common.{◌∙◌, sym}
 use Rattle.std.proofs.lemmas.Result.{err_from_is_err_and}
 use Rattle.mvsjob.proofs.Running.{closes_before, closes_abended, closes_clean}
 use Rattle.mvsjob.proofs.job.close.Goals as goal

@@ -1,4 +1,4 @@
-use Rattle.std.proofs.Common.{◌≡◌, ◌+◌, length, arith, add-one, ◌∙◌}
+use Rattle.std.proofs.Common.{◌+◌, arith, add-one}
 use Rattle.std.proofs.lemmas.List.{take_rest}
 use Rattle.mvsjob.proofs.FirstLine.{lines_front, lines_whole}
 use Rattle.mvsjob.proofs.job.next_line.Goals as goal

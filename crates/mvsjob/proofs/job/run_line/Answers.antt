@@ -1,4 +1,4 @@
-use Rattle.std.proofs.Common.{◌≡◌, ◌∙◌, sym, ap, [], Ok, Err}
+use Rattle.std.proofs.Common.{◌∙◌, sym, ap, [], Ok}
 use Rattle.std.proofs.lemmas.Result.{err_from_is_err_and}
 use Rattle.std.proofs.KnownBytes.{Appends-nil}
 use Rattle.mvs_model.specs.declared.line.Line.TheVariants as line

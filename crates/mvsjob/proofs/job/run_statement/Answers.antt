@@ -1,4 +1,3 @@
-use Rattle.std.proofs.Common.{◌≡◌}
 use Rattle.mvs_model.specs.Runs.{Does, In, Serves}
 use Rattle.mvs_model.specs.declared.line.Line.TheVariants as line
 use Rattle.mvsjob.specs.Serving.{stage_of}

@@ -1,4 +1,4 @@
-use Rattle.std.proofs.Common.{◌++◌, codes, arith, ◌∙◌}
+use Rattle.std.proofs.Common.{◌++◌, codes, ◌∙◌}
 use Rattle.std.proofs.lemmas.Result.{err_from_is_err_and}
 use Rattle.mvs_model.specs.Name.{trimmed}
 use Rattle.mvs_model.specs.Texts.{reply_line, code_text}

@@ -1,5 +1,4 @@
-use Rattle.std.proofs.Common.{◌≡◌, sym, ap, ◌∙◌}
-use Rattle.std.specs.FinMap as map
+use Rattle.std.proofs.Common.{sym, ◌∙◌}
 use Rattle.mvsjob.proofs.Named.{get_entries}
 use Rattle.mvsjob.proofs.names.Names.get.Goals as goal
 

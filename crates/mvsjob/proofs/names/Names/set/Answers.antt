@@ -1,5 +1,3 @@
-use Rattle.std.proofs.Common.{◌≡◌, sym, ap, ◌∙◌}
-use Rattle.std.specs.FinMap as map
 use Rattle.mvsjob.proofs.Named.{set_entries}
 use Rattle.mvsjob.proofs.names.Names.set.Goals.{in-Ok, in-Err}
 use Rattle.mvsjob.proofs.names.Names.set.Goals as goal

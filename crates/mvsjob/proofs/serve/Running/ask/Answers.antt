@@ -1,4 +1,4 @@
-use Rattle.std.proofs.Common.{◌≡◌, ◌∙◌, sym, inr}
+use Rattle.std.proofs.Common.{◌∙◌, sym, inr}
 use Rattle.std.proofs.lemmas.Result.{err_from_is_err_and}
 use Rattle.mvs_model.specs.Runs.{Job}
 use Rattle.mvsjob.proofs.Serving.{made}

@@ -1,4 +1,4 @@
-use Rattle.std.proofs.Common.{◌≡◌, ◌∙◌, ap, sym, subst, inr, true, false}
+use Rattle.std.proofs.Common.{◌≡◌, ◌∙◌, sym, inr, true, false}
 use Rattle.std.proofs.lemmas.Result.{err_from_is_err_and}
 use Rattle.mvs_model.specs.Owners.{is_active}
 use Rattle.mvs_model.specs.Runs.{Asks, Does, resolved}

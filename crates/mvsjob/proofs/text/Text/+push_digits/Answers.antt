@@ -1,4 +1,4 @@
-use Rattle.std.proofs.Common.{◌≡◌, ◌+◌, ◌/◌, ◌++◌, length, decimal, length-append, ap, ◌∙◌, arith}
+use Rattle.std.proofs.Common.{◌≡◌, ◌+◌, ◌/◌, length, decimal, length-append, ap, ◌∙◌, arith}
 use Rattle.mvsjob.proofs.Digits.{one_longer, digits_text, digit_text, one_decimal}
 use Rattle.mvsjob.proofs.text.Text.+push_digits.Goals.{then-number-ge10, else-number-ge10}
 use Rattle.mvsjob.proofs.text.Text.+push_digits.Goals as goal

@@ -1,4 +1,4 @@
-use Rattle.std.proofs.Common.{◌≡◌, ◌+◌, ◌++◌, ◌∷◌, [], append_assoc, append-nil, arith, sym, ap, ◌∙◌}
+use Rattle.std.proofs.Common.{append_assoc, append-nil, arith, sym}
 use Rattle.mvs_model.proofs.Printed.{last_digits_none, last_digits_more}
 use Rattle.mvsjob.proofs.text.Text.+push_last.Goals as goal
 
