@@ -366,7 +366,6 @@ fn values(field: &[u8]) -> Result<[Option<Value>; 7], Fault> {
 fn operands_of_each_kind_are_read(rt: HostRuntime) {
     let name = || Name::new(b"X").map(Value::Name);
     let number = |n| Some(Value::Number(n));
-    let loc = |loc| Some(Value::Loc(loc));
     assert_eq!(rt;
         values(b"X"),
         Ok([name(), None, None, None, None, None, None])
@@ -399,6 +398,11 @@ fn operands_of_each_kind_are_read(rt: HostRuntime) {
             None
         ])
     );
+}
+
+#[test]
+fn locations_and_residences_are_read(rt: HostRuntime) {
+    let loc = |loc| Some(Value::Loc(loc));
     assert_eq!(rt;
         values(b"LOC=24,RES=ABOVE"),
         Ok([
