@@ -2,5 +2,7 @@
 #![tactic(auto)]
 
 mod step;
+#[cfg(test)]
+mod tests;
 
 pub use step::Step;
