@@ -13,6 +13,7 @@ pub mod Pages
 pub mod Printed
 pub mod Search
 pub mod Seen
+pub mod SeenAccess
 pub mod SeenEnd
 pub mod Sized
 pub mod SmallLaws
