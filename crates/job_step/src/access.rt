@@ -1,13 +1,23 @@
 //! Access to the bytes that are held: SHOW, PUT and MOVE, which are this project's own statements.
 
-ghost use Rattle.std.specs.Prelude.{◌≡◌, ◌<◌, ◌≤◌, ◌+◌, ◌^◌, ◌↔◌, ℕ, Some, IsTrue, is_some, length};
+ghost use Rattle.std.specs.Prelude.{◌≡◌, ◌<◌, ◌≤◌, ◌+◌, ◌^◌, ◌↔◌, Some, IfOk, IsTrue, false, is_some, length};
 ghost use Rattle.std.specs.FinMap.{get};
+ghost use Rattle.mvs_model.specs.declared.name.Name.{Name};
+ghost use Rattle.mvs_model.specs.declared.request.Request.TheVariants as request;
 ghost use Rattle.mvs_model.specs.Span.{span};
 ghost use Rattle.mvs_model.specs.Storage.{AllHeld, IsStorage, holder};
+ghost use Rattle.mvs_model.specs.Owners.{Owners};
+ghost use Rattle.mvs_model.specs.Steps.{Acts};
+ghost use Rattle.mvs_model.specs.Runs.{is_abend};
+ghost use Rattle.mvs_model.specs.View.{seen};
 ghost use Rattle.subpool_store.specs.Written.{Puts};
-ghost use Rattle.job_step.specs.Access.{Copied, IsBounded, IsStepStorage};
+ghost use Rattle.request_forms.specs.Answers.{Answers};
+ghost use Rattle.job_step.specs.Access.{Copied, IsStepStorage};
 
+use mvs_model::bounded::{MoveLength, ShowLength};
+use mvs_model::code::Code;
 use mvs_model::place::{Addr, Place};
+use mvs_model::request::{Bytes, Reply};
 use subpool_store::Store;
 
 // Whether a doubleword is held. One behind the last address is not.
@@ -24,7 +34,8 @@ fn is_held(store: &Store, doubleword: u32) -> bool
 /// Whether each byte of the place lies in a doubleword that is held.
 pub fn all_held(store: &Store, place: Place) -> bool
     requires { IsStepStorage store.now }
-    ensures { IsTrue result ↔ AllHeld store.now place }
+    ensures held { IsTrue result ↔ AllHeld store.now place }
+    ensures some { 1 ≤ place.len }
 {
     let first = place.addr().get();
     let last = first + (place.len() - 1);
@@ -96,4 +107,70 @@ fn copy_up(store: &mut Store, to: Addr, from: Addr, len: u32)
     for k in (0..len).rev() {
         copy_byte(store, behind(to, k), behind(from, k));
     }
+}
+
+// Copies bytes that are held: what is stored is what the source held before, also where the two places overlap.
+fn copy(store: &mut Store, to: Addr, from: Addr, len: u32)
+    requires storage { IsStepStorage store.old }
+    requires target { AllHeld store.old (span to len) }
+    requires source { AllHeld store.old (span from len) }
+    ensures { Copied store.old to from len store.new }
+{
+    if to.get() <= from.get() {
+        copy_down(store, to, from, len);
+    } else {
+        copy_up(store, to, from, len);
+    }
+}
+
+/// SHOW: it only looks whether the bytes may be read.
+pub fn show(store: &Store, from: Addr, len: ShowLength) -> Result<Reply, Code>
+    requires { IsStepStorage store.now }
+    ensures answer { (o : Owners) (t : Name) → Answers (Acts (seen store.now o) t (request.Show from len)) (seen store.now o) t result (seen store.now o) }
+    ensures no_abend { IfOk result (λ reply. is_abend reply ≡ false) }
+{
+    if !all_held(store, Place::new(from, len.get())) {
+        return Err(Code::System(0x0C4));
+    }
+    Ok(Reply::Done)
+}
+
+/// PUT: the bytes stand at the address and behind it now.
+pub fn put(store: &mut Store, to: Addr, bytes: &Bytes) -> Result<Reply, Code>
+    requires { IsStepStorage store.old }
+    ensures answer { (o : Owners) (t : Name) → Answers (Acts (seen store.old o) t (request.Put to bytes.now)) (seen store.old o) t result (seen store.new o) }
+    ensures no_abend { IfOk result (λ reply. is_abend reply ≡ false) }
+    ensures storage { IsStorage store.new }
+{
+    let place = Place::new(to, bytes.len() as u32);
+    if !all_held(store, place) {
+        return Err(Code::System(0x0C4));
+    }
+    write(store, place, bytes.as_slice());
+    Ok(Reply::Done)
+}
+
+// Whether all bytes that are read and written are held.
+fn may_move(store: &Store, to: Addr, from: Addr, len: u32) -> bool
+    requires storage { IsStepStorage store.now }
+    requires some { 1 ≤ len }
+    requires most { len ≤ 2 ^ 31 }
+    ensures { IsTrue result ↔ (AllHeld store.now (span to len) × AllHeld store.now (span from len)) }
+{
+    all_held(store, Place::new(to, len)) && all_held(store, Place::new(from, len))
+}
+
+/// MOVE: the bytes behind one address stand behind the other now.
+pub fn move_bytes(store: &mut Store, to: Addr, from: Addr, len: MoveLength) -> Result<Reply, Code>
+    requires { IsStepStorage store.old }
+    ensures answer { (o : Owners) (t : Name) → Answers (Acts (seen store.old o) t (request.Move to from len)) (seen store.old o) t result (seen store.new o) }
+    ensures no_abend { IfOk result (λ reply. is_abend reply ≡ false) }
+    ensures storage { IsStorage store.new }
+{
+    let len = len.get();
+    if !may_move(store, to, from, len) {
+        return Err(Code::System(0x0C4));
+    }
+    copy(store, to, from, len);
+    Ok(Reply::Done)
 }

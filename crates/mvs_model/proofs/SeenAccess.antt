@@ -48,7 +48,7 @@ module _ (st : Storage) (o : Owners) (is : IsStorage st) where
   pub all_granted_held : (p : Span) → AllHeld st p → all_granted (seen st o) p ≡ true
   all_granted_held p h = each_below (λ i. granted (seen st o) (p.addr + i)) p.len (λ i l. granted_held p h (p.addr + i) (omega arith) (omega arith))
 
-  held_all_granted : (p : Span) → 1 ≤ p.len → all_granted (seen st o) p ≡ true → AllHeld st p
+  pub held_all_granted : (p : Span) → 1 ≤ p.len → all_granted (seen st o) p ≡ true → AllHeld st p
   held_all_granted p some e = held_granted p some (λ a low high.
       ap (granted (seen st o)) (let s : a ≡ p.addr + (a - p.addr) = omega arith in s) ∙ below_each (λ i. granted (seen st o) (p.addr + i)) p.len e (a - p.addr) (omega arith))
 
