@@ -14,6 +14,7 @@ pub mod Printed
 pub mod Search
 pub mod Seen
 pub mod SeenEnd
+pub mod SeenRelease
 pub mod Sized
 pub mod SmallLaws
 pub mod StorageLaws
