@@ -23,7 +23,9 @@ use mvs_model::place::Place;
 use mvs_model::request::{Reply, Request};
 use mvs_model::subpool::SubpoolId;
 use mvs_model::want::Placement;
+use request_forms::list::obtain_list;
 use request_forms::obtain::obtain;
+use request_forms::release::{release, release_whole};
 use std::alloc::Global;
 use std::marker::Model;
 use subpool_store::Store;
@@ -75,6 +77,18 @@ fn act(store: &mut Store, tasks: &mut Tasks, t: TaskId, request: &Request) -> Re
 {
     match request {
         Request::Obtain { form, number, ask } => obtain(store, tasks, t, *form, *number, ask),
+        Request::ObtainList {
+            form,
+            number,
+            lengths,
+            start,
+        } => obtain_list(store, tasks, t, *form, *number, lengths, *start),
+        Request::Release {
+            form,
+            number,
+            place,
+        } => release(store, tasks, t, *form, *number, *place),
+        Request::ReleaseWhole { form, number } => release_whole(store, tasks, t, *form, *number),
         Request::Show { from, len } => show(store, *from, *len),
         Request::Put { to, bytes } => put(store, *to, bytes),
         Request::Move { to, from, len } => move_bytes(store, *to, *from, *len),

@@ -11,3 +11,12 @@ returns-in-Put-clause-answer c = rw c.in-Put.is (c.put.ensures.answer _ _)
 
 pub returns-in-Move-clause-answer : goal.returns-in-Move-clause-answer
 returns-in-Move-clause-answer c = rw c.in-Move.is (c.move_bytes.ensures.answer _ _)
+
+pub returns-in-ObtainList-clause-answer : goal.returns-in-ObtainList-clause-answer
+returns-in-ObtainList-clause-answer c = rw c.in-ObtainList.is c.obtain_list.ensures.answer
+
+pub returns-in-Release-clause-answer : goal.returns-in-Release-clause-answer
+returns-in-Release-clause-answer c = rw c.in-Release.is c.release.ensures.answer
+
+pub returns-in-ReleaseWhole-clause-answer : goal.returns-in-ReleaseWhole-clause-answer
+returns-in-ReleaseWhole-clause-answer c = rw c.in-ReleaseWhole.is c.release_whole.ensures.answer
