@@ -2,6 +2,8 @@
 #![tactic(auto)]
 
 pub mod codes;
-pub mod list;
 pub mod obtain;
+pub mod obtain_list;
 pub mod release;
+#[cfg(test)]
+mod tests;
