@@ -8,7 +8,6 @@ mod job;
 mod names;
 mod print;
 mod run;
-mod script;
 mod serve;
 mod text;
 

@@ -3,7 +3,7 @@
 ghost use Rattle.std.specs.Prelude.{◌≡◌, true, false, slice_get, IfOk, IfSome, OnOk, OnErr, IsErrOf};
 ghost use Rattle.job_step.specs.Progress.{IsBuilt};
 ghost use Rattle.mvs_model.specs.Runs.{Asks, Does, IsStatement, Job, all_set, first_job, where_text, names_set, places_in, reply_text, resolved};
-ghost use Rattle.mvsjob.specs.Built.{IsBuiltAsked, IsBuiltStatement};
+ghost use Rattle.job_script.specs.Built.{IsBuiltAsked, IsBuiltStatement};
 ghost use Rattle.mvsjob.specs.Serving.{Performs};
 ghost use Rattle.mvs_model.specs.Texts.{reply_line};
 ghost use Rattle.mvsjob.specs.Writing.{WritesAll};

@@ -1,0 +1,4 @@
+pub mod Built
+pub mod Ends
+pub mod InRanges
+pub mod OfKind

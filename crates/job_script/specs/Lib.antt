@@ -1,0 +1,13 @@
+pub mod Addresses
+pub mod Built
+pub mod Chains
+pub mod Choices
+pub mod Fields
+pub mod Hex
+pub mod Lines
+pub mod NameTexts
+pub mod Numbers
+pub mod Operands
+pub mod Pairs
+pub mod Pieces
+pub mod Statements
