@@ -15,6 +15,7 @@ pub mod RegionsKept
 pub mod Search
 pub mod Seen
 pub mod SeenEnd
+pub mod SeenRelease
 pub mod Sized
 pub mod SmallLaws
 pub mod StorageLaws

@@ -53,7 +53,7 @@ fn obtain_area(
 }
 
 // What a refusal is answered: 4 for a conditional form, else an abend.
-fn refused(form: Form, code: Code) -> Result<Reply, Code>
+pub(crate) fn refused(form: Form, code: Code) -> Result<Reply, Code>
     ensures { result ≡ (if table.is_conditional form then Ok Rc4 else Err code) }
 {
     if is_conditional(form) {
