@@ -10,8 +10,14 @@ use Rattle.mvs_model.specs.declared.line.Asked.TheVariants as asked
 
 -- The request is one of those that are read today.
 abbrev pub IsBuiltAsked : Asked → Type 0
-IsBuiltAsked (asked.Obtain form number ask variable area) = Unit {0}
-IsBuiltAsked _ = ⊥
+IsBuiltAsked (asked.Build pool number size primary secondary loc) = ⊥
+IsBuiltAsked (asked.Get pool conditional cell) = ⊥
+IsBuiltAsked (asked.Free pool cell) = ⊥
+IsBuiltAsked (asked.Delete pool) = ⊥
+IsBuiltAsked (asked.Attach name gifts residence) = ⊥
+IsBuiltAsked asked.Return = ⊥
+IsBuiltAsked (asked.Abend n) = ⊥
+IsBuiltAsked _ = Unit {0}
 
 -- the same of a statement
 abbrev pub IsBuiltStatement : Statement → Type 0

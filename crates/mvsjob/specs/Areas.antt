@@ -1,9 +1,15 @@
 -- The places that names are set to.
-use Rattle.std.specs.Prelude.{◌≡◌, ◌+◌, ◌≤◌, Some}
+use Rattle.std.specs.Prelude.{◌≡◌, ℕ, ◌+◌, ◌≤◌, List, [], ◌∷◌, Some, All}
 use Rattle.std.specs.FinMap.{FinMap, get}
 use Rattle.mvs_model.specs.declared.name.Name.{Name}
 use Rattle.mvs_model.specs.Name.{name_cmp}
 use Rattle.mvs_model.specs.Span.{Span}
+use Rattle.mvs_model.specs.Storage.{Regions}
+
+-- The regions are no greater than those of a card.
+pub record AreInLimits (r : Regions) : Type 0 where
+  pub below : r.below ≤ 2048
+  pub above : r.above ≤ 8192
 
 -- The place ends where the greatest region above ends, or before: so an address with an offset from its name has 31 bits.
 -- (the limits of the regions are this project's choice)
@@ -13,3 +19,8 @@ IsArea p = p.addr + p.len ≤ 0x3000000
 -- Each name is set to such a place.
 abbrev pub AreAreas : FinMap name_cmp Span → Type 0
 AreAreas names = (name : Name) (p : Span) → get names name ≡ Some p → IsArea p
+
+-- Where there are names, the places are such places.
+abbrev pub Fit : List Name → List Span → Type 0
+Fit [] places = Unit {0}
+Fit (name ∷ names) places = All IsArea places
