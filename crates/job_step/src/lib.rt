@@ -1,6 +1,7 @@
 //! One step of a job: the requests of its tasks and their replies.
 #![tactic(auto)]
 
+mod access;
 mod step;
 #[cfg(test)]
 mod tests;

@@ -1,24 +1,31 @@
 //! The machine of one step.
 
-ghost use Rattle.std.specs.Prelude.{◌≡◌, ◌||◌, false, true, IfOk, ℕ};
+ghost use Rattle.std.specs.Prelude.{◌≡◌, ◌<◌, ◌+◌, ◌||◌, ◌↔◌, false, true, IfOk, IfSome, IsSome, ℕ, length, slice_get};
+ghost use Rattle.std.specs.FinMap.{get};
 ghost use Rattle.mvs_model.specs.Storage.{IsStorage, ReleaseEach};
 ghost use Rattle.mvs_model.specs.Owners.{is_active};
 ghost use Rattle.mvs_model.specs.Start.{start};
+ghost use Rattle.mvs_model.specs.Changes.{Granted};
 ghost use Rattle.mvs_model.specs.Steps.{Abends, Acts, Step as MachineStep};
 ghost use Rattle.mvs_model.specs.Runs.{is_abend};
 ghost use Rattle.mvs_model.specs.View.{seen};
 ghost use Rattle.task_owner.specs.Directory.{IsTask, name_of, name_at};
 ghost use Rattle.request_forms.specs.Answers.{Answers};
+ghost use Rattle.job_step.specs.Access.{IsStepStorage};
 ghost use Rattle.job_step.specs.Progress.{IsBuilt};
 
+use crate::access::{all_held, move_bytes, put, show};
 use mvs_model::card::Card;
 use mvs_model::code::Code;
 use mvs_model::error::OutOfMemory;
 use mvs_model::name::Name;
+use mvs_model::place::Place;
 use mvs_model::request::{Reply, Request};
 use mvs_model::subpool::SubpoolId;
 use mvs_model::want::Placement;
+use request_forms::list::obtain_list;
 use request_forms::obtain::obtain;
+use request_forms::release::{release, release_whole};
 use std::alloc::Global;
 use std::marker::Model;
 use subpool_store::Store;
@@ -33,8 +40,8 @@ pub struct Step {
 }
 
 impl Model for Step {
-    ghost use Rattle.mvs_model.specs.Storage.{IsStorage};
     ghost use Rattle.mvs_model.specs.View.{seen};
+    ghost use Rattle.job_step.specs.Access.{IsStepStorage};
     ghost use Rattle.job_step.specs.Progress.{Progress, progress_code};
 
     ghost Value = { Progress };
@@ -43,7 +50,7 @@ impl Model for Step {
 
     ghost view = { λ s. record { state = seen s.store s.tasks.owners; abended = s.abended } };
 
-    ghost invariant = { λ s. IsStorage s.store };
+    ghost invariant = { λ s. IsStepStorage s.store };
 }
 
 // Releases all that some subpools hold.
@@ -60,7 +67,7 @@ fn release_each(store: &mut Store, subpools: &[SubpoolId])
 // What an active task's request is answered, before an abend ends the task.
 fn act(store: &mut Store, tasks: &mut Tasks, t: TaskId, request: &Request) -> Result<Reply, Code>
     requires task { IsTask tasks.old t }
-    requires storage { IsStorage store.old }
+    requires storage { IsStepStorage store.old }
     requires built { IsBuilt request.now }
     ensures answer { let old = seen store.old tasks.old.owners in let name = name_of tasks.old t in
         Answers (Acts old name request.now) old name result (seen store.new tasks.new.owners) }
@@ -70,6 +77,21 @@ fn act(store: &mut Store, tasks: &mut Tasks, t: TaskId, request: &Request) -> Re
 {
     match request {
         Request::Obtain { form, number, ask } => obtain(store, tasks, t, *form, *number, ask),
+        Request::ObtainList {
+            form,
+            number,
+            lengths,
+            start,
+        } => obtain_list(store, tasks, t, *form, *number, lengths, *start),
+        Request::Release {
+            form,
+            number,
+            place,
+        } => release(store, tasks, t, *form, *number, *place),
+        Request::ReleaseWhole { form, number } => release_whole(store, tasks, t, *form, *number),
+        Request::Show { from, len } => show(store, *from, *len),
+        Request::Put { to, bytes } => put(store, *to, bytes),
+        Request::Move { to, from, len } => move_bytes(store, *to, *from, *len),
         _ => unreachable!(),
     }
 }
@@ -113,6 +135,18 @@ impl Step {
         ensures { result ≡ self.now.abended }
     {
         self.abended
+    }
+
+    /// The bytes of a place. None where one of them may not be read: its doubleword is not held (this project's choice).
+    pub fn bytes(&self, place: Place) -> Option<&[u8]>
+        ensures granted { IsSome result ↔ Granted self.now.state place }
+        ensures len { IfSome result (λ part. length part.now ≡ place.len) }
+        ensures bytes { IfSome result (λ part. (k : ℕ) → k < place.len → slice_get part.now k ≡ get self.now.state.bytes (place.addr + k)) }
+    {
+        if !all_held(&self.store, place) {
+            return None;
+        }
+        Some(self.store.bytes(place))
     }
 
     /// Serves a request of a task, which need not be active. It always replies.

@@ -14,6 +14,7 @@ pub mod Printed
 pub mod RegionsKept
 pub mod Search
 pub mod Seen
+pub mod SeenAccess
 pub mod SeenEnd
 pub mod SeenRelease
 pub mod Sized

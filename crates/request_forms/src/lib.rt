@@ -2,5 +2,6 @@
 #![tactic(auto)]
 
 pub mod codes;
+pub mod list;
 pub mod obtain;
 pub mod release;
