@@ -3,7 +3,7 @@ use Rattle.std.specs.Prelude.{Bool, refl}
 use Rattle.std.specs.Coded.{Coded, code_by, coded×, coded_bool}
 use Rattle.mvs_model.specs.State.{State, state_code}
 use Rattle.mvs_model.specs.declared.request.Request.{Request}
-use Rattle.mvs_model.specs.declared.request.Request.TheVariants.{ReleaseList, Build, Get, Free, Delete, Attach, Return, Abend}
+use Rattle.mvs_model.specs.declared.request.Request.TheVariants.{ReleaseList, Build, Get, Free, Delete}
 
 -- The state of the machine, and whether a task has abended.
 pub record Progress : Type 0 where
@@ -20,7 +20,4 @@ IsBuilt (Build pool number size primary secondary loc) = ⊥
 IsBuilt (Get pool conditional) = ⊥
 IsBuilt (Free pool cell) = ⊥
 IsBuilt (Delete pool) = ⊥
-IsBuilt (Attach name gifts residence) = ⊥
-IsBuilt Return = ⊥
-IsBuilt (Abend n) = ⊥
 IsBuilt _ = Unit {0}

@@ -3,6 +3,7 @@
 
 mod access;
 mod step;
+mod subtasking;
 #[cfg(test)]
 mod tests;
 

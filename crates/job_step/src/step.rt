@@ -1,6 +1,6 @@
 //! The machine of one step.
 
-ghost use Rattle.std.specs.Prelude.{◌≡◌, ◌<◌, ◌+◌, ◌||◌, ◌↔◌, false, true, IfOk, IfSome, IsSome, ℕ, length, slice_get};
+ghost use Rattle.std.specs.Prelude.{◌≡◌, ◌<◌, ◌+◌, ◌||◌, ◌↔◌, false, true, IfOk, IfSome, IsSome, OnErr, ℕ, length, slice_get};
 ghost use Rattle.std.specs.FinMap.{get};
 ghost use Rattle.mvs_model.specs.Storage.{IsStorage, ReleaseEach};
 ghost use Rattle.mvs_model.specs.Owners.{is_active};
@@ -15,6 +15,7 @@ ghost use Rattle.job_step.specs.Access.{IsStepStorage};
 ghost use Rattle.job_step.specs.Progress.{IsBuilt};
 
 use crate::access::{all_held, move_bytes, put, show};
+use crate::subtasking::{abend, attach, finish};
 use mvs_model::card::Card;
 use mvs_model::code::Code;
 use mvs_model::error::OutOfMemory;
@@ -53,17 +54,6 @@ impl Model for Step {
     ghost invariant = { λ s. IsStepStorage s.store };
 }
 
-// Releases all that some subpools hold.
-fn release_each(store: &mut Store, subpools: &[SubpoolId])
-    requires { IsStorage store.old }
-    ensures released { ReleaseEach store.old subpools.now store.new }
-    ensures storage { IsStorage store.new }
-{
-    for subpool in subpools {
-        store.release_all(*subpool);
-    }
-}
-
 // What an active task's request is answered, before an abend ends the task.
 fn act(store: &mut Store, tasks: &mut Tasks, t: TaskId, request: &Request) -> Result<Reply, Code>
     requires task { IsTask tasks.old t }
@@ -73,7 +63,7 @@ fn act(store: &mut Store, tasks: &mut Tasks, t: TaskId, request: &Request) -> Re
         Answers (Acts old name request.now) old name result (seen store.new tasks.new.owners) }
     ensures no_abend { IfOk result (λ reply. is_abend reply ≡ false) }
     ensures storage { IsStorage store.new }
-    ensures names { (id : ℕ) → name_at tasks.new id ≡ name_at tasks.old id }
+    ensures unchanged { OnErr result (tasks.new ≡ tasks.old) }
 {
     match request {
         Request::Obtain { form, number, ask } => obtain(store, tasks, t, *form, *number, ask),
@@ -89,24 +79,18 @@ fn act(store: &mut Store, tasks: &mut Tasks, t: TaskId, request: &Request) -> Re
             place,
         } => release(store, tasks, t, *form, *number, *place),
         Request::ReleaseWhole { form, number } => release_whole(store, tasks, t, *form, *number),
+        Request::Attach {
+            name,
+            gifts,
+            residence,
+        } => attach(tasks, t, name, gifts, *residence),
+        Request::Return => finish(store, tasks, t),
+        Request::Abend(code) => Err(Code::User(code.get() as u16)),
         Request::Show { from, len } => show(store, *from, *len),
         Request::Put { to, bytes } => put(store, *to, bytes),
         Request::Move { to, from, len } => move_bytes(store, *to, *from, *len),
         _ => unreachable!(),
     }
-}
-
-// Ends a task that abends, with its descendants and what they own.
-fn abend(store: &mut Store, tasks: &mut Tasks, t: TaskId, code: Code) -> Reply
-    requires task { IsTask tasks.old t }
-    requires storage { IsStorage store.old }
-    ensures abends { Abends (seen store.old tasks.old.owners) (name_of tasks.old t) code result (seen store.new tasks.new.owners) }
-    ensures is_abend { is_abend result ≡ true }
-    ensures storage { IsStorage store.new }
-{
-    let gone = tasks.end(t);
-    release_each(store, gone.freed.as_slice());
-    Reply::Abended(code, gone.fallen)
 }
 
 impl Step {

@@ -1,3 +1,4 @@
+use Rattle.std.proofs.Common.{refl}
 use Rattle.job_step.proofs.step.act.Goals as goal
 
 pub returns-in-Obtain-clause-answer : goal.returns-in-Obtain-clause-answer
@@ -20,3 +21,9 @@ returns-in-Release-clause-answer c = rw c.in-Release.is c.release.ensures.answer
 
 pub returns-in-ReleaseWhole-clause-answer : goal.returns-in-ReleaseWhole-clause-answer
 returns-in-ReleaseWhole-clause-answer c = rw c.in-ReleaseWhole.is c.release_whole.ensures.answer
+
+pub returns-in-Attach-clause-answer : goal.returns-in-Attach-clause-answer
+returns-in-Attach-clause-answer c = rw c.in-Attach.is (c.attach.ensures.answer c.args.store.now)
+
+pub returns-in-Abend-clause-answer : goal.returns-in-Abend-clause-answer
+returns-in-Abend-clause-answer c = rw (c.in-Abend.is, c.get.ensures.value) (refl, λ reply ended a. a)
