@@ -1,115 +1,144 @@
--- A line that is read has its operands in their ranges.
+-- What is read is in its ranges, and is one of the statements that are built.
 use Rattle.std.proofs.Common.{◌≡◌, ℕ, ◌≤◌, Bool, true, false, cond, List, [], Option, Some, None, Result, Ok, Err, refl, subst, arith}
-use Rattle.std.specs.Prelude.{slice_get, replicate, bytes_eq, codes, not, ◌||◌, nat_lt, length}
+use Rattle.std.specs.Prelude.{length, nat_lt, ◌||◌, not, bytes_eq, codes, slice_get, replicate, IfOk}
 use Rattle.std.specs.List.{list_all}
 use Rattle.mvs_model.specs.declared.name.Name.{Name}
 use Rattle.mvs_model.specs.declared.line.Fault.{Fault}
-use Rattle.mvs_model.specs.declared.line.Fault.TheVariants.{TooLong, InvalidByte, OutOfPlace, UnknownOperation}
+use Rattle.mvs_model.specs.declared.line.Fault.TheVariants.{TooLong, InvalidByte, UnknownOperation, OutOfPlace}
 use Rattle.mvs_model.specs.declared.line.Line.{Line}
 use Rattle.mvs_model.specs.declared.line.Line.TheVariants as line
 use Rattle.mvs_model.specs.declared.line.Statement.{Statement}
-use Rattle.mvs_model.specs.declared.line.Statement.TheVariants as says
-use Rattle.mvs_model.specs.declared.want.Residence.TheVariants as residence
 use Rattle.mvs_model.specs.Runs.{IsLine, IsStatement, IsReader}
+use Rattle.job_script.specs.declared.operands.Kind.{Kind}
 use Rattle.job_script.specs.declared.operands.Kind.TheVariants as kind
 use Rattle.job_script.specs.declared.operands.Keyword.{Keyword}
-use Rattle.job_script.specs.declared.operands.Kind.{Kind}
 use Rattle.job_script.specs.declared.operands.Value.{Value}
 use Rattle.job_script.specs.declared.operands.Value.TheVariants as value
-use Rattle.job_script.specs.declared.statements.TheConstants.{REGION, GETMAIN_R, WHERE}
+use Rattle.job_script.specs.declared.region.TheConstants.{REGION}
+use Rattle.job_script.specs.declared.getmain.TheConstants.{FIXED}
+use Rattle.job_script.specs.declared.freemain.TheConstants.{RELEASE}
+use Rattle.job_script.specs.declared.access.TheConstants.{PUT, SHOW, WHERE}
 use Rattle.job_script.specs.declared.statements.Operation.{Operation}
-use Rattle.job_script.specs.declared.statements.Operation.TheVariants.{Region, Getmain, Where}
+use Rattle.job_script.specs.declared.statements.Operation.TheVariants.{Region, Getmain, Freemain, Put, Show, Where}
+use Rattle.job_script.specs.Built.{IsBuiltLine, IsBuiltStatement}
 use Rattle.job_script.specs.Chains.{◌>>=◌, or_fault}
 use Rattle.job_script.specs.Fields.{is_plain_byte, is_blank_byte, word_of, after_word}
 use Rattle.job_script.specs.NameTexts.{name_at}
 use Rattle.job_script.specs.Operands.{operands_at, IsKept, AreOf}
-use Rattle.job_script.specs.Statements.{number_of, name_of, region_at, region_of, getmain_r, getmain_r_at, getmain_r_of, getmain_at, where_at, where_of, form_of, statement_of, operation_of, pieces_in}
+use Rattle.job_script.specs.Values.{number_of, name_of, location_of, bytes_of}
+use Rattle.job_script.specs.Forms.{form_of}
+use Rattle.job_script.specs.Region.{region_at, region_of}
+use Rattle.job_script.specs.Getmain.{getmain_at, getmain_r_at, getmain_r_of}
+use Rattle.job_script.specs.Freemain.{freemain_at, freemain_r_at, freemain_r_of}
+use Rattle.job_script.specs.Access.{put_at, put_of, show_at, show_of, where_at, where_of}
+use Rattle.job_script.specs.Statements.{statement_of, operation_of, pieces_in}
 use Rattle.job_script.specs.Lines.{line_of, statement_at, is_in_place, is_comment}
+use Rattle.job_script.proofs.Chains.{chain}
 use Rattle.job_script.proofs.OfKind.{operands_kept, none_kept}
 
--- what holds of a statement that an operation says, where it is in its place
-abbrev IfSays : Bool → Name → Result Statement Fault → Type 0
-IfSays first task (Ok s) = IsStatement first task s
-IfSays first task (Err fault) = Unit {0}
-
-says_bind : {A : Type 0} → (first : Bool) (task : Name) (r : Result A Fault) (f : A → Result Statement Fault) → ((x : A) → r ≡ Ok x → IfSays first task (f x)) → IfSays first task (r >>= f)
-says_bind first task (Ok x) f h = h x refl
-says_bind first task (Err fault) f h = tt
-
-line_bind : {A : Type 0} → (first : Bool) (r : Result A Fault) (f : A → Result Line Fault) → ((x : A) → IsLine first (f x)) → IsLine first (r >>= f)
-line_bind first (Ok x) f h = h x
-line_bind first (Err fault) f h = tt
+-- A statement that may stand in its place, has its operands in their ranges, and is built.
+abbrev pub IsSaid : Bool → Name → Statement → Type 0
+IsSaid first task s = IsStatement first task s × IsBuiltStatement s
 
 -- a number that a required operand says is in the range of its kind
 number_kept : (least most : ℕ) (o : Option (Option Value)) (n : ℕ) → IsKept (Some (kind.Number least most)) o → number_of o ≡ Ok n → (least ≤ n) × (n ≤ most)
-number_kept least most None n kept e = absurd (cc)
-number_kept least most (Some None) n kept e = absurd (cc)
 number_kept least most (Some (Some (value.Number m))) n kept e = let is : m ≡ n = cc in subst (λ n. (least ≤ n) × (n ≤ most)) is kept
-number_kept least most (Some (Some (value.YesNo b))) n kept e = absurd (cc)
-number_kept least most (Some (Some (value.Loc l))) n kept e = absurd (cc)
-number_kept least most (Some (Some (value.Residence r))) n kept e = absurd (cc)
-number_kept least most (Some (Some (value.Name m))) n kept e = absurd (cc)
-number_kept least most (Some (Some (value.Byte m))) n kept e = absurd (cc)
-number_kept least most (Some (Some (value.Pair l s))) n kept e = absurd (cc)
-number_kept least most (Some (Some (value.Address l))) n kept e = absurd (cc)
+number_kept least most _ n kept e = absurd (cc)
 
 -- what is read from no values on is of the kinds
 read_kept : (positional : List Kind) (keywords : List Keyword) (n : ℕ) (pieces : List (List ℕ)) (values : List (Option Value)) → operands_at positional keywords (replicate n None) 0 pieces ≡ Ok values → AreOf positional keywords values
 read_kept positional keywords n pieces values e = operands_kept positional keywords (replicate n None) 0 pieces values (none_kept positional keywords n) e
 
-region_says : (first : Bool) (task : Name) (pieces : List (List ℕ)) → first ≡ true → IfSays first task (region_at pieces)
-region_says first task pieces is =
-    says_bind first task (operands_at [] REGION (replicate 1 None) 0 pieces) region_of (λ values read.
-    says_bind first task (number_of (slice_get values 0)) (λ below. Ok (says.Region below 0 0 residence.Below)) (λ below number.
-    let range : (1 ≤ below) × (below ≤ 2048) = number_kept 1 2048 (slice_get values 0) below (read_kept [] REGION 1 pieces values read 0) number in
-    (is, record { below_some = range.0; below_most = range.1; above_most = omega arith })))
+region_said : (task : Name) (pieces : List (List ℕ)) → IfOk (region_at pieces) (IsSaid true task)
+region_said task pieces =
+    let P = IsSaid true task in
+    chain P (operands_at [] REGION (replicate 2 None) 0 pieces) region_of (λ values read.
+    chain P (number_of (slice_get values 0)) _ (λ below number.
+    let range : (1 ≤ below) × (below ≤ 2048) = number_kept 1 2048 (slice_get values 0) below (read_kept [] REGION 2 pieces values read 0) number in
+    ((refl, record { below_some = range.0; below_most = range.1; above_most = omega arith }), tt)))
 
-getmain_r_says : (first : Bool) (task : Name) (pieces : List (List ℕ)) → first ≡ false → IfSays first task (getmain_r_at pieces)
-getmain_r_says first task pieces is =
-    says_bind first task (operands_at [] GETMAIN_R (replicate 2 None) 0 pieces) getmain_r_of (λ values read.
-    says_bind first task (number_of (slice_get values 0)) (λ len. name_of (slice_get values 1) >>= λ area. Ok (getmain_r len area)) (λ len number.
-    says_bind first task (name_of (slice_get values 1)) (λ area. Ok (getmain_r len area)) (λ area name.
-    let range : (1 ≤ len) × (len ≤ 2147483647) = number_kept 1 2147483647 (slice_get values 0) len (read_kept [] GETMAIN_R 2 pieces values read 0) number in
-    (is, record { some = range.0; ordered = omega arith; short = omega arith; start = (omega arith, omega arith); within = tt }))))
+getmain_r_said : (task : Name) (pieces : List (List ℕ)) → IfOk (getmain_r_at pieces) (IsSaid false task)
+getmain_r_said task pieces =
+    let P = IsSaid false task in
+    chain P (operands_at [] FIXED (replicate 2 None) 0 pieces) getmain_r_of (λ values read.
+    chain P (number_of (slice_get values 0)) _ (λ len number.
+    chain P (name_of (slice_get values 1)) _ (λ area name.
+    let range : (1 ≤ len) × (len ≤ 2147483647) = number_kept 1 2147483647 (slice_get values 0) len (read_kept [] FIXED 2 pieces values read 0) number in
+    ((refl, record { some = range.0; ordered = omega arith; short = omega arith; start = (omega arith, omega arith); within = tt }), tt))))
 
-getmain_says : (first : Bool) (task : Name) (pieces : List (List ℕ)) → first ≡ false → IfSays first task (getmain_at pieces)
-getmain_says first task pieces is =
-    says_bind first task (form_of pieces) (λ r. cond (bytes_eq r.0 (codes "R")) (getmain_r_at r.1) (Err UnknownOperation)) (λ r read. by_form (bytes_eq r.0 (codes "R")) r.1) where
-      by_form : (b : Bool) (rest : List (List ℕ)) → IfSays first task (cond b (getmain_r_at rest) (Err UnknownOperation))
-      by_form true rest = getmain_r_says first task rest is
-      by_form false rest = tt
+-- what holds of what each form says holds of what the operation says
+by_form : (P : Statement → Type 0) (b : Bool) (r : Result Statement Fault) → IfOk r P → IfOk (cond b r (Err UnknownOperation)) P
+by_form P true r h = h
+by_form P false r h = tt
 
-where_says : (first : Bool) (task : Name) (pieces : List (List ℕ)) → first ≡ false → IfSays first task (where_at pieces)
-where_says first task pieces is =
-    says_bind first task (operands_at WHERE [] (replicate 1 None) 0 pieces) where_of (λ values read.
-    says_bind first task (name_of (slice_get values 0)) (λ area. Ok (says.Where area)) (λ area name. is))
+getmain_said : (task : Name) (pieces : List (List ℕ)) → IfOk (getmain_at pieces) (IsSaid false task)
+getmain_said task pieces = chain (IsSaid false task) (form_of pieces) _ (λ r read. by_form (IsSaid false task) (bytes_eq r.0 (codes "R")) (getmain_r_at r.1) (getmain_r_said task r.1))
 
-statement_says : (first : Bool) (task : Name) (operation : Operation) (pieces : List (List ℕ)) → is_in_place first operation ≡ true → IfSays first task (statement_of operation pieces)
-statement_says first task Region pieces is = region_says first task pieces is
-statement_says true task Getmain pieces is = absurd (cc)
-statement_says false task Getmain pieces is = getmain_says false task pieces refl
-statement_says true task Where pieces is = absurd (cc)
-statement_says false task Where pieces is = where_says false task pieces refl
+freemain_r_said : (task : Name) (pieces : List (List ℕ)) → IfOk (freemain_r_at pieces) (IsSaid false task)
+freemain_r_said task pieces =
+    let P = IsSaid false task in
+    chain P (operands_at [] RELEASE (replicate 2 None) 0 pieces) freemain_r_of (λ values read.
+    chain P (number_of (slice_get values 0)) _ (λ len number.
+    chain P (location_of (slice_get values 1)) _ (λ location address. ((refl, tt), tt))))
 
-line_says : (first : Bool) (task : Name) (r : Result Statement Fault) → IfSays first task r → IsLine first (r >>= λ s. Ok (line.Statement task s))
-line_says first task (Ok s) says = says
-line_says first task (Err fault) says = tt
+freemain_said : (task : Name) (pieces : List (List ℕ)) → IfOk (freemain_at pieces) (IsSaid false task)
+freemain_said task pieces = chain (IsSaid false task) (form_of pieces) _ (λ r read. by_form (IsSaid false task) (bytes_eq r.0 (codes "R")) (freemain_r_at r.1) (freemain_r_said task r.1))
 
--- what a statement of a task and an operation says
-abbrev said : List ℕ → Bool → Name → Operation → Result Line Fault
-said text first task operation =
-    cond (not (is_in_place first operation)) (Err OutOfPlace) (statement_of operation (pieces_in (word_of (after_word (after_word text)))) >>= λ s. Ok (line.Statement task s))
+put_said : (task : Name) (pieces : List (List ℕ)) → IfOk (put_at pieces) (IsSaid false task)
+put_said task pieces =
+    let P = IsSaid false task in
+    chain P (operands_at PUT [] (replicate 2 None) 0 pieces) put_of (λ values read.
+    chain P (location_of (slice_get values 0)) _ (λ to address.
+    chain P (bytes_of (slice_get values 1)) _ (λ bytes some. ((refl, tt), tt))))
 
-said_in_range : (text : List ℕ) (first : Bool) (task : Name) (operation : Operation) → IsLine first (said text first task operation)
-said_in_range text first task operation = placed (is_in_place first operation) (pieces_in (word_of (after_word (after_word text)))) refl where
-  placed : (b : Bool) (pieces : List (List ℕ)) → is_in_place first operation ≡ b → IsLine first (cond (not b) (Err OutOfPlace) (statement_of operation pieces >>= λ s. Ok (line.Statement task s)))
-  placed true pieces is = line_says first task (statement_of operation pieces) (statement_says first task operation pieces is)
-  placed false pieces is = tt
+show_said : (task : Name) (pieces : List (List ℕ)) → IfOk (show_at pieces) (IsSaid false task)
+show_said task pieces =
+    let P = IsSaid false task in
+    chain P (operands_at SHOW [] (replicate 2 None) 0 pieces) show_of (λ values read.
+    chain P (location_of (slice_get values 0)) _ (λ from address.
+    chain P (number_of (slice_get values 1)) _ (λ len number. ((refl, tt), tt))))
 
-pub statement_in_range : (text : List ℕ) (first : Bool) → IsLine first (statement_at text first)
-statement_in_range text first =
-    line_bind first (or_fault UnknownOperation (name_at (word_of text))) (λ task. or_fault UnknownOperation (operation_of (word_of (after_word text))) >>= said text first task) (λ task.
-    line_bind first (or_fault UnknownOperation (operation_of (word_of (after_word text)))) (said text first task) (said_in_range text first task))
+where_said : (task : Name) (pieces : List (List ℕ)) → IfOk (where_at pieces) (IsSaid false task)
+where_said task pieces =
+    let P = IsSaid false task in
+    chain P (operands_at WHERE [] (replicate 1 None) 0 pieces) where_of (λ values read.
+    chain P (name_of (slice_get values 0)) _ (λ area name. (refl, tt)))
+
+-- what each operation but REGION says
+later_said : (task : Name) (operation : Operation) (pieces : List (List ℕ)) → is_in_place false operation ≡ true → IfOk (statement_of operation pieces) (IsSaid false task)
+later_said task Region pieces is = absurd (cc)
+later_said task Getmain pieces is = getmain_said task pieces
+later_said task Freemain pieces is = freemain_said task pieces
+later_said task Put pieces is = put_said task pieces
+later_said task Show pieces is = show_said task pieces
+later_said task Where pieces is = where_said task pieces
+
+statement_said : (first : Bool) (task : Name) (operation : Operation) (pieces : List (List ℕ)) → is_in_place first operation ≡ true → IfOk (statement_of operation pieces) (IsSaid first task)
+statement_said true task Region pieces is = region_said task pieces
+statement_said true task _ pieces is = absurd (cc)
+statement_said false task operation pieces is = later_said task operation pieces is
+
+-- A line that is read is in its ranges, and is built.
+abbrev pub IsRead : Bool → Result Line Fault → Type 0
+IsRead first read = IsLine first read × IsBuiltLine read
+
+read_chain : {A : Type 0} → (first : Bool) (r : Result A Fault) (f : A → Result Line Fault) → ((x : A) → IsRead first (f x)) → IsRead first (r >>= f)
+read_chain first (Ok x) f h = h x
+read_chain first (Err fault) f h = (tt, tt)
+
+line_said : (first : Bool) (task : Name) (r : Result Statement Fault) → IfOk r (IsSaid first task) → IsRead first (r >>= λ s. Ok (line.Statement task s))
+line_said first task (Ok s) said = said
+line_said first task (Err fault) said = (tt, tt)
+
+placed_said : (first : Bool) (task : Name) (operation : Operation) (pieces : List (List ℕ)) (b : Bool) → is_in_place first operation ≡ b → IsRead first (cond (not b) (Err OutOfPlace) (statement_of operation pieces >>= λ s. Ok (line.Statement task s)))
+placed_said first task operation pieces true is = line_said first task (statement_of operation pieces) (statement_said first task operation pieces is)
+placed_said first task operation pieces false is = (tt, tt)
+
+pub statement_read : (text : List ℕ) (first : Bool) → IsRead first (statement_at text first)
+statement_read text first =
+    read_chain first (or_fault UnknownOperation (name_at (word_of text))) _ (λ task.
+    read_chain first (or_fault UnknownOperation (operation_of (word_of (after_word text)))) _ (λ operation.
+    placed_said first task operation (pieces_in (word_of (after_word (after_word text)))) (is_in_place first operation) refl))
 
 pub line_of-IsReader : IsReader line_of
 line_of-IsReader text first =
@@ -118,4 +147,4 @@ line_of-IsReader text first =
       whole true odd nothing = tt
       whole false true nothing = tt
       whole false false true = tt
-      whole false false false = statement_in_range text first
+      whole false false false = (statement_read text first).0

@@ -13,9 +13,10 @@ use Rattle.job_script.specs.declared.operands.Keyword.{Keyword}
 use Rattle.job_script.specs.declared.operands.Value.{Value}
 use Rattle.job_script.specs.declared.operands.Value.TheVariants as value
 use Rattle.job_script.specs.Chains.{◌>>=◌, or_fault}
+use Rattle.job_script.proofs.Chains.{bind_ok, or_fault_ok}
 use Rattle.job_script.specs.Numbers.{number_at, is_digit, value_of}
 use Rattle.job_script.specs.NameTexts.{name_at}
-use Rattle.job_script.specs.Hex.{byte_at}
+use Rattle.job_script.specs.Hex.{byte_at, bytes_at}
 use Rattle.job_script.specs.Pairs.{pair_at, in_order, inside_at, two_of, is_malformed_number}
 use Rattle.job_script.specs.Pieces.{pieces_of}
 use Rattle.job_script.specs.Addresses.{location_at}
@@ -23,20 +24,11 @@ use Rattle.std.proofs.lemmas.Bool.{cases_lt}
 use Rattle.job_script.specs.Choices.{yes_no_at, loc_at, residence_at}
 use Rattle.job_script.specs.Operands.{value_at, placed, positional_at, keyword_at, key_place, by_key, operand_at, operands_at, equals_at, is_malformed, is_set, IsOf, IsKept, AreOf}
 
--- a chain that succeeds has succeeded at its first step
-bind_ok : {A B : Type 0} → (r : Result A Fault) (f : A → Result B Fault) (y : B) → (r >>= f) ≡ Ok y → (x : A) × (r ≡ Ok x) × (f x ≡ Ok y)
-bind_ok (Ok x) f y e = (x, refl, e)
-bind_ok (Err fault) f y e = absurd (cc)
-
 abbrev ok : {A : Type 0} → A → Result A Fault
 ok x = Ok x
 
 ok_same : {A : Type 0} → (x y : A) → ok x ≡ ok y → x ≡ y
 ok_same x y e = cc
-
-or_fault_ok : {A : Type 0} → (fault : Fault) (o : Option A) (x : A) → or_fault fault o ≡ Ok x → o ≡ Some x
-or_fault_ok fault None x e = absurd (cc)
-or_fault_ok fault (Some y) x e = cc
 
 -- a number that is read is in its range
 number_in_range : (least most : ℕ) (text : List ℕ) (n : ℕ) → number_at least most text ≡ Ok n → (least ≤ n) × (n ≤ most)
@@ -101,6 +93,10 @@ value_of_kind kind.Address text v e =
     let read = bind_ok (location_at text) (λ l. Ok (value.Address l)) v e in
     let is : value.Address read.0 ≡ v = ok_same (value.Address read.0) v read.2 in
     subst (IsOf kind.Address) is tt
+value_of_kind kind.Bytes text v e =
+    let read = bind_ok (bytes_at text) (λ bytes. Ok (value.Bytes bytes)) v e in
+    let is : value.Bytes read.0 ≡ v = ok_same (value.Bytes read.0) v read.2 in
+    subst (IsOf kind.Bytes) is tt
 
 -- a list after a write
 slice_get-slice_set : {X : Type 0} → (xs : List X) (i : ℕ) (x : X) (j : ℕ) → (slice_get (slice_set xs i x) j ≡ slice_get xs j) ⊎ ((j ≡ i) × (slice_get (slice_set xs i x) j ≡ Some x))

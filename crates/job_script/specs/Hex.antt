@@ -1,6 +1,9 @@
 -- Hexadecimal digits.
-use Rattle.std.specs.Prelude.{ℕ, ◌+◌, ◌-◌, ◌*◌, List, [], ◌∷◌, length, nat_lt, nat_le, ◌==◌, ◌&&◌, ◌||◌, not, Bool, if◌then◌else◌, Option, Some, None, slice_index, slice_range}
+use Rattle.std.specs.Prelude.{ℕ, ◌+◌, ◌-◌, ◌*◌, ◌%◌, List, [], ◌∷◌, ◌++◌, length, nat_lt, nat_le, ◌==◌, ◌&&◌, ◌||◌, not, Bool, if◌then◌else◌, Option, Some, None, Result, Ok, Err, replicate, slice_index, slice_range}
 use Rattle.std.specs.List.{list_all}
+use Rattle.mvs_model.specs.declared.line.Fault.{Fault}
+use Rattle.mvs_model.specs.declared.line.Fault.TheVariants.{InvalidOperand, OutOfRange}
+use Rattle.job_script.specs.Chains.{◌>>=◌, or_fault}
 use Rattle.job_script.specs.Numbers.{is_digit}
 
 -- 0 to 9 or A to F
@@ -25,3 +28,23 @@ abbrev pub quoted_at : List ℕ → Option (List ℕ)
 quoted_at text =
     if nat_lt (length text) 3 || not (slice_index text 0 == 88) || not (slice_index text 1 == 39) || not (slice_index text (length text - 1) == 39) then None
     else Some (slice_range text 2 (length text - 1))
+
+-- the bytes that pairs of digits write, each in a place
+abbrev pub pairs_of : List ℕ → List (Option ℕ)
+pairs_of (high ∷ low ∷ digits) = Some (hex_digit high * 16 + hex_digit low) ∷ pairs_of digits
+pairs_of _ = []
+
+-- these in a hundred places
+abbrev pub hundred_of : List ℕ → List (Option ℕ)
+hundred_of digits = pairs_of digits ++ replicate (100 - length (pairs_of digits)) None
+
+-- the bytes that one to a hundred pairs of digits write
+abbrev pub paired_at : List ℕ → Result (List (Option ℕ)) Fault
+paired_at digits =
+    if (length digits == 0) || not (length digits % 2 == 0) || not (list_all is_hex_digit digits) then Err InvalidOperand
+    else (if nat_lt 200 (length digits) then Err OutOfRange
+    else Ok (hundred_of digits))
+
+-- the bytes that the digits between the quotes of X'..' write
+abbrev pub bytes_at : List ℕ → Result (List (Option ℕ)) Fault
+bytes_at text = or_fault InvalidOperand (quoted_at text) >>= λ digits. paired_at digits

@@ -1,8 +1,12 @@
+pub mod Access
 pub mod Addresses
 pub mod Built
 pub mod Chains
 pub mod Choices
 pub mod Fields
+pub mod Forms
+pub mod Freemain
+pub mod Getmain
 pub mod Hex
 pub mod Lines
 pub mod NameTexts
@@ -10,4 +14,7 @@ pub mod Numbers
 pub mod Operands
 pub mod Pairs
 pub mod Pieces
+pub mod Region
+pub mod Somes
 pub mod Statements
+pub mod Values

@@ -14,7 +14,7 @@ use Rattle.job_script.specs.Chains.{◌>>=◌, or_fault}
 use Rattle.job_script.specs.Numbers.{number_at}
 use Rattle.job_script.specs.NameTexts.{name_at}
 use Rattle.job_script.specs.Pieces.{pieces_of}
-use Rattle.job_script.specs.Hex.{byte_at}
+use Rattle.job_script.specs.Hex.{byte_at, bytes_at}
 use Rattle.job_script.specs.Pairs.{pair_at}
 use Rattle.job_script.specs.Addresses.{location_at}
 use Rattle.job_script.specs.Choices.{yes_no_at, boundary_at, loc_at, residence_at}
@@ -30,6 +30,7 @@ value_at kind.Name text = or_fault InvalidOperand (option_map value.Name (name_a
 value_at kind.Byte text = or_fault InvalidOperand (option_map value.Byte (byte_at text))
 value_at (kind.Pair least most) text = pair_at least most text >>= λ p. Ok (value.Pair p.0 p.1)
 value_at kind.Address text = location_at text >>= λ l. Ok (value.Address l)
+value_at kind.Bytes text = bytes_at text >>= λ bytes. Ok (value.Bytes bytes)
 
 -- where a padded key stands in the table; where a keyword does
 abbrev pub place_of : List Keyword → List ℕ → Option ℕ
@@ -108,6 +109,7 @@ IsOf kind.Name (value.Name name) = Unit {0}
 IsOf kind.Byte (value.Byte byte) = Unit {0}
 IsOf (kind.Pair least most) (value.Pair largest smallest) = (least ≤ smallest) × (smallest ≤ largest) × (largest ≤ most)
 IsOf kind.Address (value.Address address) = Unit {0}
+IsOf kind.Bytes (value.Bytes bytes) = Unit {0}
 IsOf _ _ = ⊥
 
 -- where there are a kind and a value, the value is of the kind

@@ -1,8 +1,13 @@
 //! Hexadecimal digits.
 
-ghost use Rattle.std.specs.Prelude.{◌≡◌, ◌≤◌, ◌<◌, ◌^◌, length, true, MatchOption, None, Some};
+ghost use Rattle.std.specs.Prelude.{◌≡◌, ◌≤◌, ◌<◌, ◌^◌, ◌∷◌, drop, length, true, MatchOption, None, Some};
 ghost use Rattle.std.specs.List.{list_all};
-ghost use Rattle.job_script.specs.Hex.{is_hex_digit, hex_digit, hex_value, byte_at, quoted_at};
+ghost use Rattle.job_script.specs.Hex.{is_hex_digit, hex_digit, hex_value, byte_at, quoted_at, pairs_of, hundred_of, paired_at, bytes_at};
+
+use mvs_model::line::Fault;
+
+/// The most bytes that one operand writes. This project's choice.
+pub const MOST_BYTES: usize = 100;
 
 // Whether the byte is one of 0 to 9 and A to F.
 fn is_hex_digit(byte: u8) -> bool
@@ -64,4 +69,56 @@ pub fn unquoted(text: &[u8]) -> Option<&[u8]>
         return None;
     }
     Some(&text[2..text.len() - 1])
+}
+
+// The byte that the first two digits write.
+#[tactic(auto, using(crate::proofs::Digits::pairs_first))]
+fn first_byte(digits: &[u8]) -> u8
+    requires long { 2 ≤ length digits.now }
+    requires digits { list_all is_hex_digit digits.now ≡ true }
+    ensures { pairs_of digits.now ≡ Some result ∷ pairs_of (drop 2 digits.now) }
+{
+    hex_digit(digits[0]) * 16 + hex_digit(digits[1])
+}
+
+// The bytes that pairs of digits write.
+#[tactic(auto, using(crate::proofs::Digits::hundred_places))]
+fn pairs(digits: &[u8]) -> [Option<u8>; MOST_BYTES]
+    requires short { length digits.now ≤ 200 }
+    requires digits { list_all is_hex_digit digits.now ≡ true }
+    ensures { result ≡ hundred_of digits.now }
+{
+    let mut bytes = [None; MOST_BYTES];
+    let mut count = 0;
+    let mut rest = digits;
+    'pairs: while rest.len() >= 2 {
+        bytes[count] = Some(first_byte(rest));
+        count += 1;
+        let (_, after) = rest.split_at(2);
+        rest = after;
+    }
+    bytes
+}
+
+// The bytes that one to a hundred pairs of digits write.
+fn read_pairs(digits: &[u8]) -> Result<[Option<u8>; MOST_BYTES], Fault>
+    ensures { result ≡ paired_at digits.now }
+{
+    if digits.is_empty() || digits.len() % 2 != 0 || !all_hex_digits(digits) {
+        return Err(Fault::InvalidOperand);
+    }
+    if digits.len() > 2 * MOST_BYTES {
+        return Err(Fault::OutOfRange);
+    }
+    Ok(pairs(digits))
+}
+
+/// Reads one to a hundred bytes, as in X'C1C2'.
+pub fn read_bytes(text: &[u8]) -> Result<[Option<u8>; MOST_BYTES], Fault>
+    ensures { result ≡ bytes_at text.now }
+{
+    let Some(digits) = unquoted(text) else {
+        return Err(Fault::InvalidOperand);
+    };
+    read_pairs(digits)
 }

@@ -11,15 +11,22 @@ use crate::name::read_name;
 use crate::statements::{Operation, read_operands_of, read_operation};
 use mvs_model::line::{Fault, Line};
 
+mod access;
 mod address;
 mod fields;
+mod forms;
+mod freemain;
+mod getmain;
 mod hex;
 mod name;
 mod number;
 mod operands;
 mod pair;
 mod pieces;
+mod region;
+mod somes;
 mod statements;
+mod values;
 mod words;
 
 /// The most bytes of a line, without its end. This project's choice.

@@ -6,7 +6,7 @@ ghost use Rattle.mvs_model.specs.Name.{padded};
 ghost use Rattle.job_script.specs.Pieces.{pieces_of};
 
 use crate::address::read_location;
-use crate::hex::read_byte;
+use crate::hex::{MOST_BYTES, read_byte, read_bytes};
 use crate::name::read_name;
 use crate::number::read_number;
 use crate::pair::read_pair;
@@ -37,6 +37,8 @@ pub enum Kind {
     Pair(u32, u32),
     /// A name, a name with an offset, or hexadecimal digits in X'..'.
     Address,
+    /// One to a hundred bytes of two hexadecimal digits each, in X'..'.
+    Bytes,
 }
 
 /// A keyword that a statement takes, padded with blanks, and what its value has to be.
@@ -57,6 +59,7 @@ pub enum Value {
     Byte(u8),
     Pair(u32, u32),
     Address(Location),
+    Bytes([Option<u8>; MOST_BYTES]),
 }
 
 // Reads a value of a kind.
@@ -86,6 +89,7 @@ fn read_value(kind: Kind, text: &[u8]) -> Result<Value, Fault>
             Ok(Value::Pair(largest, smallest))
         }
         Kind::Address => Ok(Value::Address(read_location(text)?)),
+        Kind::Bytes => Ok(Value::Bytes(read_bytes(text)?)),
     }
 }
 

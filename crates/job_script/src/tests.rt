@@ -11,8 +11,10 @@ use mvs_model::name::Name;
 use mvs_model::place::Addr;
 use mvs_model::want::{Ask, Loc, Residence, Side};
 
+mod requests;
+
 // The first of the lines that is not answered by this fault.
-fn exception<'a>(lines: &[&'a [u8]], first: bool, fault: Fault) -> Option<&'a [u8]> {
+pub fn exception<'a>(lines: &[&'a [u8]], first: bool, fault: Fault) -> Option<&'a [u8]> {
     for line in lines {
         if read_line(line, first).err() != Some(fault) {
             return Some(*line);
@@ -53,7 +55,7 @@ fn a_line_has_at_most_255_bytes(rt: HostRuntime) {
 
 #[test]
 fn a_statement_has_a_task_and_a_known_operation(rt: HostRuntime) {
-    let lines: [&[u8]; 18] = [
+    let lines: [&[u8]; 17] = [
         b" JOB GETMAIN R,LV=8,A=X",
         b"1JOB GETMAIN R,LV=8,A=X",
         b"JOBNAMEXX GETMAIN R,LV=8,A=X",
@@ -71,7 +73,6 @@ fn a_statement_has_a_task_and_a_known_operation(rt: HostRuntime) {
         b"9 REGION BELOW=1",
         b" * no comment",
         b"JOB GETMAIN,R,LV=8,A=X",
-        b"JOB FREEMAIN R,LV=8,A=X",
     ];
     assert_eq!(rt; exception(&lines, false, Fault::UnknownOperation), None);
     assert_eq!(rt;
@@ -168,7 +169,7 @@ fn malformed_operands_are_invalid(rt: HostRuntime) {
     let region: [&[u8]; 6] = [
         b"JOB REGION BELOW",
         b"JOB REGION BELOW=1,ABOVE=0",
-        b"JOB REGION BELOW=1,FILL=00",
+        b"JOB REGION BELOW=1,FILL=0",
         b"JOB REGION RES=BELOW",
         b"JOB REGION 1",
         b"JOB REGION BELOW=1,1",
