@@ -1,12 +1,12 @@
 -- What is released from a store is released from the machine.
-use Rattle.std.proofs.Common.{◌≡◌, ℕ, ◌/◌, Bool, true, false, cond, List, [], ◌∷◌, Option, Some, None, refl, sym, ap, ◌∙◌}
-use Rattle.std.specs.Prelude.{is_some, not, ◌||◌, ◌==◌}
+use Rattle.std.proofs.Common.{◌≡◌, ℕ, ◌/◌, Bool, true, false, cond, List, Option, Some, None, refl, sym, ap, ◌∙◌}
+use Rattle.std.specs.Prelude.{is_some, not, ◌==◌}
 use Rattle.std.specs.Option.{option_map}
 use Rattle.std.specs.FinMap.{get, get-empty}
 use Rattle.mvs_model.specs.Span.{Span}
 use Rattle.mvs_model.specs.Name.{name_cmp}
 use Rattle.mvs_model.specs.Finite.{Changes, kept, has}
-use Rattle.mvs_model.specs.Storage.{Storage, holder as held_by, IsStorage, HeldBy, covers, has_address, Release, ReleaseAll}
+use Rattle.mvs_model.specs.Storage.{Storage, holder as held_by, IsStorage, HeldBy, ReleaseAll}
 use Rattle.mvs_model.specs.Owners.{Owners}
 use Rattle.mvs_model.specs.State.{plain, subpool_in, granted}
 use Rattle.mvs_model.specs.View.{seen}
@@ -35,16 +35,6 @@ frees_seen st new o ps is now regions held bytes = record {
   at : (b : Bool) (v : Option ℕ) → option_map plain (cond b None v) ≡ cond b None (option_map plain v)
   at true v = refl
   at false v = refl
-
--- one place that is released
-pub release_seen : (st new : Storage) (o : Owners) (s : ℕ) (p : Span) → IsStorage st → IsStorage new → Release st s p new → Frees (seen st o) (p ∷ []) (seen new o)
-release_seen st new o s p is now r =
-    frees_seen st new o (p ∷ []) is now r.regions
-    (λ d. r.held d ∙ ap (λ b. cond b None (get st.held d)) (alone (covers p d)))
-    (λ a. r.bytes a ∙ ap (λ b. cond b None (get st.bytes a)) (alone (has_address p a))) where
-      alone : (b : Bool) → b ≡ (b || false)
-      alone true = refl
-      alone false = refl
 
 -- all of a subpool that is released
 pub release_all_seen : (st new : Storage) (o : Owners) (s : ℕ) → IsStorage st → IsStorage new → ReleaseAll st s new → Empties (seen st o) s (seen new o)

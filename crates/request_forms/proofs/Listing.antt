@@ -1,13 +1,12 @@
 -- A list that is obtained from a store is obtained from the machine.
-use Rattle.std.proofs.Common.{◌≡◌, ℕ, ◌<◌, ◌≤◌, inl, inr, Bool, true, false, cond, List, [], ◌∷◌, ◌++◌, length, Option, Some, None, Ok, Err, refl, sym, ap, ◌∙◌, subst, append_assoc, get_or, take, drop, ◌-◌, arith}
+use Rattle.std.proofs.Common.{◌≡◌, ℕ, ◌<◌, ◌≤◌, inl, inr, Bool, true, false, cond, List, [], ◌∷◌, ◌++◌, length, Option, Some, None, Ok, Err, refl, sym, ap, ◌∙◌, subst, append_assoc, arith}
 use Rattle.std.specs.Prelude.{MatchOption, ◌&&◌, ◌==◌}
-use Rattle.std.proofs.Math.Seq.{take-length}
 use Rattle.std.proofs.lemmas.Bool.Decides.{nat_tests}
 use Rattle.std.specs.FinMap.{get}
 use Rattle.mvs_model.specs.declared.name.Name.{Name}
 use Rattle.mvs_model.specs.declared.code.Form.{Form}
 use Rattle.mvs_model.specs.declared.want.Side.TheVariants.{Below}
-use Rattle.mvs_model.specs.declared.request.Reply.TheVariants.{Rc4, Listed}
+use Rattle.mvs_model.specs.declared.request.Reply.TheVariants.{Rc4}
 use Rattle.mvs_model.specs.Name.{same_name}
 use Rattle.mvs_model.specs.Span.{Span}
 use Rattle.mvs_model.specs.Wanted.{Wanted, fixed_want}
@@ -26,16 +25,6 @@ use Rattle.request_forms.specs.Answers.{Answers}
 use Rattle.request_forms.specs.Lists.{GrantsEach, ShortEach, list_wants}
 use Rattle.request_forms.proofs.Cases.{not_valid, is_valid, yes_match, no_match}
 use Rattle.request_forms.proofs.Obtaining.{its_subpool, new_subpool, stays_entered, now_entered}
-
--- the first member of a list, and the others
-abbrev pub others : List ℕ → List ℕ
-others xs = take (length xs - 1) (drop 1 xs)
-
-pub first_and_others : (xs : List ℕ) (x : ℕ) → 1 ≤ length xs → x ≡ get_or xs 0 x → xs ≡ x ∷ others xs
-first_and_others [] x l e = absurd (omega arith)
-first_and_others (y ∷ ys) x l e =
-    let n : length (y ∷ ys) - 1 ≡ length ys = omega arith in
-    sym (ap (λ z. z ∷ others (y ∷ ys)) e ∙ ap (λ k. y ∷ take k ys) n ∙ ap (λ zs. y ∷ zs) (take-length ys))
 
 -- the first member granted, and then the others
 pub first_granted : (st mid new : Storage) (s start n : ℕ) (rest lengths : List ℕ) (p : Span) (done ps : List Span) → lengths ≡ n ∷ rest → IsStorage mid → Grant st s (fixed_want n start Below) p mid
@@ -123,9 +112,6 @@ new_short st o t number s start items lengths is same e spare h =
 module _ (old : State) (t : Name) (form : Form) (number : ℕ) (wants : List Wanted) where
   pub invalid_list : (number < 128 → ⊥) → Answers (ObtainListStep old t form number wants) old t (Err (bad_subpool (family form) true)) old
   invalid_list h = (refl, λ reply ended a. yes_match _ (is_invalid number) (not_valid number h) a)
-
-  pub granted_list : (new : State) (ps : List Span) → number < 128 → ListGrant old t number wants ps new → Answers (ObtainListStep old t form number wants) old t (Ok (Listed ps)) new
-  granted_list new ps l g = no_match _ (is_invalid number) (is_valid number l) (inr (ps, refl, g))
 
   pub short_list : number < 128 → ListShort old t number wants → Answers (ObtainListStep old t form number wants) old t (cond (is_conditional form) (Ok Rc4) (Err (short (family form)))) old
   short_list l s = at (is_conditional form) refl where

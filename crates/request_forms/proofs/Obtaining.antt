@@ -1,5 +1,5 @@
 -- What is obtained from a store is obtained from the machine.
-use Rattle.std.proofs.Common.{◌≡◌, ℕ, ◌<◌, inl, inr, Bool, true, false, cond, Option, Some, None, Ok, Err, refl, sym, ap, subst}
+use Rattle.std.proofs.Common.{◌≡◌, ℕ, ◌<◌, inl, Bool, true, false, cond, Option, Some, None, Ok, Err, refl, sym, ap, subst}
 use Rattle.std.specs.Prelude.{MatchOption}
 use Rattle.mvs_model.specs.declared.name.Name.{Name}
 use Rattle.mvs_model.specs.declared.code.Form.{Form}
@@ -8,7 +8,7 @@ use Rattle.mvs_model.specs.declared.want.Residence.{Residence}
 use Rattle.mvs_model.specs.declared.want.Residence.TheVariants.{Below}
 use Rattle.std.specs.Option.{option_map, unwrap_or}
 use Rattle.std.specs.FinMap.{get}
-use Rattle.mvs_model.specs.declared.request.Reply.TheVariants.{Rc4, Granted}
+use Rattle.mvs_model.specs.declared.request.Reply.TheVariants.{Rc4}
 use Rattle.mvs_model.specs.Span.{Span}
 use Rattle.mvs_model.specs.Wanted.{Wanted, side_of}
 use Rattle.mvs_model.specs.Storage.{Storage, holder, IsStorage, NoPlace, Grant}
@@ -53,10 +53,6 @@ area_of_new st new o after t number s want p is now e spare binds g = grant_seen
 -- an invalid number abends
 pub invalid_answers : (old : State) (t : Name) (form : Form) (number : ℕ) (want : Wanted) → (number < 128 → ⊥) → Answers (ObtainStep old t form number want) old t (Err (bad_subpool (family form) true)) old
 invalid_answers old t form number want h = (refl, λ reply ended a. yes_match _ (is_invalid number) (not_valid number h) a)
-
--- a grant is the reply
-pub granted_answers : (old new : State) (t : Name) (form : Form) (number : ℕ) (want : Wanted) (p : Span) → number < 128 → GrantTo old t number want p new → Answers (ObtainStep old t form number want) old t (Ok (Granted p)) new
-granted_answers old new t form number want p l g = no_match _ (is_invalid number) (is_valid number l) (inr (p, refl, g))
 
 -- shortage is answered 4, or abends
 pub short_answers : (old : State) (t : Name) (form : Form) (number : ℕ) (want : Wanted) → number < 128 → ShortOf old t number want → Answers (ObtainStep old t form number want) old t (cond (is_conditional form) (Ok Rc4) (Err (short (family form)))) old

@@ -1,33 +1,21 @@
 -- What is released from a store is released from the machine.
-use Rattle.std.proofs.Common.{◌≡◌, ℕ, ◌<◌, inl, inr, Bool, true, false, cond, List, [], ◌∷◌, map, Option, Some, None, Ok, Err, refl, sym, ap, subst, arith}
-use Rattle.std.specs.Prelude.{MatchResult, Result, not, ◌&&◌, ◌==◌}
+use Rattle.std.proofs.Common.{◌≡◌, ℕ, ◌<◌, inl, Bool, true, false, cond, List, map, Option, Some, None, Ok, Err, refl, sym, ap, subst, arith}
+use Rattle.std.specs.Prelude.{not, ◌==◌}
 use Rattle.std.specs.List.{list_all}
 use Rattle.std.proofs.lemmas.Bool.Decides.{nat_tests}
 use Rattle.mvs_model.specs.declared.name.Name.{Name}
 use Rattle.mvs_model.specs.declared.code.Form.{Form}
-use Rattle.mvs_model.specs.declared.code.Code.TheVariants.{User}
 use Rattle.mvs_model.specs.declared.request.Reply.TheVariants.{Rc0, Rc4}
 use Rattle.mvs_model.specs.Span.{Span}
-use Rattle.mvs_model.specs.Storage.{Storage, IsStorage, HeldBy, Release, ReleaseAll}
+use Rattle.mvs_model.specs.Storage.{Storage, IsStorage, ReleaseAll}
 use Rattle.mvs_model.specs.Owners.{Owners, entry}
 use Rattle.mvs_model.specs.State.{State}
 use Rattle.mvs_model.specs.View.{seen}
 use Rattle.mvs_model.specs.Codes.{family, is_conditional, bad_subpool, bad_address, not_held}
-use Rattle.mvs_model.specs.Changes.{Frees}
 use Rattle.mvs_model.specs.Steps.{Fails, is_invalid, whole, on_doubleword, MayRelease, ReleaseStep, EmptiesEntry, ReleaseWholeStep}
-use Rattle.mvs_model.proofs.SeenRelease.{held_plain, plain_held, release_seen, release_all_seen}
+use Rattle.mvs_model.proofs.SeenRelease.{release_all_seen}
 use Rattle.request_forms.specs.Answers.{Answers}
 use Rattle.request_forms.proofs.Cases.{not_valid, is_valid, yes_match, no_match}
-
--- one place of what a task has under a number
-pub area_released : {E : Type 0} (st new : Storage) (v : Option ℕ) (s : ℕ) (p : Span) (r : Result (Unit {0}) E) → IsStorage st → IsStorage new → v ≡ Some s
-    → MatchResult r (λ _. Release st s p new) (λ _. (HeldBy st s p → ⊥) × (new ≡ st)) → (o : Owners)
-    → MatchResult r (λ _. MayRelease (seen st o) v (p ∷ []) × Frees (seen st o) (p ∷ []) (seen new o)) (λ _. (MayRelease (seen st o) v (p ∷ []) → ⊥) × (new ≡ st))
-area_released st new v s p r is now e h o = subst (λ w. MatchResult r (λ _. MayRelease (seen st o) w (p ∷ []) × Frees (seen st o) (p ∷ []) (seen new o)) (λ _. (MayRelease (seen st o) w (p ∷ []) → ⊥) × (new ≡ st))) (sym e) (at r h) where
-  at : {E : Type 0} (r : Result (Unit {0}) E) → MatchResult r (λ _. Release st s p new) (λ _. (HeldBy st s p → ⊥) × (new ≡ st))
-      → MatchResult r (λ _. MayRelease (seen st o) (Some s) (p ∷ []) × Frees (seen st o) (p ∷ []) (seen new o)) (λ _. (MayRelease (seen st o) (Some s) (p ∷ []) → ⊥) × (new ≡ st))
-  at (Ok u) g = (((held_plain st o s p is g.was_held, tt), (tt, tt)), release_seen st new o s p is now g)
-  at (Err x) g = (λ m. g.0 (plain_held st o s p is m.0.0), g.1)
 
 -- the answers of a release, in the order of the causes
 module _ (old : State) (t : Name) (form : Form) (number : ℕ) (ps : List Span) where
@@ -47,15 +35,7 @@ module _ (old : State) (t : Name) (form : Form) (number : ℕ) (ps : List Span) 
     at true c = no_match _ (is_invalid number) (is_valid number l) (no_match _ (not (list_all on_doubleword ps)) (ap not e) (inl (none, subst (λ b. Fails b old t (not_held (family form)) Rc4 old) (sym c) (refl, refl))))
     at false c = (refl, λ reply ended a. no_match _ (is_invalid number) (is_valid number l) (no_match _ (not (list_all on_doubleword ps)) (ap not e) (inl (none, subst (λ b. Fails b old t (not_held (family form)) reply ended) (sym c) a))))
 
-  pub done_release : (new : State) (s : Option ℕ) → number < 128 → list_all on_doubleword ps ≡ true → s ≡ entry old.owners t number → MayRelease old s (map whole ps) → Frees old (map whole ps) new
-      → Answers (ReleaseStep old t form number ps) old t (Ok Rc0) new
-  done_release new s l e is may frees = no_match _ (is_invalid number) (is_valid number l) (no_match _ (not (list_all on_doubleword ps)) (ap not e) (inr (subst (λ v. MayRelease old v (map whole ps)) is may, refl, frees)))
-
--- a list of one
-pub all_one : (b v : Bool) → b ≡ v → (b && true) ≡ v
-all_one true v e = e
-all_one false v e = e
-
+-- a number that is not 0
 pub not_zero : (n m : ℕ) → m ≡ n → (m ≡ 0 → ⊥) → (n == 0) ≡ false
 not_zero n m e h = grind (arith, nat_tests)
 
@@ -63,9 +43,6 @@ not_zero n m e h = grind (arith, nat_tests)
 module _ (old : State) (t : Name) (form : Form) (number : ℕ) where
   pub invalid_whole : (number < 128 → ⊥) → Answers (ReleaseWholeStep old t form number) old t (Err (bad_subpool (family form) false)) old
   invalid_whole h = (refl, λ reply ended a. yes_match _ (is_invalid number) (not_valid number h) a)
-
-  pub zero_whole : number < 128 → (number == 0) ≡ true → Answers (ReleaseWholeStep old t form number) old t (Err (User 4006)) old
-  zero_whole l e = (refl, λ reply ended a. no_match _ (is_invalid number) (is_valid number l) (yes_match _ (number == 0) e a))
 
   pub done_whole : (new : State) (s : Option ℕ) → number < 128 → (number == 0) ≡ false → s ≡ entry old.owners t number → EmptiesEntry old s new
       → Answers (ReleaseWholeStep old t form number) old t (Ok Rc0) new

@@ -1,9 +1,11 @@
--- What a list request obtains from a store.
+-- What a list request obtains from a store and releases.
 use Rattle.std.specs.Prelude.{◌≡◌, ◌⊎◌, ℕ, List, [], ◌∷◌, map, Option, Some, None}
 use Rattle.mvs_model.specs.declared.want.Side.TheVariants.{Below}
 use Rattle.mvs_model.specs.Span.{Span}
 use Rattle.mvs_model.specs.Wanted.{Wanted, fixed_want}
-use Rattle.mvs_model.specs.Storage.{Storage, IsStorage, holder, NoPlace, Grant}
+use Rattle.mvs_model.specs.Changes.{Disjoint}
+use Rattle.std.specs.List.{AllByRecursion}
+use Rattle.mvs_model.specs.Storage.{Storage, IsStorage, holder, HeldBy, NoPlace, Grant, Release}
 
 -- what is wanted for each length of a list: forms that obtain a list are served below. (Assembler Services Reference,
 -- GETMAIN)
@@ -28,3 +30,12 @@ ShortEach old s (want ∷ wants) =
 abbrev pub so_far : Option (List Span) → List Span
 so_far None = []
 so_far (Some ps) = ps
+
+-- The subpool holds each of the places, and no two of them overlap.
+abbrev pub HoldsApart : Storage → ℕ → List Span → Type 0
+HoldsApart st s ps = AllByRecursion (HeldBy st s) ps × Disjoint ps
+
+-- Releases of a subpool one after another.
+abbrev pub ReleasesEach : Storage → ℕ → List Span → Storage → Type 0
+ReleasesEach old s [] new = new ≡ old
+ReleasesEach old s (p ∷ ps) new = (mid : Storage) × IsStorage mid × Release old s p mid × ReleasesEach mid s ps new

@@ -2,6 +2,6 @@
 #![tactic(auto)]
 
 pub mod codes;
-pub mod list;
 pub mod obtain;
+pub mod obtain_list;
 pub mod release;

@@ -2,8 +2,9 @@ use Rattle.std.proofs.Common.{List, ◌≡◌, ◌++◌, subst}
 use Rattle.mvs_model.specs.Span.{Span}
 use Rattle.mvs_model.specs.Storage.{Grant, Release}
 use Rattle.request_forms.specs.Lists.{GrantsEach, list_wants}
-use Rattle.request_forms.proofs.Listing.{first_granted, first_taken_back, first_and_others, others}
-use Rattle.request_forms.proofs.list.+grant_each.Goals as goal
+use Rattle.request_forms.proofs.Listing.{first_granted, first_taken_back}
+use Rattle.request_forms.proofs.Split.{first_and_others, others}
+use Rattle.request_forms.proofs.obtain_list.+grant_each.Goals as goal
 
 pub returns-in-Some-grant_each-clause-places : goal.returns-in-Some-grant_each-clause-places
 returns-in-Some-grant_each-clause-places t c =

@@ -1,7 +1,7 @@
 use Rattle.std.proofs.Common.{sym, ◌∙◌, refl}
 use Rattle.task_owner.specs.Directory.{name_of}
 use Rattle.request_forms.proofs.Listing.{areas_of, new_areas, new_short}
-use Rattle.request_forms.proofs.list.obtain_areas.Goals as goal
+use Rattle.request_forms.proofs.obtain_list.obtain_areas.Goals as goal
 
 pub returns-in_default-clause-areas : goal.returns-in_default-clause-areas
 returns-in_default-clause-areas c = (

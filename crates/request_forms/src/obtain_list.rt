@@ -1,12 +1,12 @@
-//! Requests that obtain or release a list of areas.
+//! Requests that obtain a list of areas.
 
-ghost use Rattle.std.specs.Prelude.{◌≡◌, ◌⊎◌, ◌+◌, ◌≤◌, ◌<◌, ℕ, false, IfOk, MatchOption, Ok, Err, Some, None, List, [], ◌∷◌, ◌++◌, length};
+ghost use Rattle.std.specs.Prelude.{◌≡◌, ◌⊎◌, ◌+◌, ◌≤◌, ◌<◌, ℕ, false, IfOk, MatchOption, Ok, None, List, [], ◌∷◌, ◌++◌, length};
 ghost use Rattle.mvs_model.specs.declared.request.Reply.TheVariants.{Listed};
-ghost use Rattle.mvs_model.specs.Span.{Span};
 ghost use Rattle.mvs_model.specs.Changes.{ListGrant, ListShort};
 ghost use Rattle.mvs_model.specs.Runs.{is_abend};
+ghost use Rattle.mvs_model.specs.Span.{Span};
 ghost use Rattle.mvs_model.specs.Steps.{ObtainListStep};
-ghost use Rattle.mvs_model.specs.Storage.{HeldBy, IsStorage, IsWhole, Release};
+ghost use Rattle.mvs_model.specs.Storage.{IsStorage};
 ghost use Rattle.mvs_model.specs.View.{seen};
 ghost use Rattle.request_forms.specs.Answers.{Answers};
 ghost use Rattle.request_forms.specs.Lists.{GrantsEach, ShortEach, list_wants, so_far};
@@ -14,6 +14,7 @@ ghost use Rattle.task_owner.specs.Directory.{IsTask, name_at, name_of};
 
 use crate::codes::{bad_subpool, short};
 use crate::obtain::refused;
+use crate::release::take_back;
 use mvs_model::bounded::{Exponent, Length};
 use mvs_model::code::{Code, Form};
 use mvs_model::place::Place;
@@ -22,18 +23,6 @@ use mvs_model::subpool::{SubNo, SubpoolId};
 use mvs_model::want::{Side, Want};
 use subpool_store::Store;
 use task_owner::{TaskId, Tasks};
-
-// Takes back a place that the subpool holds.
-fn take_back(store: &mut Store, subpool: SubpoolId, place: Place)
-    requires held { HeldBy store.old subpool place }
-    requires whole { IsWhole place }
-    ensures released { Release store.old subpool place store.new }
-    ensures storage { IsStorage store.new }
-{
-    let Ok(()) = store.release(subpool, place) else {
-        unreachable!();
-    };
-}
 
 // Puts a place behind those that are granted so far.
 fn with_place(granted: Option<Places>, place: Place) -> Places
