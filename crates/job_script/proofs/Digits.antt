@@ -1,9 +1,9 @@
 -- Pairs of hexadecimal digits.
-use Rattle.std.proofs.Common.{◌≡◌, ℕ, zero, suc, ◌+◌, ◌-◌, ◌*◌, ◌≤◌, ◌<◌, List, [], ◌∷◌, ◌++◌, length, take, drop, get_or, replicate, Option, Some, None, ◌&&◌, Bool, true, false, refl, sym, ap, ◌∙◌, arith, append_assoc, length-append}
+use Rattle.std.proofs.Common.{◌≡◌, ℕ, zero, suc, ◌+◌, ◌-◌, ◌*◌, ◌≤◌, ◌<◌, List, [], ◌∷◌, ◌++◌, length, take, drop, get_or, replicate, Option, Some, None, ◌&&◌, Bool, true, false, refl, sym, ap, ◌∙◌, arith, append_assoc}
 use Rattle.std.proofs.Math.ListN.{set}
 use Rattle.std.specs.List.{list_all}
 use Rattle.std.proofs.lemmas.List.{take_more_set, drop-set-lt, drop-drop, drop-replicate, take-append-drop, append-nil, length-take-le}
-use Rattle.job_script.specs.Hex.{is_hex_digit, hex_digit, pairs_of, hundred_of}
+use Rattle.job_script.specs.Hex.{hex_digit, pairs_of, hundred_of}
 
 pub pairs_first : (text : List ℕ) → 2 ≤ length text → pairs_of text ≡ Some (hex_digit (get_or text 0 0) * 16 + hex_digit (get_or text 1 0)) ∷ pairs_of (drop 2 text)
 pairs_first [] long = absurd (omega arith)

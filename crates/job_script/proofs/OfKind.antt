@@ -14,7 +14,7 @@ use Rattle.job_script.specs.declared.operands.Value.{Value}
 use Rattle.job_script.specs.declared.operands.Value.TheVariants as value
 use Rattle.job_script.specs.Chains.{◌>>=◌, or_fault}
 use Rattle.job_script.proofs.Chains.{bind_ok, or_fault_ok}
-use Rattle.job_script.specs.Numbers.{number_at, is_digit, value_of}
+use Rattle.job_script.specs.Numbers.{number_at, subpool_at, is_digit, value_of}
 use Rattle.job_script.specs.NameTexts.{name_at}
 use Rattle.job_script.specs.Hex.{byte_at, bytes_at}
 use Rattle.job_script.specs.Pairs.{pair_at, in_order, inside_at, two_of, is_malformed_number}
@@ -79,6 +79,10 @@ value_of_kind (kind.Number least most) text v e =
     let read = bind_ok (number_at least most text) (λ n. Ok (value.Number n)) v e in
     let is : value.Number read.0 ≡ v = ok_same (value.Number read.0) v read.2 in
     subst (IsOf (kind.Number least most)) is (number_in_range least most text read.0 read.1)
+value_of_kind kind.Subpool text v e =
+    let read = bind_ok (subpool_at text) (λ n. Ok (value.Subpool n)) v e in
+    let is : value.Subpool read.0 ≡ v = ok_same (value.Subpool read.0) v read.2 in
+    subst (IsOf kind.Subpool) is tt
 value_of_kind kind.YesNo text v e = some_of_kind kind.YesNo value.YesNo (yes_no_at text) v (λ x. tt) e
 value_of_kind kind.Boundary text v e = boundary_of_kind (bytes_eq text (codes "DBLWD")) (bytes_eq text (codes "PAGE")) v e
 value_of_kind kind.Loc text v e = some_of_kind kind.Loc value.Loc (loc_at text) v (λ x. tt) e

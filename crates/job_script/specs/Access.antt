@@ -1,11 +1,11 @@
--- PUT, SHOW and WHERE, this project's own statements.
+-- PUT, SHOW, MOVE and WHERE, this project's own statements.
 use Rattle.std.specs.Prelude.{ℕ, List, [], Result, Ok, Option, None, slice_get, replicate}
 use Rattle.mvs_model.specs.declared.line.Fault.{Fault}
 use Rattle.mvs_model.specs.declared.line.Statement.{Statement}
 use Rattle.mvs_model.specs.declared.line.Statement.TheVariants as says
 use Rattle.mvs_model.specs.declared.line.Asked.TheVariants as asked
 use Rattle.job_script.specs.declared.operands.Value.{Value}
-use Rattle.job_script.specs.declared.access.TheConstants.{PUT, SHOW, WHERE}
+use Rattle.job_script.specs.declared.access.TheConstants.{PUT, SHOW, MOVE, WHERE}
 use Rattle.job_script.specs.Chains.{◌>>=◌}
 use Rattle.job_script.specs.Operands.{operands_at}
 use Rattle.job_script.specs.Values.{number_of, name_of, location_of, bytes_of}
@@ -23,6 +23,15 @@ show_of values = location_of (slice_get values 0) >>= λ from. number_of (slice_
 
 abbrev pub show_at : List (List ℕ) → Result Statement Fault
 show_at pieces = operands_at SHOW [] (replicate 2 None) 0 pieces >>= show_of
+
+-- MOVE with the address to move to, the address to move from, and a length
+abbrev pub move_of : List (Option Value) → Result Statement Fault
+move_of values =
+    location_of (slice_get values 0) >>= λ to. location_of (slice_get values 1) >>= λ from. number_of (slice_get values 2) >>= λ len.
+    Ok (says.Request (asked.Move to from len))
+
+abbrev pub move_at : List (List ℕ) → Result Statement Fault
+move_at pieces = operands_at MOVE [] (replicate 3 None) 0 pieces >>= move_of
 
 -- WHERE with the name of an area
 abbrev pub where_of : List (Option Value) → Result Statement Fault

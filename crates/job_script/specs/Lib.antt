@@ -15,6 +15,8 @@ pub mod Operands
 pub mod Pairs
 pub mod Pieces
 pub mod Region
+pub mod Requests
 pub mod Somes
 pub mod Statements
+pub mod Storage
 pub mod Values

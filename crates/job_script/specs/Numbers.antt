@@ -3,6 +3,7 @@ use Rattle.std.specs.Prelude.{ℕ, ◌+◌, ◌-◌, ◌*◌, List, [], ◌∷�
 use Rattle.std.specs.List.{list_all}
 use Rattle.mvs_model.specs.declared.line.Fault.{Fault}
 use Rattle.mvs_model.specs.declared.line.Fault.TheVariants.{InvalidOperand, OutOfRange}
+use Rattle.job_script.specs.Chains.{◌>>=◌}
 
 abbrev pub is_digit : ℕ → Bool
 is_digit b = nat_le 48 b && nat_le b 57
@@ -19,3 +20,7 @@ number_at least most text =
     else (if nat_lt 10 (length text) then Err OutOfRange
     else (if nat_lt (value_of 0 text) least || nat_lt most (value_of 0 text) then Err OutOfRange
     else Ok (value_of 0 text)))
+
+-- a subpool number; 131 and 132 are not built (Assembler Services Guide, Virtual Storage Management)
+abbrev pub subpool_at : List ℕ → Result ℕ Fault
+subpool_at text = number_at 0 255 text >>= λ n. (if (n == 131) || (n == 132) then Err OutOfRange else Ok n)

@@ -11,7 +11,7 @@ use Rattle.job_script.specs.declared.operands.Keyword.{Keyword}
 use Rattle.job_script.specs.declared.operands.Value.{Value}
 use Rattle.job_script.specs.declared.operands.Value.TheVariants as value
 use Rattle.job_script.specs.Chains.{◌>>=◌, or_fault}
-use Rattle.job_script.specs.Numbers.{number_at}
+use Rattle.job_script.specs.Numbers.{number_at, subpool_at}
 use Rattle.job_script.specs.NameTexts.{name_at}
 use Rattle.job_script.specs.Pieces.{pieces_of}
 use Rattle.job_script.specs.Hex.{byte_at, bytes_at}
@@ -22,6 +22,7 @@ use Rattle.job_script.specs.Choices.{yes_no_at, boundary_at, loc_at, residence_a
 -- the value of a kind that the text is
 abbrev pub value_at : Kind → List ℕ → Result Value Fault
 value_at (kind.Number least most) text = number_at least most text >>= λ n. Ok (value.Number n)
+value_at kind.Subpool text = subpool_at text >>= λ n. Ok (value.Subpool n)
 value_at kind.YesNo text = or_fault InvalidOperand (option_map value.YesNo (yes_no_at text))
 value_at kind.Boundary text = or_fault InvalidOperand (option_map value.Number (boundary_at text))
 value_at kind.Loc text = or_fault InvalidOperand (option_map value.Loc (loc_at text))
@@ -101,6 +102,7 @@ pieces_after (Some field) = pieces_of field.now
 -- the value is of the kind, and in its range
 abbrev pub IsOf : Kind → Value → Type 0
 IsOf (kind.Number least most) (value.Number n) = (least ≤ n) × (n ≤ most)
+IsOf kind.Subpool (value.Subpool n) = Unit {0}
 IsOf kind.YesNo (value.YesNo b) = Unit {0}
 IsOf kind.Boundary (value.Number n) = (3 ≤ n) × (n ≤ 12)
 IsOf kind.Loc (value.Loc loc) = Unit {0}

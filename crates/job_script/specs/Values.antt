@@ -1,5 +1,5 @@
 -- What the values of a statement's operands say.
-use Rattle.std.specs.Prelude.{ℕ, List, Result, Ok, Err, Option, Some, None}
+use Rattle.std.specs.Prelude.{ℕ, List, Bool, false, Result, Ok, Err, Option, Some, None}
 use Rattle.mvs_model.specs.declared.name.Name.{Name}
 use Rattle.mvs_model.specs.declared.line.Fault.{Fault}
 use Rattle.mvs_model.specs.declared.line.Fault.TheVariants.{MissingOperand}
@@ -33,3 +33,23 @@ bytes_of _ = Err MissingOperand
 abbrev pub byte_or_zero : Option (Option Value) → ℕ
 byte_or_zero (Some (Some (value.Byte byte))) = byte
 byte_or_zero _ = 0
+
+-- the number that an operand says, where it is there
+abbrev pub number_in : Option (Option Value) → Option ℕ
+number_in (Some (Some (value.Number n))) = Some n
+number_in _ = None
+
+-- the address that an operand says, where it is there
+abbrev pub location_in : Option (Option Value) → Option Location
+location_in (Some (Some (value.Address location))) = Some location
+location_in _ = None
+
+-- the subpool number that an operand says, or 0 (Assembler Services Reference, GETMAIN, SP)
+abbrev pub subpool_or_zero : Option (Option Value) → ℕ
+subpool_or_zero (Some (Some (value.Subpool n))) = n
+subpool_or_zero _ = 0
+
+-- whether an operand says YES
+abbrev pub is_yes : Option (Option Value) → Bool
+is_yes (Some (Some (value.YesNo b))) = b
+is_yes _ = false

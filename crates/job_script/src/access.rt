@@ -1,8 +1,8 @@
-//! PUT, SHOW and WHERE, this project's own statements.
+//! PUT, SHOW, MOVE and WHERE, this project's own statements.
 
 ghost use Rattle.std.specs.Prelude.{◌≡◌};
 ghost use Rattle.job_script.specs.Operands.{pieces_after};
-ghost use Rattle.job_script.specs.Access.{put_at, show_at, where_at};
+ghost use Rattle.job_script.specs.Access.{put_at, show_at, move_at, where_at};
 
 use crate::operands::{Kind, read_values};
 use crate::values::{bytes, location, name, number};
@@ -13,6 +13,9 @@ pub const PUT: [Kind; 2] = [Kind::Address, Kind::Bytes];
 
 /// The operands of SHOW: an address, and how many bytes.
 pub const SHOW: [Kind; 2] = [Kind::Address, Kind::Number(1, 4_096)];
+
+/// The operands of MOVE: the address to move to, the address to move from, and how many bytes.
+pub const MOVE: [Kind; 3] = [Kind::Address, Kind::Address, Kind::Number(1, 65_536)];
 
 /// The operand of WHERE: the name of an area.
 pub const WHERE: [Kind; 1] = [Kind::Name];
@@ -35,6 +38,17 @@ pub fn read_show(field: Option<&[u8]>) -> Result<Statement, Fault>
     let from = location(&values[0])?;
     let len = number(&values[1])?;
     Ok(Statement::Request(Asked::Show { from, len }))
+}
+
+/// The operands of MOVE.
+pub fn read_move(field: Option<&[u8]>) -> Result<Statement, Fault>
+    ensures { result ≡ move_at (pieces_after field.entry) }
+{
+    let values = read_values::<3>(&MOVE, &[], field)?;
+    let to = location(&values[0])?;
+    let from = location(&values[1])?;
+    let len = number(&values[2])?;
+    Ok(Statement::Request(Asked::Move { to, from, len }))
 }
 
 /// The operands of WHERE.

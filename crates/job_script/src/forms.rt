@@ -2,10 +2,11 @@
 
 ghost use Rattle.std.specs.Prelude.{◌≡◌, MatchResult, Ok, Err};
 ghost use Rattle.job_script.specs.Operands.{pieces_after};
-ghost use Rattle.job_script.specs.Forms.{form_of};
+ghost use Rattle.job_script.specs.Forms.{form_of, form_named};
 
 use crate::operands::equals_at;
 use crate::pieces::next_piece;
+use mvs_model::code::Form;
 use mvs_model::line::Fault;
 
 /// The form, and the field behind it.
@@ -22,4 +23,18 @@ pub fn read_form(field: Option<&[u8]>) -> Result<(&[u8], Option<&[u8]>), Fault>
         return Err(Fault::MissingOperand);
     }
     Ok((form, rest))
+}
+
+/// The form of GETMAIN or FREEMAIN that a text names, where it is built (Assembler Services Reference).
+pub fn form_named(text: &[u8]) -> Option<Form>
+    ensures { result ≡ form_named text.now }
+{
+    match text {
+        b"R" => Some(Form::R),
+        b"RC" => Some(Form::Rc),
+        b"RU" => Some(Form::Ru),
+        b"EC" => Some(Form::Ec),
+        b"EU" => Some(Form::Eu),
+        _ => None,
+    }
 }

@@ -2,39 +2,51 @@
 
 ghost use Rattle.std.specs.Prelude.{◌≡◌};
 ghost use Rattle.job_script.specs.Operands.{pieces_after};
-ghost use Rattle.job_script.specs.Freemain.{freemain_r_at, freemain_at};
+ghost use Rattle.job_script.specs.Freemain.{whole_at, place_at, freemain_in, freemain_at};
 
-use crate::forms::read_form;
-use crate::operands::{Keyword, Kind, read_values};
-use crate::values::{location, number};
+use crate::forms::{form_named, read_form};
+use crate::keywords::{A_ADDRESS, LV, SP};
+use crate::operands::{Keyword, read_values};
+use crate::requests::release;
+use crate::values::{location, number, subpool_or_zero};
 use mvs_model::code::Form;
 use mvs_model::line::{Asked, Fault, Statement};
 
-/// The keywords that are built of the forms that release one place: its length and its address.
-pub const RELEASE: [Keyword; 2] = [
-    Keyword {
-        key: *b"LV      ",
-        kind: Kind::Number(1, 0x7FFF_FFFF),
-    },
-    Keyword {
-        key: *b"A       ",
-        kind: Kind::Address,
-    },
-];
+/// The keywords of the forms that release one place.
+pub const PLACE: [Keyword; 3] = [LV, A_ADDRESS, SP];
 
-// The operands of FREEMAIN R.
-fn read_freemain_r(field: Option<&[u8]>) -> Result<Statement, Fault>
-    ensures { result ≡ freemain_r_at (pieces_after field.entry) }
+// The operands of a form that releases a place, or the whole subpool.
+fn read_whole(form: Form, field: Option<&[u8]>) -> Result<Statement, Fault>
+    ensures { result ≡ whole_at form (pieces_after field.entry) }
 {
-    let values = read_values::<2>(&[], &RELEASE, field)?;
+    let values = read_values::<3>(&[], &PLACE, field)?;
+    release(form, &values[2], &values[0], &values[1])
+}
+
+// The operands of a form that releases a place.
+fn read_place(form: Form, field: Option<&[u8]>) -> Result<Statement, Fault>
+    ensures { result ≡ place_at form (pieces_after field.entry) }
+{
+    let values = read_values::<3>(&[], &PLACE, field)?;
     let len = number(&values[0])?;
     let location = location(&values[1])?;
     Ok(Statement::Request(Asked::Release {
-        form: Form::R,
-        number: 0,
+        form,
+        number: subpool_or_zero(&values[2]),
         location,
         len,
     }))
+}
+
+// What a form says with its operands.
+fn read_form_of(form: Form, field: Option<&[u8]>) -> Result<Statement, Fault>
+    ensures { result ≡ freemain_in form (pieces_after field.entry) }
+{
+    match form {
+        Form::R | Form::Rc | Form::Ru => read_whole(form, field),
+        Form::Ec | Form::Eu => read_place(form, field),
+        _ => Err(Fault::UnknownOperation),
+    }
 }
 
 /// The form and the operands of FREEMAIN.
@@ -42,9 +54,8 @@ pub fn read_freemain(field: Option<&[u8]>) -> Result<Statement, Fault>
     ensures { result ≡ freemain_at (pieces_after field.entry) }
 {
     let (form, rest) = read_form(field)?;
-    if form == b"R".as_slice() {
-        read_freemain_r(rest)
-    } else {
-        Err(Fault::UnknownOperation)
-    }
+    let Some(form) = form_named(form) else {
+        return Err(Fault::UnknownOperation);
+    };
+    read_form_of(form, rest)
 }

@@ -18,14 +18,17 @@ mod forms;
 mod freemain;
 mod getmain;
 mod hex;
+mod keywords;
 mod name;
 mod number;
 mod operands;
 mod pair;
 mod pieces;
 mod region;
+mod requests;
 mod somes;
 mod statements;
+mod storage;
 mod values;
 mod words;
 

@@ -2,7 +2,7 @@
 
 ghost use Rattle.std.specs.Prelude.{◌≡◌, ◌≤◌, length, true, IfOk};
 ghost use Rattle.std.specs.List.{list_all};
-ghost use Rattle.job_script.specs.Numbers.{is_digit, value_of, number_at};
+ghost use Rattle.job_script.specs.Numbers.{is_digit, value_of, number_at, subpool_at};
 
 use mvs_model::line::Fault;
 
@@ -42,4 +42,15 @@ pub fn read_number(least: u32, most: u32, text: &[u8]) -> Result<u32, Fault>
         return Err(Fault::OutOfRange);
     }
     Ok(value as u32)
+}
+
+/// Reads a subpool number. 131 and 132 are not built, and count as out of range.
+pub fn read_subpool(text: &[u8]) -> Result<u8, Fault>
+    ensures { result ≡ subpool_at text.now }
+{
+    let number = read_number(0, 255, text)?;
+    if number == 131 || number == 132 {
+        return Err(Fault::OutOfRange);
+    }
+    Ok(number as u8)
 }

@@ -8,7 +8,7 @@ ghost use Rattle.job_script.specs.Pieces.{pieces_of};
 use crate::address::read_location;
 use crate::hex::{MOST_BYTES, read_byte, read_bytes};
 use crate::name::read_name;
-use crate::number::read_number;
+use crate::number::{read_number, read_subpool};
 use crate::pair::read_pair;
 use crate::pieces::next_piece;
 use crate::words::{read_boundary, read_loc, read_residence, read_yes_no};
@@ -21,6 +21,8 @@ use mvs_model::want::{Loc, Residence};
 pub enum Kind {
     /// A number from the first to the second.
     Number(u32, u32),
+    /// A subpool number.
+    Subpool,
     /// YES or NO.
     YesNo,
     /// DBLWD or PAGE, as the exponent of that boundary.
@@ -52,6 +54,7 @@ pub struct Keyword {
 #[derive(Clone, Copy, Debug, PartialEq, Eq)]
 pub enum Value {
     Number(u32),
+    Subpool(u8),
     YesNo(bool),
     Loc(Loc),
     Residence(Residence),
@@ -68,6 +71,7 @@ fn read_value(kind: Kind, text: &[u8]) -> Result<Value, Fault>
 {
     match kind {
         Kind::Number(least, most) => Ok(Value::Number(read_number(least, most, text)?)),
+        Kind::Subpool => Ok(Value::Subpool(read_subpool(text)?)),
         Kind::YesNo => read_yes_no(text)
             .map(Value::YesNo)
             .ok_or(Fault::InvalidOperand),

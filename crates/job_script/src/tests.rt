@@ -119,7 +119,7 @@ fn a_form_comes_first(rt: HostRuntime) {
     let unknown: [&[u8]; 7] = [
         b"JOB GETMAIN XX,LV=8,A=X",
         b"JOB GETMAIN ,LV=8,A=X",
-        b"JOB GETMAIN RC,LV=8,A=X",
+        b"JOB GETMAIN RRC,LV=8,A=X",
         b"JOB GETMAIN r,LV=8,A=X",
         b"JOB GETMAIN (R),LV=8,A=X",
         b"JOB GETMAIN XX,LV=,A=X",
@@ -155,7 +155,7 @@ fn malformed_operands_are_invalid(rt: HostRuntime) {
         b"JOB GETMAIN R,=8,A=X",
         b"JOB GETMAIN R,LENGTHLEN=8,A=X",
         b"JOB GETMAIN R,LV=8,A=X,LOC=ANY",
-        b"JOB GETMAIN R,SP=0,LV=8,A=X",
+        b"JOB GETMAIN R,SP=,LV=8,A=X",
         b"JOB GETMAIN R,LV=8,A=X,X",
         b"JOB GETMAIN R,8,LV=8,A=X",
         b"JOB WHERE X,",
@@ -272,7 +272,7 @@ fn is_getmain(line: &[u8], task: &[u8], len: u32, area: &[u8]) -> bool {
 }
 
 // Whether the request is for this length on a doubleword, where the task resides.
-fn is_plain_ask(ask: &Ask, len: u32) -> bool {
+pub fn is_plain_ask(ask: &Ask, len: u32) -> bool {
     let want = ask.want(Side::Below);
     ask.loc() == Loc::Res
         && want.least() == len

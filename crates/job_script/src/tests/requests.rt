@@ -1,6 +1,6 @@
 //! Requests of a task, worked out by hand from the notation.
 
-use super::exception;
+use super::{exception, is_plain_ask};
 use crate::read_line;
 use mvs_model::code::Form;
 use mvs_model::line::{Asked, Fault, Line, Location, Statement};
@@ -117,6 +117,192 @@ fn bytes_are_shown(rt: HostRuntime) {
     assert_eq!(rt; exception(&far, false, Fault::OutOfRange), None);
     let missing: [&[u8]; 2] = [b"JOB SHOW", b"JOB SHOW X"];
     assert_eq!(rt; exception(&missing, false, Fault::MissingOperand), None);
+}
+
+// Whether the line obtains an area X of this rounded length, in this form and subpool.
+fn obtains(line: &[u8], form: Form, number: u8, bytes: u32) -> bool {
+    match &asked(line) {
+        Some(
+            Asked::Obtain {
+                form: of,
+                number: subpool,
+                ask,
+                variable: false,
+                area,
+            },
+        ) => {
+            *of == form
+                && *subpool == number
+                && area.text() == b"X".as_slice()
+                && is_plain_ask(ask, bytes)
+        }
+        _ => false,
+    }
+}
+
+#[test]
+fn fixed_lengths_are_obtained(rt: HostRuntime) {
+    assert!(rt; obtains(b"JOB GETMAIN R,LV=1,A=X,SP=0", Form::R, 0, 8));
+    assert!(rt; obtains(b"JOB GETMAIN RC,SP=127,LV=9,A=X", Form::Rc, 127, 16));
+    assert!(rt; obtains(b"JOB GETMAIN RU,A=X,LV=8", Form::Ru, 0, 8));
+    assert!(rt; obtains(b"JOB GETMAIN EC,LV=8,A=X,SP=128", Form::Ec, 128, 8));
+    assert!(rt;
+        obtains(
+            b"JOB GETMAIN EU,LV=2147483647,A=X,SP=255",
+            Form::Eu,
+            255,
+            0x8000_0000
+        )
+    );
+    assert!(rt; obtains(b"JOB STORAGE OBTAIN,LENGTH=8,ADDR=X", Form::Storage, 0, 8));
+    assert!(rt;
+        obtains(
+            b"JOB STORAGE OBTAIN,COND=NO,LENGTH=8,ADDR=X",
+            Form::Storage,
+            0,
+            8
+        )
+    );
+    let conditional = b"JOB STORAGE OBTAIN,LENGTH=8,ADDR=X,SP=005,COND=YES";
+    assert!(rt; obtains(conditional, Form::StorageConditional, 5, 8));
+}
+
+// Whether the line releases eight bytes at X in this form and subpool.
+fn releases(line: &[u8], form: Form, number: u8) -> bool {
+    match &asked(line) {
+        Some(
+            Asked::Release {
+                form: of,
+                number: subpool,
+                location,
+                len,
+            },
+        ) => { *of == form && *subpool == number && len.get() == 8 && is_behind(location, b"X", 0) }
+        _ => false,
+    }
+}
+
+// Whether the line releases the whole subpool in this form.
+fn releases_whole(line: &[u8], form: Form, number: u8) -> bool {
+    match &asked(line) {
+        Some(
+            Asked::ReleaseWhole {
+                form: of,
+                number: subpool,
+            },
+        ) => *of == form && *subpool == number,
+        _ => false,
+    }
+}
+
+#[test]
+fn places_and_subpools_are_released(rt: HostRuntime) {
+    assert!(rt; releases(b"JOB FREEMAIN RC,LV=8,A=X", Form::Rc, 0));
+    assert!(rt; releases(b"JOB FREEMAIN RU,A=X,SP=1,LV=8", Form::Ru, 1));
+    assert!(rt; releases(b"JOB FREEMAIN EC,LV=8,A=X+0,SP=130", Form::Ec, 130));
+    assert!(rt; releases(b"JOB FREEMAIN EU,SP=2,LV=8,A=X", Form::Eu, 2));
+    assert!(rt; releases(b"JOB STORAGE RELEASE,LENGTH=8,ADDR=X", Form::Storage, 0));
+    assert!(rt;
+        releases(
+            b"JOB STORAGE RELEASE,COND=YES,LENGTH=8,ADDR=X,SP=7",
+            Form::StorageConditional,
+            7
+        )
+    );
+    assert!(rt; releases_whole(b"JOB FREEMAIN R,SP=3", Form::R, 3));
+    assert!(rt; releases_whole(b"JOB FREEMAIN RC,SP=127", Form::Rc, 127));
+    assert!(rt; releases_whole(b"JOB FREEMAIN RU", Form::Ru, 0));
+    assert!(rt; releases_whole(b"JOB STORAGE RELEASE", Form::Storage, 0));
+    assert!(rt;
+        releases_whole(
+            b"JOB STORAGE RELEASE,SP=4,COND=YES",
+            Form::StorageConditional,
+            4
+        )
+    );
+    let missing: [&[u8]; 10] = [
+        b"JOB FREEMAIN RC,LV=8",
+        b"JOB FREEMAIN RU,A=X,SP=1",
+        b"JOB FREEMAIN EC",
+        b"JOB FREEMAIN EU,SP=1",
+        b"JOB FREEMAIN EC,LV=8",
+        b"JOB FREEMAIN EU,A=X",
+        b"JOB STORAGE RELEASE,LENGTH=8",
+        b"JOB STORAGE RELEASE,ADDR=X,COND=YES",
+        b"JOB STORAGE OBTAIN,LENGTH=8",
+        b"JOB STORAGE OBTAIN,ADDR=X,SP=1",
+    ];
+    assert_eq!(rt; exception(&missing, false, Fault::MissingOperand), None);
+}
+
+#[test]
+fn storage_requests_have_their_faults(rt: HostRuntime) {
+    let unknown: [&[u8]; 6] = [
+        b"JOB STORAGE GET,LENGTH=8",
+        b"JOB STORAGE ,LENGTH=8",
+        b"JOB STORAGE OBTAINS",
+        b"JOB FREEMAIN VRU",
+        b"JOB GETMAIN RX,LV=",
+        b"JOB CPOOL BUILD",
+    ];
+    assert_eq!(rt; exception(&unknown, false, Fault::UnknownOperation), None);
+    let malformed: [&[u8]; 12] = [
+        b"JOB GETMAIN EC,LENGTH=8,A=X",
+        b"JOB GETMAIN RU,LV=8,ADDR=X",
+        b"JOB GETMAIN RC,LV=8,A=X,COND=YES",
+        b"JOB GETMAIN RC,LV=8,A=X'6000'",
+        b"JOB GETMAIN RC,LV=8,A=X+8",
+        b"JOB FREEMAIN RC,LV=8,A=X,COND=YES",
+        b"JOB STORAGE OBTAIN,LV=8,ADDR=X",
+        b"JOB STORAGE OBTAIN,LENGTH=8,A=X",
+        b"JOB STORAGE OBTAIN,LENGTH=8,ADDR=X,COND=Y",
+        b"JOB STORAGE RELEASE,LENGTH=8,ADDR=",
+        b"JOB STORAGE OBTAIN,YES",
+        b"JOB STORAGE RELEASE,LENGTH=(8,8),ADDR=X",
+    ];
+    assert_eq!(rt; exception(&malformed, false, Fault::InvalidOperand), None);
+    let far: [&[u8]; 9] = [
+        b"JOB GETMAIN R,LV=8,A=X,SP=256",
+        b"JOB GETMAIN RC,SP=131",
+        b"JOB GETMAIN RU,SP=132,LV=8,A=X",
+        b"JOB FREEMAIN R,SP=131",
+        b"JOB FREEMAIN EC,SP=0132,LV=8,A=X",
+        b"JOB STORAGE RELEASE,SP=131",
+        b"JOB STORAGE OBTAIN,SP=132",
+        b"JOB STORAGE OBTAIN,LENGTH=0,ADDR=X",
+        b"JOB GETMAIN RC,SP=00000000001,LV=8,A=X",
+    ];
+    assert_eq!(rt; exception(&far, false, Fault::OutOfRange), None);
+    let repeated: [&[u8]; 4] = [
+        b"JOB GETMAIN RC,LV=8,LV=8,A=X",
+        b"JOB FREEMAIN RC,SP=1,SP=300",
+        b"JOB STORAGE RELEASE,COND=NO,COND=YES",
+        b"JOB FREEMAIN R,A=X,A=X",
+    ];
+    assert_eq!(rt; exception(&repeated, false, Fault::Repeated), None);
+}
+
+#[test]
+fn bytes_are_moved(rt: HostRuntime) {
+    let most = b"JOB MOVE X,X'6000',65536";
+    assert!(rt;
+        matches!(asked(most), Some(Asked::Move { to, from, len }) if is_behind(&to, b"X", 0) && is_at(&from, 0x6000) && len.get() == 65_536)
+    );
+    let missing: [&[u8]; 3] = [b"JOB MOVE", b"JOB MOVE X", b"JOB MOVE X,Y"];
+    assert_eq!(rt; exception(&missing, false, Fault::MissingOperand), None);
+    let far: [&[u8]; 3] = [
+        b"JOB MOVE X,Y,0",
+        b"JOB MOVE X,Y,65537",
+        b"JOB MOVE X,Y+33554432",
+    ];
+    assert_eq!(rt; exception(&far, false, Fault::OutOfRange), None);
+    let malformed: [&[u8]; 4] = [
+        b"JOB MOVE X,,8",
+        b"JOB MOVE X,8,8",
+        b"JOB MOVE X,Y,8,8",
+        b"JOB MOVE X,Y,LV=8",
+    ];
+    assert_eq!(rt; exception(&malformed, false, Fault::InvalidOperand), None);
 }
 
 #[test]

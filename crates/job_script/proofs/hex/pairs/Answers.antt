@@ -1,5 +1,4 @@
-use Rattle.std.proofs.Common.{rules, Some, ◌∷◌, ◌≡◌, ◌<◌, ◌≤◌, ◌∙◌, arith, length, ap, sym}
-use Rattle.std.proofs.Math.ListN.{length-set}
+use Rattle.std.proofs.Common.{Some, ◌∷◌, ◌≡◌, ◌<◌, ◌∙◌, arith, length, ap, sym}
 use Rattle.std.proofs.lemmas.Grind.{common_steps}
 use Rattle.job_script.specs.Hex.{is_hex_digit, pairs_of}
 use Rattle.job_script.proofs.Digits.{pairs_more, none_behind, all_behind}

@@ -1,4 +1,4 @@
-use Rattle.std.proofs.Common.{◌≡◌, ◌+◌, ◌++◌, ◌≤◌, length, drop, Some}
+use Rattle.std.proofs.Common.{◌≡◌, ◌+◌, ◌++◌, length, drop, Some}
 use Rattle.job_script.specs.Somes.{somes, some_list}
 use Rattle.job_script.proofs.somes.some_list.Given as goal
 
