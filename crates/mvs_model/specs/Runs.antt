@@ -126,7 +126,7 @@ bytes_at st a zero = []
 bytes_at st a (suc n) = unwrap_or (get st.bytes a) 0 ∷ bytes_at st (a + 1) n
 
 -- the bytes from an address on, where it is known
-abbrev shown : ℕ → Name → State → ℕ → Option ℕ → List ℕ
+abbrev pub shown : ℕ → Name → State → ℕ → Option ℕ → List ℕ
 shown number t st n None = []
 shown number t st n (Some a) = data_lines number t ((n + 31) / 32) 0 (bytes_at st a n)
 

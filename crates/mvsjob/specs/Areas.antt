@@ -4,12 +4,6 @@ use Rattle.std.specs.FinMap.{FinMap, get}
 use Rattle.mvs_model.specs.declared.name.Name.{Name}
 use Rattle.mvs_model.specs.Name.{name_cmp}
 use Rattle.mvs_model.specs.Span.{Span}
-use Rattle.mvs_model.specs.Storage.{Regions}
-
--- The regions are no greater than those of a card.
-pub record AreInLimits (r : Regions) : Type 0 where
-  pub below : r.below ≤ 2048
-  pub above : r.above ≤ 8192
 
 -- The place ends where the greatest region above ends, or before: so an address with an offset from its name has 31 bits.
 -- (the limits of the regions are this project's choice)

@@ -1,11 +1,14 @@
 //! Requests as they are written: the addresses of their names, and the names that they set.
 
-ghost use Rattle.std.specs.Prelude.{◌≡◌, ◌+◌, ◌≤◌, ◌++◌, None, Some, length, OnOk, MatchBool};
+ghost use Rattle.std.specs.Prelude.{◌≡◌, ◌+◌, ◌≤◌, ◌++◌, None, Some, length, IfSome, OnOk, MatchBool};
 ghost use Rattle.std.specs.Option.{option_map};
 ghost use Rattle.job_script.specs.Built.{IsBuiltAsked};
+ghost use Rattle.std.specs.FinMap.{FinMap};
+ghost use Rattle.mvs_model.specs.Name.{name_cmp};
+ghost use Rattle.mvs_model.specs.Span.{Span};
 ghost use Rattle.mvs_model.specs.Runs.{address_of, all_set, names_set, places_in, places_of, resolved};
 ghost use Rattle.mvsjob.specs.Areas.{Fit};
-ghost use Rattle.mvsjob.specs.Resolving.{IsAccess, IsRelease};
+ghost use Rattle.mvsjob.specs.Resolving.{IsAccess, IsObtain, IsOfTask, IsRelease, place_shown};
 
 use crate::names::Names;
 use mvs_model::bounded::Length;
@@ -134,7 +137,7 @@ pub fn set_names(names: &mut Names, asked: &Asked, reply: &Reply) -> Result<(), 
 }
 
 // A request that releases, where each name that it looks up is set.
-fn resolve_release(names: &Names, asked: &Asked) -> Option<Request>
+fn release_request(names: &Names, asked: &Asked) -> Option<Request>
     requires { IsRelease asked.now }
     ensures { result ≡ resolved names.now asked.now }
 {
@@ -175,7 +178,7 @@ fn resolve_release(names: &Names, asked: &Asked) -> Option<Request>
 }
 
 // A request that reads or writes bytes, where each name that it looks up is set.
-fn resolve_access(names: &Names, asked: &Asked) -> Option<Request>
+fn access_request(names: &Names, asked: &Asked) -> Option<Request>
     requires { IsAccess asked.now }
     ensures { result ≡ resolved names.now asked.now }
 {
@@ -201,10 +204,42 @@ fn resolve_access(names: &Names, asked: &Asked) -> Option<Request>
     }
 }
 
-/// The request that is asked for, where each name that it looks up is set.
-pub fn resolve(names: &Names, asked: &Asked) -> Option<Request>
-    requires { IsBuiltAsked asked.now }
-    ensures { result ≡ resolved names.now asked.now }
+/// The place whose bytes a request prints: that of SHOW, once it is done.
+pub fn place_shown(request: &Request, reply: &Reply) -> Option<Place>
+    ensures place { result ≡ place_shown request.now reply.now }
+    ensures short { IfSome result (λ p. p.len ≤ 4096) }
+{
+    match (request, reply) {
+        (Request::Show { from, len }, Reply::Done) => Some(Place::new(*from, len.get())),
+        _ => None,
+    }
+}
+
+// A request that begins or ends a task.
+fn task_request(asked: &Asked) -> Request
+    requires { IsOfTask asked.now }
+    ensures { (names : FinMap name_cmp Span) → resolved names asked.now ≡ Some result }
+{
+    match asked {
+        Asked::Attach {
+            name,
+            gifts,
+            residence,
+        } => Request::Attach {
+            name: *name,
+            gifts: *gifts,
+            residence: *residence,
+        },
+        Asked::Return => Request::Return,
+        Asked::Abend(code) => Request::Abend(*code),
+        _ => unreachable!(),
+    }
+}
+
+// A request that obtains storage.
+fn obtain_request(asked: &Asked) -> Request
+    requires { IsObtain asked.now }
+    ensures { (names : FinMap name_cmp Span) → resolved names asked.now ≡ Some result }
 {
     match asked {
         Asked::Obtain {
@@ -212,28 +247,42 @@ pub fn resolve(names: &Names, asked: &Asked) -> Option<Request>
             number,
             ask,
             ..
-        } => Some(Request::Obtain {
+        } => Request::Obtain {
             form: *form,
             number: *number,
             ask: *ask,
-        }),
+        },
         Asked::ObtainList {
             form,
             number,
             lengths,
             start,
             ..
-        } => Some(Request::ObtainList {
+        } => Request::ObtainList {
             form: *form,
             number: *number,
             lengths: lengths.copied(),
             start: *start,
-        }),
+        },
+        _ => unreachable!(),
+    }
+}
+
+/// The request that is asked for, where each name that it looks up is set.
+pub fn resolve(names: &Names, asked: &Asked) -> Option<Request>
+    requires { IsBuiltAsked asked.now }
+    ensures { result ≡ resolved names.now asked.now }
+{
+    match asked {
+        Asked::Obtain { .. } | Asked::ObtainList { .. } => Some(obtain_request(asked)),
         Asked::Release { .. }
         | Asked::ReleaseArea { .. }
         | Asked::ReleaseList { .. }
-        | Asked::ReleaseWhole { .. } => resolve_release(names, asked),
-        Asked::Show { .. } | Asked::Put { .. } | Asked::Move { .. } => resolve_access(names, asked),
+        | Asked::ReleaseWhole { .. } => release_request(names, asked),
+        Asked::Show { .. } | Asked::Put { .. } | Asked::Move { .. } => {
+            access_request(names, asked)
+        }
+        Asked::Attach { .. } | Asked::Return | Asked::Abend(_) => Some(task_request(asked)),
         _ => unreachable!(),
     }
 }
