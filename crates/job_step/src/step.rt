@@ -24,9 +24,9 @@ use mvs_model::place::Place;
 use mvs_model::request::{Reply, Request};
 use mvs_model::subpool::SubpoolId;
 use mvs_model::want::Placement;
-use request_forms::list::obtain_list;
 use request_forms::obtain::obtain;
-use request_forms::release::{release, release_whole};
+use request_forms::obtain_list::obtain_list;
+use request_forms::release::{release, release_list, release_whole};
 use std::alloc::Global;
 use std::marker::Model;
 use subpool_store::Store;
@@ -78,6 +78,11 @@ fn act(store: &mut Store, tasks: &mut Tasks, t: TaskId, request: &Request) -> Re
             number,
             place,
         } => release(store, tasks, t, *form, *number, *place),
+        Request::ReleaseList {
+            form,
+            number,
+            places,
+        } => release_list(store, tasks, t, *form, *number, places),
         Request::ReleaseWhole { form, number } => release_whole(store, tasks, t, *form, *number),
         Request::Attach {
             name,

@@ -11,6 +11,7 @@ pub mod Orders
 pub mod Owning
 pub mod Pages
 pub mod Printed
+pub mod RegionsKept
 pub mod Search
 pub mod Seen
 pub mod SeenAccess

@@ -23,7 +23,7 @@ unfolding all_below
 each_below test zero h = refl
 each_below test (suc n) h = (λ i. h n (omega arith) i && all_below test n) ∙ each_below test n (λ i l. h i (omega arith))
 
-below_each : (test : ℕ → Bool) (n : ℕ) → all_below test n ≡ true → (i : ℕ) → i < n → test i ≡ true
+pub below_each : (test : ℕ → Bool) (n : ℕ) → all_below test n ≡ true → (i : ℕ) → i < n → test i ≡ true
 unfolding all_below
 below_each test zero e i l = absurd (omega arith)
 below_each test (suc n) e i l = at (test n) (all_below test n) refl e (λ rest low. below_each test n rest i low) where

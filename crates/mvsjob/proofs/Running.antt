@@ -9,11 +9,11 @@ use Rattle.mvs_model.specs.Texts.{fault_text}
 use Rattle.mvs_model.specs.Runs.{Job, Stage, Before, Closes, IsPrinting, IsPrintingFront, is_before, lines_of}
 use Rattle.mvs_model.proofs.Going.{Reaches, reaches_start, reaches_next, reaches_fault, reaches_end, front_so_far, front_in_line, front_in_fault, front_at_end}
 use Rattle.mvsjob.specs.declared.job.Stop.{Stop}
-use Rattle.mvsjob.specs.Lines.{line_of}
+use Rattle.job_script.specs.Lines.{line_of}
 use Rattle.mvsjob.specs.Serving.{RunsLine, stage_of}
 use Rattle.mvsjob.specs.Writing.{AppendsFront}
 use Rattle.mvsjob.proofs.Appending.{Appends-kept}
-use Rattle.mvsjob.proofs.InRanges.{line_of-IsReader}
+use Rattle.job_script.proofs.InRanges.{line_of-IsReader}
 
 -- What stands between two moments of a writer is the printing of a run up to here.
 pub record Progress (start now : Option (List ℕ)) (script : List ℕ) (number : ℕ) (stage : Stage) (left : List (List ℕ)) : Type 0 where

@@ -5,14 +5,14 @@ ghost use Rattle.std.specs.Io.KnownBytes.{Appends};
 ghost use Rattle.mvs_model.specs.Runs.{Begins, Closes, In, IsPrinting, IsPrintingFront, IsStatement, Serves, first_job, is_before, lines_of};
 ghost use Rattle.mvs_model.specs.Texts.{region_text};
 ghost use Rattle.mvs_model.specs.declared.line.Line.TheVariants as line;
-ghost use Rattle.mvsjob.specs.Built.{IsBuiltStatement};
-ghost use Rattle.mvsjob.specs.Lines.{line_of};
+ghost use Rattle.job_script.specs.Built.{IsBuiltStatement};
+ghost use Rattle.job_script.specs.Lines.{line_of};
 ghost use Rattle.mvsjob.specs.Serving.{Performs, RunsLine, stage_of};
 ghost use Rattle.mvsjob.specs.Writing.{AppendsFront};
 
 use crate::print::{print_fault, print_line, region_said, write_all};
-use crate::script::read_line;
 use crate::serve::Running;
+use job_script::read_line;
 use mvs_model::card::Card;
 use mvs_model::line::{Fault, Line, Statement};
 use mvs_model::name::Name;

@@ -7,8 +7,8 @@ ghost use Rattle.mvsjob.specs.Statuses.{status_of};
 mod job;
 mod names;
 mod print;
+mod resolve;
 mod run;
-mod script;
 mod serve;
 mod text;
 

@@ -3,7 +3,7 @@
 ghost use Rattle.std.specs.Prelude.{◌≡◌, ◌<◌, ◌≤◌, ◌++◌, ◌⊎◌, List, ℕ, length, true, false, IfOk, IfErr, OnOk, IsErrOf, MatchResult};
 ghost use Rattle.std.specs.Io.KnownBytes.{Consumes, IsAtEnd};
 ghost use Rattle.mvs_model.specs.Runs.{IsPrinting, IsPrintingFront};
-ghost use Rattle.mvsjob.specs.Lines.{line_of};
+ghost use Rattle.job_script.specs.Lines.{line_of};
 ghost use Rattle.mvsjob.specs.Writing.{Exchanges};
 
 use crate::job::{Stop, run_script};

@@ -19,6 +19,9 @@ returns-in-ObtainList-clause-answer c = rw c.in-ObtainList.is c.obtain_list.ensu
 pub returns-in-Release-clause-answer : goal.returns-in-Release-clause-answer
 returns-in-Release-clause-answer c = rw c.in-Release.is c.release.ensures.answer
 
+pub returns-in-ReleaseList-clause-answer : goal.returns-in-ReleaseList-clause-answer
+returns-in-ReleaseList-clause-answer c = rw c.in-ReleaseList.is c.release_list.ensures.answer
+
 pub returns-in-ReleaseWhole-clause-answer : goal.returns-in-ReleaseWhole-clause-answer
 returns-in-ReleaseWhole-clause-answer c = rw c.in-ReleaseWhole.is c.release_whole.ensures.answer
 

@@ -2,7 +2,7 @@ use Rattle.std.proofs.Common.{◌∙◌, sym, ap, [], Ok}
 use Rattle.std.proofs.lemmas.Result.{err_from_is_err_and}
 use Rattle.std.proofs.KnownBytes.{Appends-nil}
 use Rattle.mvs_model.specs.declared.line.Line.TheVariants as line
-use Rattle.mvsjob.specs.Lines.{line_of}
+use Rattle.job_script.specs.Lines.{line_of}
 use Rattle.mvsjob.specs.Serving.{stage_of}
 use Rattle.mvsjob.proofs.Serving.{first_is, nothing_served, faults_in_front, runs_stopped}
 use Rattle.mvsjob.proofs.job.run_line.Goals as goal

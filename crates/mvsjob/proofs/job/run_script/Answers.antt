@@ -2,7 +2,7 @@ use Rattle.std.proofs.Common.{◌∙◌, arith, subst, Ok}
 use Rattle.std.proofs.lemmas.Grind.{common_steps}
 use Rattle.std.proofs.lemmas.Result.{err_from_is_err_and}
 use Rattle.mvs_model.specs.Runs.{is_before}
-use Rattle.mvsjob.specs.Lines.{line_of}
+use Rattle.job_script.specs.Lines.{line_of}
 use Rattle.mvsjob.specs.Serving.{RunsLine, stage_of}
 use Rattle.mvsjob.proofs.Running.{progress_next, progress_fault, progress_stopped, progress_end, progress_in_end, no_lines}
 use Rattle.mvsjob.proofs.job.run_script.Goals as goal

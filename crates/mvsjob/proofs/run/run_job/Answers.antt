@@ -2,8 +2,8 @@ use Rattle.std.proofs.Common.{◌∙◌, [], sym}
 use Rattle.std.proofs.lemmas.Result.{err_from_is_err_and}
 use Rattle.std.proofs.KnownBytes.{Appends-nil}
 use Rattle.mvs_model.specs.Runs.{Before, lines_of}
-use Rattle.mvsjob.specs.Lines.{line_of}
-use Rattle.mvsjob.proofs.InRanges.{line_of-IsReader}
+use Rattle.job_script.specs.Lines.{line_of}
+use Rattle.job_script.proofs.InRanges.{line_of-IsReader}
 use Rattle.mvs_model.proofs.Going.{front_so_far, reaches_start}
 use Rattle.mvsjob.proofs.run.run_job.Goals as goal
 

@@ -1,0 +1,216 @@
+-- What is read is in its ranges, and is one of the statements that are built.
+use Rattle.std.proofs.Common.{◌≡◌, ℕ, ◌≤◌, Bool, true, false, cond, List, [], Option, Some, None, Result, Ok, Err, refl, subst, arith}
+use Rattle.std.specs.Prelude.{length, nat_lt, ◌||◌, not, bytes_eq, codes, slice_get, replicate, IfOk}
+use Rattle.std.specs.List.{list_all}
+use Rattle.mvs_model.specs.declared.name.Name.{Name}
+use Rattle.mvs_model.specs.declared.line.Fault.{Fault}
+use Rattle.mvs_model.specs.declared.line.Fault.TheVariants.{TooLong, InvalidByte, UnknownOperation, OutOfPlace}
+use Rattle.mvs_model.specs.declared.line.Line.{Line}
+use Rattle.mvs_model.specs.declared.line.Line.TheVariants as line
+use Rattle.mvs_model.specs.declared.line.Statement.{Statement}
+use Rattle.mvs_model.specs.Runs.{IsLine, IsStatement, IsReader}
+use Rattle.job_script.specs.declared.operands.Kind.{Kind}
+use Rattle.job_script.specs.declared.operands.Kind.TheVariants as kind
+use Rattle.job_script.specs.declared.operands.Keyword.{Keyword}
+use Rattle.job_script.specs.declared.operands.Value.{Value}
+use Rattle.job_script.specs.declared.operands.Value.TheVariants as value
+use Rattle.job_script.specs.declared.region.TheConstants.{REGION}
+use Rattle.job_script.specs.declared.getmain.TheConstants.{FIXED}
+use Rattle.job_script.specs.declared.freemain.TheConstants.{PLACE}
+use Rattle.job_script.specs.declared.storage.TheConstants.{OBTAIN, RELEASE}
+use Rattle.mvs_model.specs.declared.code.Form.{Form}
+use Rattle.mvs_model.specs.declared.code.Form.TheVariants as form
+use Rattle.mvs_model.specs.declared.line.Location.{Location}
+use Rattle.job_script.specs.declared.access.TheConstants.{PUT, SHOW, MOVE, WHERE}
+use Rattle.job_script.specs.declared.statements.Operation.{Operation}
+use Rattle.job_script.specs.declared.statements.Operation.TheVariants.{Region, Getmain, Freemain, Storage, Put, Show, Move, Where}
+use Rattle.job_script.specs.Built.{IsBuiltLine, IsBuiltStatement}
+use Rattle.job_script.specs.Chains.{◌>>=◌, or_fault}
+use Rattle.job_script.specs.Fields.{is_plain_byte, is_blank_byte, word_of, after_word}
+use Rattle.job_script.specs.NameTexts.{name_at}
+use Rattle.job_script.specs.Operands.{operands_at, IsKept, AreOf}
+use Rattle.job_script.specs.Values.{number_of, name_of, location_of, bytes_of, number_in, location_in, subpool_or_zero}
+use Rattle.job_script.specs.Requests.{obtained, released}
+use Rattle.job_script.specs.Storage.{storage_at, obtain_at, obtain_in, release_at, release_in, form_if}
+use Rattle.job_script.specs.Forms.{form_of, form_named}
+use Rattle.job_script.specs.Region.{region_at, region_of}
+use Rattle.job_script.specs.Getmain.{getmain_at, getmain_in, fixed_at, fixed_of}
+use Rattle.job_script.specs.Freemain.{freemain_at, freemain_in, whole_at, whole_of, place_at, place_of}
+use Rattle.job_script.specs.Access.{put_at, put_of, show_at, show_of, move_at, move_of, where_at, where_of}
+use Rattle.job_script.specs.Statements.{statement_of, operation_of, pieces_in}
+use Rattle.job_script.specs.Lines.{line_of, statement_at, is_in_place, is_comment}
+use Rattle.job_script.proofs.Chains.{chain}
+use Rattle.job_script.proofs.OfKind.{operands_kept, none_kept}
+
+-- A statement that may stand in its place, has its operands in their ranges, and is built.
+abbrev pub IsSaid : Bool → Name → Statement → Type 0
+IsSaid first task s = IsStatement first task s × IsBuiltStatement s
+
+-- a number that a required operand says is in the range of its kind
+number_kept : (least most : ℕ) (o : Option (Option Value)) (n : ℕ) → IsKept (Some (kind.Number least most)) o → number_of o ≡ Ok n → (least ≤ n) × (n ≤ most)
+number_kept least most (Some (Some (value.Number m))) n kept e = let is : m ≡ n = cc in subst (λ n. (least ≤ n) × (n ≤ most)) is kept
+number_kept least most _ n kept e = absurd (cc)
+
+-- what is read from no values on is of the kinds
+read_kept : (positional : List Kind) (keywords : List Keyword) (n : ℕ) (pieces : List (List ℕ)) (values : List (Option Value)) → operands_at positional keywords (replicate n None) 0 pieces ≡ Ok values → AreOf positional keywords values
+read_kept positional keywords n pieces values e = operands_kept positional keywords (replicate n None) 0 pieces values (none_kept positional keywords n) e
+
+-- a request for a length in its range
+obtained_said : (task : Name) (form : Form) (len : ℕ) (area : Name) (number : ℕ) → (1 ≤ len) × (len ≤ 2147483647) → IsSaid false task (obtained form number len area)
+obtained_said task form len area number range = ((refl, record { some = range.0; ordered = omega arith; short = omega arith; start = (omega arith, omega arith); within = tt }), tt)
+
+region_said : (task : Name) (pieces : List (List ℕ)) → IfOk (region_at pieces) (IsSaid true task)
+region_said task pieces =
+    let P = IsSaid true task in
+    chain P (operands_at [] REGION (replicate 2 None) 0 pieces) region_of (λ values read.
+    chain P (number_of (slice_get values 0)) _ (λ below number.
+    let range : (1 ≤ below) × (below ≤ 2048) = number_kept 1 2048 (slice_get values 0) below (read_kept [] REGION 2 pieces values read 0) number in
+    ((refl, record { below_some = range.0; below_most = range.1; above_most = omega arith }), tt)))
+
+fixed_said : (task : Name) (form : Form) (pieces : List (List ℕ)) → IfOk (fixed_at form pieces) (IsSaid false task)
+fixed_said task form pieces =
+    let P = IsSaid false task in
+    chain P (operands_at [] FIXED (replicate 3 None) 0 pieces) (fixed_of form) (λ values read.
+    chain P (number_of (slice_get values 0)) _ (λ len number.
+    chain P (name_of (slice_get values 1)) _ (λ area name.
+    (obtained_said task form len area (subpool_or_zero (slice_get values 2)) (number_kept 1 2147483647 (slice_get values 0) len (read_kept [] FIXED 3 pieces values read 0) number)))))
+
+getmain_in_said : (task : Name) (form : Form) (pieces : List (List ℕ)) → IfOk (getmain_in form pieces) (IsSaid false task)
+getmain_in_said task form.R pieces = fixed_said task form.R pieces
+getmain_in_said task form.Rc pieces = fixed_said task form.Rc pieces
+getmain_in_said task form.Ru pieces = fixed_said task form.Ru pieces
+getmain_in_said task form.Ec pieces = fixed_said task form.Ec pieces
+getmain_in_said task form.Eu pieces = fixed_said task form.Eu pieces
+getmain_in_said task _ pieces = tt
+
+getmain_said : (task : Name) (pieces : List (List ℕ)) → IfOk (getmain_at pieces) (IsSaid false task)
+getmain_said task pieces =
+    let P = IsSaid false task in
+    chain P (form_of pieces) _ (λ r read. chain P (or_fault UnknownOperation (form_named r.0)) _ (λ form named. getmain_in_said task form r.1))
+
+released_said : (task : Name) (form : Form) (number : ℕ) (len : Option ℕ) (location : Option Location) → IfOk (released form number len location) (IsSaid false task)
+released_said task form number (Some len) (Some location) = ((refl, tt), tt)
+released_said task form number None None = ((refl, tt), tt)
+released_said task form number _ _ = tt
+
+whole_said : (task : Name) (form : Form) (pieces : List (List ℕ)) → IfOk (whole_at form pieces) (IsSaid false task)
+whole_said task form pieces =
+    chain (IsSaid false task) (operands_at [] PLACE (replicate 3 None) 0 pieces) (whole_of form) (λ values read. released_said task form (subpool_or_zero (slice_get values 2)) (number_in (slice_get values 0)) (location_in (slice_get values 1)))
+
+place_said : (task : Name) (form : Form) (pieces : List (List ℕ)) → IfOk (place_at form pieces) (IsSaid false task)
+place_said task form pieces =
+    let P = IsSaid false task in
+    chain P (operands_at [] PLACE (replicate 3 None) 0 pieces) (place_of form) (λ values read.
+    chain P (number_of (slice_get values 0)) _ (λ len number.
+    chain P (location_of (slice_get values 1)) _ (λ location address. ((refl, tt), tt))))
+
+freemain_in_said : (task : Name) (form : Form) (pieces : List (List ℕ)) → IfOk (freemain_in form pieces) (IsSaid false task)
+freemain_in_said task form.R pieces = whole_said task form.R pieces
+freemain_in_said task form.Rc pieces = whole_said task form.Rc pieces
+freemain_in_said task form.Ru pieces = whole_said task form.Ru pieces
+freemain_in_said task form.Ec pieces = place_said task form.Ec pieces
+freemain_in_said task form.Eu pieces = place_said task form.Eu pieces
+freemain_in_said task _ pieces = tt
+
+freemain_said : (task : Name) (pieces : List (List ℕ)) → IfOk (freemain_at pieces) (IsSaid false task)
+freemain_said task pieces =
+    let P = IsSaid false task in
+    chain P (form_of pieces) _ (λ r read. chain P (or_fault UnknownOperation (form_named r.0)) _ (λ form named. freemain_in_said task form r.1))
+
+obtain_said : (task : Name) (pieces : List (List ℕ)) → IfOk (obtain_at pieces) (IsSaid false task)
+obtain_said task pieces =
+    let P = IsSaid false task in
+    chain P (operands_at [] OBTAIN (replicate 4 None) 0 pieces) obtain_in (λ values read.
+    chain P (number_of (slice_get values 0)) _ (λ len number.
+    chain P (name_of (slice_get values 1)) _ (λ area name.
+    (obtained_said task (form_if (slice_get values 3)) len area (subpool_or_zero (slice_get values 2)) (number_kept 1 2147483647 (slice_get values 0) len (read_kept [] OBTAIN 4 pieces values read 0) number)))))
+
+release_said : (task : Name) (pieces : List (List ℕ)) → IfOk (release_at pieces) (IsSaid false task)
+release_said task pieces =
+    chain (IsSaid false task) (operands_at [] RELEASE (replicate 4 None) 0 pieces) release_in (λ values read. released_said task (form_if (slice_get values 3)) (subpool_or_zero (slice_get values 2)) (number_in (slice_get values 0)) (location_in (slice_get values 1)))
+
+-- what holds of each of three ends
+of_two : (P : Statement → Type 0) (b c : Bool) (r s : Result Statement Fault) → IfOk r P → IfOk s P → IfOk (cond b r (cond c s (Err UnknownOperation))) P
+of_two P true c r s h k = h
+of_two P false true r s h k = k
+of_two P false false r s h k = tt
+
+storage_said : (task : Name) (pieces : List (List ℕ)) → IfOk (storage_at pieces) (IsSaid false task)
+storage_said task pieces =
+    let P = IsSaid false task in
+    chain P (form_of pieces) _ (λ r read. of_two P (bytes_eq r.0 (codes "OBTAIN")) (bytes_eq r.0 (codes "RELEASE")) (obtain_at r.1) (release_at r.1) (obtain_said task r.1) (release_said task r.1))
+
+put_said : (task : Name) (pieces : List (List ℕ)) → IfOk (put_at pieces) (IsSaid false task)
+put_said task pieces =
+    let P = IsSaid false task in
+    chain P (operands_at PUT [] (replicate 2 None) 0 pieces) put_of (λ values read.
+    chain P (location_of (slice_get values 0)) _ (λ to address.
+    chain P (bytes_of (slice_get values 1)) _ (λ bytes some. ((refl, tt), tt))))
+
+show_said : (task : Name) (pieces : List (List ℕ)) → IfOk (show_at pieces) (IsSaid false task)
+show_said task pieces =
+    let P = IsSaid false task in
+    chain P (operands_at SHOW [] (replicate 2 None) 0 pieces) show_of (λ values read.
+    chain P (location_of (slice_get values 0)) _ (λ from address.
+    chain P (number_of (slice_get values 1)) _ (λ len number. ((refl, tt), tt))))
+
+move_said : (task : Name) (pieces : List (List ℕ)) → IfOk (move_at pieces) (IsSaid false task)
+move_said task pieces =
+    let P = IsSaid false task in
+    chain P (operands_at MOVE [] (replicate 3 None) 0 pieces) move_of (λ values read.
+    chain P (location_of (slice_get values 0)) _ (λ to address.
+    chain P (location_of (slice_get values 1)) _ (λ from address.
+    chain P (number_of (slice_get values 2)) _ (λ len number. ((refl, tt), tt)))))
+
+where_said : (task : Name) (pieces : List (List ℕ)) → IfOk (where_at pieces) (IsSaid false task)
+where_said task pieces =
+    let P = IsSaid false task in
+    chain P (operands_at WHERE [] (replicate 1 None) 0 pieces) where_of (λ values read.
+    chain P (name_of (slice_get values 0)) _ (λ area name. (refl, tt)))
+
+-- what each operation but REGION says
+later_said : (task : Name) (operation : Operation) (pieces : List (List ℕ)) → is_in_place false operation ≡ true → IfOk (statement_of operation pieces) (IsSaid false task)
+later_said task Region pieces is = absurd (cc)
+later_said task Getmain pieces is = getmain_said task pieces
+later_said task Freemain pieces is = freemain_said task pieces
+later_said task Storage pieces is = storage_said task pieces
+later_said task Put pieces is = put_said task pieces
+later_said task Show pieces is = show_said task pieces
+later_said task Move pieces is = move_said task pieces
+later_said task Where pieces is = where_said task pieces
+
+statement_said : (first : Bool) (task : Name) (operation : Operation) (pieces : List (List ℕ)) → is_in_place first operation ≡ true → IfOk (statement_of operation pieces) (IsSaid first task)
+statement_said true task Region pieces is = region_said task pieces
+statement_said true task _ pieces is = absurd (cc)
+statement_said false task operation pieces is = later_said task operation pieces is
+
+-- A line that is read is in its ranges, and is built.
+abbrev pub IsRead : Bool → Result Line Fault → Type 0
+IsRead first read = IsLine first read × IsBuiltLine read
+
+read_chain : {A : Type 0} → (first : Bool) (r : Result A Fault) (f : A → Result Line Fault) → ((x : A) → IsRead first (f x)) → IsRead first (r >>= f)
+read_chain first (Ok x) f h = h x
+read_chain first (Err fault) f h = (tt, tt)
+
+line_said : (first : Bool) (task : Name) (r : Result Statement Fault) → IfOk r (IsSaid first task) → IsRead first (r >>= λ s. Ok (line.Statement task s))
+line_said first task (Ok s) said = said
+line_said first task (Err fault) said = (tt, tt)
+
+placed_said : (first : Bool) (task : Name) (operation : Operation) (pieces : List (List ℕ)) (b : Bool) → is_in_place first operation ≡ b → IsRead first (cond (not b) (Err OutOfPlace) (statement_of operation pieces >>= λ s. Ok (line.Statement task s)))
+placed_said first task operation pieces true is = line_said first task (statement_of operation pieces) (statement_said first task operation pieces is)
+placed_said first task operation pieces false is = (tt, tt)
+
+pub statement_read : (text : List ℕ) (first : Bool) → IsRead first (statement_at text first)
+statement_read text first =
+    read_chain first (or_fault UnknownOperation (name_at (word_of text))) _ (λ task.
+    read_chain first (or_fault UnknownOperation (operation_of (word_of (after_word text)))) _ (λ operation.
+    placed_said first task operation (pieces_in (word_of (after_word (after_word text)))) (is_in_place first operation) refl))
+
+pub line_of-IsReader : IsReader line_of
+line_of-IsReader text first =
+    whole (nat_lt 255 (length text)) (not (list_all is_plain_byte text)) (list_all is_blank_byte text || is_comment text) where
+      whole : (long odd nothing : Bool) → IsLine first (cond long (Err TooLong) (cond odd (Err InvalidByte) (cond nothing (Ok line.Nothing) (statement_at text first))))
+      whole true odd nothing = tt
+      whole false true nothing = tt
+      whole false false true = tt
+      whole false false false = (statement_read text first).0
