@@ -248,10 +248,7 @@ impl Run {
         self.check_grant(rt, place, may_be_above(form), by_subtask, number);
         let task = self.task(by_subtask);
         let first = self.chance.below(256) as u8;
-        assert_eq!(rt;
-            ask(&mut self.step, &task, put(place.addr(), first)),
-            Said::Done
-        );
+        says!(rt, self.step, task, put(place.addr(), first) => Said::Done);
         self.areas.push(Area {
             place,
             by_subtask,
@@ -335,10 +332,7 @@ impl Run {
         let task = self.task(one.by_subtask);
         let goes = k != j && one.by_subtask == other.by_subtask && one.number == other.number;
         let request = release_two(Form::Lc, one.number, one.place, other.place);
-        assert_eq!(rt;
-            ask(&mut self.step, &task, request),
-            if goes { Said::Rc0 } else { Said::Rc4 }
-        );
+        says!(rt, self.step, task, request => if goes { Said::Rc0 } else { Said::Rc4 });
         if goes {
             self.areas.retain(|area| area.place != one.place && area.place != other.place);
         }
@@ -352,17 +346,11 @@ impl Run {
         let area = self.areas.swap_remove(k);
         let task = self.task(area.by_subtask);
         let front = Place::new(area.place.addr(), 8);
-        assert_eq!(rt;
-            ask(&mut self.step, &task, release(Form::Ec, area.number, front)),
-            Said::Rc0
-        );
+        says!(rt, self.step, task, release(Form::Ec, area.number, front) => Said::Rc0);
         let at = area.place.addr().get();
         if area.place.len() > 8 && at < 0x7FFF_0000 {
             let rest = Place::new(Addr::new(at + 8), area.place.len() - 8);
-            assert_eq!(rt;
-                ask(&mut self.step, &task, put(rest.addr(), area.first)),
-                Said::Done
-            );
+            says!(rt, self.step, task, put(rest.addr(), area.first) => Said::Done);
             self.areas.push(Area {
                 place: rest,
                 ..area
@@ -377,19 +365,13 @@ impl Run {
             let area = self.areas[k];
             let number = area.number.wrapping_add(1) % 128;
             let task = self.task(area.by_subtask);
-            assert_eq!(rt;
-                ask(&mut self.step, &task, release(Form::Rc, number, area.place)),
-                Said::Rc4
-            );
+            says!(rt, self.step, task, release(Form::Rc, number, area.place) => Said::Rc4);
         }
     }
 
     fn release_whole(&mut self, rt: &impl Abort, number: u8) {
         let job = self.job;
-        assert_eq!(rt;
-            ask(&mut self.step, &job, release_whole(Form::Rc, number)),
-            Said::Rc0
-        );
+        says!(rt, self.step, job, release_whole(Form::Rc, number) => Said::Rc0);
         self.areas
             .retain(|area| area.by_subtask || area.number != number);
     }
@@ -399,7 +381,7 @@ impl Run {
         if let Some(k) = self.any() {
             let job = self.job;
             let to = self.areas[k].place.addr();
-            assert_eq!(rt; ask(&mut self.step, &job, put(to, first)), Said::Done);
+            says!(rt, self.step, job, put(to, first) => Said::Done);
             self.areas[k].first = first;
         }
     }
@@ -418,17 +400,14 @@ impl Run {
             len: MoveLength::new(2),
         };
         let job = self.job;
-        assert_eq!(rt; ask(&mut self.step, &job, request), Said::Done);
+        says!(rt, self.step, job, request => Said::Done);
         self.areas[k].first = self.areas[j].first;
     }
 
     fn attach(&mut self, rt: &impl Abort) {
         if !self.step.is_active(&self.sub) {
             let (job, sub) = (self.job, self.sub);
-            assert_eq!(rt;
-                ask(&mut self.step, &job, attach(rt, sub, 0, 0, false)),
-                Said::Attached
-            );
+            says!(rt, self.step, job, attach(rt, sub, 0, 0, false) => Said::Attached);
         }
     }
 
@@ -440,7 +419,7 @@ impl Run {
         } else {
             Said::NotRun
         };
-        assert_eq!(rt; ask(&mut self.step, &sub, Request::Return), expected);
+        says!(rt, self.step, sub, Request::Return => expected);
         self.areas.retain(|area| !area.by_subtask);
     }
 

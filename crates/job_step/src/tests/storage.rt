@@ -18,16 +18,13 @@ fn shortage_ends_the_job_step_task(rt: HostRuntime) -> Result<(), Fail> {
     let job = name(&rt, b"JOB");
     let mut step = new_step(&rt, rt.alloc(), 1, 0, 0);
     assert!(rt; step.is_active(&job));
-    assert_eq!(rt;
-        ask(&mut step, &job, obtain(Form::R, 0, 4096)),
-        Said::At(0x6000, 4096)
-    );
+    says!(rt, step, job, obtain(Form::R, 0, 4096) => Said::At(0x6000, 4096));
     assert!(rt; step.is_active(&job));
     assert!(rt; !step.abended());
-    assert_eq!(rt; ask(&mut step, &job, obtain(Form::R, 0, 8)), system(0x80A));
+    says!(rt, step, job, obtain(Form::R, 0, 8) => system(0x80A));
     assert!(rt; !step.is_active(&job));
     assert!(rt; step.abended());
-    assert_eq!(rt; ask(&mut step, &job, obtain(Form::R, 0, 8)), Said::NotRun);
+    says!(rt, step, job, obtain(Form::R, 0, 8) => Said::NotRun);
     Ok(())
 }
 
@@ -38,11 +35,8 @@ fn check(rt: &impl Abort, alloc: Global, request: Request, expected: Said)
 {
     let job = name(rt, b"JOB");
     let mut step = new_step(rt, alloc, 1, 0, 0);
-    assert_eq!(rt;
-        ask(&mut step, &job, obtain(Form::Ru, 0, 8)),
-        Said::At(0x6000, 8)
-    );
-    assert_eq!(rt; ask(&mut step, &job, request), expected);
+    says!(rt, step, job, obtain(Form::Ru, 0, 8) => Said::At(0x6000, 8));
+    says!(rt, step, job, request => expected);
     let abends = matches!(expected, Said::Abend(_, _));
     assert_eq!(rt; step.abended(), abends);
     assert_eq!(rt; step.is_active(&job), !abends);
@@ -66,39 +60,17 @@ fn refused_obtains(rt: HostRuntime) {
     check(&rt, alloc, obtain(Form::Ec, 128, 4097), system(0xB04));
     check(&rt, alloc, obtain(Form::Rc, 128, 8), system(0xB78));
     check(&rt, alloc, obtain(Form::Rc, 3, 8), Said::Rc4);
-    check(&rt, alloc, obtain_two(Form::Lu, 0, 4096, 8), system(0x804));
-    check(&rt, alloc, obtain_two(Form::Lc, 0, 8, 4088), Said::Rc4);
-    check(&rt, alloc, obtain_two(Form::Lc, 200, 8, 8), system(0xB04));
 }
 
 #[test]
 fn refused_releases(rt: HostRuntime) {
     let alloc = rt.alloc();
-    let held = place(0x6000, 8);
-    let wrong = place(0x6004, 8);
-    check(
-        &rt,
-        alloc,
-        release_two(Form::Lu, 0, held, wrong),
-        system(0x905),
-    );
-    check(
-        &rt,
-        alloc,
-        release_two(Form::Lu, 0, held, held),
-        system(0xA05),
-    );
-    check(
-        &rt,
-        alloc,
-        release_two(Form::Lc, 130, held, wrong),
-        system(0xB05),
-    );
+    let conditional = Form::StorageConditional;
     check(&rt, alloc, release(Form::Eu, 128, 0x6000, 8), system(0xB05));
     check(
         &rt,
         alloc,
-        release(Form::StorageConditional, 0, 0x6004, 8),
+        release(conditional, 0, 0x6004, 8),
         system(0x978),
     );
     check(&rt, alloc, release(Form::Ec, 0, 0x6004, 8), system(0x905));
@@ -128,25 +100,45 @@ fn refused_releases(rt: HostRuntime) {
     check(&rt, alloc, release_whole(Form::Rc, 7), Said::Rc0);
 }
 
+#[test]
+fn refused_lists(rt: HostRuntime) {
+    let alloc = rt.alloc();
+    let held = place(0x6000, 8);
+    let wrong = place(0x6004, 8);
+    check(
+        &rt,
+        alloc,
+        release_two(Form::Lu, 0, held, wrong),
+        system(0x905),
+    );
+    check(
+        &rt,
+        alloc,
+        release_two(Form::Lu, 0, held, held),
+        system(0xA05),
+    );
+    check(&rt, alloc, release_two(Form::Lc, 0, held, held), Said::Rc4);
+    check(
+        &rt,
+        alloc,
+        release_two(Form::Lc, 130, held, wrong),
+        system(0xB05),
+    );
+    check(&rt, alloc, obtain_two(Form::Lu, 0, 4096, 8), system(0x804));
+    check(&rt, alloc, obtain_two(Form::Lc, 0, 8, 4088), Said::Rc4);
+    check(&rt, alloc, obtain_two(Form::Lc, 200, 8, 8), system(0xB04));
+}
+
 // A run joined of an own page's tail, a free page and an own page's head; a copy to its last bytes.
 #[test]
 fn joined_run(rt: HostRuntime) -> Result<(), Fail> {
     let job = name(&rt, b"JOB");
     let mut step = new_step(&rt, rt.alloc(), 3, 0, 0);
-    assert_eq!(rt;
-        ask(&mut step, &job, obtain(Form::Ru, 1, 12288)),
-        Said::At(0x6000, 12288)
-    );
-    assert_eq!(rt;
-        ask(&mut step, &job, release(Form::Ru, 1, 0x6800, 8192)),
-        Said::Rc0
-    );
-    assert_eq!(rt;
-        ask(&mut step, &job, obtain(Form::Rc, 1, 8192)),
-        Said::At(0x6800, 8192)
-    );
-    assert_eq!(rt; ask(&mut step, &job, put(0x6000, 1, 2)), Said::Done);
-    assert_eq!(rt; ask(&mut step, &job, copy(0x87FE, 0x6000, 2)), Said::Done);
+    says!(rt, step, job, obtain(Form::Ru, 1, 12288) => Said::At(0x6000, 12288));
+    says!(rt, step, job, release(Form::Ru, 1, 0x6800, 8192) => Said::Rc0);
+    says!(rt, step, job, obtain(Form::Rc, 1, 8192) => Said::At(0x6800, 8192));
+    says!(rt, step, job, put(0x6000, 1, 2) => Said::Done);
+    says!(rt, step, job, copy(0x87FE, 0x6000, 2) => Said::Done);
     assert!(rt; holds(&step, 0x87FC, &[0, 0, 1, 2]));
     Ok(())
 }
@@ -156,48 +148,18 @@ fn joined_run(rt: HostRuntime) -> Result<(), Fail> {
 fn parts(rt: HostRuntime) -> Result<(), Fail> {
     let job = name(&rt, b"JOB");
     let mut step = new_step(&rt, rt.alloc(), 2, 1, 0);
-    assert_eq!(rt;
-        ask(&mut step, &job, obtain(Form::R, 1, 2048)),
-        Said::At(0x6000, 2048)
-    );
-    assert_eq!(rt;
-        ask(&mut step, &job, obtain(Form::R, 1, 2048)),
-        Said::At(0x6800, 2048)
-    );
-    assert_eq!(rt;
-        ask(&mut step, &job, obtain(Form::Ru, 2, 8)),
-        Said::At(0x100_0000, 8)
-    );
-    assert_eq!(rt;
-        ask(&mut step, &job, obtain(Form::Ru, 3, 8)),
-        Said::At(0x7000, 8)
-    );
-    assert_eq!(rt; ask(&mut step, &job, obtain(Form::Ec, 4, 8)), Said::Rc4);
-    assert_eq!(rt;
-        ask(&mut step, &job, release(Form::Rc, 1, 0x6000, 4095)),
-        Said::Rc0
-    );
-    assert_eq!(rt;
-        ask(&mut step, &job, obtain(Form::Ec, 4, 8)),
-        Said::At(0x6000, 8)
-    );
-    assert_eq!(rt;
-        ask(&mut step, &job, release(Form::Rc, 2, 0x100_0000, 1)),
-        Said::Rc0
-    );
-    assert_eq!(rt;
-        ask(&mut step, &job, obtain(Form::Rc, 4, 4096)),
-        Said::At(0x100_0000, 4096)
-    );
-    assert_eq!(rt; ask(&mut step, &job, release_whole(Form::Rc, 4)), Said::Rc0);
-    assert_eq!(rt;
-        ask(&mut step, &job, obtain(Form::Rc, 5, 4096)),
-        Said::At(0x100_0000, 4096)
-    );
-    assert_eq!(rt;
-        ask(&mut step, &job, obtain(Form::R, 5, 4096)),
-        Said::At(0x6000, 4096)
-    );
+    says!(rt, step, job, obtain(Form::R, 1, 2048) => Said::At(0x6000, 2048));
+    says!(rt, step, job, obtain(Form::R, 1, 2048) => Said::At(0x6800, 2048));
+    says!(rt, step, job, obtain(Form::Ru, 2, 8) => Said::At(0x100_0000, 8));
+    says!(rt, step, job, obtain(Form::Ru, 3, 8) => Said::At(0x7000, 8));
+    says!(rt, step, job, obtain(Form::Ec, 4, 8) => Said::Rc4);
+    says!(rt, step, job, release(Form::Rc, 1, 0x6000, 4095) => Said::Rc0);
+    says!(rt, step, job, obtain(Form::Ec, 4, 8) => Said::At(0x6000, 8));
+    says!(rt, step, job, release(Form::Rc, 2, 0x100_0000, 1) => Said::Rc0);
+    says!(rt, step, job, obtain(Form::Rc, 4, 4096) => Said::At(0x100_0000, 4096));
+    says!(rt, step, job, release_whole(Form::Rc, 4) => Said::Rc0);
+    says!(rt, step, job, obtain(Form::Rc, 5, 4096) => Said::At(0x100_0000, 4096));
+    says!(rt, step, job, obtain(Form::R, 5, 4096) => Said::At(0x6000, 4096));
     Ok(())
 }
 
@@ -206,30 +168,21 @@ fn parts(rt: HostRuntime) -> Result<(), Fail> {
 fn lists(rt: HostRuntime) -> Result<(), Fail> {
     let job = name(&rt, b"JOB");
     let mut step = new_step(&rt, rt.alloc(), 1, 0, 0xEE);
-    assert_eq!(rt;
-        ask(&mut step, &job, obtain_two(Form::Lc, 1, 4096, 4096)),
-        Said::Rc4
-    );
+    says!(rt, step, job, obtain_two(Form::Lc, 1, 4096, 4096) => Said::Rc4);
     assert!(rt; is_barred(&step, 0x6000, 1));
-    assert_eq!(rt;
-        ask(&mut step, &job, obtain_two(Form::Lc, 2, 2048, 2041)),
-        Said::Listed(2)
-    );
+    says!(rt, step, job, obtain_two(Form::Lc, 2, 2048, 2041) => Said::Listed(2));
     assert!(rt; holds(&step, 0x6FFF, &[0xEE]));
     let first = place(0x6000, 2048);
     let second = place(0x6800, 2041);
     let twice = release_two(Form::Lc, 2, first, place(0x67F8, 8));
-    assert_eq!(rt; ask(&mut step, &job, twice), Said::Rc4);
+    says!(rt, step, job, twice => Said::Rc4);
     let other = release_two(Form::Lc, 1, first, second);
-    assert_eq!(rt; ask(&mut step, &job, other), Said::Rc4);
+    says!(rt, step, job, other => Said::Rc4);
     assert!(rt; !is_barred(&step, 0x6000, 4096));
     let both = release_two(Form::Lc, 2, second, first);
-    assert_eq!(rt; ask(&mut step, &job, both), Said::Rc0);
+    says!(rt, step, job, both => Said::Rc0);
     assert!(rt; is_barred(&step, 0x6000, 1));
-    assert_eq!(rt;
-        ask(&mut step, &job, obtain(Form::Rc, 3, 4096)),
-        Said::At(0x6000, 4096)
-    );
+    says!(rt, step, job, obtain(Form::Rc, 3, 4096) => Said::At(0x6000, 4096));
     Ok(())
 }
 
@@ -239,29 +192,11 @@ fn sharer_releases(rt: HostRuntime) -> Result<(), Fail> {
     let job = name(&rt, b"JOB");
     let sub = name(&rt, b"SUB");
     let mut step = new_step(&rt, rt.alloc(), 1, 1, 0);
-    assert_eq!(rt;
-        ask(&mut step, &job, obtain(Form::Ru, 6, 8)),
-        Said::At(0x100_0000, 8)
-    );
-    assert_eq!(rt;
-        ask(&mut step, &job, obtain(Form::Eu, 6, 8)),
-        Said::At(0x6000, 8)
-    );
-    assert_eq!(rt;
-        ask(&mut step, &job, attach(&rt, sub, 0, 1 << 6, true)),
-        Said::Attached
-    );
-    assert_eq!(rt;
-        ask(&mut step, &sub, release(Form::Rc, 6, 0x100_0000, 8)),
-        Said::Rc0
-    );
-    assert_eq!(rt;
-        ask(&mut step, &sub, release(Form::Rc, 6, 0x6000, 8)),
-        Said::Rc0
-    );
-    assert_eq!(rt;
-        ask(&mut step, &job, release(Form::Rc, 6, 0x6000, 8)),
-        Said::Rc4
-    );
+    says!(rt, step, job, obtain(Form::Ru, 6, 8) => Said::At(0x100_0000, 8));
+    says!(rt, step, job, obtain(Form::Eu, 6, 8) => Said::At(0x6000, 8));
+    says!(rt, step, job, attach(&rt, sub, 0, 1 << 6, true) => Said::Attached);
+    says!(rt, step, sub, release(Form::Rc, 6, 0x100_0000, 8) => Said::Rc0);
+    says!(rt, step, sub, release(Form::Rc, 6, 0x6000, 8) => Said::Rc0);
+    says!(rt, step, job, release(Form::Rc, 6, 0x6000, 8) => Said::Rc4);
     Ok(())
 }
