@@ -288,14 +288,7 @@ impl Run {
         if let Some(k) = self.any() {
             let area = self.areas.swap_remove(k);
             let task = self.task(area.by_subtask);
-            assert_eq!(rt;
-                ask(
-                    &mut self.step,
-                    &task,
-                    release(Form::Rc, area.number, area.place)
-                ),
-                Said::Rc0
-            );
+            says!(rt, self.step, task, release(Form::Rc, area.number, area.place) => Said::Rc0);
         }
     }
 
