@@ -17,6 +17,10 @@ form_named text =
     if bytes_eq text (codes "R") then Some form.R
     else (if bytes_eq text (codes "RC") then Some form.Rc
     else (if bytes_eq text (codes "RU") then Some form.Ru
+    else (if bytes_eq text (codes "VRC") then Some form.Vrc
+    else (if bytes_eq text (codes "VRU") then Some form.Vru
     else (if bytes_eq text (codes "EC") then Some form.Ec
     else (if bytes_eq text (codes "EU") then Some form.Eu
-    else None))))
+    else (if bytes_eq text (codes "VC") then Some form.Vc
+    else (if bytes_eq text (codes "VU") then Some form.Vu
+    else None))))))))

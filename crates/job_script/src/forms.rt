@@ -33,8 +33,12 @@ pub fn form_named(text: &[u8]) -> Option<Form>
         b"R" => Some(Form::R),
         b"RC" => Some(Form::Rc),
         b"RU" => Some(Form::Ru),
+        b"VRC" => Some(Form::Vrc),
+        b"VRU" => Some(Form::Vru),
         b"EC" => Some(Form::Ec),
         b"EU" => Some(Form::Eu),
+        b"VC" => Some(Form::Vc),
+        b"VU" => Some(Form::Vu),
         _ => None,
     }
 }

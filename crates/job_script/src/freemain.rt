@@ -2,18 +2,21 @@
 
 ghost use Rattle.std.specs.Prelude.{◌≡◌};
 ghost use Rattle.job_script.specs.Operands.{pieces_after};
-ghost use Rattle.job_script.specs.Freemain.{whole_at, place_at, freemain_in, freemain_at};
+ghost use Rattle.job_script.specs.Freemain.{whole_at, place_at, area_at, freemain_in, freemain_at};
 
 use crate::forms::{form_named, read_form};
-use crate::keywords::{A_ADDRESS, LV, SP};
+use crate::keywords::{A_ADDRESS, A_NAME, LV, SP};
 use crate::operands::{Keyword, read_values};
 use crate::requests::release;
-use crate::values::{location, number, subpool_or_zero};
+use crate::values::{location, name, number, subpool_or_zero};
 use mvs_model::code::Form;
 use mvs_model::line::{Asked, Fault, Statement};
 
 /// The keywords of the forms that release one place.
 pub const PLACE: [Keyword; 3] = [LV, A_ADDRESS, SP];
+
+/// The keywords of the forms that release the place of an area.
+pub const AREA: [Keyword; 2] = [A_NAME, SP];
 
 // The operands of a form that releases a place, or the whole subpool.
 fn read_whole(form: Form, field: Option<&[u8]>) -> Result<Statement, Fault>
@@ -38,6 +41,19 @@ fn read_place(form: Form, field: Option<&[u8]>) -> Result<Statement, Fault>
     }))
 }
 
+// The operands of a form that releases the place of an area.
+fn read_area(form: Form, field: Option<&[u8]>) -> Result<Statement, Fault>
+    ensures { result ≡ area_at form (pieces_after field.entry) }
+{
+    let values = read_values::<2>(&[], &AREA, field)?;
+    let area = name(&values[0])?;
+    Ok(Statement::Request(Asked::ReleaseArea {
+        form,
+        number: subpool_or_zero(&values[1]),
+        area,
+    }))
+}
+
 // What a form says with its operands.
 fn read_form_of(form: Form, field: Option<&[u8]>) -> Result<Statement, Fault>
     ensures { result ≡ freemain_in form (pieces_after field.entry) }
@@ -45,6 +61,7 @@ fn read_form_of(form: Form, field: Option<&[u8]>) -> Result<Statement, Fault>
     match form {
         Form::R | Form::Rc | Form::Ru => read_whole(form, field),
         Form::Ec | Form::Eu => read_place(form, field),
+        Form::Vc | Form::Vu => read_area(form, field),
         _ => Err(Fault::UnknownOperation),
     }
 }
