@@ -5,3 +5,5 @@ pub mod codes;
 pub mod obtain;
 pub mod obtain_list;
 pub mod release;
+#[cfg(test)]
+mod tests;
