@@ -1,5 +1,6 @@
 mod codes;
 mod examples;
+mod places;
 mod storage;
 
 use super::*;

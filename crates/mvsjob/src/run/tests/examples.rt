@@ -51,3 +51,75 @@ fn pages(rt: HostRuntime) -> Result<(), Fail> {
     assert!(rt; prints(&rt, &lines, "STEP ENDED RC 0")?);
     Ok(())
 }
+
+// Above and below 16 megabytes.
+#[test]
+fn above(rt: HostRuntime) -> Result<(), Fail> {
+    let lines = [
+        ("* One page below 16 megabytes and one above; the program of this task resides above.", ""),
+        ("JOB REGION BELOW=1,ABOVE=1,RES=ABOVE", "JOB REGION BELOW 1 ABOVE 1"),
+        ("* RU takes LOC. Its default, RES, is by where the task resides.", ""),
+        ("JOB GETMAIN RU,LV=8,A=X", "JOB RC 0"),
+        ("JOB WHERE X", "JOB AT 01000000"),
+        ("* R obtains below, wherever the task resides.", ""),
+        ("JOB GETMAIN R,LV=8,A=Y", "JOB RC 0"),
+        ("JOB WHERE Y", "JOB AT 00006000"),
+        ("* LOC=24 is LOC=BELOW.", ""),
+        ("JOB GETMAIN RU,LV=4088,A=Z,LOC=24", "JOB RC 0"),
+        ("JOB WHERE Z", "JOB AT 00006008"),
+        ("* LOC=ANY and LOC=31 look above first, and then below: a whole page is free in neither.", ""),
+        ("JOB GETMAIN RC,LV=4096,A=W,LOC=ANY", "JOB RC 4"),
+        ("JOB GETMAIN RC,LV=4088,A=W,LOC=31", "JOB RC 0"),
+        ("JOB WHERE W", "JOB AT 01000008"),
+        ("* Every form releases storage of either region.", ""),
+        ("JOB FREEMAIN R,LV=8,A=X", "JOB RC 0"),
+    ];
+    assert!(rt; prints(&rt, &lines, "STEP ENDED RC 0")?);
+    Ok(())
+}
+
+// Boundaries to begin on and to lie within.
+#[test]
+fn boundaries(rt: HostRuntime) -> Result<(), Fail> {
+    let lines = [
+        ("* Where an area may begin, and what it may not cross.", ""),
+        ("JOB REGION BELOW=4", "JOB REGION BELOW 4 ABOVE 0"),
+        ("JOB GETMAIN RU,LV=8,A=X", "JOB RC 0"),
+        ("* BNDRY=PAGE: on a multiple of 4096.", ""),
+        ("JOB GETMAIN RU,LV=8,A=A,BNDRY=PAGE", "JOB RC 0"),
+        ("JOB WHERE A", "JOB AT 00007000"),
+        ("* STARTBDY=14: on a multiple of 2 to the 14th.", ""),
+        ("JOB GETMAIN RU,LV=8,A=B,STARTBDY=14", "JOB RC 0"),
+        ("JOB WHERE B", "JOB AT 00008000"),
+        ("* CONTBDY=12: the first and the last byte lie in one block of 2 to the 12th.", ""),
+        ("JOB GETMAIN RU,LV=4000,A=C,CONTBDY=12", "JOB RC 0"),
+        ("JOB WHERE C", "JOB AT 00006008"),
+        ("* What is longer than such a block has no place, and none begins on a multiple of 2 to the 31st.", ""),
+        ("JOB GETMAIN RC,LV=4097,A=D,CONTBDY=12", "JOB RC 4"),
+        ("JOB GETMAIN RC,LV=8,A=D,STARTBDY=31", "JOB RC 4"),
+        ("JOB WHERE D", "JOB NO NAME"),
+    ];
+    assert!(rt; prints(&rt, &lines, "STEP ENDED RC 0")?);
+    Ok(())
+}
+
+// A variable request takes what is left.
+#[test]
+fn variable(rt: HostRuntime) -> Result<(), Fail> {
+    let lines = [
+        ("* A variable request takes what is left, between a largest and a smallest length.", ""),
+        ("JOB REGION BELOW=3", "JOB REGION BELOW 3 ABOVE 0"),
+        ("JOB GETMAIN RU,LV=5000,A=X", "JOB RC 0"),
+        ("JOB GETMAIN VRU,LV=(262144,100),A=Y", "JOB RC 0 LENGTH 00001C78"),
+        ("JOB WHERE Y", "JOB AT 00007388"),
+        ("* Now there is not even the smallest length.", ""),
+        ("JOB GETMAIN VC,LV=(262144,100),A=Z", "JOB RC 4"),
+        ("* FREEMAIN VU needs the name alone: the length is the one that was obtained.", ""),
+        ("JOB FREEMAIN VU,A=Y", "JOB RC 0"),
+        ("JOB GETMAIN VC,LV=(4096,100),A=Z", "JOB RC 0 LENGTH 00001000"),
+        ("* 3,192 bytes are left. VU asks for 4,096 at least, and is not conditional.", ""),
+        ("JOB GETMAIN VU,LV=(8192,4096),A=W", "JOB ABEND S804"),
+    ];
+    assert!(rt; prints(&rt, &lines, "STEP ENDED RC 8")?);
+    Ok(())
+}
