@@ -160,3 +160,32 @@ fn a_smallest_above_the_largest(rt: HostRuntime) -> Result<(), Fail> {
     assert!(rt; prints(&rt, &lines, "JOB FAULT RC 12")?);
     Ok(())
 }
+
+// Lengths and boundaries at their ends, in a page: 2,147,483,647 rounds past 31 bits; a boundary of 2 to the 31st has no multiple
+// in the region but everything within one; a smallest length above the largest is a fault, though both round to 16.
+#[test]
+fn lengths_at_their_ends(rt: HostRuntime) -> Result<(), Fail> {
+    let lines = [
+        ("JOB REGION BELOW=1", "JOB REGION BELOW 1 ABOVE 0"),
+        ("JOB GETMAIN RC,LV=1,A=A", "JOB RC 0"),
+        ("JOB WHERE A", "JOB AT 00006000"),
+        ("JOB GETMAIN RC,LV=8,A=B", "JOB RC 0"),
+        ("JOB WHERE B", "JOB AT 00006008"),
+        ("JOB GETMAIN RC,LV=2147483640,A=C", "JOB RC 4"),
+        ("JOB GETMAIN RC,LV=2147483647,A=C", "JOB RC 4"),
+        ("JOB STORAGE OBTAIN,LENGTH=2147483647,ADDR=C,COND=YES", "JOB RC 4"),
+        ("JOB GETMAIN VRC,LV=(2147483647,2147483647),A=C", "JOB RC 4"),
+        ("JOB GETMAIN VRC,LV=(2147483647,1),A=C", "JOB RC 0 LENGTH 00000FF0"),
+        ("JOB FREEMAIN VC,A=C", "JOB RC 0"),
+        ("JOB GETMAIN RC,LV=8,A=D,STARTBDY=3", "JOB RC 0"),
+        ("JOB GETMAIN RC,LV=8,A=E,STARTBDY=31", "JOB RC 4"),
+        ("JOB GETMAIN RC,LV=8,A=E,CONTBDY=31", "JOB RC 0"),
+        ("JOB GETMAIN RC,LV=8,A=F,CONTBDY=3", "JOB RC 0"),
+        ("JOB GETMAIN RC,LV=9,A=G,CONTBDY=3", "JOB RC 4"),
+        ("JOB FREEMAIN RC,LV=2147483647,A=A", "JOB RC 4"),
+        ("JOB FREEMAIN RC,LV=1,A=A", "JOB RC 0"),
+        ("JOB GETMAIN VC,LV=(9,10),A=G", "JS06"),
+    ];
+    assert!(rt; prints(&rt, &lines, "JOB FAULT RC 12")?);
+    Ok(())
+}
