@@ -90,7 +90,12 @@ fn push_line(text: &mut Vec<u8>, line: &str) -> Result<(), Fail> {
 }
 
 // Puts what a line of the script prints behind a text: each of its own lines behind its number.
-fn push_replies(rt: &HostRuntime, text: &mut Vec<u8>, number: u32, replies: &str) -> Result<(), Fail> {
+fn push_replies(
+    rt: &HostRuntime,
+    text: &mut Vec<u8>,
+    number: u32,
+    replies: &str,
+) -> Result<(), Fail> {
     if replies.is_empty() {
         return Ok(());
     }

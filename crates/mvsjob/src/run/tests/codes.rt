@@ -95,7 +95,10 @@ fn address_off_the_doubleword(rt: HostRuntime) -> Result<(), Fail> {
     let lines = [
         ("JOB REGION BELOW=1", "JOB REGION BELOW 1 ABOVE 0"),
         ("JOB GETMAIN RU,LV=8,A=X", "JOB RC 0"),
-        ("JOB STORAGE RELEASE,LENGTH=8,ADDR=X+4,COND=YES", "JOB ABEND S978"),
+        (
+            "JOB STORAGE RELEASE,LENGTH=8,ADDR=X+4,COND=YES",
+            "JOB ABEND S978",
+        ),
     ];
     assert!(rt; prints(&rt, &lines, "STEP ENDED RC 8")?);
     Ok(())

@@ -39,7 +39,10 @@ fn above_first(rt: HostRuntime) -> Result<(), Fail> {
 #[test]
 fn residence_decides(rt: HostRuntime) -> Result<(), Fail> {
     let lines = [
-        ("JOB REGION BELOW=1,ABOVE=1,RES=ABOVE", "JOB REGION BELOW 1 ABOVE 1"),
+        (
+            "JOB REGION BELOW=1,ABOVE=1,RES=ABOVE",
+            "JOB REGION BELOW 1 ABOVE 1",
+        ),
         ("JOB GETMAIN RU,LV=4096,A=X", "JOB RC 0"),
         ("JOB WHERE X", "JOB AT 01000000"),
         ("JOB GETMAIN R,LV=4096,A=Y", "JOB RC 0"),
@@ -84,7 +87,10 @@ fn what_a_variable_request_gets(rt: HostRuntime) -> Result<(), Fail> {
     let lines = [
         ("JOB REGION BELOW=2", "JOB REGION BELOW 2 ABOVE 0"),
         ("JOB GETMAIN RU,LV=8,A=X,SP=1", "JOB RC 0"),
-        ("JOB GETMAIN VRC,LV=(16384,4096),A=Y,SP=2", "JOB RC 0 LENGTH 00001000"),
+        (
+            "JOB GETMAIN VRC,LV=(16384,4096),A=Y,SP=2",
+            "JOB RC 0 LENGTH 00001000",
+        ),
         ("JOB GETMAIN VRC,LV=(16384,4096),A=Z,SP=1", "JOB RC 4"),
     ];
     assert!(rt; prints(&rt, &lines, "STEP ENDED RC 0")?);
@@ -96,7 +102,10 @@ fn what_a_variable_request_gets(rt: HostRuntime) -> Result<(), Fail> {
 fn above_on_a_tie(rt: HostRuntime) -> Result<(), Fail> {
     let lines = [
         ("JOB REGION BELOW=1,ABOVE=1", "JOB REGION BELOW 1 ABOVE 1"),
-        ("JOB GETMAIN VRC,LV=(16384,8),A=Y,LOC=ANY", "JOB RC 0 LENGTH 00001000"),
+        (
+            "JOB GETMAIN VRC,LV=(16384,8),A=Y,LOC=ANY",
+            "JOB RC 0 LENGTH 00001000",
+        ),
         ("JOB WHERE Y", "JOB AT 01000000"),
     ];
     assert!(rt; prints(&rt, &lines, "STEP ENDED RC 0")?);
@@ -108,7 +117,10 @@ fn above_on_a_tie(rt: HostRuntime) -> Result<(), Fail> {
 fn the_name_keeps_the_length(rt: HostRuntime) -> Result<(), Fail> {
     let lines = [
         ("JOB REGION BELOW=1,ABOVE=1", "JOB REGION BELOW 1 ABOVE 1"),
-        ("JOB GETMAIN VRC,LV=(16384,8),A=Y,LOC=ANY", "JOB RC 0 LENGTH 00001000"),
+        (
+            "JOB GETMAIN VRC,LV=(16384,8),A=Y,LOC=ANY",
+            "JOB RC 0 LENGTH 00001000",
+        ),
         ("JOB FREEMAIN VC,A=Y", "JOB RC 0"),
         ("JOB FREEMAIN VC,A=Y", "JOB RC 4"),
     ];
@@ -121,7 +133,10 @@ fn the_name_keeps_the_length(rt: HostRuntime) -> Result<(), Fail> {
 fn below_where_more_is(rt: HostRuntime) -> Result<(), Fail> {
     let lines = [
         ("JOB REGION BELOW=2,ABOVE=1", "JOB REGION BELOW 2 ABOVE 1"),
-        ("JOB GETMAIN VRC,LV=(16384,8),A=Y,LOC=ANY", "JOB RC 0 LENGTH 00002000"),
+        (
+            "JOB GETMAIN VRC,LV=(16384,8),A=Y,LOC=ANY",
+            "JOB RC 0 LENGTH 00002000",
+        ),
         ("JOB WHERE Y", "JOB AT 00006000"),
     ];
     assert!(rt; prints(&rt, &lines, "STEP ENDED RC 0")?);
@@ -133,7 +148,10 @@ fn below_where_more_is(rt: HostRuntime) -> Result<(), Fail> {
 fn a_boundary_bounds_the_length(rt: HostRuntime) -> Result<(), Fail> {
     let lines = [
         ("JOB REGION BELOW=2", "JOB REGION BELOW 2 ABOVE 0"),
-        ("JOB GETMAIN VRC,LV=(8192,8),A=Y,CONTBDY=12", "JOB RC 0 LENGTH 00001000"),
+        (
+            "JOB GETMAIN VRC,LV=(8192,8),A=Y,CONTBDY=12",
+            "JOB RC 0 LENGTH 00001000",
+        ),
     ];
     assert!(rt; prints(&rt, &lines, "STEP ENDED RC 0")?);
     Ok(())
@@ -173,9 +191,15 @@ fn lengths_at_their_ends(rt: HostRuntime) -> Result<(), Fail> {
         ("JOB WHERE B", "JOB AT 00006008"),
         ("JOB GETMAIN RC,LV=2147483640,A=C", "JOB RC 4"),
         ("JOB GETMAIN RC,LV=2147483647,A=C", "JOB RC 4"),
-        ("JOB STORAGE OBTAIN,LENGTH=2147483647,ADDR=C,COND=YES", "JOB RC 4"),
+        (
+            "JOB STORAGE OBTAIN,LENGTH=2147483647,ADDR=C,COND=YES",
+            "JOB RC 4",
+        ),
         ("JOB GETMAIN VRC,LV=(2147483647,2147483647),A=C", "JOB RC 4"),
-        ("JOB GETMAIN VRC,LV=(2147483647,1),A=C", "JOB RC 0 LENGTH 00000FF0"),
+        (
+            "JOB GETMAIN VRC,LV=(2147483647,1),A=C",
+            "JOB RC 0 LENGTH 00000FF0",
+        ),
         ("JOB FREEMAIN VC,A=C", "JOB RC 0"),
         ("JOB GETMAIN RC,LV=8,A=D,STARTBDY=3", "JOB RC 0"),
         ("JOB GETMAIN RC,LV=8,A=E,STARTBDY=31", "JOB RC 4"),
