@@ -1,6 +1,6 @@
 -- What is read is in its ranges, and is one of the statements that are built.
 use Rattle.std.proofs.Common.{◌≡◌, ℕ, ◌≤◌, Bool, true, false, cond, List, [], Option, Some, None, Result, Ok, Err, refl, subst, arith}
-use Rattle.std.specs.Prelude.{length, nat_lt, ◌&&◌, ◌||◌, not, bytes_eq, codes, slice_get, replicate, IfOk}
+use Rattle.std.specs.Prelude.{length, ◌==◌, nat_lt, ◌&&◌, ◌||◌, not, bytes_eq, codes, slice_get, replicate, IfOk}
 use Rattle.std.specs.List.{list_all}
 use Rattle.mvs_model.specs.declared.name.Name.{Name}
 use Rattle.mvs_model.specs.declared.line.Fault.{Fault}
@@ -28,11 +28,15 @@ use Rattle.job_script.specs.Chains.{◌>>=◌, or_fault}
 use Rattle.job_script.specs.Fields.{is_plain_byte, is_blank_byte, word_of, after_word}
 use Rattle.job_script.specs.NameTexts.{name_at}
 use Rattle.job_script.specs.Operands.{operands_at, is_set, IsKept, AreOf}
-use Rattle.job_script.specs.Values.{number_of, number_or, extent_of, name_of, location_of, bytes_of, number_in, location_in, subpool_or_zero}
+use Rattle.job_script.specs.Values.{lengths_of, names_of, locations_of, number_of, number_or, extent_of, name_of, location_of, bytes_of, number_in, location_in, subpool_or_zero}
 use Rattle.job_script.specs.Requests.{plain_of, placed_of, start_of, released}
 use Rattle.job_script.specs.Storage.{storage_at, obtain_at, obtain_in, release_at, release_in, form_if}
 use Rattle.job_script.specs.Forms.{form_of, form_named}
 use Rattle.job_script.specs.Region.{region_at, region_of}
+use Rattle.job_script.specs.Getmain as getmain
+use Rattle.job_script.specs.Freemain as freemain
+use Rattle.job_script.specs.declared.getmain.TheConstants as getmain_table
+use Rattle.job_script.specs.declared.freemain.TheConstants as freemain_table
 use Rattle.job_script.specs.Getmain.{getmain_at, getmain_in, fixed_at, fixed_placed_at, variable_at, variable_placed_at}
 use Rattle.job_script.specs.Freemain.{freemain_at, freemain_in, whole_at, whole_of, place_at, place_of, area_at, area_of}
 use Rattle.job_script.specs.Access.{put_at, put_of, show_at, show_of, move_at, move_of, where_at, where_of}
@@ -109,6 +113,18 @@ variable_placed_said task form pieces =
     let kept = read_kept [] VARIABLE_PLACED 7 pieces values read in
     placed_said task form values (pair_is_extent 1 2147483647 (slice_get values 0) (kept 0)) (kept 3) (kept 5) (kept 6))
 
+-- lists of one length
+by_length : (P : Statement → Type 0) (b : Bool) (s : Statement) → P s → IfOk (cond b (Ok s) (Err Conflicting)) P
+by_length P true s h = h
+by_length P false s h = tt
+
+obtain_list_said : (task : Name) (form : Form) (pieces : List (List ℕ)) → IfOk (getmain.list_at form pieces) (IsSaid false task)
+obtain_list_said task form pieces =
+    let P = IsSaid false task in
+    chain P (operands_at [] getmain_table.LIST (replicate 4 None) 0 pieces) (getmain.list_of form) (λ values read.
+    chain P (lengths_of (slice_get values 0)) _ (λ lengths some.
+    chain P (names_of (slice_get values 1)) _ (λ areas named. by_length P (length lengths == length areas) _ ((refl, tt), tt))))
+
 getmain_in_said : (task : Name) (form : Form) (pieces : List (List ℕ)) → IfOk (getmain_in form pieces) (IsSaid false task)
 getmain_in_said task form.R pieces = fixed_said task form.R pieces
 getmain_in_said task form.Rc pieces = fixed_placed_said task form.Rc pieces
@@ -119,6 +135,8 @@ getmain_in_said task form.Ec pieces = fixed_said task form.Ec pieces
 getmain_in_said task form.Eu pieces = fixed_said task form.Eu pieces
 getmain_in_said task form.Vc pieces = variable_said task form.Vc pieces
 getmain_in_said task form.Vu pieces = variable_said task form.Vu pieces
+getmain_in_said task form.Lc pieces = obtain_list_said task form.Lc pieces
+getmain_in_said task form.Lu pieces = obtain_list_said task form.Lu pieces
 getmain_in_said task _ pieces = tt
 
 getmain_said : (task : Name) (pieces : List (List ℕ)) → IfOk (getmain_at pieces) (IsSaid false task)
@@ -148,6 +166,13 @@ area_said task form pieces =
     chain P (operands_at [] AREA (replicate 2 None) 0 pieces) (area_of form) (λ values read.
     chain P (name_of (slice_get values 0)) _ (λ area name. ((refl, tt), tt)))
 
+release_list_said : (task : Name) (form : Form) (pieces : List (List ℕ)) → IfOk (freemain.list_at form pieces) (IsSaid false task)
+release_list_said task form pieces =
+    let P = IsSaid false task in
+    chain P (operands_at [] freemain_table.LIST (replicate 3 None) 0 pieces) (freemain.list_of form) (λ values read.
+    chain P (lengths_of (slice_get values 0)) _ (λ lengths some.
+    chain P (locations_of (slice_get values 1)) _ (λ locations addresses. by_length P (length lengths == length locations) _ ((refl, tt), tt))))
+
 freemain_in_said : (task : Name) (form : Form) (pieces : List (List ℕ)) → IfOk (freemain_in form pieces) (IsSaid false task)
 freemain_in_said task form.R pieces = whole_said task form.R pieces
 freemain_in_said task form.Rc pieces = whole_said task form.Rc pieces
@@ -156,6 +181,8 @@ freemain_in_said task form.Ec pieces = place_said task form.Ec pieces
 freemain_in_said task form.Eu pieces = place_said task form.Eu pieces
 freemain_in_said task form.Vc pieces = area_said task form.Vc pieces
 freemain_in_said task form.Vu pieces = area_said task form.Vu pieces
+freemain_in_said task form.Lc pieces = release_list_said task form.Lc pieces
+freemain_in_said task form.Lu pieces = release_list_said task form.Lu pieces
 freemain_in_said task _ pieces = tt
 
 freemain_said : (task : Name) (pieces : List (List ℕ)) → IfOk (freemain_at pieces) (IsSaid false task)

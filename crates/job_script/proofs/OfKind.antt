@@ -20,6 +20,7 @@ use Rattle.job_script.specs.Hex.{byte_at, bytes_at}
 use Rattle.job_script.specs.Pairs.{pair_at, in_order, inside_at, two_of, is_malformed_number}
 use Rattle.job_script.specs.Pieces.{pieces_of}
 use Rattle.job_script.specs.Addresses.{location_at}
+use Rattle.job_script.specs.Lists.{length_item, list_at, names_at}
 use Rattle.std.proofs.lemmas.Bool.{cases_lt}
 use Rattle.job_script.specs.Choices.{yes_no_at, loc_at, residence_at}
 use Rattle.job_script.specs.Operands.{lengths_at, value_at, placed, positional_at, keyword_at, key_place, by_key, operand_at, operands_at, equals_at, is_malformed, is_set, IsOf, IsKept, AreOf}
@@ -110,6 +111,18 @@ value_of_kind kind.Address text v e =
     let read = bind_ok (location_at text) (λ l. Ok (value.Address l)) v e in
     let is : value.Address read.0 ≡ v = ok_same (value.Address read.0) v read.2 in
     subst (IsOf kind.Address) is tt
+value_of_kind kind.LengthList text v e =
+    let read = bind_ok (list_at length_item text) (λ lengths. Ok (value.LengthList lengths)) v e in
+    let is : value.LengthList read.0 ≡ v = ok_same (value.LengthList read.0) v read.2 in
+    subst (IsOf kind.LengthList) is tt
+value_of_kind kind.NameList text v e =
+    let read = bind_ok (names_at text) (λ names. Ok (value.NameList names)) v e in
+    let is : value.NameList read.0 ≡ v = ok_same (value.NameList read.0) v read.2 in
+    subst (IsOf kind.NameList) is tt
+value_of_kind kind.AddressList text v e =
+    let read = bind_ok (list_at location_at text) (λ addresses. Ok (value.AddressList addresses)) v e in
+    let is : value.AddressList read.0 ≡ v = ok_same (value.AddressList read.0) v read.2 in
+    subst (IsOf kind.AddressList) is tt
 value_of_kind kind.Bytes text v e =
     let read = bind_ok (bytes_at text) (λ bytes. Ok (value.Bytes bytes)) v e in
     let is : value.Bytes read.0 ≡ v = ok_same (value.Bytes read.0) v read.2 in

@@ -11,7 +11,7 @@ abbrev pub form_of : List (List ℕ) → Result (List ℕ × List (List ℕ)) Fa
 form_of [] = Err MissingOperand
 form_of (form ∷ pieces) = if is_some (equals_at form) then Err MissingOperand else Ok (form, pieces)
 
--- the form of GETMAIN or FREEMAIN that a text names, where it is built
+-- the form of GETMAIN or FREEMAIN that a text names (Assembler Services Reference, GETMAIN and FREEMAIN)
 abbrev pub form_named : List ℕ → Option Form
 form_named text =
     if bytes_eq text (codes "R") then Some form.R
@@ -23,4 +23,6 @@ form_named text =
     else (if bytes_eq text (codes "EU") then Some form.Eu
     else (if bytes_eq text (codes "VC") then Some form.Vc
     else (if bytes_eq text (codes "VU") then Some form.Vu
-    else None))))))))
+    else (if bytes_eq text (codes "LC") then Some form.Lc
+    else (if bytes_eq text (codes "LU") then Some form.Lu
+    else None))))))))))

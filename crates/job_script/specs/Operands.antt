@@ -17,6 +17,7 @@ use Rattle.job_script.specs.Pieces.{pieces_of}
 use Rattle.job_script.specs.Hex.{byte_at, bytes_at}
 use Rattle.job_script.specs.Pairs.{inside_at, pair_at}
 use Rattle.job_script.specs.Addresses.{location_at}
+use Rattle.job_script.specs.Lists.{length_item, list_at, names_at}
 use Rattle.job_script.specs.Choices.{yes_no_at, boundary_at, loc_at, residence_at}
 
 -- a number, or a largest and a smallest one in parentheses
@@ -38,6 +39,9 @@ value_at kind.Byte text = or_fault InvalidOperand (option_map value.Byte (byte_a
 value_at (kind.Pair least most) text = pair_at least most text >>= λ p. Ok (value.Pair p.0 p.1)
 value_at (kind.Lengths least most) text = lengths_at least most text
 value_at kind.Address text = location_at text >>= λ l. Ok (value.Address l)
+value_at kind.LengthList text = list_at length_item text >>= λ lengths. Ok (value.LengthList lengths)
+value_at kind.NameList text = names_at text >>= λ names. Ok (value.NameList names)
+value_at kind.AddressList text = list_at location_at text >>= λ addresses. Ok (value.AddressList addresses)
 value_at kind.Bytes text = bytes_at text >>= λ bytes. Ok (value.Bytes bytes)
 
 -- where a padded key stands in the table; where a keyword does
@@ -120,6 +124,9 @@ IsOf (kind.Pair least most) (value.Pair largest smallest) = (least ≤ smallest)
 IsOf (kind.Lengths least most) (value.Number n) = (least ≤ n) × (n ≤ most)
 IsOf (kind.Lengths least most) (value.Pair largest smallest) = (least ≤ smallest) × (smallest ≤ largest) × (largest ≤ most)
 IsOf kind.Address (value.Address address) = Unit {0}
+IsOf kind.LengthList (value.LengthList lengths) = Unit {0}
+IsOf kind.NameList (value.NameList names) = Unit {0}
+IsOf kind.AddressList (value.AddressList addresses) = Unit {0}
 IsOf kind.Bytes (value.Bytes bytes) = Unit {0}
 IsOf _ _ = ⊥
 

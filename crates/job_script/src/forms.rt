@@ -25,7 +25,7 @@ pub fn read_form(field: Option<&[u8]>) -> Result<(&[u8], Option<&[u8]>), Fault>
     Ok((form, rest))
 }
 
-/// The form of GETMAIN or FREEMAIN that a text names, where it is built (Assembler Services Reference).
+/// The form of GETMAIN or FREEMAIN that a text names (Assembler Services Reference, GETMAIN and FREEMAIN).
 pub fn form_named(text: &[u8]) -> Option<Form>
     ensures { result ≡ form_named text.now }
 {
@@ -39,6 +39,8 @@ pub fn form_named(text: &[u8]) -> Option<Form>
         b"EU" => Some(Form::Eu),
         b"VC" => Some(Form::Vc),
         b"VU" => Some(Form::Vu),
+        b"LC" => Some(Form::Lc),
+        b"LU" => Some(Form::Lu),
         _ => None,
     }
 }

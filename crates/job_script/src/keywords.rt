@@ -27,6 +27,24 @@ pub const A_ADDRESS: Keyword = Keyword {
     kind: Kind::Address,
 };
 
+/// GETMAIN and FREEMAIN: a list of lengths.
+pub const LA: Keyword = Keyword {
+    key: *b"LA      ",
+    kind: Kind::LengthList,
+};
+
+/// GETMAIN: the names of a list of areas.
+pub const A_NAMES: Keyword = Keyword {
+    key: *b"A       ",
+    kind: Kind::NameList,
+};
+
+/// FREEMAIN: a list of addresses.
+pub const A_ADDRESSES: Keyword = Keyword {
+    key: *b"A       ",
+    kind: Kind::AddressList,
+};
+
 /// The number of the subpool.
 pub const SP: Keyword = Keyword {
     key: *b"SP      ",

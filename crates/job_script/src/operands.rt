@@ -7,11 +7,13 @@ ghost use Rattle.job_script.specs.Pieces.{pieces_of};
 
 use crate::address::read_location;
 use crate::hex::{MOST_BYTES, read_byte, read_bytes};
+use crate::lists::{MOST_ITEMS, read_list, read_names};
 use crate::name::read_name;
 use crate::number::{read_number, read_subpool};
 use crate::pair::{inside, read_pair};
 use crate::pieces::next_piece;
 use crate::words::{read_boundary, read_loc, read_residence, read_yes_no};
+use mvs_model::bounded::Length;
 use mvs_model::line::{Fault, Location};
 use mvs_model::name::Name;
 use mvs_model::want::{Loc, Residence};
@@ -41,6 +43,12 @@ pub enum Kind {
     Lengths(u32, u32),
     /// A name, a name with an offset, or hexadecimal digits in X'..'.
     Address,
+    /// One to sixteen lengths, in parentheses.
+    LengthList,
+    /// One to sixteen names, in parentheses, each of which stands once.
+    NameList,
+    /// One to sixteen addresses, in parentheses.
+    AddressList,
     /// One to a hundred bytes of two hexadecimal digits each, in X'..'.
     Bytes,
 }
@@ -64,6 +72,9 @@ pub enum Value {
     Byte(u8),
     Pair(u32, u32),
     Address(Location),
+    LengthList([Option<Length>; MOST_ITEMS]),
+    NameList([Option<Name>; MOST_ITEMS]),
+    AddressList([Option<Location>; MOST_ITEMS]),
     Bytes([Option<u8>; MOST_BYTES]),
 }
 
@@ -108,6 +119,9 @@ fn read_value(kind: Kind, text: &[u8]) -> Result<Value, Fault>
         }
         Kind::Lengths(least, most) => read_lengths(least, most, text),
         Kind::Address => Ok(Value::Address(read_location(text)?)),
+        Kind::LengthList => Ok(Value::LengthList(read_list(text)?)),
+        Kind::NameList => Ok(Value::NameList(read_names(text)?)),
+        Kind::AddressList => Ok(Value::AddressList(read_list(text)?)),
         Kind::Bytes => Ok(Value::Bytes(read_bytes(text)?)),
     }
 }

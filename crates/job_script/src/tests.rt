@@ -11,6 +11,7 @@ use mvs_model::name::Name;
 use mvs_model::place::Addr;
 use mvs_model::want::{Ask, Loc, Residence, Side};
 
+mod lists;
 mod places;
 mod requests;
 

@@ -3,14 +3,14 @@
 ghost use Rattle.std.specs.Prelude.{◌≡◌, ◌≤◌, Some, IfOk};
 ghost use Rattle.job_script.specs.declared.operands.Kind.TheVariants.{Number, Boundary, Lengths};
 ghost use Rattle.job_script.specs.Operands.{IsKept};
-ghost use Rattle.job_script.specs.Values.{number_of, extent_of, is_pair, number_or, loc_or_residence, residence_or_below, name_of, location_of, bytes_of, byte_or_zero, number_in, location_in, subpool_or_zero, is_yes};
+ghost use Rattle.job_script.specs.Values.{number_of, extent_of, is_pair, number_or, loc_or_residence, residence_or_below, name_of, location_of, bytes_of, lengths_of, names_of, locations_of, byte_or_zero, number_in, location_in, subpool_or_zero, is_yes};
 
 use crate::operands::Value;
 use crate::somes::some_list;
 use mvs_model::bounded::{Bounded, Exponent, Length};
-use mvs_model::line::{Fault, Location};
+use mvs_model::line::{Fault, Location, Locations, Names};
 use mvs_model::name::Name;
-use mvs_model::request::Bytes;
+use mvs_model::request::{Bytes, Lengths};
 use mvs_model::want::{Loc, Residence};
 
 /// The number that a required operand says.
@@ -72,6 +72,36 @@ pub fn bytes(value: &Option<Value>) -> Result<Bytes, Fault>
 {
     match value {
         Some(Value::Bytes(places)) => some_list(places).ok_or(Fault::MissingOperand),
+        _ => Err(Fault::MissingOperand),
+    }
+}
+
+/// The lengths that a required operand says.
+pub fn lengths(value: &Option<Value>) -> Result<Lengths, Fault>
+    ensures { result ≡ lengths_of (Some value.now) }
+{
+    match value {
+        Some(Value::LengthList(places)) => some_list(places).ok_or(Fault::MissingOperand),
+        _ => Err(Fault::MissingOperand),
+    }
+}
+
+/// The names that a required operand says.
+pub fn names(value: &Option<Value>) -> Result<Names, Fault>
+    ensures { result ≡ names_of (Some value.now) }
+{
+    match value {
+        Some(Value::NameList(places)) => some_list(places).ok_or(Fault::MissingOperand),
+        _ => Err(Fault::MissingOperand),
+    }
+}
+
+/// The addresses that a required operand says.
+pub fn locations(value: &Option<Value>) -> Result<Locations, Fault>
+    ensures { result ≡ locations_of (Some value.now) }
+{
+    match value {
+        Some(Value::AddressList(places)) => some_list(places).ok_or(Fault::MissingOperand),
         _ => Err(Fault::MissingOperand),
     }
 }
