@@ -9,7 +9,7 @@ use Rattle.mvs_model.specs.declared.request.Reply.{Reply}
 use Rattle.mvs_model.specs.declared.request.Reply.TheVariants.{NotRun}
 use Rattle.mvs_model.specs.Owners.{is_active}
 use Rattle.mvs_model.specs.State.{State}
-use Rattle.mvs_model.specs.Steps.{Refuses, Acts, Step}
+use Rattle.mvs_model.specs.Steps.{Refuses, Acts}
 use Rattle.mvs_model.proofs.Kept.{HasPlan}
 use Rattle.mvs_model.proofs.RegionsKept.{regions_stay}
 use Rattle.job_step.specs.Progress.{IsBuilt}

@@ -1,15 +1,15 @@
 //! The machine of one step.
 
-ghost use Rattle.std.specs.Prelude.{◌≡◌, ◌<◌, ◌+◌, ◌||◌, ◌↔◌, false, true, IfOk, IfSome, IsSome, OnErr, ℕ, length, slice_get};
+ghost use Rattle.std.specs.Prelude.{◌≡◌, ◌<◌, ◌+◌, ◌||◌, ◌↔◌, ℕ, false, IfOk, IfSome, IsSome, OnErr, length, slice_get};
 ghost use Rattle.std.specs.FinMap.{get};
-ghost use Rattle.mvs_model.specs.Storage.{IsStorage, ReleaseEach};
+ghost use Rattle.mvs_model.specs.Storage.{IsStorage};
 ghost use Rattle.mvs_model.specs.Owners.{is_active};
 ghost use Rattle.mvs_model.specs.Start.{start};
 ghost use Rattle.mvs_model.specs.Changes.{Granted};
-ghost use Rattle.mvs_model.specs.Steps.{Abends, Acts, Step as MachineStep};
+ghost use Rattle.mvs_model.specs.Steps.{Acts, Step as MachineStep};
 ghost use Rattle.mvs_model.specs.Runs.{is_abend};
 ghost use Rattle.mvs_model.specs.View.{seen};
-ghost use Rattle.task_owner.specs.Directory.{IsTask, name_of, name_at};
+ghost use Rattle.task_owner.specs.Directory.{IsTask, name_of};
 ghost use Rattle.request_forms.specs.Answers.{Answers};
 ghost use Rattle.job_step.specs.Access.{IsStepStorage};
 ghost use Rattle.job_step.specs.Progress.{IsBuilt};
@@ -22,7 +22,6 @@ use mvs_model::error::OutOfMemory;
 use mvs_model::name::Name;
 use mvs_model::place::Place;
 use mvs_model::request::{Reply, Request};
-use mvs_model::subpool::SubpoolId;
 use mvs_model::want::Placement;
 use request_forms::obtain::obtain;
 use request_forms::obtain_list::obtain_list;

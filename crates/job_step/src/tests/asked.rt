@@ -10,7 +10,7 @@ use mvs_model::code::{Code, Form};
 use mvs_model::gifts::Gifts;
 use mvs_model::name::Name;
 use mvs_model::place::{Addr, Place};
-use mvs_model::request::{Bytes, Lengths, Reply, Request};
+use mvs_model::request::{Bytes, Lengths, Places, Reply, Request};
 use mvs_model::want::{Ask, Loc, Placement, Residence};
 use std::alloc::Global;
 use std::process::Abort;
@@ -120,6 +120,19 @@ pub fn release(form: Form, number: u8, at: u32, len: u32) -> Request
         form,
         number,
         place: place(at, len),
+    }
+}
+
+/// A list of two places.
+pub fn release_two(form: Form, number: u8, first: Place, second: Place) -> Request
+    ensures { IsBuilt result }
+{
+    let mut places = Places::one(first);
+    places.push(second);
+    Request::ReleaseList {
+        form,
+        number,
+        places,
     }
 }
 

@@ -5,7 +5,9 @@
 ghost use Rattle.std.specs.Prelude.{◌≡◌, ◌<◌, IfSome, vec_len};
 ghost use Rattle.job_step.specs.Progress.{IsBuilt};
 
-use super::asked::{Said, ask, attach, meaning, name, new_step, obtain, release_whole};
+use super::asked::{
+    Said, ask, attach, name, new_step, obtain, obtain_two, release_two, release_whole,
+};
 use crate::Step;
 use mvs_model::bounded::MoveLength;
 use mvs_model::code::Form;
@@ -26,7 +28,9 @@ const PAGES_ABOVE: u32 = 5;
 enum Turn {
     // Obtains, a long area at times; by the subtask or by the job step task.
     Obtain(Form, bool, u8),
+    ObtainTwo(u8),
     Release,
+    ReleaseTwo,
     ReleaseFront,
     ReleaseUnderNextNumber,
     ReleaseWhole(u8),
@@ -36,7 +40,7 @@ enum Turn {
     Return,
 }
 
-const TURNS: [Turn; 24] = [
+const TURNS: [Turn; 28] = [
     Turn::Obtain(Form::Rc, false, 0),
     Turn::Obtain(Form::Ec, false, 0),
     Turn::Obtain(Form::Rc, false, 1),
@@ -46,9 +50,13 @@ const TURNS: [Turn; 24] = [
     Turn::Obtain(Form::Rc, true, 0),
     Turn::Obtain(Form::Ec, true, 1),
     Turn::Obtain(Form::Rc, true, 2),
+    Turn::ObtainTwo(1),
+    Turn::ObtainTwo(3),
     Turn::Release,
     Turn::Release,
-    Turn::Release,
+    Turn::ReleaseTwo,
+    Turn::ReleaseTwo,
+    Turn::ReleaseTwo,
     Turn::ReleaseFront,
     Turn::ReleaseFront,
     Turn::ReleaseUnderNextNumber,
@@ -102,6 +110,11 @@ fn is_inside(place: Place, may_be_above: bool) -> bool {
     let above = 0x100_0000 <= first(place)
         && last(place) < 0x100_0000 + 4096 * u64::from(PAGES_ABOVE);
     below || above && may_be_above
+}
+
+// Forms E and L obtain below only.
+fn may_be_above(form: Form) -> bool {
+    form != Form::Ec && form != Form::Lc
 }
 
 fn release(form: Form, number: u8, place: Place) -> Request
@@ -223,6 +236,31 @@ impl Run {
         assert!(rt; part.iter().all(|byte| *byte == FILL));
     }
 
+    // Checks a grant, marks its bytes, and keeps it.
+    fn enter(
+        &mut self,
+        rt: &impl Abort,
+        form: Form,
+        place: Place,
+        by_subtask: bool,
+        number: u8,
+    ) -> Result<(), Fail> {
+        self.check_grant(rt, place, may_be_above(form), by_subtask, number);
+        let task = self.task(by_subtask);
+        let first = self.chance.below(256) as u8;
+        assert_eq!(rt;
+            ask(&mut self.step, &task, put(place.addr(), first)),
+            Said::Done
+        );
+        self.areas.push(Area {
+            place,
+            by_subtask,
+            number,
+            first,
+        })?;
+        Ok(())
+    }
+
     fn obtain(
         &mut self,
         rt: &impl Abort,
@@ -240,20 +278,9 @@ impl Run {
         match self.step.request(&task, &obtain(form, number, len)) {
             Reply::Granted(place) => {
                 assert_eq!(rt; place.len(), len.div_ceil(8) * 8);
-                self.check_grant(rt, place, form != Form::Ec, by_subtask, number);
-                let first = self.chance.below(256) as u8;
-                assert_eq!(rt;
-                    ask(&mut self.step, &task, put(place.addr(), first)),
-                    Said::Done
-                );
-                self.areas.push(Area {
-                    place,
-                    by_subtask,
-                    number,
-                    first,
-                })?;
+                self.enter(rt, form, place, by_subtask, number)?;
             }
-            Reply::Rc4 => assert!(rt; len > 4096 || self.is_full(form != Form::Ec)),
+            Reply::Rc4 => assert!(rt; len > 4096 || self.is_full(may_be_above(form))),
             Reply::NotRun => assert!(rt; by_subtask && !self.step.is_active(&task)),
             _ => panic!(rt; "a grant or a refusal"),
         }
@@ -272,6 +299,48 @@ impl Run {
                 ),
                 Said::Rc0
             );
+        }
+    }
+
+    // Two areas below, by the job step task.
+    fn obtain_two(&mut self, rt: &impl Abort, number: u8) -> Result<(), Fail> {
+        let one = 1 + self.chance.below(3000) as u32;
+        let other = 1 + self.chance.below(3000) as u32;
+        let job = self.job;
+        match self
+            .step
+            .request(&job, &obtain_two(Form::Lc, number, one, other))
+        {
+            Reply::Listed(places) => {
+                assert_eq!(rt; places.len(), 2);
+                for place in places.as_slice() {
+                    self.enter(rt, Form::Lc, *place, false, number)?;
+                }
+            }
+            Reply::Rc4 => {}
+            _ => panic!(rt; "grants or a refusal"),
+        }
+        Ok(())
+    }
+
+    // Two areas go where one subpool holds both and they are not the same.
+    fn release_two(&mut self, rt: &impl Abort) {
+        let Some(k) = self.any() else {
+            return;
+        };
+        let Some(j) = self.any() else {
+            return;
+        };
+        let (one, other) = (self.areas[k], self.areas[j]);
+        let task = self.task(one.by_subtask);
+        let goes = k != j && one.by_subtask == other.by_subtask && one.number == other.number;
+        let request = release_two(Form::Lc, one.number, one.place, other.place);
+        assert_eq!(rt;
+            ask(&mut self.step, &task, request),
+            if goes { Said::Rc0 } else { Said::Rc4 }
+        );
+        if goes {
+            self.areas.retain(|area| area.place != one.place && area.place != other.place);
         }
     }
 
@@ -378,7 +447,9 @@ impl Run {
     fn take_turn(&mut self, rt: &impl Abort, turn: Turn) -> Result<(), Fail> {
         match turn {
             Turn::Obtain(form, by_subtask, number) => self.obtain(rt, form, by_subtask, number)?,
+            Turn::ObtainTwo(number) => self.obtain_two(rt, number)?,
             Turn::Release => self.release(rt),
+            Turn::ReleaseTwo => self.release_two(rt),
             Turn::ReleaseFront => self.release_front(rt)?,
             Turn::ReleaseUnderNextNumber => self.release_under_next_number(rt),
             Turn::ReleaseWhole(number) => self.release_whole(rt, number),
@@ -402,7 +473,7 @@ fn some_hundred_requests(rt: HostRuntime) -> Result<(), Fail> {
         sub: name(&rt, b"SUB"),
     };
     for _ in 0..600 {
-        let turn = TURNS[run.chance.below(24)];
+        let turn = TURNS[run.chance.below(28)];
         run.take_turn(&rt, turn)?;
         assert!(rt; run.is_intact());
     }

@@ -3,8 +3,8 @@
 ghost use Rattle.job_step.specs.Progress.{IsBuilt};
 
 use super::asked::{
-    Said, ask, attach, copy, holds, is_barred, name, new_step, obtain, obtain_two, put, release,
-    release_whole, system,
+    Said, ask, attach, copy, holds, is_barred, name, new_step, obtain, obtain_two, place, put,
+    release, release_two, release_whole, system,
 };
 use mvs_model::code::{Code, Form};
 use mvs_model::request::Request;
@@ -74,6 +74,26 @@ fn refused_obtains(rt: HostRuntime) {
 #[test]
 fn refused_releases(rt: HostRuntime) {
     let alloc = rt.alloc();
+    let held = place(0x6000, 8);
+    let wrong = place(0x6004, 8);
+    check(
+        &rt,
+        alloc,
+        release_two(Form::Lu, 0, held, wrong),
+        system(0x905),
+    );
+    check(
+        &rt,
+        alloc,
+        release_two(Form::Lu, 0, held, held),
+        system(0xA05),
+    );
+    check(
+        &rt,
+        alloc,
+        release_two(Form::Lc, 130, held, wrong),
+        system(0xB05),
+    );
     check(&rt, alloc, release(Form::Eu, 128, 0x6000, 8), system(0xB05));
     check(
         &rt,
@@ -196,10 +216,16 @@ fn lists(rt: HostRuntime) -> Result<(), Fail> {
         Said::Listed(2)
     );
     assert!(rt; holds(&step, 0x6FFF, &[0xEE]));
-    assert_eq!(rt;
-        ask(&mut step, &job, release(Form::Rc, 2, 0x6000, 4096)),
-        Said::Rc0
-    );
+    let first = place(0x6000, 2048);
+    let second = place(0x6800, 2041);
+    let twice = release_two(Form::Lc, 2, first, place(0x67F8, 8));
+    assert_eq!(rt; ask(&mut step, &job, twice), Said::Rc4);
+    let other = release_two(Form::Lc, 1, first, second);
+    assert_eq!(rt; ask(&mut step, &job, other), Said::Rc4);
+    assert!(rt; !is_barred(&step, 0x6000, 4096));
+    let both = release_two(Form::Lc, 2, second, first);
+    assert_eq!(rt; ask(&mut step, &job, both), Said::Rc0);
+    assert!(rt; is_barred(&step, 0x6000, 1));
     assert_eq!(rt;
         ask(&mut step, &job, obtain(Form::Rc, 3, 4096)),
         Said::At(0x6000, 4096)
