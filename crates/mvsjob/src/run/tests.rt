@@ -1,5 +1,6 @@
 mod codes;
 mod examples;
+mod lists;
 mod places;
 mod storage;
 

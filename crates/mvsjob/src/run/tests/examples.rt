@@ -189,3 +189,33 @@ fn variable(rt: HostRuntime) -> Result<(), Fail> {
     assert!(rt; prints(&rt, &lines, "STEP ENDED RC 8")?);
     Ok(())
 }
+
+// All areas of a list, or none.
+#[test]
+fn lists(rt: HostRuntime) -> Result<(), Fail> {
+    let lines = [
+        ("* A list of areas is granted whole or not at all.", ""),
+        ("JOB REGION BELOW=2", "JOB REGION BELOW 2 ABOVE 0"),
+        ("JOB GETMAIN LC,LA=(4096,2048,2048),A=(X,Y,Z)", "JOB RC 0"),
+        ("JOB WHERE Z", "JOB AT 00007800"),
+        ("JOB FREEMAIN LC,LA=(2048,2048),A=(Y,Z)", "JOB RC 0"),
+        (
+            "* One page is free. The first member has a place, and then the second has none:",
+            "",
+        ),
+        ("* nothing is granted, and no name is set.", ""),
+        ("JOB GETMAIN LC,LA=(2048,4096),A=(V,W)", "JOB RC 4"),
+        ("JOB WHERE V", "JOB NO NAME"),
+        ("JOB GETMAIN LC,LA=(4096),A=(W)", "JOB RC 0"),
+        ("JOB WHERE W", "JOB AT 00007000"),
+        (
+            "* A release is all or none too. Two members that overlap count as storage that is not held.",
+            "",
+        ),
+        ("JOB FREEMAIN LC,LA=(16,8),A=(X,X+8)", "JOB RC 4"),
+        ("JOB FREEMAIN LC,LA=(4096,4096),A=(W,X)", "JOB RC 0"),
+        ("JOB FREEMAIN LU,LA=(8,8),A=(W,X)", "JOB ABEND SA05"),
+    ];
+    assert!(rt; prints(&rt, &lines, "STEP ENDED RC 8")?);
+    Ok(())
+}
