@@ -1,10 +1,10 @@
 -- What is read is in its ranges, and is one of the statements that are built.
 use Rattle.std.proofs.Common.{◌≡◌, ℕ, ◌≤◌, Bool, true, false, cond, List, [], Option, Some, None, Result, Ok, Err, refl, subst, arith}
-use Rattle.std.specs.Prelude.{length, nat_lt, ◌||◌, not, bytes_eq, codes, slice_get, replicate, IfOk}
+use Rattle.std.specs.Prelude.{length, ◌==◌, nat_lt, ◌&&◌, ◌||◌, not, bytes_eq, codes, slice_get, replicate, IfOk}
 use Rattle.std.specs.List.{list_all}
 use Rattle.mvs_model.specs.declared.name.Name.{Name}
 use Rattle.mvs_model.specs.declared.line.Fault.{Fault}
-use Rattle.mvs_model.specs.declared.line.Fault.TheVariants.{TooLong, InvalidByte, UnknownOperation, OutOfPlace}
+use Rattle.mvs_model.specs.declared.line.Fault.TheVariants.{TooLong, InvalidByte, UnknownOperation, OutOfPlace, Conflicting}
 use Rattle.mvs_model.specs.declared.line.Line.{Line}
 use Rattle.mvs_model.specs.declared.line.Line.TheVariants as line
 use Rattle.mvs_model.specs.declared.line.Statement.{Statement}
@@ -13,10 +13,9 @@ use Rattle.job_script.specs.declared.operands.Kind.{Kind}
 use Rattle.job_script.specs.declared.operands.Kind.TheVariants as kind
 use Rattle.job_script.specs.declared.operands.Keyword.{Keyword}
 use Rattle.job_script.specs.declared.operands.Value.{Value}
-use Rattle.job_script.specs.declared.operands.Value.TheVariants as value
 use Rattle.job_script.specs.declared.region.TheConstants.{REGION}
-use Rattle.job_script.specs.declared.getmain.TheConstants.{FIXED}
-use Rattle.job_script.specs.declared.freemain.TheConstants.{PLACE}
+use Rattle.job_script.specs.declared.getmain.TheConstants.{FIXED, FIXED_PLACED, VARIABLE, VARIABLE_PLACED}
+use Rattle.job_script.specs.declared.freemain.TheConstants.{PLACE, AREA}
 use Rattle.job_script.specs.declared.storage.TheConstants.{OBTAIN, RELEASE}
 use Rattle.mvs_model.specs.declared.code.Form.{Form}
 use Rattle.mvs_model.specs.declared.code.Form.TheVariants as form
@@ -28,59 +27,116 @@ use Rattle.job_script.specs.Built.{IsBuiltLine, IsBuiltStatement}
 use Rattle.job_script.specs.Chains.{◌>>=◌, or_fault}
 use Rattle.job_script.specs.Fields.{is_plain_byte, is_blank_byte, word_of, after_word}
 use Rattle.job_script.specs.NameTexts.{name_at}
-use Rattle.job_script.specs.Operands.{operands_at, IsKept, AreOf}
-use Rattle.job_script.specs.Values.{number_of, name_of, location_of, bytes_of, number_in, location_in, subpool_or_zero}
-use Rattle.job_script.specs.Requests.{obtained, released}
+use Rattle.job_script.specs.Operands.{operands_at, is_set, IsKept, AreOf}
+use Rattle.job_script.specs.Values.{lengths_of, names_of, locations_of, number_of, number_or, extent_of, name_of, location_of, bytes_of, number_in, location_in, subpool_or_zero}
+use Rattle.job_script.specs.Requests.{plain_of, placed_of, start_of, released}
 use Rattle.job_script.specs.Storage.{storage_at, obtain_at, obtain_in, release_at, release_in, form_if}
 use Rattle.job_script.specs.Forms.{form_of, form_named}
 use Rattle.job_script.specs.Region.{region_at, region_of}
-use Rattle.job_script.specs.Getmain.{getmain_at, getmain_in, fixed_at, fixed_of}
-use Rattle.job_script.specs.Freemain.{freemain_at, freemain_in, whole_at, whole_of, place_at, place_of}
+use Rattle.job_script.specs.Getmain as getmain
+use Rattle.job_script.specs.Freemain as freemain
+use Rattle.job_script.specs.declared.getmain.TheConstants as getmain_table
+use Rattle.job_script.specs.declared.freemain.TheConstants as freemain_table
+use Rattle.job_script.specs.Getmain.{getmain_at, getmain_in, fixed_at, fixed_placed_at, variable_at, variable_placed_at}
+use Rattle.job_script.specs.Freemain.{freemain_at, freemain_in, whole_at, whole_of, place_at, place_of, area_at, area_of}
 use Rattle.job_script.specs.Access.{put_at, put_of, show_at, show_of, move_at, move_of, where_at, where_of}
 use Rattle.job_script.specs.Statements.{statement_of, operation_of, pieces_in}
 use Rattle.job_script.specs.Lines.{line_of, statement_at, is_in_place, is_comment}
 use Rattle.job_script.proofs.Chains.{chain}
+use Rattle.job_script.proofs.Extents.{number_is_extent, pair_is_extent, number_kept, extent_kept, some_number_kept, other_number_kept, boundary_kept}
 use Rattle.job_script.proofs.OfKind.{operands_kept, none_kept}
 
 -- A statement that may stand in its place, has its operands in their ranges, and is built.
 abbrev pub IsSaid : Bool → Name → Statement → Type 0
 IsSaid first task s = IsStatement first task s × IsBuiltStatement s
 
--- a number that a required operand says is in the range of its kind
-number_kept : (least most : ℕ) (o : Option (Option Value)) (n : ℕ) → IsKept (Some (kind.Number least most)) o → number_of o ≡ Ok n → (least ≤ n) × (n ≤ most)
-number_kept least most (Some (Some (value.Number m))) n kept e = let is : m ≡ n = cc in subst (λ n. (least ≤ n) × (n ≤ most)) is kept
-number_kept least most _ n kept e = absurd (cc)
-
 -- what is read from no values on is of the kinds
 read_kept : (positional : List Kind) (keywords : List Keyword) (n : ℕ) (pieces : List (List ℕ)) (values : List (Option Value)) → operands_at positional keywords (replicate n None) 0 pieces ≡ Ok values → AreOf positional keywords values
 read_kept positional keywords n pieces values e = operands_kept positional keywords (replicate n None) 0 pieces values (none_kept positional keywords n) e
 
--- a request for a length in its range
-obtained_said : (task : Name) (form : Form) (len : ℕ) (area : Name) (number : ℕ) → (1 ≤ len) × (len ≤ 2147483647) → IsSaid false task (obtained form number len area)
-obtained_said task form len area number range = ((refl, record { some = range.0; ordered = omega arith; short = omega arith; start = (omega arith, omega arith); within = tt }), tt)
+-- a request for an area
+plain_said : (task : Name) (form : Form) (values : List (Option Value)) → IsKept (Some (kind.Lengths 1 2147483647)) (slice_get values 0) → IsKept (Some kind.Boundary) (slice_get values 3) → IfOk (plain_of form values) (IsSaid false task)
+plain_said task form values lengths boundary =
+    let P = IsSaid false task in
+    chain P (extent_of (slice_get values 0)) _ (λ extent read.
+    chain P (name_of (slice_get values 1)) _ (λ area name.
+    let range : (1 ≤ extent.1) × (extent.1 ≤ extent.0) × (extent.0 ≤ 2147483647) = extent_kept 1 2147483647 (slice_get values 0) extent lengths read in
+    ((refl, record { some = range.0; ordered = range.1; short = omega arith; start = boundary_kept (slice_get values 3) boundary; within = tt }), tt)))
+
+start_kept : (boundary start within : Option (Option Value)) (n : ℕ) → IsKept (Some kind.Boundary) boundary → IsKept (Some (kind.Number 3 31)) start → start_of boundary start within ≡ Ok n → (3 ≤ n) × (n ≤ 31)
+start_kept boundary start within n b s = kept (is_set boundary && (is_set start || is_set within)) where
+  kept : (conflict : Bool) → cond conflict (Err Conflicting) (Ok (number_or (number_or 3 boundary) start)) ≡ Ok n → (3 ≤ n) × (n ≤ 31)
+  kept true e = absurd (cc)
+  kept false e =
+      let is : number_or (number_or 3 boundary) start ≡ n = cc in
+      subst (λ n. (3 ≤ n) × (n ≤ 31)) is (other_number_kept 3 31 (number_or 3 boundary) start (boundary_kept boundary b) s)
+
+placed_said : (task : Name) (form : Form) (values : List (Option Value)) → IsKept (Some (kind.Lengths 1 2147483647)) (slice_get values 0) → IsKept (Some kind.Boundary) (slice_get values 3) → IsKept (Some (kind.Number 3 31)) (slice_get values 5) → IsKept (Some (kind.Number 3 31)) (slice_get values 6) → IfOk (placed_of form values) (IsSaid false task)
+placed_said task form values lengths boundary start within =
+    let P = IsSaid false task in
+    chain P (extent_of (slice_get values 0)) _ (λ extent read.
+    chain P (name_of (slice_get values 1)) _ (λ area name.
+    chain P (start_of (slice_get values 3) (slice_get values 5) (slice_get values 6)) _ (λ n starts.
+    let range : (1 ≤ extent.1) × (extent.1 ≤ extent.0) × (extent.0 ≤ 2147483647) = extent_kept 1 2147483647 (slice_get values 0) extent lengths read in
+    ((refl, record { some = range.0; ordered = range.1; short = omega arith; start = start_kept (slice_get values 3) (slice_get values 5) (slice_get values 6) n boundary start starts; within = some_number_kept 3 31 (slice_get values 6) within }), tt))))
 
 region_said : (task : Name) (pieces : List (List ℕ)) → IfOk (region_at pieces) (IsSaid true task)
 region_said task pieces =
     let P = IsSaid true task in
-    chain P (operands_at [] REGION (replicate 2 None) 0 pieces) region_of (λ values read.
+    chain P (operands_at [] REGION (replicate 4 None) 0 pieces) region_of (λ values read.
     chain P (number_of (slice_get values 0)) _ (λ below number.
-    let range : (1 ≤ below) × (below ≤ 2048) = number_kept 1 2048 (slice_get values 0) below (read_kept [] REGION 2 pieces values read 0) number in
-    ((refl, record { below_some = range.0; below_most = range.1; above_most = omega arith }), tt)))
+    let kept = read_kept [] REGION 4 pieces values read in
+    let range : (1 ≤ below) × (below ≤ 2048) = number_kept 1 2048 (slice_get values 0) below (kept 0) number in
+    ((refl, record { below_some = range.0; below_most = range.1; above_most = (other_number_kept 0 8192 0 (slice_get values 1) (omega arith, omega arith) (kept 1)).1 }), tt)))
 
 fixed_said : (task : Name) (form : Form) (pieces : List (List ℕ)) → IfOk (fixed_at form pieces) (IsSaid false task)
 fixed_said task form pieces =
+    chain (IsSaid false task) (operands_at [] FIXED (replicate 4 None) 0 pieces) (plain_of form) (λ values read.
+    let kept = read_kept [] FIXED 4 pieces values read in
+    plain_said task form values (number_is_extent 1 2147483647 (slice_get values 0) (kept 0)) (kept 3))
+
+fixed_placed_said : (task : Name) (form : Form) (pieces : List (List ℕ)) → IfOk (fixed_placed_at form pieces) (IsSaid false task)
+fixed_placed_said task form pieces =
+    chain (IsSaid false task) (operands_at [] FIXED_PLACED (replicate 7 None) 0 pieces) (placed_of form) (λ values read.
+    let kept = read_kept [] FIXED_PLACED 7 pieces values read in
+    placed_said task form values (number_is_extent 1 2147483647 (slice_get values 0) (kept 0)) (kept 3) (kept 5) (kept 6))
+
+variable_said : (task : Name) (form : Form) (pieces : List (List ℕ)) → IfOk (variable_at form pieces) (IsSaid false task)
+variable_said task form pieces =
+    chain (IsSaid false task) (operands_at [] VARIABLE (replicate 4 None) 0 pieces) (plain_of form) (λ values read.
+    let kept = read_kept [] VARIABLE 4 pieces values read in
+    plain_said task form values (pair_is_extent 1 2147483647 (slice_get values 0) (kept 0)) (kept 3))
+
+variable_placed_said : (task : Name) (form : Form) (pieces : List (List ℕ)) → IfOk (variable_placed_at form pieces) (IsSaid false task)
+variable_placed_said task form pieces =
+    chain (IsSaid false task) (operands_at [] VARIABLE_PLACED (replicate 7 None) 0 pieces) (placed_of form) (λ values read.
+    let kept = read_kept [] VARIABLE_PLACED 7 pieces values read in
+    placed_said task form values (pair_is_extent 1 2147483647 (slice_get values 0) (kept 0)) (kept 3) (kept 5) (kept 6))
+
+-- lists of one length
+by_length : (P : Statement → Type 0) (b : Bool) (s : Statement) → P s → IfOk (cond b (Ok s) (Err Conflicting)) P
+by_length P true s h = h
+by_length P false s h = tt
+
+obtain_list_said : (task : Name) (form : Form) (pieces : List (List ℕ)) → IfOk (getmain.list_at form pieces) (IsSaid false task)
+obtain_list_said task form pieces =
     let P = IsSaid false task in
-    chain P (operands_at [] FIXED (replicate 3 None) 0 pieces) (fixed_of form) (λ values read.
-    chain P (number_of (slice_get values 0)) _ (λ len number.
-    chain P (name_of (slice_get values 1)) _ (λ area name.
-    (obtained_said task form len area (subpool_or_zero (slice_get values 2)) (number_kept 1 2147483647 (slice_get values 0) len (read_kept [] FIXED 3 pieces values read 0) number)))))
+    chain P (operands_at [] getmain_table.LIST (replicate 4 None) 0 pieces) (getmain.list_of form) (λ values read.
+    chain P (lengths_of (slice_get values 0)) _ (λ lengths some.
+    chain P (names_of (slice_get values 1)) _ (λ areas named. by_length P (length lengths == length areas) _ ((refl, tt), tt))))
 
 getmain_in_said : (task : Name) (form : Form) (pieces : List (List ℕ)) → IfOk (getmain_in form pieces) (IsSaid false task)
 getmain_in_said task form.R pieces = fixed_said task form.R pieces
-getmain_in_said task form.Rc pieces = fixed_said task form.Rc pieces
-getmain_in_said task form.Ru pieces = fixed_said task form.Ru pieces
+getmain_in_said task form.Rc pieces = fixed_placed_said task form.Rc pieces
+getmain_in_said task form.Ru pieces = fixed_placed_said task form.Ru pieces
+getmain_in_said task form.Vrc pieces = variable_placed_said task form.Vrc pieces
+getmain_in_said task form.Vru pieces = variable_placed_said task form.Vru pieces
 getmain_in_said task form.Ec pieces = fixed_said task form.Ec pieces
 getmain_in_said task form.Eu pieces = fixed_said task form.Eu pieces
+getmain_in_said task form.Vc pieces = variable_said task form.Vc pieces
+getmain_in_said task form.Vu pieces = variable_said task form.Vu pieces
+getmain_in_said task form.Lc pieces = obtain_list_said task form.Lc pieces
+getmain_in_said task form.Lu pieces = obtain_list_said task form.Lu pieces
 getmain_in_said task _ pieces = tt
 
 getmain_said : (task : Name) (pieces : List (List ℕ)) → IfOk (getmain_at pieces) (IsSaid false task)
@@ -104,12 +160,29 @@ place_said task form pieces =
     chain P (number_of (slice_get values 0)) _ (λ len number.
     chain P (location_of (slice_get values 1)) _ (λ location address. ((refl, tt), tt))))
 
+area_said : (task : Name) (form : Form) (pieces : List (List ℕ)) → IfOk (area_at form pieces) (IsSaid false task)
+area_said task form pieces =
+    let P = IsSaid false task in
+    chain P (operands_at [] AREA (replicate 2 None) 0 pieces) (area_of form) (λ values read.
+    chain P (name_of (slice_get values 0)) _ (λ area name. ((refl, tt), tt)))
+
+release_list_said : (task : Name) (form : Form) (pieces : List (List ℕ)) → IfOk (freemain.list_at form pieces) (IsSaid false task)
+release_list_said task form pieces =
+    let P = IsSaid false task in
+    chain P (operands_at [] freemain_table.LIST (replicate 3 None) 0 pieces) (freemain.list_of form) (λ values read.
+    chain P (lengths_of (slice_get values 0)) _ (λ lengths some.
+    chain P (locations_of (slice_get values 1)) _ (λ locations addresses. by_length P (length lengths == length locations) _ ((refl, tt), tt))))
+
 freemain_in_said : (task : Name) (form : Form) (pieces : List (List ℕ)) → IfOk (freemain_in form pieces) (IsSaid false task)
 freemain_in_said task form.R pieces = whole_said task form.R pieces
 freemain_in_said task form.Rc pieces = whole_said task form.Rc pieces
 freemain_in_said task form.Ru pieces = whole_said task form.Ru pieces
 freemain_in_said task form.Ec pieces = place_said task form.Ec pieces
 freemain_in_said task form.Eu pieces = place_said task form.Eu pieces
+freemain_in_said task form.Vc pieces = area_said task form.Vc pieces
+freemain_in_said task form.Vu pieces = area_said task form.Vu pieces
+freemain_in_said task form.Lc pieces = release_list_said task form.Lc pieces
+freemain_in_said task form.Lu pieces = release_list_said task form.Lu pieces
 freemain_in_said task _ pieces = tt
 
 freemain_said : (task : Name) (pieces : List (List ℕ)) → IfOk (freemain_at pieces) (IsSaid false task)
@@ -119,11 +192,9 @@ freemain_said task pieces =
 
 obtain_said : (task : Name) (pieces : List (List ℕ)) → IfOk (obtain_at pieces) (IsSaid false task)
 obtain_said task pieces =
-    let P = IsSaid false task in
-    chain P (operands_at [] OBTAIN (replicate 4 None) 0 pieces) obtain_in (λ values read.
-    chain P (number_of (slice_get values 0)) _ (λ len number.
-    chain P (name_of (slice_get values 1)) _ (λ area name.
-    (obtained_said task (form_if (slice_get values 3)) len area (subpool_or_zero (slice_get values 2)) (number_kept 1 2147483647 (slice_get values 0) len (read_kept [] OBTAIN 4 pieces values read 0) number)))))
+    chain (IsSaid false task) (operands_at [] OBTAIN (replicate 8 None) 0 pieces) obtain_in (λ values read.
+    let kept = read_kept [] OBTAIN 8 pieces values read in
+    placed_said task (form_if (slice_get values 7)) values (kept 0) (kept 3) (kept 5) (kept 6))
 
 release_said : (task : Name) (pieces : List (List ℕ)) → IfOk (release_at pieces) (IsSaid false task)
 release_said task pieces =
@@ -196,15 +267,15 @@ line_said : (first : Bool) (task : Name) (r : Result Statement Fault) → IfOk r
 line_said first task (Ok s) said = said
 line_said first task (Err fault) said = (tt, tt)
 
-placed_said : (first : Bool) (task : Name) (operation : Operation) (pieces : List (List ℕ)) (b : Bool) → is_in_place first operation ≡ b → IsRead first (cond (not b) (Err OutOfPlace) (statement_of operation pieces >>= λ s. Ok (line.Statement task s)))
-placed_said first task operation pieces true is = line_said first task (statement_of operation pieces) (statement_said first task operation pieces is)
-placed_said first task operation pieces false is = (tt, tt)
+in_place_said : (first : Bool) (task : Name) (operation : Operation) (pieces : List (List ℕ)) (b : Bool) → is_in_place first operation ≡ b → IsRead first (cond (not b) (Err OutOfPlace) (statement_of operation pieces >>= λ s. Ok (line.Statement task s)))
+in_place_said first task operation pieces true is = line_said first task (statement_of operation pieces) (statement_said first task operation pieces is)
+in_place_said first task operation pieces false is = (tt, tt)
 
 pub statement_read : (text : List ℕ) (first : Bool) → IsRead first (statement_at text first)
 statement_read text first =
     read_chain first (or_fault UnknownOperation (name_at (word_of text))) _ (λ task.
     read_chain first (or_fault UnknownOperation (operation_of (word_of (after_word text)))) _ (λ operation.
-    placed_said first task operation (pieces_in (word_of (after_word (after_word text)))) (is_in_place first operation) refl))
+    in_place_said first task operation (pieces_in (word_of (after_word (after_word text)))) (is_in_place first operation) refl))
 
 pub line_of-IsReader : IsReader line_of
 line_of-IsReader text first =

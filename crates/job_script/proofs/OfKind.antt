@@ -1,6 +1,6 @@
 -- What is read by the tables is of the kinds of the tables.
 use Rattle.std.proofs.Common.{◌≡◌, ℕ, zero, suc, ◌+◌, ◌≤◌, Bool, true, false, cond, List, [], ◌∷◌, ◌++◌, length, take, drop, map, Option, Some, None, Result, Ok, Err, refl, ap, sym, ◌∙◌, subst, ◌⊎◌, inl, inr, arith}
-use Rattle.std.specs.Prelude.{if◌then◌else◌, replicate, slice_get, slice_set, nat_lt, ◌||◌, not, ◌==◌, bytes_eq, codes}
+use Rattle.std.specs.Prelude.{if◌then◌else◌, replicate, slice_get, slice_set, is_some, nat_lt, ◌||◌, not, ◌==◌, bytes_eq, codes}
 use Rattle.std.specs.List.{list_all}
 use Rattle.std.proofs.lemmas.Option.{slice_get-map}
 use Rattle.std.proofs.lemmas.Bool.Decides.{nat_tests}
@@ -20,9 +20,10 @@ use Rattle.job_script.specs.Hex.{byte_at, bytes_at}
 use Rattle.job_script.specs.Pairs.{pair_at, in_order, inside_at, two_of, is_malformed_number}
 use Rattle.job_script.specs.Pieces.{pieces_of}
 use Rattle.job_script.specs.Addresses.{location_at}
+use Rattle.job_script.specs.Lists.{length_item, list_at, names_at}
 use Rattle.std.proofs.lemmas.Bool.{cases_lt}
 use Rattle.job_script.specs.Choices.{yes_no_at, loc_at, residence_at}
-use Rattle.job_script.specs.Operands.{value_at, placed, positional_at, keyword_at, key_place, by_key, operand_at, operands_at, equals_at, is_malformed, is_set, IsOf, IsKept, AreOf}
+use Rattle.job_script.specs.Operands.{lengths_at, value_at, placed, positional_at, keyword_at, key_place, by_key, operand_at, operands_at, equals_at, is_malformed, is_set, IsOf, IsKept, AreOf}
 
 abbrev ok : {A : Type 0} → A → Result A Fault
 ok x = Ok x
@@ -73,6 +74,18 @@ boundary_of_kind true page v e = let is : value.Number 3 ≡ v = cc in subst (Is
 boundary_of_kind false true v e = let is : value.Number 12 ≡ v = cc in subst (IsOf kind.Boundary) is (omega arith, omega arith)
 boundary_of_kind false false v e = absurd (cc)
 
+lengths_of_kind : (least most : ℕ) (text : List ℕ) (v : Value) → lengths_at least most text ≡ Ok v → IsOf (kind.Lengths least most) v
+lengths_of_kind least most text v = of_kind (is_some (inside_at text)) where
+  of_kind : (b : Bool) → cond b (pair_at least most text >>= λ p. Ok (value.Pair p.0 p.1)) (number_at least most text >>= λ n. Ok (value.Number n)) ≡ Ok v → IsOf (kind.Lengths least most) v
+  of_kind true e =
+      let read = bind_ok (pair_at least most text) (λ p. Ok (value.Pair p.0 p.1)) v e in
+      let is : value.Pair read.0.0 read.0.1 ≡ v = ok_same (value.Pair read.0.0 read.0.1) v read.2 in
+      subst (IsOf (kind.Lengths least most)) is (pair_in_range least most text read.0 read.1)
+  of_kind false e =
+      let read = bind_ok (number_at least most text) (λ n. Ok (value.Number n)) v e in
+      let is : value.Number read.0 ≡ v = ok_same (value.Number read.0) v read.2 in
+      subst (IsOf (kind.Lengths least most)) is (number_in_range least most text read.0 read.1)
+
 -- a value that is read is of its kind
 value_of_kind : (k : Kind) (text : List ℕ) (v : Value) → value_at k text ≡ Ok v → IsOf k v
 value_of_kind (kind.Number least most) text v e =
@@ -93,10 +106,23 @@ value_of_kind (kind.Pair least most) text v e =
     let read = bind_ok (pair_at least most text) (λ p. Ok (value.Pair p.0 p.1)) v e in
     let is : value.Pair read.0.0 read.0.1 ≡ v = ok_same (value.Pair read.0.0 read.0.1) v read.2 in
     subst (IsOf (kind.Pair least most)) is (pair_in_range least most text read.0 read.1)
+value_of_kind (kind.Lengths least most) text v e = lengths_of_kind least most text v e
 value_of_kind kind.Address text v e =
     let read = bind_ok (location_at text) (λ l. Ok (value.Address l)) v e in
     let is : value.Address read.0 ≡ v = ok_same (value.Address read.0) v read.2 in
     subst (IsOf kind.Address) is tt
+value_of_kind kind.LengthList text v e =
+    let read = bind_ok (list_at length_item text) (λ lengths. Ok (value.LengthList lengths)) v e in
+    let is : value.LengthList read.0 ≡ v = ok_same (value.LengthList read.0) v read.2 in
+    subst (IsOf kind.LengthList) is tt
+value_of_kind kind.NameList text v e =
+    let read = bind_ok (names_at text) (λ names. Ok (value.NameList names)) v e in
+    let is : value.NameList read.0 ≡ v = ok_same (value.NameList read.0) v read.2 in
+    subst (IsOf kind.NameList) is tt
+value_of_kind kind.AddressList text v e =
+    let read = bind_ok (list_at location_at text) (λ addresses. Ok (value.AddressList addresses)) v e in
+    let is : value.AddressList read.0 ≡ v = ok_same (value.AddressList read.0) v read.2 in
+    subst (IsOf kind.AddressList) is tt
 value_of_kind kind.Bytes text v e =
     let read = bind_ok (bytes_at text) (λ bytes. Ok (value.Bytes bytes)) v e in
     let is : value.Bytes read.0 ≡ v = ok_same (value.Bytes read.0) v read.2 in

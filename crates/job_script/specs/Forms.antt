@@ -11,12 +11,18 @@ abbrev pub form_of : List (List ℕ) → Result (List ℕ × List (List ℕ)) Fa
 form_of [] = Err MissingOperand
 form_of (form ∷ pieces) = if is_some (equals_at form) then Err MissingOperand else Ok (form, pieces)
 
--- the form of GETMAIN or FREEMAIN that a text names, where it is built
+-- the form of GETMAIN or FREEMAIN that a text names (Assembler Services Reference, GETMAIN and FREEMAIN)
 abbrev pub form_named : List ℕ → Option Form
 form_named text =
     if bytes_eq text (codes "R") then Some form.R
     else (if bytes_eq text (codes "RC") then Some form.Rc
     else (if bytes_eq text (codes "RU") then Some form.Ru
+    else (if bytes_eq text (codes "VRC") then Some form.Vrc
+    else (if bytes_eq text (codes "VRU") then Some form.Vru
     else (if bytes_eq text (codes "EC") then Some form.Ec
     else (if bytes_eq text (codes "EU") then Some form.Eu
-    else None))))
+    else (if bytes_eq text (codes "VC") then Some form.Vc
+    else (if bytes_eq text (codes "VU") then Some form.Vu
+    else (if bytes_eq text (codes "LC") then Some form.Lc
+    else (if bytes_eq text (codes "LU") then Some form.Lu
+    else None))))))))))

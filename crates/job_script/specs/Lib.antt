@@ -9,6 +9,7 @@ pub mod Freemain
 pub mod Getmain
 pub mod Hex
 pub mod Lines
+pub mod Lists
 pub mod NameTexts
 pub mod Numbers
 pub mod Operands

@@ -1,5 +1,5 @@
 -- Operands, read by tables of what a statement takes.
-use Rattle.std.specs.Prelude.{◌≤◌, map, ◌++◌, ◌==◌, [], ◌∷◌, ◌≡◌, ℕ, ◌+◌, List, Bool, true, false, nat_lt, if◌then◌else◌, Result, Ok, Err, Option, Some, None, bytes_eq, length, take, drop, position, slice_get, slice_set}
+use Rattle.std.specs.Prelude.{◌≤◌, map, ◌++◌, ◌==◌, [], ◌∷◌, ◌≡◌, ℕ, ◌+◌, List, Bool, true, false, nat_lt, if◌then◌else◌, Result, Ok, Err, Option, Some, None, is_some, bytes_eq, length, take, drop, position, slice_get, slice_set}
 use Rattle.std.specs.Option.{option_map}
 use denote.Bor.{Bor}
 use Rattle.mvs_model.specs.declared.line.Fault.{Fault}
@@ -15,9 +15,16 @@ use Rattle.job_script.specs.Numbers.{number_at, subpool_at}
 use Rattle.job_script.specs.NameTexts.{name_at}
 use Rattle.job_script.specs.Pieces.{pieces_of}
 use Rattle.job_script.specs.Hex.{byte_at, bytes_at}
-use Rattle.job_script.specs.Pairs.{pair_at}
+use Rattle.job_script.specs.Pairs.{inside_at, pair_at}
 use Rattle.job_script.specs.Addresses.{location_at}
+use Rattle.job_script.specs.Lists.{length_item, list_at, names_at}
 use Rattle.job_script.specs.Choices.{yes_no_at, boundary_at, loc_at, residence_at}
+
+-- a number, or a largest and a smallest one in parentheses
+abbrev pub lengths_at : ℕ → ℕ → List ℕ → Result Value Fault
+lengths_at least most text =
+    if is_some (inside_at text) then (pair_at least most text >>= λ p. Ok (value.Pair p.0 p.1))
+    else (number_at least most text >>= λ n. Ok (value.Number n))
 
 -- the value of a kind that the text is
 abbrev pub value_at : Kind → List ℕ → Result Value Fault
@@ -30,7 +37,11 @@ value_at kind.Residence text = or_fault InvalidOperand (option_map value.Residen
 value_at kind.Name text = or_fault InvalidOperand (option_map value.Name (name_at text))
 value_at kind.Byte text = or_fault InvalidOperand (option_map value.Byte (byte_at text))
 value_at (kind.Pair least most) text = pair_at least most text >>= λ p. Ok (value.Pair p.0 p.1)
+value_at (kind.Lengths least most) text = lengths_at least most text
 value_at kind.Address text = location_at text >>= λ l. Ok (value.Address l)
+value_at kind.LengthList text = list_at length_item text >>= λ lengths. Ok (value.LengthList lengths)
+value_at kind.NameList text = names_at text >>= λ names. Ok (value.NameList names)
+value_at kind.AddressList text = list_at location_at text >>= λ addresses. Ok (value.AddressList addresses)
 value_at kind.Bytes text = bytes_at text >>= λ bytes. Ok (value.Bytes bytes)
 
 -- where a padded key stands in the table; where a keyword does
@@ -110,7 +121,12 @@ IsOf kind.Residence (value.Residence residence) = Unit {0}
 IsOf kind.Name (value.Name name) = Unit {0}
 IsOf kind.Byte (value.Byte byte) = Unit {0}
 IsOf (kind.Pair least most) (value.Pair largest smallest) = (least ≤ smallest) × (smallest ≤ largest) × (largest ≤ most)
+IsOf (kind.Lengths least most) (value.Number n) = (least ≤ n) × (n ≤ most)
+IsOf (kind.Lengths least most) (value.Pair largest smallest) = (least ≤ smallest) × (smallest ≤ largest) × (largest ≤ most)
 IsOf kind.Address (value.Address address) = Unit {0}
+IsOf kind.LengthList (value.LengthList lengths) = Unit {0}
+IsOf kind.NameList (value.NameList names) = Unit {0}
+IsOf kind.AddressList (value.AddressList addresses) = Unit {0}
 IsOf kind.Bytes (value.Bytes bytes) = Unit {0}
 IsOf _ _ = ⊥
 

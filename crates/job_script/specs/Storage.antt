@@ -1,5 +1,5 @@
 -- STORAGE. (Assembler Services Reference, STORAGE; that it names its areas is this project's choice)
-use Rattle.std.specs.Prelude.{ℕ, List, [], Result, Ok, Err, Option, None, if◌then◌else◌, codes, bytes_eq, slice_get, replicate}
+use Rattle.std.specs.Prelude.{ℕ, List, [], Result, Err, Option, None, if◌then◌else◌, codes, bytes_eq, slice_get, replicate}
 use Rattle.mvs_model.specs.declared.line.Fault.{Fault}
 use Rattle.mvs_model.specs.declared.line.Fault.TheVariants.{UnknownOperation}
 use Rattle.mvs_model.specs.declared.line.Statement.{Statement}
@@ -10,8 +10,8 @@ use Rattle.job_script.specs.declared.storage.TheConstants.{OBTAIN, RELEASE}
 use Rattle.job_script.specs.Chains.{◌>>=◌}
 use Rattle.job_script.specs.Operands.{operands_at}
 use Rattle.job_script.specs.Forms.{form_of}
-use Rattle.job_script.specs.Requests.{obtained, release_of}
-use Rattle.job_script.specs.Values.{number_of, name_of, subpool_or_zero, is_yes}
+use Rattle.job_script.specs.Requests.{placed_of, release_of}
+use Rattle.job_script.specs.Values.{is_yes}
 
 -- the form that COND means
 abbrev pub form_if : Option (Option Value) → Form
@@ -19,12 +19,10 @@ form_if cond = if is_yes cond then form.StorageConditional else form.Storage
 
 -- OBTAIN with its operands
 abbrev pub obtain_in : List (Option Value) → Result Statement Fault
-obtain_in values =
-    number_of (slice_get values 0) >>= λ len. name_of (slice_get values 1) >>= λ area.
-    Ok (obtained (form_if (slice_get values 3)) (subpool_or_zero (slice_get values 2)) len area)
+obtain_in values = placed_of (form_if (slice_get values 7)) values
 
 abbrev pub obtain_at : List (List ℕ) → Result Statement Fault
-obtain_at pieces = operands_at [] OBTAIN (replicate 4 None) 0 pieces >>= obtain_in
+obtain_at pieces = operands_at [] OBTAIN (replicate 8 None) 0 pieces >>= obtain_in
 
 -- RELEASE with its operands
 abbrev pub release_in : List (Option Value) → Result Statement Fault

@@ -25,7 +25,7 @@ pub fn read_form(field: Option<&[u8]>) -> Result<(&[u8], Option<&[u8]>), Fault>
     Ok((form, rest))
 }
 
-/// The form of GETMAIN or FREEMAIN that a text names, where it is built (Assembler Services Reference).
+/// The form of GETMAIN or FREEMAIN that a text names (Assembler Services Reference, GETMAIN and FREEMAIN).
 pub fn form_named(text: &[u8]) -> Option<Form>
     ensures { result ≡ form_named text.now }
 {
@@ -33,8 +33,14 @@ pub fn form_named(text: &[u8]) -> Option<Form>
         b"R" => Some(Form::R),
         b"RC" => Some(Form::Rc),
         b"RU" => Some(Form::Ru),
+        b"VRC" => Some(Form::Vrc),
+        b"VRU" => Some(Form::Vru),
         b"EC" => Some(Form::Ec),
         b"EU" => Some(Form::Eu),
+        b"VC" => Some(Form::Vc),
+        b"VU" => Some(Form::Vu),
+        b"LC" => Some(Form::Lc),
+        b"LU" => Some(Form::Lu),
         _ => None,
     }
 }

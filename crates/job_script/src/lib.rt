@@ -19,6 +19,7 @@ mod freemain;
 mod getmain;
 mod hex;
 mod keywords;
+mod lists;
 mod name;
 mod number;
 mod operands;

@@ -1,17 +1,19 @@
 //! Operands, read by tables of what a statement takes.
 
 ghost use Rattle.std.specs.Prelude.{◌≡◌, ◌+◌, ◌<◌, length, ◌≤◌, replicate, None, IfOk, IfSome};
-ghost use Rattle.job_script.specs.Operands.{value_at, place_of, key_place, placed, positional_at, keyword_at, equals_at, operand_at, operands_at, pieces_after, Leaves, LeavesNumber, AreOf};
+ghost use Rattle.job_script.specs.Operands.{lengths_at, value_at, place_of, key_place, placed, positional_at, keyword_at, equals_at, operand_at, operands_at, pieces_after, Leaves, LeavesNumber, AreOf};
 ghost use Rattle.mvs_model.specs.Name.{padded};
 ghost use Rattle.job_script.specs.Pieces.{pieces_of};
 
 use crate::address::read_location;
 use crate::hex::{MOST_BYTES, read_byte, read_bytes};
+use crate::lists::{MOST_ITEMS, read_list, read_names};
 use crate::name::read_name;
 use crate::number::{read_number, read_subpool};
-use crate::pair::read_pair;
+use crate::pair::{inside, read_pair};
 use crate::pieces::next_piece;
 use crate::words::{read_boundary, read_loc, read_residence, read_yes_no};
+use mvs_model::bounded::Length;
 use mvs_model::line::{Fault, Location};
 use mvs_model::name::Name;
 use mvs_model::want::{Loc, Residence};
@@ -37,8 +39,16 @@ pub enum Kind {
     Byte,
     /// A largest and a smallest number from the first to the second, in parentheses.
     Pair(u32, u32),
+    /// A number, or a largest and a smallest one, from the first to the second.
+    Lengths(u32, u32),
     /// A name, a name with an offset, or hexadecimal digits in X'..'.
     Address,
+    /// One to sixteen lengths, in parentheses.
+    LengthList,
+    /// One to sixteen names, in parentheses, each of which stands once.
+    NameList,
+    /// One to sixteen addresses, in parentheses.
+    AddressList,
     /// One to a hundred bytes of two hexadecimal digits each, in X'..'.
     Bytes,
 }
@@ -62,7 +72,22 @@ pub enum Value {
     Byte(u8),
     Pair(u32, u32),
     Address(Location),
+    LengthList([Option<Length>; MOST_ITEMS]),
+    NameList([Option<Name>; MOST_ITEMS]),
+    AddressList([Option<Location>; MOST_ITEMS]),
     Bytes([Option<u8>; MOST_BYTES]),
+}
+
+// Reads a number, or a largest and a smallest one in parentheses.
+fn read_lengths(least: u32, most: u32, text: &[u8]) -> Result<Value, Fault>
+    ensures { result ≡ lengths_at least most text.now }
+{
+    if inside(text).is_some() {
+        let (largest, smallest) = read_pair(least, most, text)?;
+        Ok(Value::Pair(largest, smallest))
+    } else {
+        Ok(Value::Number(read_number(least, most, text)?))
+    }
 }
 
 // Reads a value of a kind.
@@ -92,7 +117,11 @@ fn read_value(kind: Kind, text: &[u8]) -> Result<Value, Fault>
             let (largest, smallest) = read_pair(least, most, text)?;
             Ok(Value::Pair(largest, smallest))
         }
+        Kind::Lengths(least, most) => read_lengths(least, most, text),
         Kind::Address => Ok(Value::Address(read_location(text)?)),
+        Kind::LengthList => Ok(Value::LengthList(read_list(text)?)),
+        Kind::NameList => Ok(Value::NameList(read_names(text)?)),
+        Kind::AddressList => Ok(Value::AddressList(read_list(text)?)),
         Kind::Bytes => Ok(Value::Bytes(read_bytes(text)?)),
     }
 }

@@ -5,18 +5,20 @@ ghost use Rattle.job_script.specs.Operands.{pieces_after};
 ghost use Rattle.job_script.specs.Storage.{form_if, obtain_at, release_at, storage_at};
 
 use crate::forms::read_form;
-use crate::keywords::{ADDR_ADDRESS, ADDR_NAME, COND, LENGTH_KEYWORD, SP};
+use crate::keywords::{
+    ADDR_ADDRESS, ADDR_NAME, BNDRY, COND, CONTBDY, LENGTH, LENGTHS, LOC, SP, STARTBDY,
+};
 use crate::operands::{Keyword, Value, read_values};
-use crate::requests::{obtain, release};
-use crate::values::{is_yes, name, number, subpool_or_zero};
+use crate::requests::{obtain_placed, release};
+use crate::values::is_yes;
 use mvs_model::code::Form;
 use mvs_model::line::{Fault, Statement};
 
 /// The keywords of STORAGE OBTAIN.
-pub const OBTAIN: [Keyword; 4] = [LENGTH_KEYWORD, ADDR_NAME, SP, COND];
+pub const OBTAIN: [Keyword; 8] = [LENGTHS, ADDR_NAME, SP, BNDRY, LOC, STARTBDY, CONTBDY, COND];
 
 /// The keywords of STORAGE RELEASE.
-pub const RELEASE: [Keyword; 4] = [LENGTH_KEYWORD, ADDR_ADDRESS, SP, COND];
+pub const RELEASE: [Keyword; 4] = [LENGTH, ADDR_ADDRESS, SP, COND];
 
 // The form that COND means.
 fn form_if(cond: &Option<Value>) -> Form
@@ -33,10 +35,8 @@ fn form_if(cond: &Option<Value>) -> Form
 fn read_obtain(field: Option<&[u8]>) -> Result<Statement, Fault>
     ensures { result ≡ obtain_at (pieces_after field.entry) }
 {
-    let values = read_values::<4>(&[], &OBTAIN, field)?;
-    let len = number(&values[0])?;
-    let area = name(&values[1])?;
-    Ok(obtain(form_if(&values[3]), subpool_or_zero(&values[2]), len, area))
+    let values = read_values::<8>(&[], &OBTAIN, field)?;
+    obtain_placed(form_if(&values[7]), values.as_slice())
 }
 
 // The operands of STORAGE RELEASE.

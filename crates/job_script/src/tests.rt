@@ -11,6 +11,8 @@ use mvs_model::name::Name;
 use mvs_model::place::Addr;
 use mvs_model::want::{Ask, Loc, Residence, Side};
 
+mod lists;
+mod places;
 mod requests;
 
 // The first of the lines that is not answered by this fault.
@@ -168,9 +170,9 @@ fn malformed_operands_are_invalid(rt: HostRuntime) {
     assert_eq!(rt; exception(&operands, false, Fault::InvalidOperand), None);
     let region: [&[u8]; 6] = [
         b"JOB REGION BELOW",
-        b"JOB REGION BELOW=1,ABOVE=0",
-        b"JOB REGION BELOW=1,FILL=0",
-        b"JOB REGION RES=BELOW",
+        b"JOB REGION BELOW=1,ABOVE=",
+        b"JOB REGION BELOW=1,FILL=5",
+        b"JOB REGION RES=RES",
         b"JOB REGION 1",
         b"JOB REGION BELOW=1,1",
     ];
@@ -208,7 +210,9 @@ fn numbers_keep_to_their_ranges(rt: HostRuntime) {
         b"JOB GETMAIN R,LV=0,Z",
     ];
     assert_eq!(rt; exception(&lengths, false, Fault::OutOfRange), None);
-    let pages: [&[u8]; 3] = [
+    let pages: [&[u8]; 5] = [
+        b"JOB REGION ABOVE=8193",
+        b"JOB REGION BELOW=1,ABOVE=00000000000",
         b"JOB REGION BELOW=0",
         b"JOB REGION BELOW=2049",
         b"JOB REGION BELOW=99999999999",
@@ -234,12 +238,43 @@ fn what_is_required_is_there(rt: HostRuntime) {
     assert_eq!(rt; exception(&missing, false, Fault::MissingOperand), None);
     assert_eq!(rt;
         exception(
-            &[b"JOB REGION", b"JOB REGION   "],
+            &[
+                b"JOB REGION",
+                b"JOB REGION   ",
+                b"JOB REGION ABOVE=1,FILL=00,RES=BELOW"
+            ],
             true,
             Fault::MissingOperand
         ),
         None
     );
+}
+
+// Whether the line is a REGION of these.
+fn is_region(line: &[u8], below: u32, above: u32, fill: u8, residence: Residence) -> bool {
+    match &read_line(line, true) {
+        Ok(
+            Line::Statement(
+                _,
+                Statement::Region {
+                    below: pages,
+                    above: more,
+                    fill: byte,
+                    residence: side,
+                },
+            ),
+        ) => { pages.get() == below && more.get() == above && *byte == fill && *side == residence }
+        _ => false,
+    }
+}
+
+#[test]
+fn regions_are_read(rt: HostRuntime) {
+    assert!(rt; is_region(b"JOB REGION BELOW=2", 2, 0, 0, Residence::Below));
+    let all = b"JOB REGION RES=ABOVE,FILL=C1,ABOVE=8192,BELOW=2048";
+    assert!(rt; is_region(all, 2048, 8192, 0xC1, Residence::Above));
+    let least = b"JOB REGION BELOW=1,ABOVE=0,FILL=00,RES=BELOW";
+    assert!(rt; is_region(least, 1, 0, 0, Residence::Below));
 }
 
 // The pages below of a first statement, where it is REGION.

@@ -159,7 +159,8 @@ fn release_areas(
 }
 
 /// FREEMAIN for a list of places, all of which are released or none; the length of each is rounded up to doublewords
-/// (Assembler Services Reference, FREEMAIN; all or none is this project's choice).
+/// (Assembler Services Reference, FREEMAIN). All or none, that members which overlap count as not held, and the order
+/// of the refusals are this project's choice.
 pub fn release_list(
     store: &mut Store,
     tasks: &Tasks,

@@ -332,7 +332,7 @@ fn begun(rt: &impl Abort, store: &mut Store, tasks: &mut Tasks, t: TaskId)
     put(store, area, &[1, 2, 3, 4, 5, 6, 7, 8]);
 }
 
-// Holds two stores and the task's subpools beside each other.
+// Two stores hold the same, and the first eight bytes are as they were written.
 fn assert_same(rt: &impl Abort, store: &Store, other: &Store) {
     for at in [
         0x6000, 0x6008, 0x6010, 0x6FF0, 0x6FF8, 0x7000, 0x7008, 0x7FF0, 0x7FF8,

@@ -6,7 +6,7 @@ use mvs_model::code::Form;
 use mvs_model::line::{Asked, Fault, Line, Location, Statement};
 
 // What a line asks for, where it asks for something.
-fn asked(line: &[u8]) -> Option<Asked> {
+pub fn asked(line: &[u8]) -> Option<Asked> {
     match read_line(line, false) {
         Ok(Line::Statement(_, Statement::Request(asked))) => Some(asked),
         _ => None,
