@@ -3,6 +3,7 @@ mod examples;
 mod lists;
 mod places;
 mod storage;
+mod tasks;
 
 use super::*;
 use std::io::{self, Error, ErrorKind};

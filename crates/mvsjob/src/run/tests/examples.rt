@@ -85,6 +85,59 @@ fn pages(rt: HostRuntime) -> Result<(), Fail> {
     Ok(())
 }
 
+// One mistake, and its code by the form.
+#[test]
+fn codes(rt: HostRuntime) -> Result<(), Fail> {
+    let lines = [
+        (
+            "* The same mistake has another code in each family of forms. Each subtask of this step makes one.",
+            "",
+        ),
+        ("JOB REGION BELOW=1", "JOB REGION BELOW 1 ABOVE 0"),
+        ("JOB GETMAIN RU,LV=8,A=X", "JOB RC 0"),
+        ("JOB ATTACH TASK=A", "JOB ATTACHED"),
+        ("JOB ATTACH TASK=B", "JOB ATTACHED"),
+        ("JOB ATTACH TASK=C", "JOB ATTACHED"),
+        ("JOB ATTACH TASK=D", "JOB ATTACHED"),
+        (
+            "* There is no place for 4097 bytes: the third digit is that of the family.",
+            "",
+        ),
+        ("A GETMAIN R,LV=4097,A=Y", "A ABEND S80A"),
+        ("B GETMAIN RU,LV=4097,A=Y", "B ABEND S878"),
+        ("C GETMAIN EU,LV=4097,A=Y", "C ABEND S804"),
+        ("D STORAGE OBTAIN,LENGTH=4097,ADDR=Y", "D ABEND S878"),
+        ("* A conditional form answers 4, and its task goes on.", ""),
+        ("JOB GETMAIN RC,LV=4097,A=Y", "JOB RC 4"),
+        ("JOB GETMAIN EC,LV=4097,A=Y", "JOB RC 4"),
+        ("JOB STORAGE OBTAIN,LENGTH=4097,ADDR=Y,COND=YES", "JOB RC 4"),
+        ("* An ended task's name may be used again.", ""),
+        ("JOB ATTACH TASK=A", "JOB ATTACHED"),
+        ("JOB ATTACH TASK=B", "JOB ATTACHED"),
+        ("JOB ATTACH TASK=C", "JOB ATTACHED"),
+        ("JOB ATTACH TASK=D", "JOB ATTACHED"),
+        (
+            "* A release that does not begin on a doubleword abends, also where the form is conditional.",
+            "",
+        ),
+        ("A FREEMAIN R,LV=8,A=X+4", "A ABEND S90A"),
+        ("B FREEMAIN RC,LV=8,A=X+4", "B ABEND S978"),
+        ("C FREEMAIN EC,LV=8,A=X+4", "C ABEND S905"),
+        (
+            "D STORAGE RELEASE,LENGTH=8,ADDR=X+4,COND=YES",
+            "D ABEND S978",
+        ),
+        (
+            "* What is not held: here the conditional forms answer 4 again.",
+            "",
+        ),
+        ("JOB FREEMAIN RC,LV=16,A=X", "JOB RC 4"),
+        ("JOB FREEMAIN EU,LV=16,A=X", "JOB ABEND SA05"),
+    ];
+    assert!(rt; prints(&rt, &lines, "STEP ENDED RC 8")?);
+    Ok(())
+}
+
 // Above and below 16 megabytes.
 #[test]
 fn above(rt: HostRuntime) -> Result<(), Fail> {
