@@ -1,6 +1,6 @@
 -- What is read is in its ranges, and is one of the statements that are built.
 use Rattle.std.proofs.Common.{◌≡◌, ℕ, ◌≤◌, Bool, true, false, cond, List, [], Option, Some, None, Result, Ok, Err, refl, subst, arith}
-use Rattle.std.specs.Prelude.{length, ◌==◌, nat_lt, ◌&&◌, ◌||◌, not, bytes_eq, codes, slice_get, replicate, IfOk}
+use Rattle.std.specs.Prelude.{length, ◌==◌, nat_lt, ◌&&◌, ◌||◌, not, bytes_eq, codes, slice_get, replicate, IfOk, bit_and, ◌%◌}
 use Rattle.std.specs.List.{list_all}
 use Rattle.mvs_model.specs.declared.name.Name.{Name}
 use Rattle.mvs_model.specs.declared.line.Fault.{Fault}
@@ -22,13 +22,13 @@ use Rattle.mvs_model.specs.declared.code.Form.TheVariants as form
 use Rattle.mvs_model.specs.declared.line.Location.{Location}
 use Rattle.job_script.specs.declared.access.TheConstants.{PUT, SHOW, MOVE, WHERE}
 use Rattle.job_script.specs.declared.statements.Operation.{Operation}
-use Rattle.job_script.specs.declared.statements.Operation.TheVariants.{Region, Getmain, Freemain, Storage, Put, Show, Move, Where}
+use Rattle.job_script.specs.declared.statements.Operation.TheVariants.{Region, Getmain, Freemain, Storage, Attach, Return, Abend, Put, Show, Move, Where}
 use Rattle.job_script.specs.Built.{IsBuiltLine, IsBuiltStatement}
 use Rattle.job_script.specs.Chains.{◌>>=◌, or_fault}
 use Rattle.job_script.specs.Fields.{is_plain_byte, is_blank_byte, word_of, after_word}
 use Rattle.job_script.specs.NameTexts.{name_at}
 use Rattle.job_script.specs.Operands.{operands_at, is_set, IsKept, AreOf}
-use Rattle.job_script.specs.Values.{lengths_of, names_of, locations_of, number_of, number_or, extent_of, name_of, location_of, bytes_of, number_in, location_in, subpool_or_zero}
+use Rattle.job_script.specs.Values.{lengths_of, names_of, locations_of, number_of, number_or, extent_of, name_of, location_of, bytes_of, number_in, location_in, subpool_or_zero, either_set, is_not_no, residence_or_below}
 use Rattle.job_script.specs.Requests.{plain_of, placed_of, start_of, released}
 use Rattle.job_script.specs.Storage.{storage_at, obtain_at, obtain_in, release_at, release_in, form_if}
 use Rattle.job_script.specs.Forms.{form_of, form_named}
@@ -40,6 +40,12 @@ use Rattle.job_script.specs.declared.freemain.TheConstants as freemain_table
 use Rattle.job_script.specs.Getmain.{getmain_at, getmain_in, fixed_at, fixed_placed_at, variable_at, variable_placed_at}
 use Rattle.job_script.specs.Freemain.{freemain_at, freemain_in, whole_at, whole_of, place_at, place_of, area_at, area_of}
 use Rattle.job_script.specs.Access.{put_at, put_of, show_at, show_of, move_at, move_of, where_at, where_of}
+use Rattle.job_script.specs.Tasks.{attach_with, attach_at, attach_of, abend_at, abend_of}
+use Rattle.job_script.specs.declared.tasks.TheConstants.{ATTACH, ABEND}
+use Rattle.mvs_model.specs.declared.line.Statement.TheVariants as says
+use Rattle.mvs_model.specs.declared.line.Asked.TheVariants as asked
+use Rattle.mvs_model.specs.declared.want.Residence.{Residence}
+use Rattle.job_script.proofs.SetsRead.{either_even, presents_of}
 use Rattle.job_script.specs.Statements.{statement_of, operation_of, pieces_in}
 use Rattle.job_script.specs.Lines.{line_of, statement_at, is_in_place, is_comment}
 use Rattle.job_script.proofs.Chains.{chain}
@@ -211,6 +217,33 @@ storage_said task pieces =
     let P = IsSaid false task in
     chain P (form_of pieces) _ (λ r read. of_two P (bytes_eq r.0 (codes "OBTAIN")) (bytes_eq r.0 (codes "RELEASE")) (obtain_at r.1) (release_at r.1) (obtain_said task r.1) (release_said task r.1))
 
+attach_with_said : (task name : Name) (given shared : ℕ) (zero : Bool) (residence : Residence) → given % 2 ≡ 0 → shared % 2 ≡ 0 → IfOk (attach_with name given shared zero residence) (IsSaid false task)
+attach_with_said task name given shared zero residence g s = at (bit_and given shared == 0) refl where
+  at : (b : Bool) → (bit_and given shared == 0) ≡ b → IfOk (cond b (Ok (says.Request (asked.Attach name (record { given = given; shared = shared; zero = zero }) residence))) (Err Conflicting)) (IsSaid false task)
+  at true e = ((refl, presents_of given shared zero g s e), tt)
+  at false e = tt
+
+-- what a set that is read is
+even_set : (one list : Option (Option Value)) (set : ℕ) → IsKept (Some (kind.Number 1 127)) one → IsKept (Some kind.NumberSet) list → either_set one list ≡ Ok set → set % 2 ≡ 0
+even_set one list set k l e = subst (λ r. IfOk r (λ set. set % 2 ≡ 0)) e (either_even one list k l)
+
+attach_said : (task : Name) (pieces : List (List ℕ)) → IfOk (attach_at pieces) (IsSaid false task)
+attach_said task pieces =
+    let P = IsSaid false task in
+    chain P (operands_at [] ATTACH (replicate 7 None) 0 pieces) attach_of (λ values read.
+    let kept = read_kept [] ATTACH 7 pieces values read in
+    chain P (name_of (slice_get values 0)) _ (λ name named.
+    chain P (either_set (slice_get values 1) (slice_get values 2)) _ (λ given gives.
+    chain P (either_set (slice_get values 3) (slice_get values 4)) _ (λ shared shares.
+    attach_with_said task name given shared (is_not_no (slice_get values 5)) (residence_or_below (slice_get values 6))
+    (even_set (slice_get values 1) (slice_get values 2) given (kept 1) (kept 2) gives) (even_set (slice_get values 3) (slice_get values 4) shared (kept 3) (kept 4) shares)))))
+
+abend_said : (task : Name) (pieces : List (List ℕ)) → IfOk (abend_at pieces) (IsSaid false task)
+abend_said task pieces =
+    let P = IsSaid false task in
+    chain P (operands_at ABEND [] (replicate 1 None) 0 pieces) abend_of (λ values read.
+    chain P (number_of (slice_get values 0)) _ (λ code number. ((refl, tt), tt)))
+
 put_said : (task : Name) (pieces : List (List ℕ)) → IfOk (put_at pieces) (IsSaid false task)
 put_said task pieces =
     let P = IsSaid false task in
@@ -245,6 +278,9 @@ later_said task Region pieces is = absurd (cc)
 later_said task Getmain pieces is = getmain_said task pieces
 later_said task Freemain pieces is = freemain_said task pieces
 later_said task Storage pieces is = storage_said task pieces
+later_said task Attach pieces is = attach_said task pieces
+later_said task Return pieces is = ((refl, tt), tt)
+later_said task Abend pieces is = abend_said task pieces
 later_said task Put pieces is = put_said task pieces
 later_said task Show pieces is = show_said task pieces
 later_said task Move pieces is = move_said task pieces

@@ -5,3 +5,5 @@ pub mod Extents
 pub mod InRanges
 pub mod ItemsRead
 pub mod OfKind
+pub mod Ranges
+pub mod SetsRead

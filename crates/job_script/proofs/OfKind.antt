@@ -21,24 +21,12 @@ use Rattle.job_script.specs.Pairs.{pair_at, in_order, inside_at, two_of}
 use Rattle.job_script.specs.Pieces.{pieces_of}
 use Rattle.job_script.specs.Addresses.{location_at}
 use Rattle.job_script.specs.Lists.{length_item, list_at, names_at}
+use Rattle.job_script.specs.Sets.{set_at}
+use Rattle.job_script.proofs.Ranges.{ok, ok_same, number_in_range}
+use Rattle.job_script.proofs.SetsRead.{set_even}
 use Rattle.std.proofs.lemmas.Bool.{cases_lt}
 use Rattle.job_script.specs.Choices.{yes_no_at, loc_at, residence_at}
 use Rattle.job_script.specs.Operands.{lengths_at, value_at, placed, positional_at, keyword_at, key_place, by_key, operand_at, operands_at, equals_at, is_set, IsOf, IsKept, AreOf}
-
-abbrev ok : {A : Type 0} → A → Result A Fault
-ok x = Ok x
-
-ok_same : {A : Type 0} → (x y : A) → ok x ≡ ok y → x ≡ y
-ok_same x y e = cc
-
--- a number that is read is in its range
-number_in_range : (least most : ℕ) (text : List ℕ) (n : ℕ) → number_at least most text ≡ Ok n → (least ≤ n) × (n ≤ most)
-number_in_range least most text n =
-    in_range ((length text == 0) || not (list_all is_digit text)) (nat_lt 10 (length text)) (value_of 0 text) where
-      in_range : (malformed long : Bool) (m : ℕ) → cond malformed (Err InvalidOperand) (cond long (Err OutOfRange) (cond (nat_lt m least || nat_lt most m) (Err OutOfRange) (Ok m))) ≡ Ok n → (least ≤ n) × (n ≤ most)
-      in_range true long m e = absurd (cc)
-      in_range false true m e = absurd (cc)
-      in_range false false m e = grind (arith, nat_tests)
 
 numbers_in_order : (l s : ℕ) (p : ℕ × ℕ) → cond (nat_lt l s) (Err OutOfRange) (ok (l, s)) ≡ Ok p → ((l, s) ≡ p) × (s ≤ l)
 numbers_in_order l s p e = elim (cases_lt l s) [
@@ -111,6 +99,10 @@ value_of_kind kind.Address text v e =
     let read = bind_ok (location_at text) (λ l. Ok (value.Address l)) v e in
     let is : value.Address read.0 ≡ v = ok_same (value.Address read.0) v read.2 in
     subst (IsOf kind.Address) is tt
+value_of_kind kind.NumberSet text v e =
+    let read = bind_ok (set_at text) (λ set. Ok (value.NumberSet set)) v e in
+    let is : value.NumberSet read.0 ≡ v = ok_same (value.NumberSet read.0) v read.2 in
+    subst (IsOf kind.NumberSet) is (set_even text read.0 read.1)
 value_of_kind kind.LengthList text v e =
     let read = bind_ok (list_at length_item text) (λ lengths. Ok (value.LengthList lengths)) v e in
     let is : value.LengthList read.0 ≡ v = ok_same (value.LengthList read.0) v read.2 in

@@ -14,9 +14,6 @@ IsBuiltAsked (asked.Build pool number size primary secondary loc) = ⊥
 IsBuiltAsked (asked.Get pool conditional cell) = ⊥
 IsBuiltAsked (asked.Free pool cell) = ⊥
 IsBuiltAsked (asked.Delete pool) = ⊥
-IsBuiltAsked (asked.Attach name gifts residence) = ⊥
-IsBuiltAsked asked.Return = ⊥
-IsBuiltAsked (asked.Abend code) = ⊥
 IsBuiltAsked _ = Unit {0}
 
 -- the same of a statement

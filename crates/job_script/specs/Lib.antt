@@ -17,7 +17,9 @@ pub mod Pairs
 pub mod Pieces
 pub mod Region
 pub mod Requests
+pub mod Sets
 pub mod Somes
 pub mod Statements
 pub mod Storage
+pub mod Tasks
 pub mod Values

@@ -1,5 +1,5 @@
 -- Operands, read by tables of what a statement takes.
-use Rattle.std.specs.Prelude.{◌≤◌, map, ◌++◌, ◌==◌, [], ◌∷◌, ◌≡◌, ℕ, ◌+◌, List, Bool, true, false, nat_lt, if◌then◌else◌, Result, Ok, Err, Option, Some, None, is_some, bytes_eq, length, take, drop, position, slice_get, slice_set}
+use Rattle.std.specs.Prelude.{◌≤◌, map, ◌++◌, ◌==◌, [], ◌∷◌, ◌≡◌, ℕ, ◌+◌, ◌%◌, List, Bool, true, false, nat_lt, if◌then◌else◌, Result, Ok, Err, Option, Some, None, is_some, bytes_eq, length, take, drop, position, slice_get, slice_set}
 use Rattle.std.specs.Option.{option_map}
 use denote.Bor.{Bor}
 use Rattle.mvs_model.specs.declared.line.Fault.{Fault}
@@ -18,6 +18,7 @@ use Rattle.job_script.specs.Hex.{byte_at, bytes_at}
 use Rattle.job_script.specs.Pairs.{inside_at, pair_at}
 use Rattle.job_script.specs.Addresses.{location_at}
 use Rattle.job_script.specs.Lists.{length_item, list_at, names_at}
+use Rattle.job_script.specs.Sets.{set_at}
 use Rattle.job_script.specs.Choices.{yes_no_at, boundary_at, loc_at, residence_at}
 
 -- a number, or a largest and a smallest one in parentheses
@@ -39,6 +40,7 @@ value_at kind.Byte text = or_fault InvalidOperand (option_map value.Byte (byte_a
 value_at (kind.Pair least most) text = pair_at least most text >>= λ p. Ok (value.Pair p.0 p.1)
 value_at (kind.Lengths least most) text = lengths_at least most text
 value_at kind.Address text = location_at text >>= λ l. Ok (value.Address l)
+value_at kind.NumberSet text = set_at text >>= λ set. Ok (value.NumberSet set)
 value_at kind.LengthList text = list_at length_item text >>= λ lengths. Ok (value.LengthList lengths)
 value_at kind.NameList text = names_at text >>= λ names. Ok (value.NameList names)
 value_at kind.AddressList text = list_at location_at text >>= λ addresses. Ok (value.AddressList addresses)
@@ -123,6 +125,7 @@ IsOf (kind.Pair least most) (value.Pair largest smallest) = (least ≤ smallest)
 IsOf (kind.Lengths least most) (value.Number n) = (least ≤ n) × (n ≤ most)
 IsOf (kind.Lengths least most) (value.Pair largest smallest) = (least ≤ smallest) × (smallest ≤ largest) × (largest ≤ most)
 IsOf kind.Address (value.Address address) = Unit {0}
+IsOf kind.NumberSet (value.NumberSet set) = set % 2 ≡ 0
 IsOf kind.LengthList (value.LengthList lengths) = Unit {0}
 IsOf kind.NameList (value.NameList names) = Unit {0}
 IsOf kind.AddressList (value.AddressList addresses) = Unit {0}

@@ -1,8 +1,8 @@
 -- What the values of a statement's operands say.
-use Rattle.std.specs.Prelude.{ℕ, List, Bool, true, false, Result, Ok, Err, Option, Some, None}
+use Rattle.std.specs.Prelude.{ℕ, ◌^◌, ◌&&◌, List, Bool, true, false, if◌then◌else◌, Result, Ok, Err, Option, Some, None}
 use Rattle.mvs_model.specs.declared.name.Name.{Name}
 use Rattle.mvs_model.specs.declared.line.Fault.{Fault}
-use Rattle.mvs_model.specs.declared.line.Fault.TheVariants.{MissingOperand}
+use Rattle.mvs_model.specs.declared.line.Fault.TheVariants.{MissingOperand, Conflicting}
 use Rattle.mvs_model.specs.declared.line.Location.{Location}
 use Rattle.mvs_model.specs.declared.want.Loc.{Loc}
 use Rattle.mvs_model.specs.declared.want.Loc.TheVariants as loc
@@ -11,6 +11,7 @@ use Rattle.mvs_model.specs.declared.want.Residence.TheVariants as residence
 use Rattle.job_script.specs.declared.operands.Value.{Value}
 use Rattle.job_script.specs.declared.operands.Value.TheVariants as value
 use Rattle.job_script.specs.Chains.{or_fault}
+use Rattle.job_script.specs.Operands.{is_set}
 use Rattle.job_script.specs.Somes.{some_list}
 
 -- the number that a required operand says
@@ -93,6 +94,21 @@ location_in _ = None
 abbrev pub subpool_or_zero : Option (Option Value) → ℕ
 subpool_or_zero (Some (Some (value.Subpool n))) = n
 subpool_or_zero _ = 0
+
+-- the set of the number, or of the numbers, that an operand says
+abbrev pub set_of : Option (Option Value) → ℕ
+set_of (Some (Some (value.Number n))) = 2 ^ n
+set_of (Some (Some (value.NumberSet set))) = set
+set_of _ = 0
+
+-- the set that one of two operands says, which exclude each other
+abbrev pub either_set : Option (Option Value) → Option (Option Value) → Result ℕ Fault
+either_set one list = if is_set one && is_set list then Err Conflicting else Ok (if is_set one then set_of one else set_of list)
+
+-- whether an operand does not say NO
+abbrev pub is_not_no : Option (Option Value) → Bool
+is_not_no (Some (Some (value.YesNo b))) = b
+is_not_no _ = true
 
 -- whether an operand says YES
 abbrev pub is_yes : Option (Option Value) → Bool

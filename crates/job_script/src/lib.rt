@@ -27,9 +27,11 @@ mod pair;
 mod pieces;
 mod region;
 mod requests;
+mod sets;
 mod somes;
 mod statements;
 mod storage;
+mod tasks;
 mod values;
 mod words;
 

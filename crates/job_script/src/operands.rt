@@ -12,6 +12,7 @@ use crate::name::read_name;
 use crate::number::{read_number, read_subpool};
 use crate::pair::{inside, read_pair};
 use crate::pieces::next_piece;
+use crate::sets::read_set;
 use crate::words::{read_boundary, read_loc, read_residence, read_yes_no};
 use mvs_model::bounded::Length;
 use mvs_model::line::{Fault, Location};
@@ -43,6 +44,8 @@ pub enum Kind {
     Lengths(u32, u32),
     /// A name, a name with an offset, or hexadecimal digits in X'..'.
     Address,
+    /// Numbers from 1 to 127, in parentheses, each of which stands once.
+    NumberSet,
     /// One to sixteen lengths, in parentheses.
     LengthList,
     /// One to sixteen names, in parentheses, each of which stands once.
@@ -72,6 +75,7 @@ pub enum Value {
     Byte(u8),
     Pair(u32, u32),
     Address(Location),
+    NumberSet(u128),
     LengthList([Option<Length>; MOST_ITEMS]),
     NameList([Option<Name>; MOST_ITEMS]),
     AddressList([Option<Location>; MOST_ITEMS]),
@@ -119,6 +123,7 @@ fn read_value(kind: Kind, text: &[u8]) -> Result<Value, Fault>
         }
         Kind::Lengths(least, most) => read_lengths(least, most, text),
         Kind::Address => Ok(Value::Address(read_location(text)?)),
+        Kind::NumberSet => Ok(Value::NumberSet(read_set(text)?)),
         Kind::LengthList => Ok(Value::LengthList(read_list(text)?)),
         Kind::NameList => Ok(Value::NameList(read_names(text)?)),
         Kind::AddressList => Ok(Value::AddressList(read_list(text)?)),

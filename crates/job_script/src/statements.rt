@@ -8,7 +8,8 @@ use crate::freemain::read_freemain;
 use crate::getmain::read_getmain;
 use crate::region::read_region;
 use crate::storage::read_storage;
-use mvs_model::line::{Fault, Statement};
+use crate::tasks::{read_abend, read_attach};
+use mvs_model::line::{Asked, Fault, Statement};
 
 /// An operation that is built.
 #[derive(Clone, Copy)]
@@ -17,6 +18,9 @@ pub enum Operation {
     Getmain,
     Freemain,
     Storage,
+    Attach,
+    Return,
+    Abend,
     Put,
     Show,
     Move,
@@ -35,6 +39,12 @@ pub fn read_operation(word: &[u8]) -> Option<Operation>
         Some(Operation::Freemain)
     } else if word == b"STORAGE".as_slice() {
         Some(Operation::Storage)
+    } else if word == b"ATTACH".as_slice() {
+        Some(Operation::Attach)
+    } else if word == b"RETURN".as_slice() {
+        Some(Operation::Return)
+    } else if word == b"ABEND".as_slice() {
+        Some(Operation::Abend)
     } else if word == b"PUT".as_slice() {
         Some(Operation::Put)
     } else if word == b"SHOW".as_slice() {
@@ -58,6 +68,9 @@ pub fn read_operands_of(operation: Operation, field: &[u8]) -> Result<Statement,
         Operation::Getmain => read_getmain(field),
         Operation::Freemain => read_freemain(field),
         Operation::Storage => read_storage(field),
+        Operation::Attach => read_attach(field),
+        Operation::Return => Ok(Statement::Request(Asked::Return)),
+        Operation::Abend => read_abend(field),
         Operation::Put => read_put(field),
         Operation::Show => read_show(field),
         Operation::Move => read_move(field),

@@ -1,11 +1,12 @@
 //! What the values of a statement's operands say.
 
-ghost use Rattle.std.specs.Prelude.{◌≡◌, ◌≤◌, Some, IfOk};
-ghost use Rattle.job_script.specs.declared.operands.Kind.TheVariants.{Number, Boundary, Lengths};
+ghost use Rattle.std.specs.Prelude.{◌≡◌, ◌%◌, ◌≤◌, Some, IfOk};
+ghost use Rattle.job_script.specs.declared.operands.Kind.TheVariants.{Number, NumberSet, Boundary, Lengths};
 ghost use Rattle.job_script.specs.Operands.{IsKept};
-ghost use Rattle.job_script.specs.Values.{number_of, extent_of, is_pair, number_or, loc_or_residence, residence_or_below, name_of, location_of, bytes_of, lengths_of, names_of, locations_of, byte_or_zero, number_in, location_in, subpool_or_zero, is_yes};
+ghost use Rattle.job_script.specs.Values.{number_of, extent_of, is_pair, number_or, loc_or_residence, residence_or_below, name_of, location_of, bytes_of, lengths_of, names_of, locations_of, byte_or_zero, number_in, location_in, subpool_or_zero, either_set, is_not_no, is_yes};
 
 use crate::operands::Value;
+use crate::sets::set_of;
 use crate::somes::some_list;
 use mvs_model::bounded::{Bounded, Exponent, Length};
 use mvs_model::line::{Fault, Location, Locations, Names};
@@ -192,6 +193,28 @@ pub fn subpool_or_zero(value: &Option<Value>) -> u8
         Some(Value::Subpool(number)) => *number,
         _ => 0,
     }
+}
+
+/// The set that one of two operands says, a number or a list of them; the two exclude each other.
+pub fn either_set(one: &Option<Value>, list: &Option<Value>) -> Result<u128, Fault>
+    requires one { IsKept (Some (Number 1 127)) (Some one.now) }
+    requires list { IsKept (Some NumberSet) (Some list.now) }
+    ensures set { result ≡ either_set (Some one.now) (Some list.now) }
+    ensures even { IfOk result (λ set. set % 2 ≡ 0) }
+{
+    match (one, list) {
+        (Some(_), Some(_)) => Err(Fault::Conflicting),
+        (Some(Value::Number(number)), None) => Ok(set_of(*number)),
+        (None, Some(Value::NumberSet(set))) => Ok(*set),
+        _ => Ok(0),
+    }
+}
+
+/// Whether an operand does not say NO.
+pub fn is_not_no(value: &Option<Value>) -> bool
+    ensures { result ≡ is_not_no (Some value.now) }
+{
+    !matches!(value, Some(Value::YesNo(false)))
 }
 
 /// Whether an operand says YES.

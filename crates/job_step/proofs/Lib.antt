@@ -1,0 +1,3 @@
+pub mod Accessing
+pub mod Copying
+pub mod Regions

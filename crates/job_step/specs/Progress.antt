@@ -3,7 +3,7 @@ use Rattle.std.specs.Prelude.{Bool, refl}
 use Rattle.std.specs.Coded.{Coded, code_by, coded×, coded_bool}
 use Rattle.mvs_model.specs.State.{State, state_code}
 use Rattle.mvs_model.specs.declared.request.Request.{Request}
-use Rattle.mvs_model.specs.declared.request.Request.TheVariants.{Obtain}
+use Rattle.mvs_model.specs.declared.request.Request.TheVariants.{Build, Get, Free, Delete}
 
 -- The state of the machine, and whether a task has abended.
 pub record Progress : Type 0 where
@@ -15,5 +15,8 @@ progress_code = code_by (State × Bool) (coded× state_code coded_bool) (λ p. (
 
 -- The request is one that is served today.
 abbrev pub IsBuilt : Request → Type 0
-IsBuilt (Obtain form number ask) = Unit {0}
-IsBuilt _ = ⊥
+IsBuilt (Build pool number size primary secondary loc) = ⊥
+IsBuilt (Get pool conditional) = ⊥
+IsBuilt (Free pool cell) = ⊥
+IsBuilt (Delete pool) = ⊥
+IsBuilt _ = Unit {0}

@@ -1,7 +1,9 @@
 //! One step of a job: the requests of its tasks and their replies.
 #![tactic(auto)]
 
+mod access;
 mod step;
+mod subtasking;
 #[cfg(test)]
 mod tests;
 

@@ -1,24 +1,31 @@
 //! The machine of one step.
 
-ghost use Rattle.std.specs.Prelude.{◌≡◌, ◌||◌, false, true, IfOk, ℕ};
-ghost use Rattle.mvs_model.specs.Storage.{IsStorage, ReleaseEach};
+ghost use Rattle.std.specs.Prelude.{◌≡◌, ◌<◌, ◌+◌, ◌||◌, ◌↔◌, ℕ, false, IfOk, IfSome, IsSome, OnErr, length, slice_get};
+ghost use Rattle.std.specs.FinMap.{get};
+ghost use Rattle.mvs_model.specs.Storage.{IsStorage};
 ghost use Rattle.mvs_model.specs.Owners.{is_active};
 ghost use Rattle.mvs_model.specs.Start.{start};
-ghost use Rattle.mvs_model.specs.Steps.{Abends, Acts, Step as MachineStep};
+ghost use Rattle.mvs_model.specs.Changes.{Granted};
+ghost use Rattle.mvs_model.specs.Steps.{Acts, Step as MachineStep};
 ghost use Rattle.mvs_model.specs.Runs.{is_abend};
 ghost use Rattle.mvs_model.specs.View.{seen};
-ghost use Rattle.task_owner.specs.Directory.{IsTask, name_of, name_at};
+ghost use Rattle.task_owner.specs.Directory.{IsTask, name_of};
 ghost use Rattle.request_forms.specs.Answers.{Answers};
+ghost use Rattle.job_step.specs.Access.{IsStepStorage};
 ghost use Rattle.job_step.specs.Progress.{IsBuilt};
 
+use crate::access::{all_held, move_bytes, put, show};
+use crate::subtasking::{abend, attach, finish};
 use mvs_model::card::Card;
 use mvs_model::code::Code;
 use mvs_model::error::OutOfMemory;
 use mvs_model::name::Name;
+use mvs_model::place::Place;
 use mvs_model::request::{Reply, Request};
-use mvs_model::subpool::SubpoolId;
 use mvs_model::want::Placement;
 use request_forms::obtain::obtain;
+use request_forms::obtain_list::obtain_list;
+use request_forms::release::{release, release_list, release_whole};
 use std::alloc::Global;
 use std::marker::Model;
 use subpool_store::Store;
@@ -33,8 +40,8 @@ pub struct Step {
 }
 
 impl Model for Step {
-    ghost use Rattle.mvs_model.specs.Storage.{IsStorage};
     ghost use Rattle.mvs_model.specs.View.{seen};
+    ghost use Rattle.job_step.specs.Access.{IsStepStorage};
     ghost use Rattle.job_step.specs.Progress.{Progress, progress_code};
 
     ghost Value = { Progress };
@@ -43,48 +50,51 @@ impl Model for Step {
 
     ghost view = { λ s. record { state = seen s.store s.tasks.owners; abended = s.abended } };
 
-    ghost invariant = { λ s. IsStorage s.store };
-}
-
-// Releases all that some subpools hold.
-fn release_each(store: &mut Store, subpools: &[SubpoolId])
-    requires { IsStorage store.old }
-    ensures released { ReleaseEach store.old subpools.now store.new }
-    ensures storage { IsStorage store.new }
-{
-    for subpool in subpools {
-        store.release_all(*subpool);
-    }
+    ghost invariant = { λ s. IsStepStorage s.store };
 }
 
 // What an active task's request is answered, before an abend ends the task.
 fn act(store: &mut Store, tasks: &mut Tasks, t: TaskId, request: &Request) -> Result<Reply, Code>
     requires task { IsTask tasks.old t }
-    requires storage { IsStorage store.old }
+    requires storage { IsStepStorage store.old }
     requires built { IsBuilt request.now }
     ensures answer { let old = seen store.old tasks.old.owners in let name = name_of tasks.old t in
         Answers (Acts old name request.now) old name result (seen store.new tasks.new.owners) }
     ensures no_abend { IfOk result (λ reply. is_abend reply ≡ false) }
     ensures storage { IsStorage store.new }
-    ensures names { (id : ℕ) → name_at tasks.new id ≡ name_at tasks.old id }
+    ensures unchanged { OnErr result (tasks.new ≡ tasks.old) }
 {
     match request {
         Request::Obtain { form, number, ask } => obtain(store, tasks, t, *form, *number, ask),
+        Request::ObtainList {
+            form,
+            number,
+            lengths,
+            start,
+        } => obtain_list(store, tasks, t, *form, *number, lengths, *start),
+        Request::Release {
+            form,
+            number,
+            place,
+        } => release(store, tasks, t, *form, *number, *place),
+        Request::ReleaseList {
+            form,
+            number,
+            places,
+        } => release_list(store, tasks, t, *form, *number, places),
+        Request::ReleaseWhole { form, number } => release_whole(store, tasks, t, *form, *number),
+        Request::Attach {
+            name,
+            gifts,
+            residence,
+        } => attach(tasks, t, name, gifts, *residence),
+        Request::Return => finish(store, tasks, t),
+        Request::Abend(code) => Err(Code::User(code.get() as u16)),
+        Request::Show { from, len } => show(store, *from, *len),
+        Request::Put { to, bytes } => put(store, *to, bytes),
+        Request::Move { to, from, len } => move_bytes(store, *to, *from, *len),
         _ => unreachable!(),
     }
-}
-
-// Ends a task that abends, with its descendants and what they own.
-fn abend(store: &mut Store, tasks: &mut Tasks, t: TaskId, code: Code) -> Reply
-    requires task { IsTask tasks.old t }
-    requires storage { IsStorage store.old }
-    ensures abends { Abends (seen store.old tasks.old.owners) (name_of tasks.old t) code result (seen store.new tasks.new.owners) }
-    ensures is_abend { is_abend result ≡ true }
-    ensures storage { IsStorage store.new }
-{
-    let gone = tasks.end(t);
-    release_each(store, gone.freed.as_slice());
-    Reply::Abended(code, gone.fallen)
 }
 
 impl Step {
@@ -113,6 +123,18 @@ impl Step {
         ensures { result ≡ self.now.abended }
     {
         self.abended
+    }
+
+    /// The bytes of a place. None where one of them may not be read: its doubleword is not held (this project's choice).
+    pub fn bytes(&self, place: Place) -> Option<&[u8]>
+        ensures granted { IsSome result ↔ Granted self.now.state place }
+        ensures len { IfSome result (λ part. length part.now ≡ place.len) }
+        ensures bytes { IfSome result (λ part. (k : ℕ) → k < place.len → slice_get part.now k ≡ get self.now.state.bytes (place.addr + k)) }
+    {
+        if !all_held(&self.store, place) {
+            return None;
+        }
+        Some(self.store.bytes(place))
     }
 
     /// Serves a request of a task, which need not be active. It always replies.

@@ -26,7 +26,7 @@ use Rattle.mvs_model.specs.Texts.{fault_text}
 use Rattle.mvs_model.specs.Runs.{Job, Stage, Before, In, is_before, card_of, resolved, all_set, names_set, places_in, is_abend, Tells, Asks, Says, Does, Begins, Serves, ServesRead, Faults, Closes, Reader, Prints, Runs, IsStatement, IsLine, IsReader}
 use Rattle.mvs_model.specs.Laws.{PagesKept, NeverStuck}
 use Rattle.mvs_model.proofs.Asked.{is_request}
-use Rattle.mvs_model.proofs.Kept.{Closed, step_keeps}
+use Rattle.mvs_model.proofs.Kept.{Closed, plan_in_range, step_keeps}
 use Rattle.mvs_model.proofs.Pages.{Pages, pages_closed}
 use Rattle.mvs_model.proofs.Sized.{sized_closed}
 use Rattle.mvs_model.proofs.Stuck.{step_some}
@@ -43,7 +43,7 @@ Holds P (In job) = P job.state
 module _ (P : State → Type 0) (closed : Closed P) (at_start : (card : StepCard) → P (start card)) where
   asks_keeps : (number : ℕ) (old : Job) (t : Name) (a : Asked) (o : Option Request) (text : List ℕ) (new : Job) → ((r : Request) → o ≡ Some r → IsRequest r) → Asks number old t a o text new → P old.state → P new.state
   asks_keeps number old t a None text new r h p = subst (λ job. P job.state) (sym h.1) p
-  asks_keeps number old t a (Some q) text new r h p = step_keeps P closed old.state t q h.reply new.state (r q refl) h.step p
+  asks_keeps number old t a (Some q) text new r h p = step_keeps P closed old.state t q h.reply new.state (plan_in_range q (r q refl)) h.step p
 
   says_keeps : (number : ℕ) (old : Job) (t : Name) (s : Statement) (text : List ℕ) (new : Job) → IsStatement false t s → Says number old t s text new → P old.state → P new.state
   says_keeps number old t (says.Region below above fill residence) text new r h p = absurd h

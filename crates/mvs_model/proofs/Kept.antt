@@ -30,6 +30,29 @@ use Rattle.mvs_model.specs.Steps.{Plan, Abends, Fails, Refuses, is_invalid, side
 abbrev pub IsPlan : Plan → Type 0
 IsPlan plan = (4 ≤ plan.cell_size) × (1 ≤ plan.primary) × (1 ≤ plan.secondary)
 
+-- what BUILD says of a pool is in its ranges
+abbrev pub HasPlan : Request → Type 0
+HasPlan (Build name number size primary secondary loc) = (4 ≤ size) × (1 ≤ primary) × (1 ≤ secondary)
+HasPlan _ = Unit {0}
+
+-- so is it in a request whose operands are
+pub plan_in_range : (request : Request) → IsRequest request → HasPlan request
+plan_in_range (Obtain form number ask) r = tt
+plan_in_range (ObtainList form number lengths start) r = tt
+plan_in_range (Release form number q) r = tt
+plan_in_range (ReleaseList form number ps) r = tt
+plan_in_range (ReleaseWhole form number) r = tt
+plan_in_range (Build name number size primary secondary loc) r = r
+plan_in_range (Get name conditional) r = tt
+plan_in_range (Free name c) r = tt
+plan_in_range (Delete name) r = tt
+plan_in_range (Attach name gifts residence) r = tt
+plan_in_range Return r = tt
+plan_in_range (Abend n) r = tt
+plan_in_range (Show a n) r = tt
+plan_in_range (Put a bytes) r = tt
+plan_in_range (Move to from n) r = tt
+
 -- The property stays through each change that a request can make.
 pub record Closed (P : State → Type 0) : Type 0 where
   pub granted : (old : State) (t : Name) (number : ℕ) (want : Wanted) (p : Span) (new : State) → GrantTo old t number want p new → P old → P new
@@ -140,7 +163,7 @@ module _ (P : State → Type 0) (closed : Closed P) where
   accesses : (old : State) (t : Name) (allowed : Bool) (done : Type 0) (reply : Reply) (new : State) → Accesses old t allowed done reply new → (allowed ≡ true → done → P old → P new) → P old → P new
   accesses old t allowed done reply new h f p = chosen (not allowed) h (λ _ a. abends old t _ reply new a p) (λ e d. f (is_so allowed e) d.1 p)
 
-  acts : (old : State) (t : Name) (request : Request) (reply : Reply) (new : State) → IsRequest request → Acts old t request reply new → P old → P new
+  acts : (old : State) (t : Name) (request : Request) (reply : Reply) (new : State) → HasPlan request → Acts old t request reply new → P old → P new
   acts old t (Obtain form number ask) reply new r h p = obtains old t form number (wanted_of ask (side_for old t form ask.loc)) reply new h p
   acts old t (ObtainList form number lengths start) reply new r h p = obtains_list old t form number (map (λ n. fixed_want n start Below) lengths) reply new h p
   acts old t (Release form number q) reply new r h p = releases old t form number (q ∷ []) reply new h p
@@ -160,5 +183,5 @@ module _ (P : State → Type 0) (closed : Closed P) where
       accesses old t (all_granted old (span to n) && all_granted old (span from n)) _ reply new h (λ e w k. closed.written old (span to n) (moved_from old to from) new (left _ _ e) w k) p
 
   -- what stays through each of the changes stays through each step
-  pub step_keeps : (old : State) (t : Name) (request : Request) (reply : Reply) (new : State) → IsRequest request → Step old t request reply new → P old → P new
+  pub step_keeps : (old : State) (t : Name) (request : Request) (reply : Reply) (new : State) → HasPlan request → Step old t request reply new → P old → P new
   step_keeps old t request reply new r h p = chosen (not (is_active old.owners t)) h (λ _ k. refuses old NotRun reply new k p) (λ _ k. acts old t request reply new r k p)

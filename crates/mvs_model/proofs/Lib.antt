@@ -11,9 +11,12 @@ pub mod Orders
 pub mod Owning
 pub mod Pages
 pub mod Printed
+pub mod RegionsKept
 pub mod Search
 pub mod Seen
+pub mod SeenAccess
 pub mod SeenEnd
+pub mod SeenRelease
 pub mod Sized
 pub mod SmallLaws
 pub mod StorageLaws

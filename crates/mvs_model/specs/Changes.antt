@@ -45,10 +45,11 @@ ListShort old t number (want ∷ wants) =
     ShortOf old t number want
     ⊎ ((p : Span) × (mid : State) × GrantTo old t number want p mid × ListShort mid t number wants)
 
--- whether a place of the list has the doubleword; the address
+-- whether a place of the list has the doubleword
 abbrev pub any_covers : List Span → ℕ → Bool
 any_covers ps d = list_any (λ p. covers p d) ps
 
+-- whether a place of the list has the address
 abbrev pub any_has : List Span → ℕ → Bool
 any_has ps a = list_any (λ p. has_address p a) ps
 
@@ -60,6 +61,7 @@ HeldPlain st s p = (d : ℕ) → Covers p d → get st.held d ≡ Some (plain s)
 abbrev pub Misses : Span → Span → Type 0
 Misses p q = (d : ℕ) → Covers p d → Covers q d → ⊥
 
+-- no two places of the list have a doubleword in common
 abbrev pub Disjoint : List Span → Type 0
 Disjoint [] = Unit {0}
 Disjoint (p ∷ ps) = AllByRecursion (Misses p) ps × Disjoint ps

@@ -15,10 +15,11 @@ use Rattle.mvs_model.specs.Pools.{part_length, IsCellOf}
 abbrev pub two_pages : Regions
 two_pages = record { below = 2; above = 0; fill = 0 }
 
--- subpool 1 holds the first doubleword; and subpool 2 holds another one
+-- subpool 1 holds the first doubleword of the region below
 abbrev pub one_held : ℕ → Option ℕ
 one_held d = if d == 0xC00 then Some 1 else None
 
+-- the same, and subpool 2 holds another doubleword
 abbrev pub two_held : ℕ → ℕ → Option ℕ
 two_held e d = if d == 0xC00 then Some 1 else (if d == e then Some 2 else None)
 
@@ -29,10 +30,11 @@ AcrossPages =
     Open two_pages one_held 1 (span 0x6008 0x1000)
     × ((e : ℕ) → e ≢ 0xC00 → (e / 512 ≡ 6) ⊎ (e / 512 ≡ 7) → Open two_pages (two_held e) 1 (span 0x6008 0x1000) → ⊥)
 
--- eight bytes within a boundary, or on one
+-- eight bytes within a boundary
 abbrev pub within_want : ℕ → Wanted
 within_want k = record { least = 8; most = 8; start = 3; within = Some k; side = Either }
 
+-- eight bytes on a boundary
 abbrev pub start_want : ℕ → Wanted
 start_want k = record { least = 8; most = 8; start = k; within = None; side = Either }
 
@@ -47,6 +49,7 @@ BoundaryEdges =
 abbrev pub nothing_held : ℕ → Option ℕ
 nothing_held d = None
 
+-- regions of so many pages
 abbrev pub pages : ℕ → ℕ → Regions
 pages below above = record { below = below; above = above; fill = 0 }
 
@@ -74,6 +77,7 @@ PartsReleased =
 abbrev pub GrantKeepsPages : Type 0
 GrantKeepsPages = (old new : Storage) (s : ℕ) (want : Wanted) (p : Span) → Grant old s want p new → PageRule (holder old) → PageRule (holder new)
 
+-- So does a release.
 abbrev pub ReleaseKeepsPages : Type 0
 ReleaseKeepsPages = (old new : Storage) (s : ℕ) (p : Span) → Release old s p new → PageRule (holder old) → PageRule (holder new)
 

@@ -19,11 +19,12 @@ abbrev pub has : {X : Type 0} → (X → Bool) → Option X → Bool
 has test None = false
 has test (Some x) = test x
 
--- each number below n passes the test; one of them does
+-- each number below n passes the test
 unfoldable pub all_below : (ℕ → Bool) → ℕ → Bool
 all_below test zero = true
 all_below test (suc n) = test n && all_below test n
 
+-- some number below n passes the test
 unfoldable pub any_below : (ℕ → Bool) → ℕ → Bool
 any_below test zero = false
 any_below test (suc n) = test n || any_below test n

@@ -30,8 +30,10 @@ pub record IsName (name : List ℕ) : Type 0 where
 abbrev pub name_cmp : List ℕ → List ℕ → Ordering
 name_cmp = slice_cmp nat_cmp
 
+-- whether two names are the same
 abbrev pub same_name : List ℕ → List ℕ → Bool
 same_name = eq_by_cmp name_cmp
 
+-- a code, for a model's value
 abbrev pub name_code : Coded (List ℕ)
 name_code = coded_list coded_ℕ

@@ -37,14 +37,17 @@ abbrev is_above : Residence → Bool
 is_above Below = false
 is_above Above = true
 
+-- the residence that this says
 abbrev above_if : Bool → Residence
 above_if false = Below
 above_if true = Above
 
+-- the residence is the one that was said
 abbrev above_if-is_above : (r : Residence) → above_if (is_above r) ≡ r
 above_if-is_above Below = refl
 above_if-is_above Above = refl
 
+-- the code of a task
 abbrev pub task_code : Coded Task
 task_code =
     code_by (Option Name × Residence)
@@ -53,9 +56,11 @@ task_code =
     (λ p. record { mother = p.0; residence = p.1 })
     (λ _. refl)
 
+-- the code of a task with a number
 abbrev pub entry_code : Coded (Name × ℕ)
 entry_code = coded× name_code coded_ℕ
 
+-- the code of all three maps
 abbrev pub owners_code : Coded Owners
 owners_code =
     code_by (FinMap name_cmp Task × (FinMap entry_cmp ℕ × FinMap nat_cmp Name))

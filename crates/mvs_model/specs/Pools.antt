@@ -44,10 +44,11 @@ first_cell size part = part.place.addr + part.place.len - round8 (part.count * s
 abbrev pub IsCellOf : ℕ → Part → ℕ → Type 0
 IsCellOf size part c = (i : ℕ) × (i < part.count) × (c ≡ first_cell size part + i * size)
 
--- A cell of the pool begins at the address; one that is not taken.
+-- A cell of the pool begins at the address.
 abbrev pub IsCell : Pool → ℕ → Type 0
 IsCell pool c = (part : Part) × Contains pool.parts part × IsCellOf pool.cell_size part c
 
+-- A cell of the pool begins at the address, and it is not taken.
 abbrev pub IsFreeCell : Pool → ℕ → Type 0
 IsFreeCell pool c = IsCell pool c × (set.contains pool.taken c ≡ false)
 
@@ -55,10 +56,11 @@ IsFreeCell pool c = IsCell pool c × (set.contains pool.taken c ≡ false)
 abbrev pub cell_at : Pool → ℕ → Span
 cell_at pool c = span c pool.cell_size
 
--- whether a part of the pool has the doubleword; whether a taken cell of the pool has the address
+-- whether a part of the pool has the doubleword
 abbrev pub in_parts : Pool → ℕ → Bool
 in_parts pool d = list_any (λ part. covers part.place d) pool.parts
 
+-- whether a taken cell of the pool has the address
 abbrev pub in_taken : Pool → ℕ → Bool
 in_taken pool a = list_any (λ c. has_address (cell_at pool c) a) (set.items pool.taken)
 
@@ -67,17 +69,21 @@ abbrev is_below : Side → Bool
 is_below Below = true
 is_below Either = false
 
+-- the side that this says
 abbrev below_if : Bool → Side
 below_if true = Below
 below_if false = Either
 
+-- the side is the one that was said
 abbrev below_if-is_below : (s : Side) → below_if (is_below s) ≡ s
 below_if-is_below Below = refl
 below_if-is_below Either = refl
 
+-- the code of a part
 abbrev part_code : Coded Part
 part_code = code_by (ℕ × (ℕ × ℕ)) (coded× coded_ℕ (coded× coded_ℕ coded_ℕ)) (λ p. (p.place.addr, (p.place.len, p.count))) (λ p. record { place = record { addr = p.0; len = p.1.0 }; count = p.1.1 }) (λ _. refl)
 
+-- the code of a pool
 abbrev pub pool_code : Coded Pool
 pool_code =
     code_by ((ℕ × ℕ) × ((ℕ × ℕ) × (Side × (List Part × set.FinSet nat_cmp))))

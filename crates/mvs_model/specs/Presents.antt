@@ -11,10 +11,11 @@ pub record Presents : Type 0 where
 abbrev pub has_bit : ℕ → ℕ → Bool
 has_bit set number = (set / 2 ^ number) % 2 == 1
 
--- the mother gives the number; she shares it
+-- the mother gives the number
 abbrev pub gives : Presents → ℕ → Bool
 gives p number = has_bit p.given number
 
+-- the mother shares the number
 abbrev pub shares : Presents → ℕ → Bool
 shares p number = has_bit p.shared number || (p.zero && (number == 0))
 

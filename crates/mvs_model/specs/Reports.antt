@@ -31,10 +31,12 @@ abbrev pub subpool_line : ℕ → State → Name → ℕ → ℕ → List ℕ
 subpool_line number st t n s =
     reply_line number t (codes "SP " ++ decimal n ++ (if owns st.owners t s then codes " OWNED PLAIN " else codes " SHARED PLAIN ") ++ decimal (bytes_held st s false) ++ codes " POOL " ++ decimal (bytes_held st s true))
 
+-- the line of a number, where the task has it
 abbrev entry_line : ℕ → State → Name → ℕ → Option ℕ → List ℕ
 entry_line number st t n None = []
 entry_line number st t n (Some s) = subpool_line number st t n s
 
+-- the lines, or one that says that there is none
 abbrev pub or_none : ℕ → Name → List ℕ → List ℕ
 or_none number t [] = reply_line number t (codes "SP NONE")
 or_none number t (b ∷ bs) = b ∷ bs
@@ -52,6 +54,7 @@ pub record PageRun : Type 0 where
   pub count : ℕ
   pub subpool : Option ℕ
 
+-- whether two pages are assigned alike
 abbrev same_subpool : Option ℕ → Option ℕ → Bool
 same_subpool None None = true
 same_subpool None (Some s) = false
@@ -72,14 +75,17 @@ page_runs st page (suc n) = with_page (page_subpool st page) (page_runs st (page
 abbrev pub number_of : Owners → Name → ℕ → Option ℕ
 number_of o t s = first_from 0 128 (λ n. if has (λ r. r == s) (entry o t n) then Some n else None)
 
+-- a number, where there is one
 abbrev decimal_of : Option ℕ → List ℕ
 decimal_of None = []
 decimal_of (Some n) = decimal n
 
+-- what is said of a subpool with this owner
 abbrev owner_text : Owners → ℕ → Option Name → List ℕ
 owner_text o s None = codes "FREE"
 owner_text o s (Some t) = codes "SP " ++ decimal_of (number_of o t s) ++ codes " OWNER " ++ trimmed t
 
+-- what is said of pages that are assigned so
 abbrev pub holder_text : Owners → Option ℕ → List ℕ
 holder_text o None = codes "FREE"
 holder_text o (Some s) = owner_text o s (get o.owner s)

@@ -50,6 +50,7 @@ pub data Stage : Type 0 where
   Before : Stage
   In : Job → Stage
 
+-- whether no statement came before
 abbrev pub is_before : Stage → Bool
 is_before Before = true
 is_before (In job) = false
@@ -89,13 +90,14 @@ resolved names (asked.Show location n) = option_map (λ a. request.Show a n) (ad
 resolved names (asked.Put location bytes) = option_map (λ a. request.Put a bytes) (address_of names location)
 resolved names (asked.Move to from n) = option_and_then (λ a. option_map (λ b. request.Move a b n) (address_of names from)) (address_of names to)
 
--- the names that a request sets, and the places that a reply gives them
+-- the names that a request sets
 abbrev pub names_set : Asked → List Name
 names_set (asked.Obtain form number ask variable area) = area ∷ []
 names_set (asked.ObtainList form number lengths start areas) = areas
 names_set (asked.Get pool conditional cell) = cell ∷ []
 names_set _ = []
 
+-- the places that a reply gives to the names
 abbrev pub places_in : Reply → List Span
 places_in (Granted p) = p ∷ []
 places_in (Listed ps) = ps
@@ -108,6 +110,7 @@ all_set names [] ps = names
 all_set names (name ∷ more) [] = names
 all_set names (name ∷ more) (p ∷ ps) = all_set (insert names name p) more ps
 
+-- whether the reply is an abend
 abbrev pub is_abend : Reply → Bool
 is_abend (Abended code fallen) = true
 is_abend _ = false
@@ -122,7 +125,8 @@ unfoldable pub bytes_at : State → ℕ → ℕ → List ℕ
 bytes_at st a zero = []
 bytes_at st a (suc n) = unwrap_or (get st.bytes a) 0 ∷ bytes_at st (a + 1) n
 
-abbrev shown : ℕ → Name → State → ℕ → Option ℕ → List ℕ
+-- the bytes from an address on, where it is known
+abbrev pub shown : ℕ → Name → State → ℕ → Option ℕ → List ℕ
 shown number t st n None = []
 shown number t st n (Some a) = data_lines number t ((n + 31) / 32) 0 (bytes_at st a n)
 
@@ -157,10 +161,12 @@ pub record Makes (number : ℕ) (old : Job) (t : Name) (a : Asked) (r : Request)
 abbrev pub Tells : ℕ → Job → Name → List ℕ → List ℕ → Job → Type 0
 Tells number old t told text new = (text ≡ reply_line number t told) × (new ≡ old)
 
+-- what a request may print, and which job it leaves: a name in it is not set, or it is made
 abbrev pub Asks : ℕ → Job → Name → Asked → Option Request → List ℕ → Job → Type 0
 Asks number old t a None text new = Tells number old t (codes "NO NAME") text new
 Asks number old t a (Some r) text new = Makes number old t a r text new
 
+-- what WHERE tells
 abbrev pub where_text : Option Span → List ℕ
 where_text None = codes "NO NAME"
 where_text (Some p) = codes "AT " ++ hex 8 p.addr
@@ -202,9 +208,11 @@ ServesRead number old (Err fault) text new = ⊥
 abbrev pub Faults : ℕ → Result Line Fault → List ℕ → Type 0
 Faults number read text = (fault : Fault) × (read ≡ Err fault) × (text ≡ fault_text number fault)
 
+-- the line of the end
 abbrev pub end_text : Job → List ℕ
 end_text job = if job.abended then codes "STEP ENDED RC 8\n" else codes "STEP ENDED RC 0\n"
 
+-- how a job ends that has no fault
 abbrev pub outcome_of : Job → Outcome
 outcome_of job = if job.abended then SomeAbend else Clean
 
@@ -252,6 +260,7 @@ IsStatement first t (says.Where name) = first ≡ false
 IsStatement first t says.ReportSubpools = first ≡ false
 IsStatement first t says.ReportMap = first ≡ false
 
+-- The same of what a line says.
 abbrev pub IsLine : Bool → Result Line Fault → Type 0
 IsLine first (Ok (line.Statement t s)) = IsStatement first t s
 IsLine first _ = Unit {0}

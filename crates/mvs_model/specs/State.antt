@@ -15,12 +15,15 @@ pub record Holding : Type 0 where
   pub subpool : ℕ
   pub pooled : Bool
 
+-- held by a subpool, outside the pools
 abbrev pub plain : ℕ → Holding
 plain s = record { subpool = s; pooled = false }
 
+-- held by a subpool, as a part of a pool
 abbrev pub pooled : ℕ → Holding
 pooled s = record { subpool = s; pooled = true }
 
+-- the code of what holds a doubleword, for a model's value
 abbrev holding_code : Coded Holding
 holding_code = code_by (ℕ × Bool) (coded× coded_ℕ coded_bool) (λ h. (h.subpool, h.pooled)) (λ p. record { subpool = p.0; pooled = p.1 }) (λ _. refl)
 
@@ -33,6 +36,7 @@ pub record State : Type 0 where
   pub owners : Owners
   pub pools : FinMap name_cmp Pool
 
+-- the code of a state, for a model's value
 abbrev pub state_code : Coded State
 state_code =
     code_by ((ℕ × (ℕ × ℕ)) × (FinMap nat_cmp Holding × (FinMap nat_cmp ℕ × (Owners × FinMap name_cmp Pool))))
@@ -41,11 +45,12 @@ state_code =
     (λ p. record { regions = record { below = p.0.0; above = p.0.1.0; fill = p.0.1.1 }; held = p.1.0; bytes = p.1.1.0; owners = p.1.1.1.0; pools = p.1.1.1.1 })
     (λ _. refl)
 
--- which subpool holds a doubleword
+-- the subpool of what holds a doubleword
 abbrev pub subpool_in : Option Holding → Option ℕ
 subpool_in None = None
 subpool_in (Some h) = Some h.subpool
 
+-- which subpool holds a doubleword of the state
 abbrev pub holder : State → ℕ → Option ℕ
 holder st d = subpool_in (get st.held d)
 

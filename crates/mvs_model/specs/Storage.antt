@@ -28,10 +28,11 @@ InRegion r p = LiesIn 0x6000 (0x6000 + 4096 * r.below) p ⊎ LiesIn 0x1000000 (0
 abbrev pub IsBelow : Span → Type 0
 IsBelow p = p.addr < 0x1000000
 
--- whether the place has a byte of the doubleword; whether it has the address
+-- whether the place has a byte of the doubleword
 abbrev pub covers : Span → ℕ → Bool
 covers p d = nat_lt p.addr (8 * d + 8) && nat_lt (8 * d) (p.addr + p.len)
 
+-- whether the place has the address
 abbrev pub has_address : Span → ℕ → Bool
 has_address p a = nat_le p.addr a && nat_lt a (p.addr + p.len)
 
@@ -106,6 +107,7 @@ pub record Storage : Type 0 where
   pub held : FinMap nat_cmp ℕ
   pub bytes : FinMap nat_cmp ℕ
 
+-- a code, for a model's value
 abbrev pub storage_code : Coded Storage
 storage_code =
     code_by ((ℕ × (ℕ × ℕ)) × (FinMap nat_cmp ℕ × FinMap nat_cmp ℕ))

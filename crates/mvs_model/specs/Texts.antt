@@ -18,6 +18,7 @@ unfoldable pub last_digits : ℕ → ℕ → ℕ → List ℕ
 last_digits base zero n = []
 last_digits base (suc k) n = last_digits base k (n / base) ++ glyph (n % base) ∷ []
 
+-- the last k digits of n in base sixteen
 abbrev pub hex : ℕ → ℕ → List ℕ
 hex k n = last_digits 16 k n
 

@@ -69,6 +69,16 @@ impl<T: Copy, const LEAST: usize, const MOST: usize> ShortList<T, LEAST, MOST> {
         self.len += 1;
     }
 
+    /// The same items in a list of its own.
+    pub fn copied(&self) -> Self
+        ensures { result ≡ self.now }
+    {
+        ShortList {
+            items: self.items,
+            len: self.len,
+        }
+    }
+
     pub fn as_slice(&self) -> &[T]
         ensures items { result.now ≡ self.now }
         ensures least { LEAST ≤ length result.now }

@@ -11,8 +11,8 @@ ghost use Rattle.mvsjob.specs.Serving.{Performs, RunsLine, stage_of};
 ghost use Rattle.mvsjob.specs.Writing.{AppendsFront};
 
 use crate::print::{print_fault, print_line, region_said, write_all};
-use job_script::read_line;
 use crate::serve::Running;
+use job_script::read_line;
 use mvs_model::card::Card;
 use mvs_model::line::{Fault, Line, Statement};
 use mvs_model::name::Name;

@@ -1,8 +1,9 @@
 //! The names of areas and cells.
 
-ghost use Rattle.std.specs.Prelude.{◌≡◌, OnOk, OnErr};
+ghost use Rattle.std.specs.Prelude.{◌≡◌, OnOk, OnErr, IfSome};
 ghost use Rattle.std.specs.FinMap as map;
 ghost use Rattle.mvs_model.specs.Name.{name_cmp};
+ghost use Rattle.mvsjob.specs.Areas.{IsArea};
 
 use mvs_model::error::OutOfMemory;
 use mvs_model::name::Name;
@@ -22,12 +23,15 @@ impl Model for Names {
     ghost use Rattle.std.specs.Coded.{coded_ℕ};
     ghost use Rattle.mvs_model.specs.Span.{Span, span_code};
     ghost use Rattle.mvs_model.specs.Name.{name_cmp, name_code};
+    ghost use Rattle.mvsjob.specs.Areas.{AreAreas};
 
     ghost Value = { map.FinMap name_cmp Span };
 
     ghost coded = { map.code name_code span_code };
 
     ghost view = { λ n. map.from_entries n.places.entries };
+
+    ghost invariant = { λ n. AreAreas (map.from_entries n.places.entries) };
 }
 
 impl Names {
@@ -40,8 +44,9 @@ impl Names {
         }
     }
 
-    /// Sets a name to a place, anew where it was set.
+    /// Sets a name to a place of the step, anew where it was set.
     pub fn set(&mut self, name: Name, place: Place) -> Result<(), OutOfMemory>
+        requires { IsArea place }
         ensures ok { OnOk result (self.new ≡ map.insert self.old name place) }
         ensures err { OnErr result (self.new ≡ self.old) }
     {
@@ -53,7 +58,8 @@ impl Names {
 
     /// The place that a name was last set to.
     pub fn get(&self, name: &Name) -> Option<Place>
-        ensures { result ≡ map.get self.now name.now }
+        ensures place { result ≡ map.get self.now name.now }
+        ensures area { IfSome result IsArea }
     {
         self.places.get(name).copied()
     }

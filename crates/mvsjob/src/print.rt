@@ -1,7 +1,8 @@
 //! The printed lines.
 
-ghost use Rattle.std.specs.Prelude.{◌≡◌, ◌<◌, ◌≤◌, ◌+◌, ◌++◌, length, true, false, OnOk, OnErr, codes, decimal};
-ghost use Rattle.mvs_model.specs.Texts.{reply_line, hex, code_text, abend_lines, fault_number, fault_text};
+ghost use Rattle.std.specs.Prelude.{◌≡◌, ◌<◌, ◌≤◌, ◌+◌, ◌*◌, ◌/◌, ◌++◌, length, true, false, OnOk, OnErr, codes, decimal};
+ghost use Rattle.std.specs.List.{flat_map};
+ghost use Rattle.mvs_model.specs.Texts.{reply_line, hex, code_text, abend_lines, data_lines, fault_number, fault_text};
 ghost use Rattle.mvs_model.specs.Name.{trimmed};
 ghost use Rattle.mvsjob.specs.Writing.{WritesAll};
 
@@ -140,6 +141,54 @@ pub fn print_abend<W: Write>(
     let said = ended_said(task);
     for name in fallen {
         print_line(writer, number, name, said.as_slice())?;
+    }
+    Ok(())
+}
+
+// Puts two digits for each byte behind a text.
+fn push_bytes(text: &mut Text, bytes: &[u8])
+    requires { length text.old + 2 * length bytes.now ≤ 160 }
+    ensures text { text.new ≡ text.old ++ flat_map (hex 2) bytes.now }
+    ensures len { length text.new ≡ length text.old + 2 * length bytes.now }
+{
+    for byte in bytes {
+        text.push_last(16, 2, u32::from(*byte));
+    }
+}
+
+// A line of bytes: the offset of the first one, and two digits for each.
+fn data_said(offset: u32, bytes: &[u8]) -> Text
+    requires { length bytes.now ≤ 32 }
+    ensures text { result ≡ codes "DATA +" ++ hex 4 offset ++ codes " " ++ flat_map (hex 2) bytes.now }
+    ensures short { length result ≤ 120 }
+{
+    let mut text = Text::new();
+    text.push_all(b"DATA +");
+    text.push_last(16, 4, offset);
+    text.push_all(b" ");
+    push_bytes(&mut text, bytes);
+    text
+}
+
+/// Prints bytes, 32 in a line.
+pub fn print_data<W: Write>(
+    writer: &mut Watched<W>,
+    number: u32,
+    task: &Name,
+    bytes: &[u8],
+) -> Result<(), Failed>
+    requires { length bytes.now ≤ 4096 }
+    ensures bytes { WritesAll (W.contents writer.old.inner) (W.contents writer.new.inner) result (data_lines number task.now ((length bytes.now + 31) / 32) 0 bytes.now) }
+    ensures ok { OnOk result (writer.new.failed ≡ writer.old.failed) }
+    ensures err { OnErr result (writer.new.failed ≡ true) }
+{
+    let mut offset = 0;
+    let mut rest = bytes;
+    'lines: while !rest.is_empty() {
+        let (line, more) = rest.split_at(rest.len().min(32));
+        print_line(writer, number, task, data_said(offset, line).as_slice())?;
+        offset += 32;
+        rest = more;
     }
     Ok(())
 }

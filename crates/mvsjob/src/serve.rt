@@ -1,16 +1,19 @@
 //! Serves the statements of a step.
 
-ghost use Rattle.std.specs.Prelude.{◌≡◌, true, false, slice_get, IfOk, IfSome, OnOk, OnErr, IsErrOf};
-ghost use Rattle.job_step.specs.Progress.{IsBuilt};
-ghost use Rattle.mvs_model.specs.Runs.{Asks, Does, IsStatement, Job, all_set, first_job, where_text, names_set, places_in, reply_text, resolved};
+ghost use Rattle.std.specs.Prelude.{◌≡◌, ◌+◌, ◌/◌, ◌≤◌, true, false, None, Some, IfOk, IfSome, OnOk, OnErr, IsErrOf};
 ghost use Rattle.job_script.specs.Built.{IsBuiltAsked, IsBuiltStatement};
+ghost use Rattle.mvs_model.specs.Changes.{Granted};
+ghost use Rattle.mvs_model.specs.Runs.{Asks, Does, IsStatement, Job, bytes_at, first_job, where_text, reply_text, resolved};
+ghost use Rattle.mvs_model.specs.Texts.{data_lines, reply_line};
+ghost use Rattle.mvs_model.specs.declared.request.Reply.TheVariants.{Done};
+ghost use Rattle.mvsjob.specs.Resolving.{place_shown, shows};
 ghost use Rattle.mvsjob.specs.Serving.{Performs};
-ghost use Rattle.mvs_model.specs.Texts.{reply_line};
 ghost use Rattle.mvsjob.specs.Writing.{WritesAll};
 
 use crate::job::Stop;
 use crate::names::Names;
-use crate::print::{at_said, length_said, print_abend, print_line};
+use crate::print::{at_said, length_said, print_abend, print_data, print_line};
+use crate::resolve::{place_shown, resolve, set_names};
 use job_step::Step;
 use mvs_model::card::Card;
 use mvs_model::error::OutOfMemory;
@@ -32,6 +35,7 @@ pub struct Running {
 }
 
 impl Model for Running {
+    ghost use Rattle.job_step.specs.Access.{IsBounded};
     ghost use Rattle.mvs_model.specs.Runs.{Job};
     ghost use Rattle.mvsjob.specs.Serving.{job_code};
 
@@ -40,52 +44,11 @@ impl Model for Running {
     ghost coded = { job_code };
 
     ghost view = { λ r. record { state = r.step.state; names = r.names; abended = r.step.abended } };
+
+    ghost invariant = { λ r. IsBounded r.step.state.regions };
 }
 
-// The request that is asked for, where each name that it looks up is set.
-fn resolve(names: &Names, asked: &Asked) -> Option<Request>
-    requires { IsBuiltAsked asked.now }
-    ensures request { result ≡ resolved names.now asked.now }
-    ensures built { IfSome result IsBuilt }
-{
-    match asked {
-        Asked::Obtain {
-            form,
-            number,
-            ask,
-            ..
-        } => Some(Request::Obtain {
-            form: *form,
-            number: *number,
-            ask: *ask,
-        }),
-        _ => unreachable!(),
-    }
-}
-
-// The first place that a reply gives.
-fn first_place(reply: &Reply) -> Option<Place>
-    ensures { result ≡ slice_get (places_in reply.now) 0 }
-{
-    match reply {
-        Reply::Granted(place) | Reply::Cell(place) => Some(*place),
-        Reply::Listed(places) => places.as_slice().first().copied(),
-        _ => None,
-    }
-}
-
-// Sets the names of a request to the places that its reply gives.
-fn set_names(names: &mut Names, asked: &Asked, reply: &Reply) -> Result<(), OutOfMemory>
-    requires { IsBuiltAsked asked.now }
-    ensures { OnOk result (names.new ≡ all_set names.old (names_set asked.now) (places_in reply.now)) }
-{
-    match (asked, first_place(reply)) {
-        (Asked::Obtain { area, .. }, Some(place)) => names.set(*area, place),
-        _ => Ok(()),
-    }
-}
-
-// Prints the reply to a request.
+// Prints the reply to a request, which printed no bytes.
 fn print_reply<W: Write>(
     writer: &mut Watched<W>,
     number: u32,
@@ -93,7 +56,7 @@ fn print_reply<W: Write>(
     asked: &Asked,
     reply: &Reply,
 ) -> Result<(), Failed>
-    requires { IsBuiltAsked asked.now }
+    requires { reply.now ≡ Done → shows asked.now ≡ false }
     ensures bytes { (old : Job) → WritesAll (W.contents writer.old.inner) (W.contents writer.new.inner) result (reply_text number task.now old asked.now reply.now) }
     ensures ok { OnOk result (writer.new.failed ≡ writer.old.failed) }
     ensures err { OnErr result (writer.new.failed ≡ true) }
@@ -115,6 +78,49 @@ fn print_reply<W: Write>(
         (Reply::Abended(code, fallen), _) => {
             print_abend(writer, number, task, *code, fallen.names())
         }
+    }
+}
+
+// Prints the bytes of a place.
+fn print_shown<W: Write>(
+    writer: &mut Watched<W>,
+    number: u32,
+    task: &Name,
+    step: &Step,
+    place: Place,
+) -> Result<(), Failed>
+    requires granted { Granted step.now.state place }
+    requires short { place.len ≤ 4096 }
+    ensures bytes { WritesAll (W.contents writer.old.inner) (W.contents writer.new.inner) result (data_lines number task.now ((place.len + 31) / 32) 0 (bytes_at step.now.state place.addr place.len)) }
+    ensures ok { OnOk result (writer.new.failed ≡ writer.old.failed) }
+    ensures err { OnErr result (writer.new.failed ≡ true) }
+{
+    match step.bytes(place) {
+        Some(bytes) => print_data(writer, number, task, bytes),
+        None => unreachable!(),
+    }
+}
+
+// Prints what a request is answered.
+fn print_answer<W: Write>(
+    writer: &mut Watched<W>,
+    number: u32,
+    task: &Name,
+    step: &Step,
+    asked: &Asked,
+    request: &Request,
+    reply: &Reply,
+) -> Result<(), Failed>
+    requires granted { IfSome (place_shown request.now reply.now) (Granted step.now.state) }
+    requires quiet { place_shown request.now reply.now ≡ None → reply.now ≡ Done → shows asked.now ≡ false }
+    ensures bytes { (old : Job) → resolved old.names asked.now ≡ Some request.now → IfSome (place_shown request.now reply.now) (λ p. old.state ≡ step.now.state)
+        → WritesAll (W.contents writer.old.inner) (W.contents writer.new.inner) result (reply_text number task.now old asked.now reply.now) }
+    ensures ok { OnOk result (writer.new.failed ≡ writer.old.failed) }
+    ensures err { OnErr result (writer.new.failed ≡ true) }
+{
+    match place_shown(request, reply) {
+        Some(place) => print_shown(writer, number, task, step, place),
+        None => print_reply(writer, number, task, asked, reply),
     }
 }
 
@@ -175,7 +181,7 @@ impl Running {
         let Ok(()) = set_names(&mut self.names, asked, &reply) else {
             return Err(Stop::Memory);
         };
-        print_reply(writer, number, task, asked, &reply)?;
+        print_answer(writer, number, task, &self.step, asked, &request, &reply)?;
         Ok(())
     }
 

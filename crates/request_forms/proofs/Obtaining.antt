@@ -1,8 +1,6 @@
 -- What is obtained from a store is obtained from the machine.
-use Rattle.std.proofs.Common.{◌≡◌, ℕ, ◌<◌, ◌≤◌, inl, inr, Bool, true, false, cond, Option, Some, None, Ok, Err, refl, sym, ap, subst, arith}
+use Rattle.std.proofs.Common.{◌≡◌, ℕ, ◌<◌, inl, Bool, true, false, cond, Option, Some, None, Ok, Err, refl, sym, ap, subst}
 use Rattle.std.specs.Prelude.{MatchOption}
-use Rattle.std.specs.Bool.{MatchBool}
-use Rattle.std.proofs.lemmas.Bool.Decides.{nat_tests}
 use Rattle.mvs_model.specs.declared.name.Name.{Name}
 use Rattle.mvs_model.specs.declared.code.Form.{Form}
 use Rattle.mvs_model.specs.declared.want.Loc.{Loc}
@@ -10,7 +8,7 @@ use Rattle.mvs_model.specs.declared.want.Residence.{Residence}
 use Rattle.mvs_model.specs.declared.want.Residence.TheVariants.{Below}
 use Rattle.std.specs.Option.{option_map, unwrap_or}
 use Rattle.std.specs.FinMap.{get}
-use Rattle.mvs_model.specs.declared.request.Reply.TheVariants.{Rc4, Granted}
+use Rattle.mvs_model.specs.declared.request.Reply.TheVariants.{Rc4}
 use Rattle.mvs_model.specs.Span.{Span}
 use Rattle.mvs_model.specs.Wanted.{Wanted, side_of}
 use Rattle.mvs_model.specs.Storage.{Storage, holder, IsStorage, NoPlace, Grant}
@@ -22,6 +20,7 @@ use Rattle.mvs_model.specs.Changes.{GrantTo, ShortOf}
 use Rattle.mvs_model.specs.Steps.{Fails, side_for, is_invalid, ObtainStep}
 use Rattle.mvs_model.proofs.Seen.{no_place_seen, grant_seen}
 use Rattle.request_forms.specs.Answers.{Answers}
+use Rattle.request_forms.proofs.Cases.{not_valid, is_valid, yes_match, no_match}
 
 -- the subpool that the task has, or would have
 pub its_subpool : (o : Owners) (t : Name) (number s : ℕ) → entry o t number ≡ Some s → SubpoolOf o t number s
@@ -51,28 +50,9 @@ short_of_new st o t number s want is e spare none = (s, new_subpool o t number s
 pub area_of_new : (st new : Storage) (o after : Owners) (t : Name) (number s : ℕ) (want : Wanted) (p : Span) → IsStorage st → IsStorage new → entry o t number ≡ None → IsSpare o s → Binds o t number s after → Grant st s want p new → GrantTo (seen st o) t number want p (seen new after)
 area_of_new st new o after t number s want p is now e spare binds g = grant_seen st new o after t number s want p is now (new_subpool o t number s e spare) (now_entered o t number s after e binds) g
 
--- a number that no subpool has
-pub not_valid : (n : ℕ) → (n < 128 → ⊥) → is_invalid n ≡ true
-not_valid n h = let l : 128 ≤ n = omega arith in grind (arith, nat_tests)
-
-pub is_valid : (n : ℕ) → n < 128 → is_invalid n ≡ false
-is_valid n l = grind (arith, nat_tests)
-
-yes_match : {P : Type 0} (Q : Type 0) (b : Bool) → b ≡ true → P → MatchBool b P Q
-yes_match Q true e p = p
-yes_match Q false e p = absurd (let f : false ≡ true = e in cc)
-
-no_match : (P : Type 0) {Q : Type 0} (b : Bool) → b ≡ false → Q → MatchBool b P Q
-no_match P true e q = absurd (let f : true ≡ false = e in cc)
-no_match P false e q = q
-
 -- an invalid number abends
 pub invalid_answers : (old : State) (t : Name) (form : Form) (number : ℕ) (want : Wanted) → (number < 128 → ⊥) → Answers (ObtainStep old t form number want) old t (Err (bad_subpool (family form) true)) old
 invalid_answers old t form number want h = (refl, λ reply ended a. yes_match _ (is_invalid number) (not_valid number h) a)
-
--- a grant is the reply
-pub granted_answers : (old new : State) (t : Name) (form : Form) (number : ℕ) (want : Wanted) (p : Span) → number < 128 → GrantTo old t number want p new → Answers (ObtainStep old t form number want) old t (Ok (Granted p)) new
-granted_answers old new t form number want p l g = no_match _ (is_invalid number) (is_valid number l) (inr (p, refl, g))
 
 -- shortage is answered 4, or abends
 pub short_answers : (old : State) (t : Name) (form : Form) (number : ℕ) (want : Wanted) → number < 128 → ShortOf old t number want → Answers (ObtainStep old t form number want) old t (cond (is_conditional form) (Ok Rc4) (Err (short (family form)))) old

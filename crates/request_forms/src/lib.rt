@@ -3,3 +3,7 @@
 
 pub mod codes;
 pub mod obtain;
+pub mod obtain_list;
+pub mod release;
+#[cfg(test)]
+mod tests;

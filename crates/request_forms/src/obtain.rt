@@ -1,8 +1,9 @@
 //! Requests that obtain.
 
-ghost use Rattle.std.specs.Prelude.{◌≡◌, ℕ, false, IfOk, MatchOption, Ok, Err, if◌then◌else◌};
-ghost use Rattle.mvs_model.specs.declared.request.Reply.TheVariants.{Rc4};
+ghost use Rattle.std.specs.Prelude.{◌≡◌, ◌⊎◌, ℕ, false, IfOk, MatchOption, Ok, Err, if◌then◌else◌};
+ghost use Rattle.mvs_model.specs.declared.request.Reply.TheVariants.{Rc4, Granted};
 ghost use Rattle.mvs_model.specs.Codes as table;
+ghost use Rattle.mvs_model.specs.Span.{Span};
 ghost use Rattle.mvs_model.specs.Wanted.{wanted_of};
 ghost use Rattle.mvs_model.specs.Changes.{GrantTo, ShortOf};
 ghost use Rattle.mvs_model.specs.Steps.{ObtainStep, side_for};
@@ -53,7 +54,7 @@ fn obtain_area(
 }
 
 // What a refusal is answered: 4 for a conditional form, else an abend.
-fn refused(form: Form, code: Code) -> Result<Reply, Code>
+pub(crate) fn refused(form: Form, code: Code) -> Result<Reply, Code>
     ensures { result ≡ (if table.is_conditional form then Ok Rc4 else Err code) }
 {
     if is_conditional(form) {
@@ -77,6 +78,7 @@ pub fn obtain(
     ensures answer { let old = seen store.old tasks.old.owners in let name = name_of tasks.old t in
         Answers (ObtainStep old name form number (wanted_of ask.now (side_for old name form ask.now.loc))) old name result (seen store.new tasks.new.owners) }
     ensures no_abend { IfOk result (λ reply. is_abend reply ≡ false) }
+    ensures unchanged { ((p : Span) × (result ≡ Ok (Granted p))) ⊎ ((store.new ≡ store.old) × (tasks.new ≡ tasks.old)) }
     ensures storage { IsStorage store.new }
     ensures names { (id : ℕ) → name_at tasks.new id ≡ name_at tasks.old id }
 {

@@ -1,3 +1,10 @@
+mod codes;
+mod examples;
+mod lists;
+mod places;
+mod storage;
+mod tasks;
+
 use super::*;
 use std::io::{self, Error, ErrorKind};
 use std::test::Fail;
@@ -61,24 +68,70 @@ impl Write for Narrow {
 }
 
 // Runs a script from memory, and answers the outcome and whether this was printed.
-fn prints(rt: &HostRuntime, script: &[u8], printed: &[u8]) -> Result<(Outcome, bool), RunFault> {
+fn run(rt: &HostRuntime, script: &[u8], printed: &[u8]) -> Result<(Outcome, bool), RunFault> {
     let mut reader = Watched::new(script);
     let mut writer = Watched::new(Vec::new(rt.alloc()));
     let outcome = run_job(rt.alloc(), &mut reader, &mut writer, Placement::Low)?;
     Ok((outcome, writer.into_inner().as_slice() == printed))
 }
 
+// The outcome of a job by its last line.
+fn outcome_of(end: &str) -> Outcome {
+    match end {
+        "STEP ENDED RC 0" => Outcome::Clean,
+        "STEP ENDED RC 8" => Outcome::SomeAbend,
+        _ => Outcome::ScriptFault,
+    }
+}
+
+// Puts a line and its line feed behind a text.
+fn push_line(text: &mut Vec<u8>, line: &str) -> Result<(), Fail> {
+    text.extend_from_slice(line.as_bytes())?;
+    text.push(b'\n')?;
+    Ok(())
+}
+
+// Puts what a line of the script prints behind a text: each of its own lines behind its number.
+fn push_replies(
+    rt: &HostRuntime,
+    text: &mut Vec<u8>,
+    number: u32,
+    replies: &str,
+) -> Result<(), Fail> {
+    if replies.is_empty() {
+        return Ok(());
+    }
+    for reply in replies.split('\n') {
+        push_line(text, format!(in rt.alloc(); "{number} {reply}")?.as_str())?;
+    }
+    Ok(())
+}
+
+// Runs a script whose lines stand beside what they print, and answers whether this was printed, and this last line.
+fn prints(rt: &HostRuntime, lines: &[(&str, &str)], end: &str) -> Result<bool, Fail> {
+    let mut script = Vec::new(rt.alloc());
+    let mut printed = Vec::new(rt.alloc());
+    let mut number = 0u32;
+    for (line, replies) in lines {
+        number = number.saturating_add(1);
+        push_line(&mut script, line)?;
+        push_replies(rt, &mut printed, number, replies)?;
+    }
+    push_line(&mut printed, end)?;
+    Ok(run(rt, script.as_slice(), printed.as_slice())? == (outcome_of(end), true))
+}
+
 // A body that always answers Memory meets the contract: with ample memory the job has to be run.
 #[test]
 fn always_memory(rt: HostRuntime) -> Result<(), Fail> {
-    assert!(rt; prints(&rt, FIRST, FIRST_PRINTED)? == (Outcome::Clean, true));
+    assert!(rt; run(&rt, FIRST, FIRST_PRINTED)? == (Outcome::Clean, true));
     Ok(())
 }
 
 #[test]
 fn an_empty_script_lacks_its_region(rt: HostRuntime) -> Result<(), Fail> {
     let printed = b"1 JS09\nJOB FAULT RC 12\n";
-    assert!(rt; prints(&rt, b"", printed)? == (Outcome::ScriptFault, true));
+    assert!(rt; run(&rt, b"", printed)? == (Outcome::ScriptFault, true));
     Ok(())
 }
 
@@ -88,7 +141,7 @@ fn a_shortage_abends_the_task(rt: HostRuntime) -> Result<(), Fail> {
         b"JOB REGION BELOW=1\nJOB GETMAIN R,LV=4096,A=X\nJOB GETMAIN R,LV=1,A=Y\nJOB WHERE X";
     let printed =
         b"1 JOB REGION BELOW 1 ABOVE 0\n2 JOB RC 0\n3 JOB ABEND S80A\n4 JOB NOT RUN\nSTEP ENDED RC 8\n";
-    assert!(rt; prints(&rt, script, printed)? == (Outcome::SomeAbend, true));
+    assert!(rt; run(&rt, script, printed)? == (Outcome::SomeAbend, true));
     Ok(())
 }
 

@@ -16,7 +16,7 @@ pub returns-in_err-print_where-in-Where-clause-served : goal.returns-in_err-prin
 returns-in_err-print_where-in-Where-clause-served g c =
     let p = err_from_is_err_and c.from_residual-in_err-print_where-in-Where.result c.from_residual-in_err-print_where-in-Where.ensures.1 in
     let active : is_active c.args.self.now.state.owners c.args.task.now ≡ true = rw (← c.self.view_is) (sym c.is_active.ensures ∙ c.if-not-is_active.false) in
-    let says = where_does c.args.number c.args.self.now c.args.task.now c.args.statement.now c.in-Where.name _ c.in-Where.is active (rw (← c.self.view_is) c.get.ensures) in
+    let says = where_does c.args.number c.args.self.now c.args.task.now c.args.statement.now c.in-Where.name _ c.in-Where.is active (rw (← c.self.view_is) c.get.ensures.place) in
     rw (p.1) (inr (_, c.args.self.now, says, c.in_err-print_where-in-Where.ensures.bytes))
 
 pub returns-in-Request-clause-served : goal.returns-in-Request-clause-served

@@ -1,5 +1,5 @@
 use Rattle.mvs_model.proofs.SeenEnd.{releases_none, releases_more}
-use Rattle.job_step.proofs.step.release_each.Goals as goal
+use Rattle.job_step.proofs.subtasking.release_each.Goals as goal
 
 pub loop-subpool-init : goal.loop-subpool-init
 loop-subpool-init c = record { released = releases_none _; storage = c.requires }

@@ -1,6 +1,6 @@
 use Rattle.std.proofs.Common.{take}
 use Rattle.mvs_model.specs.Storage.{IsStorage, ReleaseEach}
-use Rattle.job_step.proofs.step.release_each.Given as goal
+use Rattle.job_step.proofs.subtasking.release_each.Given as goal
 
 abbrev pub invariant-loop-subpool : goal.invariant-loop-subpool
 invariant-loop-subpool l = record {

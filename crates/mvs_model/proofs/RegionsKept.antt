@@ -1,0 +1,44 @@
+-- The regions of a step stay, and what is granted lies in them.
+use Rattle.std.proofs.Common.{◌≡◌, ℕ, ◌+◌, ◌*◌, ◌≤◌, ◌∙◌, inl, inr, Bool, true, false, List, [], ◌∷◌, Some, refl, ap, subst, sym, arith}
+use Rattle.std.specs.Bool.{MatchBool}
+use Rattle.std.specs.List.{AllByRecursion}
+use Rattle.mvs_model.specs.declared.name.Name.{Name}
+use Rattle.mvs_model.specs.declared.code.Form.{Form}
+use Rattle.mvs_model.specs.declared.request.Request.{Request}
+use Rattle.mvs_model.specs.declared.request.Reply.{Reply}
+use Rattle.mvs_model.specs.Span.{Span}
+use Rattle.mvs_model.specs.Wanted.{Wanted}
+use Rattle.mvs_model.specs.Storage.{Regions, InRegion}
+use Rattle.mvs_model.specs.State.{State}
+use Rattle.mvs_model.specs.Changes.{GrantTo, ListGrant}
+use Rattle.mvs_model.specs.Steps.{Step}
+use Rattle.mvs_model.proofs.Kept.{Closed, HasPlan, step_keeps}
+
+regions_closed : (r : Regions) → Closed (λ st. st.regions ≡ r)
+regions_closed r = record {
+  granted = λ old t number want p new g e. g.regions ∙ e;
+  freed = λ old s ps new k f e. f.regions ∙ e;
+  emptied = λ old s new k e. k.drops.regions ∙ e;
+  ended = λ old t new k e. k.drops.regions ∙ e;
+  built = λ old t name number s plan p o new fresh k is enters x e. x.regions ∙ e;
+  grown = λ old name pool p mid c new is x k taken e. taken.regions ∙ x.regions ∙ e;
+  taken = λ old name pool c new is f k e. k.regions ∙ e;
+  given = λ old name pool c new is f k e. k.regions ∙ e;
+  dropped = λ old name pool new is k e. k.regions ∙ e;
+  attached = λ old t name gifts residence new is k e. k.regions ∙ e;
+  written = λ old p value new is k e. k.regions ∙ e;
+}
+
+pub regions_stay : (old : State) (t : Name) (request : Request) (reply : Reply) (new : State) → HasPlan request → Step old t request reply new → new.regions ≡ old.regions
+regions_stay old t request reply new plan step = step_keeps (λ st. st.regions ≡ old.regions) (regions_closed old.regions) old t request reply new plan step refl
+
+-- a granted area lies in a region
+pub grant_inside : (old : State) (t : Name) (number : ℕ) (want : Wanted) (p : Span) (new : State) → GrantTo old t number want p new → InRegion old.regions p
+grant_inside old t number want p new g = g.chosen.placed.0.inside
+
+-- so does each area of a list
+pub list_inside : (r : Regions) (t : Name) (number : ℕ) (wants : List Wanted) (ps : List Span) (old new : State) → old.regions ≡ r → ListGrant old t number wants ps new → AllByRecursion (InRegion r) ps
+list_inside r t number [] [] old new e h = tt
+list_inside r t number [] (p ∷ ps) old new e h = absurd h
+list_inside r t number (want ∷ wants) [] old new e h = absurd h
+list_inside r t number (want ∷ wants) (p ∷ ps) old new e h = (subst (λ r. InRegion r p) e (grant_inside old t number want p h.0 h.1), list_inside r t number wants ps h.0 new (h.1.regions ∙ e) h.2)

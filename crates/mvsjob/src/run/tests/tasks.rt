@@ -1,0 +1,164 @@
+//! Tasks, and what they give, share and own.
+//!
+//! Each line of a script stands beside what it prints behind its number.
+
+use super::prints;
+use std::test::Fail;
+
+// RU abends 978, EC 905 and R 90A; only the subtasks end.
+#[test]
+fn off_the_doubleword_by_family(rt: HostRuntime) -> Result<(), Fail> {
+    let lines = [
+        ("JOB REGION BELOW=1", "JOB REGION BELOW 1 ABOVE 0"),
+        ("JOB GETMAIN RU,LV=16,A=X", "JOB RC 0"),
+        ("JOB ATTACH TASK=T1", "JOB ATTACHED"),
+        ("JOB ATTACH TASK=T2", "JOB ATTACHED"),
+        ("JOB ATTACH TASK=T3", "JOB ATTACHED"),
+        ("T1 FREEMAIN RU,LV=8,A=X+4", "T1 ABEND S978"),
+        ("T2 FREEMAIN EC,LV=8,A=X+4", "T2 ABEND S905"),
+        ("T3 FREEMAIN R,LV=8,A=X+4", "T3 ABEND S90A"),
+        ("JOB FREEMAIN R,LV=16,A=X", "JOB RC 0"),
+    ];
+    assert!(rt; prints(&rt, &lines, "STEP ENDED RC 8")?);
+    Ok(())
+}
+
+// What was given ends with the subtask, what was shared stays.
+#[test]
+fn given_and_shared(rt: HostRuntime) -> Result<(), Fail> {
+    let lines = [
+        ("JOB REGION BELOW=2", "JOB REGION BELOW 2 ABOVE 0"),
+        ("JOB GETMAIN RU,LV=8,A=X,SP=5", "JOB RC 0"),
+        ("JOB GETMAIN RU,LV=8,A=Y,SP=6", "JOB RC 0"),
+        ("JOB PUT Y,X'C2'", "JOB OK"),
+        ("JOB ATTACH TASK=SUB,GSPV=5,SHSPV=6", "JOB ATTACHED"),
+        ("SUB RETURN", "SUB ENDED"),
+        ("JOB SHOW Y,2", "JOB DATA +0000 C200"),
+        ("JOB SHOW X,2", "JOB ABEND S0C4"),
+    ];
+    assert!(rt; prints(&rt, &lines, "STEP ENDED RC 8")?);
+    Ok(())
+}
+
+// A03, and the subtask ends with it.
+#[test]
+fn return_with_a_subtask(rt: HostRuntime) -> Result<(), Fail> {
+    let lines = [
+        ("JOB REGION BELOW=1", "JOB REGION BELOW 1 ABOVE 0"),
+        ("JOB ATTACH TASK=SUB", "JOB ATTACHED"),
+        ("JOB RETURN", "JOB ABEND SA03\nSUB ENDED WITH JOB"),
+        ("SUB GETMAIN RU,LV=8,A=X", "SUB NOT RUN"),
+    ];
+    assert!(rt; prints(&rt, &lines, "STEP ENDED RC 8")?);
+    Ok(())
+}
+
+// 128 abends B78 and B04; a whole release of a number without a subpool answers 0, that of subpool 0 abends U4006.
+#[test]
+fn subpool_numbers(rt: HostRuntime) -> Result<(), Fail> {
+    let lines = [
+        ("JOB REGION BELOW=1", "JOB REGION BELOW 1 ABOVE 0"),
+        ("JOB ATTACH TASK=T1", "JOB ATTACHED"),
+        ("JOB ATTACH TASK=T2", "JOB ATTACHED"),
+        ("T1 GETMAIN RC,LV=8,A=X,SP=128", "T1 ABEND SB78"),
+        ("T2 GETMAIN EC,LV=8,A=X,SP=128", "T2 ABEND SB04"),
+        ("JOB FREEMAIN RC,SP=7", "JOB RC 0"),
+        ("JOB FREEMAIN RC", "JOB ABEND U4006"),
+    ];
+    assert!(rt; prints(&rt, &lines, "STEP ENDED RC 8")?);
+    Ok(())
+}
+
+// User code 77 ends a task and its subtask, and their page is free; the name is used again, and twice it is U4009.
+#[test]
+fn a_fork_of_subtasks(rt: HostRuntime) -> Result<(), Fail> {
+    let lines = [
+        ("JOB REGION BELOW=1", "JOB REGION BELOW 1 ABOVE 0"),
+        ("JOB ATTACH TASK=A", "JOB ATTACHED"),
+        ("A ATTACH TASK=B", "A ATTACHED"),
+        ("B GETMAIN RU,LV=4096,A=X,SP=1", "B RC 0"),
+        ("A ABEND 77", "A ABEND U0077\nB ENDED WITH A"),
+        ("JOB GETMAIN RC,LV=4096,A=Y,SP=2", "JOB RC 0"),
+        ("JOB ATTACH TASK=A", "JOB ATTACHED"),
+        ("JOB ATTACH TASK=A", "JOB ABEND U4009\nA ENDED WITH JOB"),
+    ];
+    assert!(rt; prints(&rt, &lines, "STEP ENDED RC 8")?);
+    Ok(())
+}
+
+// The 33rd task is U4005, and 31 tasks end in byte order.
+#[test]
+fn the_task_limit(rt: HostRuntime) -> Result<(), Fail> {
+    let lines = [
+        ("JOB REGION BELOW=1", "JOB REGION BELOW 1 ABOVE 0"),
+        ("JOB ATTACH TASK=T1", "JOB ATTACHED"),
+        ("JOB ATTACH TASK=T2", "JOB ATTACHED"),
+        ("JOB ATTACH TASK=T3", "JOB ATTACHED"),
+        ("JOB ATTACH TASK=T4", "JOB ATTACHED"),
+        ("JOB ATTACH TASK=T5", "JOB ATTACHED"),
+        ("JOB ATTACH TASK=T6", "JOB ATTACHED"),
+        ("JOB ATTACH TASK=T7", "JOB ATTACHED"),
+        ("JOB ATTACH TASK=T8", "JOB ATTACHED"),
+        ("JOB ATTACH TASK=T9", "JOB ATTACHED"),
+        ("JOB ATTACH TASK=T10", "JOB ATTACHED"),
+        ("JOB ATTACH TASK=T11", "JOB ATTACHED"),
+        ("JOB ATTACH TASK=T12", "JOB ATTACHED"),
+        ("JOB ATTACH TASK=T13", "JOB ATTACHED"),
+        ("JOB ATTACH TASK=T14", "JOB ATTACHED"),
+        ("JOB ATTACH TASK=T15", "JOB ATTACHED"),
+        ("JOB ATTACH TASK=T16", "JOB ATTACHED"),
+        ("JOB ATTACH TASK=T17", "JOB ATTACHED"),
+        ("JOB ATTACH TASK=T18", "JOB ATTACHED"),
+        ("JOB ATTACH TASK=T19", "JOB ATTACHED"),
+        ("JOB ATTACH TASK=T20", "JOB ATTACHED"),
+        ("JOB ATTACH TASK=T21", "JOB ATTACHED"),
+        ("JOB ATTACH TASK=T22", "JOB ATTACHED"),
+        ("JOB ATTACH TASK=T23", "JOB ATTACHED"),
+        ("JOB ATTACH TASK=T24", "JOB ATTACHED"),
+        ("JOB ATTACH TASK=T25", "JOB ATTACHED"),
+        ("JOB ATTACH TASK=T26", "JOB ATTACHED"),
+        ("JOB ATTACH TASK=T27", "JOB ATTACHED"),
+        ("JOB ATTACH TASK=T28", "JOB ATTACHED"),
+        ("JOB ATTACH TASK=T29", "JOB ATTACHED"),
+        ("JOB ATTACH TASK=T30", "JOB ATTACHED"),
+        ("JOB ATTACH TASK=T31", "JOB ATTACHED"),
+        (
+            "JOB ATTACH TASK=NEW",
+            "JOB ABEND U4005\nT1 ENDED WITH JOB\nT10 ENDED WITH JOB\nT11 ENDED WITH JOB\nT12 ENDED WITH JOB\nT13 ENDED WITH JOB\nT14 ENDED WITH JOB\nT15 ENDED WITH JOB\nT16 ENDED WITH JOB\nT17 ENDED WITH JOB\nT18 ENDED WITH JOB\nT19 ENDED WITH JOB\nT2 ENDED WITH JOB\nT20 ENDED WITH JOB\nT21 ENDED WITH JOB\nT22 ENDED WITH JOB\nT23 ENDED WITH JOB\nT24 ENDED WITH JOB\nT25 ENDED WITH JOB\nT26 ENDED WITH JOB\nT27 ENDED WITH JOB\nT28 ENDED WITH JOB\nT29 ENDED WITH JOB\nT3 ENDED WITH JOB\nT30 ENDED WITH JOB\nT31 ENDED WITH JOB\nT4 ENDED WITH JOB\nT5 ENDED WITH JOB\nT6 ENDED WITH JOB\nT7 ENDED WITH JOB\nT8 ENDED WITH JOB\nT9 ENDED WITH JOB",
+        ),
+    ];
+    assert!(rt; prints(&rt, &lines, "STEP ENDED RC 8")?);
+    Ok(())
+}
+
+// Writes beside eight free bytes stand; one that touches them abends 0C4 and writes nothing.
+#[test]
+fn edges_of_a_free_run(rt: HostRuntime) -> Result<(), Fail> {
+    let lines = [
+        ("JOB REGION BELOW=1", "JOB REGION BELOW 1 ABOVE 0"),
+        ("JOB GETMAIN RU,LV=24,A=X", "JOB RC 0"),
+        ("JOB FREEMAIN RU,LV=8,A=X+8", "JOB RC 0"),
+        ("JOB PUT X+7,X'FF'", "JOB OK"),
+        ("JOB PUT X+16,X'FF'", "JOB OK"),
+        ("JOB ATTACH TASK=T", "JOB ATTACHED"),
+        ("T PUT X+15,X'EEEE'", "T ABEND S0C4"),
+        ("JOB SHOW X,8", "JOB DATA +0000 00000000000000FF"),
+        ("JOB SHOW X+16,8", "JOB DATA +0000 FF00000000000000"),
+        ("JOB FREEMAIN RU,LV=8,A=X", "JOB RC 0"),
+        ("JOB FREEMAIN RU,LV=8,A=X+16", "JOB RC 0"),
+        ("JOB GETMAIN RC,LV=4096,A=Y", "JOB RC 0"),
+    ];
+    assert!(rt; prints(&rt, &lines, "STEP ENDED RC 8")?);
+    Ok(())
+}
+
+// GSPV=0.
+#[test]
+fn subpool_0_is_never_named(rt: HostRuntime) -> Result<(), Fail> {
+    let lines = [
+        ("JOB REGION BELOW=1", "JOB REGION BELOW 1 ABOVE 0"),
+        ("JOB ATTACH TASK=T,GSPV=0", "JS06"),
+    ];
+    assert!(rt; prints(&rt, &lines, "JOB FAULT RC 12")?);
+    Ok(())
+}

@@ -1,0 +1,56 @@
+-- What is released from a store is released from the machine.
+use Rattle.std.proofs.Common.{◌≡◌, ℕ, ◌<◌, inl, Bool, true, false, cond, List, map, Option, Some, None, Ok, Err, refl, sym, ap, subst, arith}
+use Rattle.std.specs.Prelude.{not, ◌==◌}
+use Rattle.std.specs.List.{list_all}
+use Rattle.std.proofs.lemmas.Bool.Decides.{nat_tests}
+use Rattle.mvs_model.specs.declared.name.Name.{Name}
+use Rattle.mvs_model.specs.declared.code.Form.{Form}
+use Rattle.mvs_model.specs.declared.request.Reply.TheVariants.{Rc0, Rc4}
+use Rattle.mvs_model.specs.Span.{Span}
+use Rattle.mvs_model.specs.Storage.{Storage, IsStorage, ReleaseAll}
+use Rattle.mvs_model.specs.Owners.{Owners, entry}
+use Rattle.mvs_model.specs.State.{State}
+use Rattle.mvs_model.specs.View.{seen}
+use Rattle.mvs_model.specs.Codes.{family, is_conditional, bad_subpool, bad_address, not_held}
+use Rattle.mvs_model.specs.Steps.{Fails, is_invalid, whole, on_doubleword, MayRelease, ReleaseStep, EmptiesEntry, ReleaseWholeStep}
+use Rattle.mvs_model.proofs.SeenRelease.{release_all_seen}
+use Rattle.request_forms.specs.Answers.{Answers}
+use Rattle.request_forms.proofs.Cases.{not_valid, is_valid, yes_match, no_match}
+
+-- the answers of a release, in the order of the causes
+module _ (old : State) (t : Name) (form : Form) (number : ℕ) (ps : List Span) where
+  pub invalid_release : (number < 128 → ⊥) → Answers (ReleaseStep old t form number ps) old t (Err (bad_subpool (family form) false)) old
+  invalid_release h = (refl, λ reply ended a. yes_match _ (is_invalid number) (not_valid number h) a)
+
+  pub misplaced_release : number < 128 → list_all on_doubleword ps ≡ false → Answers (ReleaseStep old t form number ps) old t (Err (bad_address (family form))) old
+  misplaced_release l e = (refl, λ reply ended a. no_match _ (is_invalid number) (is_valid number l) (yes_match _ (not (list_all on_doubleword ps)) (ap not e) a))
+
+  pub unheld_release : (s : Option ℕ) → number < 128 → list_all on_doubleword ps ≡ true → s ≡ entry old.owners t number → (MayRelease old s (map whole ps) → ⊥)
+      → Answers (ReleaseStep old t form number ps) old t (cond (is_conditional form) (Ok Rc4) (Err (not_held (family form)))) old
+  unheld_release s l e is h = at (is_conditional form) refl where
+    none : MayRelease old (entry old.owners t number) (map whole ps) → ⊥
+    none = subst (λ v. MayRelease old v (map whole ps) → ⊥) is h
+
+    at : (b : Bool) → is_conditional form ≡ b → Answers (ReleaseStep old t form number ps) old t (cond b (Ok Rc4) (Err (not_held (family form)))) old
+    at true c = no_match _ (is_invalid number) (is_valid number l) (no_match _ (not (list_all on_doubleword ps)) (ap not e) (inl (none, subst (λ b. Fails b old t (not_held (family form)) Rc4 old) (sym c) (refl, refl))))
+    at false c = (refl, λ reply ended a. no_match _ (is_invalid number) (is_valid number l) (no_match _ (not (list_all on_doubleword ps)) (ap not e) (inl (none, subst (λ b. Fails b old t (not_held (family form)) reply ended) (sym c) a))))
+
+-- a number that is not 0
+pub not_zero : (n m : ℕ) → m ≡ n → (m ≡ 0 → ⊥) → (n == 0) ≡ false
+not_zero n m e h = grind (arith, nat_tests)
+
+-- the answers of a release of a whole subpool
+module _ (old : State) (t : Name) (form : Form) (number : ℕ) where
+  pub invalid_whole : (number < 128 → ⊥) → Answers (ReleaseWholeStep old t form number) old t (Err (bad_subpool (family form) false)) old
+  invalid_whole h = (refl, λ reply ended a. yes_match _ (is_invalid number) (not_valid number h) a)
+
+  pub done_whole : (new : State) (s : Option ℕ) → number < 128 → (number == 0) ≡ false → s ≡ entry old.owners t number → EmptiesEntry old s new
+      → Answers (ReleaseWholeStep old t form number) old t (Ok Rc0) new
+  done_whole new s l e is empties = no_match _ (is_invalid number) (is_valid number l) (no_match _ (number == 0) e (refl, subst (λ v. EmptiesEntry old v new) is empties))
+
+-- what the task's subpool held is released
+pub emptied_entry : (st new : Storage) (o : Owners) (s : ℕ) (v : Option ℕ) → IsStorage st → IsStorage new → v ≡ Some s → ReleaseAll st s new → EmptiesEntry (seen st o) v (seen new o)
+emptied_entry st new o s v is now e r = subst (λ w. EmptiesEntry (seen st o) w (seen new o)) (sym e) (release_all_seen st new o s is now r)
+
+pub no_entry : (st : Storage) (o : Owners) (v : Option ℕ) → v ≡ None → EmptiesEntry (seen st o) v (seen st o)
+no_entry st o v e = subst (λ w. EmptiesEntry (seen st o) w (seen st o)) (sym e) refl

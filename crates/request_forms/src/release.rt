@@ -1,0 +1,241 @@
+//! Requests that release.
+
+ghost use Rattle.std.specs.Prelude.{◌≡◌, ◌⊎◌, ◌↔◌, ◌+◌, ◌/◌, ◌≤◌, true, false, IsTrue, IfOk, MatchResult, map, Ok, [], ◌∷◌};
+ghost use Rattle.std.specs.List.{AllByRecursion, list_all};
+ghost use Rattle.mvs_model.specs.declared.request.Reply.TheVariants.{Rc0};
+ghost use Rattle.mvs_model.specs.Owners.{Owners};
+ghost use Rattle.mvs_model.specs.Changes.{Disjoint, Frees, Misses};
+ghost use Rattle.mvs_model.specs.Span.{round8};
+ghost use Rattle.mvs_model.specs.Runs.{is_abend};
+ghost use Rattle.mvs_model.specs.Steps as step;
+ghost use Rattle.mvs_model.specs.Steps.{MayRelease, ReleaseStep, ReleaseWholeStep};
+ghost use Rattle.mvs_model.specs.Storage.{HeldBy, IsStorage, IsWhole, Release};
+ghost use Rattle.mvs_model.specs.View.{seen};
+ghost use Rattle.request_forms.specs.Answers.{Answers};
+ghost use Rattle.request_forms.specs.Lists.{HoldsApart, ReleasesEach};
+ghost use Rattle.task_owner.specs.Directory.{IsTask, name_of};
+
+use crate::codes::{bad_address, bad_subpool, not_held};
+use crate::obtain::refused;
+use mvs_model::code::{Code, Form};
+use mvs_model::place::Place;
+use mvs_model::request::{Places, Reply};
+use mvs_model::subpool::{SubNo, SubpoolId};
+use std::ops::Range;
+use subpool_store::{NotHeld, Store};
+use task_owner::{TaskId, Tasks};
+
+// The place with its length rounded up to doublewords.
+fn whole(place: Place) -> Place
+    ensures { result ≡ step.whole place }
+{
+    Place::new(place.addr(), place.len().div_ceil(8) * 8)
+}
+
+// Whether the place begins on a doubleword.
+fn is_on_doubleword(place: Place) -> bool
+    ensures { result ≡ step.on_doubleword place }
+{
+    place.addr().get() % 8 == 0
+}
+
+// Takes back a place that the subpool holds.
+pub(crate) fn take_back(store: &mut Store, subpool: SubpoolId, place: Place)
+    requires held { HeldBy store.old subpool place }
+    requires whole { IsWhole place }
+    ensures released { Release store.old subpool place store.new }
+    ensures storage { IsStorage store.new }
+{
+    let Ok(()) = store.release(subpool, place) else {
+        unreachable!();
+    };
+}
+
+// Whether each place begins on a doubleword.
+fn are_on_doublewords(places: &[Place]) -> bool
+    ensures { result ≡ list_all step.on_doubleword places.now }
+{
+    places.iter().all(|place| is_on_doubleword(*place))
+}
+
+// Whether the subpool holds each place, its length rounded up to doublewords.
+fn holds_each(store: &Store, subpool: SubpoolId, places: &[Place]) -> bool
+    requires { list_all step.on_doubleword places.now ≡ true }
+    ensures { IsTrue result ↔ AllByRecursion (HeldBy store.now subpool) (map step.whole places.now) }
+{
+    let [place, rest @ ..] = places else {
+        return true;
+    };
+    if !store.holds(subpool, whole(*place)) {
+        return false;
+    }
+    holds_each(store, subpool, rest)
+}
+
+// The doublewords that a place has a byte of, its length rounded up.
+fn doublewords(place: Place) -> Range<u32>
+    ensures first { result.start ≡ place.addr / 8 }
+    ensures end { result.end ≡ (place.addr + round8 place.len + 7) / 8 }
+    ensures some { 1 ≤ place.len }
+{
+    let addr = place.addr().get();
+    addr / 8..(addr + whole(place).len()).div_ceil(8)
+}
+
+// Whether two places have no doubleword in common, their lengths rounded up.
+fn are_apart(one: Place, other: Place) -> bool
+    ensures { IsTrue result ↔ Misses (step.whole one) (step.whole other) }
+{
+    let one = doublewords(one);
+    let other = doublewords(other);
+    one.end <= other.start || other.end <= one.start
+}
+
+// Whether a place has no doubleword in common with any of the others.
+fn misses_each(place: Place, others: &[Place]) -> bool
+    ensures { IsTrue result ↔ AllByRecursion (Misses (step.whole place)) (map step.whole others.now) }
+{
+    let [other, rest @ ..] = others else {
+        return true;
+    };
+    if !are_apart(place, *other) {
+        return false;
+    }
+    misses_each(place, rest)
+}
+
+// Whether no two of the places overlap.
+fn are_disjoint(places: &[Place]) -> bool
+    ensures { IsTrue result ↔ Disjoint (map step.whole places.now) }
+{
+    let [place, rest @ ..] = places else {
+        return true;
+    };
+    if !misses_each(*place, rest) {
+        return false;
+    }
+    are_disjoint(rest)
+}
+
+// Takes back places that the subpool holds and that do not overlap.
+fn take_back_each(store: &mut Store, subpool: SubpoolId, places: &[Place])
+    requires placed { list_all step.on_doubleword places.now ≡ true }
+    requires held { HoldsApart store.old subpool (map step.whole places.now) }
+    requires storage { IsStorage store.old }
+    ensures released { ReleasesEach store.old subpool (map step.whole places.now) store.new }
+    ensures storage { IsStorage store.new }
+{
+    let [place, rest @ ..] = places else {
+        return;
+    };
+    take_back(store, subpool, whole(*place));
+    take_back_each(store, subpool, rest);
+}
+
+// Releases places of the subpool that a task has under a number: all of them, or none.
+fn release_areas(
+    store: &mut Store,
+    subpool: Option<SubpoolId>,
+    places: &[Place],
+) -> Result<(), NotHeld>
+    requires placed { list_all step.on_doubleword places.now ≡ true }
+    requires storage { IsStorage store.old }
+    ensures areas { (owners : Owners) → MatchResult result
+        (λ _. MayRelease (seen store.old owners) subpool (map step.whole places.now) × Frees (seen store.old owners) (map step.whole places.now) (seen store.new owners))
+        (λ _. (MayRelease (seen store.old owners) subpool (map step.whole places.now) → ⊥) × (store.new ≡ store.old)) }
+    ensures storage { IsStorage store.new }
+{
+    let Some(subpool) = subpool else {
+        return Err(NotHeld);
+    };
+    if !holds_each(store, subpool, places) {
+        return Err(NotHeld);
+    }
+    if !are_disjoint(places) {
+        return Err(NotHeld);
+    }
+    take_back_each(store, subpool, places);
+    Ok(())
+}
+
+/// FREEMAIN for a list of places, all of which are released or none; the length of each is rounded up to doublewords
+/// (Assembler Services Reference, FREEMAIN). All or none, that members which overlap count as not held, and the order
+/// of the refusals are this project's choice.
+pub fn release_list(
+    store: &mut Store,
+    tasks: &Tasks,
+    t: TaskId,
+    form: Form,
+    number: u8,
+    places: &Places,
+) -> Result<Reply, Code>
+    requires task { IsTask tasks.now t }
+    requires storage { IsStorage store.old }
+    ensures answer { let old = seen store.old tasks.now.owners in let name = name_of tasks.now t in
+        Answers (ReleaseStep old name form number places.now) old name result (seen store.new tasks.now.owners) }
+    ensures no_abend { IfOk result (λ reply. is_abend reply ≡ false) }
+    ensures unchanged { (result ≡ Ok Rc0) ⊎ (store.new ≡ store.old) }
+    ensures storage { IsStorage store.new }
+{
+    let Some(number) = SubNo::new(number) else {
+        return Err(bad_subpool(form, false));
+    };
+    let places = places.as_slice();
+    if !are_on_doublewords(places) {
+        return Err(bad_address(form));
+    }
+    match release_areas(store, tasks.subpool(t, number), places) {
+        Ok(()) => Ok(Reply::Rc0),
+        Err(NotHeld) => refused(form, not_held(form)),
+    }
+}
+
+/// FREEMAIN and STORAGE RELEASE of one place, whose length is rounded up to doublewords (Assembler Services
+/// Reference).
+pub fn release(
+    store: &mut Store,
+    tasks: &Tasks,
+    t: TaskId,
+    form: Form,
+    number: u8,
+    place: Place,
+) -> Result<Reply, Code>
+    requires task { IsTask tasks.now t }
+    requires storage { IsStorage store.old }
+    ensures answer { let old = seen store.old tasks.now.owners in let name = name_of tasks.now t in
+        Answers (ReleaseStep old name form number (place ∷ [])) old name result (seen store.new tasks.now.owners) }
+    ensures no_abend { IfOk result (λ reply. is_abend reply ≡ false) }
+    ensures unchanged { (result ≡ Ok Rc0) ⊎ (store.new ≡ store.old) }
+    ensures storage { IsStorage store.new }
+{
+    release_list(store, tasks, t, form, number, &Places::one(place))
+}
+
+/// FREEMAIN and STORAGE RELEASE of all that a subpool holds (Assembler Services Reference, subpool release). A
+/// number that the task does not have releases nothing.
+pub fn release_whole(
+    store: &mut Store,
+    tasks: &Tasks,
+    t: TaskId,
+    form: Form,
+    number: u8,
+) -> Result<Reply, Code>
+    requires task { IsTask tasks.now t }
+    requires storage { IsStorage store.old }
+    ensures answer { let old = seen store.old tasks.now.owners in let name = name_of tasks.now t in
+        Answers (ReleaseWholeStep old name form number) old name result (seen store.new tasks.now.owners) }
+    ensures no_abend { IfOk result (λ reply. is_abend reply ≡ false) }
+    ensures unchanged { (result ≡ Ok Rc0) ⊎ (store.new ≡ store.old) }
+    ensures storage { IsStorage store.new }
+{
+    let Some(number) = SubNo::new(number) else {
+        return Err(bad_subpool(form, false));
+    };
+    if number.get() == 0 {
+        return Err(Code::User(4006));
+    }
+    if let Some(subpool) = tasks.subpool(t, number) {
+        store.release_all(subpool);
+    }
+    Ok(Reply::Rc0)
+}
