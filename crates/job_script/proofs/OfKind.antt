@@ -12,12 +12,12 @@ use Rattle.job_script.specs.declared.operands.Kind.TheVariants as kind
 use Rattle.job_script.specs.declared.operands.Keyword.{Keyword}
 use Rattle.job_script.specs.declared.operands.Value.{Value}
 use Rattle.job_script.specs.declared.operands.Value.TheVariants as value
-use Rattle.job_script.specs.Chains.{◌>>=◌, or_fault}
+use Rattle.job_script.specs.Chains.{◌>>=◌, or_fault, is_malformed}
 use Rattle.job_script.proofs.Chains.{bind_ok, or_fault_ok}
 use Rattle.job_script.specs.Numbers.{number_at, subpool_at, is_digit, value_of}
 use Rattle.job_script.specs.NameTexts.{name_at}
 use Rattle.job_script.specs.Hex.{byte_at, bytes_at}
-use Rattle.job_script.specs.Pairs.{pair_at, in_order, inside_at, two_of, is_malformed_number}
+use Rattle.job_script.specs.Pairs.{pair_at, in_order, inside_at, two_of}
 use Rattle.job_script.specs.Pieces.{pieces_of}
 use Rattle.job_script.specs.Addresses.{location_at}
 use Rattle.job_script.specs.Lists.{length_item, list_at, names_at}
@@ -26,7 +26,7 @@ use Rattle.job_script.proofs.Ranges.{ok, ok_same, number_in_range}
 use Rattle.job_script.proofs.SetsRead.{set_even}
 use Rattle.std.proofs.lemmas.Bool.{cases_lt}
 use Rattle.job_script.specs.Choices.{yes_no_at, loc_at, residence_at}
-use Rattle.job_script.specs.Operands.{lengths_at, value_at, placed, positional_at, keyword_at, key_place, by_key, operand_at, operands_at, equals_at, is_malformed, is_set, IsOf, IsKept, AreOf}
+use Rattle.job_script.specs.Operands.{lengths_at, value_at, placed, positional_at, keyword_at, key_place, by_key, operand_at, operands_at, equals_at, is_set, IsOf, IsKept, AreOf}
 
 numbers_in_order : (l s : ℕ) (p : ℕ × ℕ) → cond (nat_lt l s) (Err OutOfRange) (ok (l, s)) ≡ Ok p → ((l, s) ≡ p) × (s ≤ l)
 numbers_in_order l s p e = elim (cases_lt l s) [
@@ -36,7 +36,7 @@ numbers_in_order l s p e = elim (cases_lt l s) [
 
 -- so are the two numbers of a pair, which are in order
 pair_in_order : (largest smallest : Result ℕ Fault) (p : ℕ × ℕ) → in_order largest smallest ≡ Ok p → (largest ≡ Ok p.0) × (smallest ≡ Ok p.1) × (p.1 ≤ p.0)
-pair_in_order largest smallest p e = by_form (is_malformed_number largest || is_malformed_number smallest) e where
+pair_in_order largest smallest p e = by_form (is_malformed largest || is_malformed smallest) e where
   by_form : (malformed : Bool) → cond malformed (Err InvalidOperand) (largest >>= λ l. smallest >>= λ s. (if nat_lt l s then Err OutOfRange else Ok (l, s))) ≡ Ok p → (largest ≡ Ok p.0) × (smallest ≡ Ok p.1) × (p.1 ≤ p.0)
   by_form true e = absurd (cc)
   by_form false e =

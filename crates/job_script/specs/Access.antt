@@ -14,6 +14,7 @@ use Rattle.job_script.specs.Values.{number_of, name_of, location_of, bytes_of}
 abbrev pub put_of : List (Option Value) → Result Statement Fault
 put_of values = location_of (slice_get values 0) >>= λ to. bytes_of (slice_get values 1) >>= λ bytes. Ok (says.Request (asked.Put to bytes))
 
+-- the same by its operands
 abbrev pub put_at : List (List ℕ) → Result Statement Fault
 put_at pieces = operands_at PUT [] (replicate 2 None) 0 pieces >>= put_of
 
@@ -21,6 +22,7 @@ put_at pieces = operands_at PUT [] (replicate 2 None) 0 pieces >>= put_of
 abbrev pub show_of : List (Option Value) → Result Statement Fault
 show_of values = location_of (slice_get values 0) >>= λ from. number_of (slice_get values 1) >>= λ len. Ok (says.Request (asked.Show from len))
 
+-- the same by its operands
 abbrev pub show_at : List (List ℕ) → Result Statement Fault
 show_at pieces = operands_at SHOW [] (replicate 2 None) 0 pieces >>= show_of
 
@@ -30,6 +32,7 @@ move_of values =
     location_of (slice_get values 0) >>= λ to. location_of (slice_get values 1) >>= λ from. number_of (slice_get values 2) >>= λ len.
     Ok (says.Request (asked.Move to from len))
 
+-- the same by its operands
 abbrev pub move_at : List (List ℕ) → Result Statement Fault
 move_at pieces = operands_at MOVE [] (replicate 3 None) 0 pieces >>= move_of
 
@@ -37,5 +40,6 @@ move_at pieces = operands_at MOVE [] (replicate 3 None) 0 pieces >>= move_of
 abbrev pub where_of : List (Option Value) → Result Statement Fault
 where_of values = name_of (slice_get values 0) >>= λ area. Ok (says.Where area)
 
+-- the same by its operand
 abbrev pub where_at : List (List ℕ) → Result Statement Fault
 where_at pieces = operands_at WHERE [] (replicate 1 None) 0 pieces >>= where_of

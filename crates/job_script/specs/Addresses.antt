@@ -21,14 +21,16 @@ absolute_at digits =
 abbrev pub plus_at : List ℕ → Option ℕ
 plus_at text = position (λ b. b == 43) text
 
--- a name alone; a name and an offset, with the plus sign at a byte
+-- a name alone
 abbrev pub area_at : List ℕ → Result Location Fault
 area_at text = or_fault InvalidOperand (name_at text) >>= λ name. Ok (Named name 0)
 
+-- a name and an offset, with the plus sign at a byte
 abbrev pub offset_at : List ℕ → ℕ → Result Location Fault
 offset_at text end =
     or_fault InvalidOperand (name_at (take end text)) >>= λ name. number_at 0 33554431 (drop (end + 1) text) >>= λ offset. Ok (Named name offset)
 
+-- one of these, by where the plus sign stands
 abbrev pub named_by : List ℕ → Option ℕ → Result Location Fault
 named_by text None = area_at text
 named_by text (Some end) = offset_at text end
@@ -38,5 +40,6 @@ abbrev pub located_by : List ℕ → Option (List ℕ) → Result Location Fault
 located_by text None = named_by text (plus_at text)
 located_by text (Some digits) = absolute_at digits
 
+-- an address as written
 abbrev pub location_at : List ℕ → Result Location Fault
 location_at text = located_by text (quoted_at text)

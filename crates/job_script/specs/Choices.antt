@@ -5,6 +5,7 @@ use Rattle.mvs_model.specs.declared.want.Loc.TheVariants as loc
 use Rattle.mvs_model.specs.declared.want.Residence.{Residence}
 use Rattle.mvs_model.specs.declared.want.Residence.TheVariants as residence
 
+-- YES or NO
 abbrev pub yes_no_at : List ℕ → Option Bool
 yes_no_at text = if bytes_eq text (codes "YES") then Some true else (if bytes_eq text (codes "NO") then Some false else None)
 

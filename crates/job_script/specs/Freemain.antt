@@ -19,6 +19,7 @@ use Rattle.job_script.specs.Values.{number_of, name_of, location_of, lengths_of,
 abbrev pub whole_of : Form → List (Option Value) → Result Statement Fault
 whole_of form values = release_of form (slice_get values 2) (slice_get values 0) (slice_get values 1)
 
+-- the same by its operands
 abbrev pub whole_at : Form → List (List ℕ) → Result Statement Fault
 whole_at form pieces = operands_at [] PLACE (replicate 3 None) 0 pieces >>= whole_of form
 
@@ -28,6 +29,7 @@ place_of form values =
     number_of (slice_get values 0) >>= λ len. location_of (slice_get values 1) >>= λ location.
     Ok (says.Request (asked.Release form (subpool_or_zero (slice_get values 2)) location len))
 
+-- the same by its operands
 abbrev pub place_at : Form → List (List ℕ) → Result Statement Fault
 place_at form pieces = operands_at [] PLACE (replicate 3 None) 0 pieces >>= place_of form
 
@@ -35,6 +37,7 @@ place_at form pieces = operands_at [] PLACE (replicate 3 None) 0 pieces >>= plac
 abbrev pub area_of : Form → List (Option Value) → Result Statement Fault
 area_of form values = name_of (slice_get values 0) >>= λ area. Ok (says.Request (asked.ReleaseArea form (subpool_or_zero (slice_get values 1)) area))
 
+-- the same by its operands
 abbrev pub area_at : Form → List (List ℕ) → Result Statement Fault
 area_at form pieces = operands_at [] AREA (replicate 2 None) 0 pieces >>= area_of form
 
@@ -45,6 +48,7 @@ list_of form values =
     (if length lengths == length locations then Ok (says.Request (asked.ReleaseList form (subpool_or_zero (slice_get values 2)) locations lengths))
     else Err Conflicting)
 
+-- the same by its operands
 abbrev pub list_at : Form → List (List ℕ) → Result Statement Fault
 list_at form pieces = operands_at [] LIST (replicate 3 None) 0 pieces >>= list_of form
 

@@ -38,6 +38,7 @@ list_of form values =
     (if length lengths == length areas then Ok (says.Request (asked.ObtainList form (subpool_or_zero (slice_get values 2)) lengths (number_or 3 (slice_get values 3)) areas))
     else Err Conflicting)
 
+-- the same by its operands
 abbrev pub list_at : Form → List (List ℕ) → Result Statement Fault
 list_at form pieces = operands_at [] LIST (replicate 4 None) 0 pieces >>= list_of form
 

@@ -1,26 +1,22 @@
 -- Lists in parentheses, of one to sixteen items.
-use Rattle.std.specs.Prelude.{ℕ, ◌-◌, List, [], ◌∷◌, ◌++◌, map, length, replicate, nat_lt, ◌||◌, Bool, true, false, if◌then◌else◌, Option, Some, None, Result, Ok, Err, bytes_eq}
+use Rattle.std.specs.Prelude.{ℕ, ◌-◌, List, [], ◌∷◌, ◌++◌, map, length, replicate, nat_lt, ◌||◌, Bool, false, if◌then◌else◌, Option, Some, None, Result, Ok, Err, bytes_eq}
 use Rattle.std.specs.List.{list_any}
 use Rattle.mvs_model.specs.declared.line.Fault.{Fault}
 use Rattle.mvs_model.specs.declared.line.Fault.TheVariants.{InvalidOperand, OutOfRange, Repeated}
 use Rattle.mvs_model.specs.declared.name.Name.{Name}
-use Rattle.job_script.specs.Chains.{◌>>=◌, or_fault}
+use Rattle.job_script.specs.Chains.{◌>>=◌, or_fault, is_malformed}
 use Rattle.job_script.specs.NameTexts.{name_at}
 use Rattle.job_script.specs.Numbers.{number_at}
 use Rattle.job_script.specs.Pairs.{inside_at}
 use Rattle.job_script.specs.Pieces.{pieces_of}
 
--- what one item says: a length, or a name
+-- what an item says that is a length
 abbrev pub length_item : List ℕ → Result ℕ Fault
 length_item text = number_at 1 2147483647 text
 
+-- what an item says that is a name
 abbrev pub name_item : List ℕ → Result Name Fault
 name_item text = or_fault InvalidOperand (name_at text)
-
--- whether an item is malformed
-abbrev pub is_malformed_item : {A : Type 0} → Result A Fault → Bool
-is_malformed_item (Err InvalidOperand) = true
-is_malformed_item _ = false
 
 -- the items; the first fault is the answer
 abbrev pub items_of : {A : Type 0} → (List ℕ → Result A Fault) → List (List ℕ) → Result (List A) Fault
@@ -38,7 +34,7 @@ items_behind item front pieces = items_of item pieces >>= λ xs. Ok (sixteen (fr
 -- at most sixteen items, of which each is tried for its form before any for its range
 abbrev pub list_in : {A : Type 0} → (List ℕ → Result A Fault) → List (List ℕ) → Result (List (Option A)) Fault
 list_in item pieces =
-    if list_any (λ piece. is_malformed_item (item piece)) pieces then Err InvalidOperand
+    if list_any (λ piece. is_malformed (item piece)) pieces then Err InvalidOperand
     else (if nat_lt 16 (length pieces) then Err OutOfRange
     else items_behind item [] pieces)
 
@@ -50,13 +46,14 @@ repeats (piece ∷ pieces) = list_any (bytes_eq piece) pieces || repeats pieces
 -- names, each of which stands once
 abbrev pub names_in : List (List ℕ) → Result (List (Option Name)) Fault
 names_in pieces =
-    if list_any (λ piece. is_malformed_item (name_item piece)) pieces then Err InvalidOperand
+    if list_any (λ piece. is_malformed (name_item piece)) pieces then Err InvalidOperand
     else (if repeats pieces then Err Repeated
     else list_in name_item pieces)
 
--- the same in parentheses
+-- such a list in parentheses
 abbrev pub list_at : {A : Type 0} → (List ℕ → Result A Fault) → List ℕ → Result (List (Option A)) Fault
 list_at item text = or_fault InvalidOperand (inside_at text) >>= λ inner. list_in item (pieces_of inner)
 
+-- such names in parentheses
 abbrev pub names_at : List ℕ → Result (List (Option Name)) Fault
 names_at text = or_fault InvalidOperand (inside_at text) >>= λ inner. names_in (pieces_of inner)

@@ -10,7 +10,7 @@ use Rattle.job_script.specs.declared.operands.Kind.TheVariants as kind
 use Rattle.job_script.specs.declared.operands.Keyword.{Keyword}
 use Rattle.job_script.specs.declared.operands.Value.{Value}
 use Rattle.job_script.specs.declared.operands.Value.TheVariants as value
-use Rattle.job_script.specs.Chains.{◌>>=◌, or_fault}
+use Rattle.job_script.specs.Chains.{◌>>=◌, or_fault, is_malformed}
 use Rattle.job_script.specs.Numbers.{number_at, subpool_at}
 use Rattle.job_script.specs.NameTexts.{name_at}
 use Rattle.job_script.specs.Pieces.{pieces_of}
@@ -46,17 +46,15 @@ value_at kind.NameList text = names_at text >>= λ names. Ok (value.NameList nam
 value_at kind.AddressList text = list_at location_at text >>= λ addresses. Ok (value.AddressList addresses)
 value_at kind.Bytes text = bytes_at text >>= λ bytes. Ok (value.Bytes bytes)
 
--- where a padded key stands in the table; where a keyword does
+-- where a padded key stands in the table
 abbrev pub place_of : List Keyword → List ℕ → Option ℕ
 place_of keywords key = position (λ k. bytes_eq k.key key) keywords
 
+-- where a keyword stands in the table, by the text before the equals sign
 abbrev pub key_place : List Keyword → List ℕ → Option ℕ
 key_place keywords text = if nat_lt 8 (length text) then None else place_of keywords (padded text)
 
-abbrev pub is_malformed : Result Value Fault → Bool
-is_malformed (Err InvalidOperand) = true
-is_malformed _ = false
-
+-- whether there is a value in a place
 abbrev pub is_set : Option (Option Value) → Bool
 is_set (Some (Some v)) = true
 is_set _ = false
@@ -93,6 +91,7 @@ abbrev pub by_key : List Kind → List Keyword → List (Option Value) → ℕ �
 by_key positional keywords values number piece None = positional_at positional values number piece >>= λ new. Ok (new, number + 1)
 by_key positional keywords values number piece (Some end) = keyword_at keywords values (length positional) piece end >>= λ new. Ok (new, length positional)
 
+-- the same by where its key ends
 abbrev pub operand_at : List Kind → List Keyword → List (Option Value) → ℕ → List ℕ → Result (List (Option Value) × ℕ) Fault
 operand_at positional keywords values number piece = by_key positional keywords values number piece (equals_at piece)
 

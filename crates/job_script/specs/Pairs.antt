@@ -1,8 +1,8 @@
 -- Pairs of numbers.
-use Rattle.std.specs.Prelude.{ℕ, ◌-◌, List, [], ◌∷◌, length, nat_lt, ◌==◌, ◌||◌, not, Bool, true, false, if◌then◌else◌, Option, Some, None, Result, Ok, Err, slice_index, slice_range}
+use Rattle.std.specs.Prelude.{ℕ, ◌-◌, List, [], ◌∷◌, length, nat_lt, ◌==◌, ◌||◌, not, if◌then◌else◌, Option, Some, None, Result, Ok, Err, slice_index, slice_range}
 use Rattle.mvs_model.specs.declared.line.Fault.{Fault}
 use Rattle.mvs_model.specs.declared.line.Fault.TheVariants.{InvalidOperand, OutOfRange}
-use Rattle.job_script.specs.Chains.{◌>>=◌, or_fault}
+use Rattle.job_script.specs.Chains.{◌>>=◌, or_fault, is_malformed}
 use Rattle.job_script.specs.Numbers.{number_at}
 use Rattle.job_script.specs.Pieces.{pieces_of}
 
@@ -17,15 +17,10 @@ abbrev pub two_of : List (List ℕ) → Option (List ℕ × List ℕ)
 two_of (first ∷ second ∷ []) = Some (first, second)
 two_of _ = None
 
--- whether a number is malformed
-abbrev pub is_malformed_number : Result ℕ Fault → Bool
-is_malformed_number (Err InvalidOperand) = true
-is_malformed_number _ = false
-
 -- a largest and a smallest number, where both are in their range and in order
 abbrev pub in_order : Result ℕ Fault → Result ℕ Fault → Result (ℕ × ℕ) Fault
 in_order largest smallest =
-    if is_malformed_number largest || is_malformed_number smallest then Err InvalidOperand
+    if is_malformed largest || is_malformed smallest then Err InvalidOperand
     else (largest >>= λ l. smallest >>= λ s. (if nat_lt l s then Err OutOfRange else Ok (l, s)))
 
 -- a largest and a smallest number in parentheses

@@ -21,6 +21,7 @@ form_if cond = if is_yes cond then form.StorageConditional else form.Storage
 abbrev pub obtain_in : List (Option Value) → Result Statement Fault
 obtain_in values = placed_of (form_if (slice_get values 7)) values
 
+-- the same by its operands
 abbrev pub obtain_at : List (List ℕ) → Result Statement Fault
 obtain_at pieces = operands_at [] OBTAIN (replicate 8 None) 0 pieces >>= obtain_in
 
@@ -28,6 +29,7 @@ obtain_at pieces = operands_at [] OBTAIN (replicate 8 None) 0 pieces >>= obtain_
 abbrev pub release_in : List (Option Value) → Result Statement Fault
 release_in values = release_of (form_if (slice_get values 3)) (slice_get values 2) (slice_get values 0) (slice_get values 1)
 
+-- the same by its operands
 abbrev pub release_at : List (List ℕ) → Result Statement Fault
 release_at pieces = operands_at [] RELEASE (replicate 4 None) 0 pieces >>= release_in
 

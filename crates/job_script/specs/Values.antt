@@ -45,15 +45,17 @@ abbrev pub bytes_of : Option (Option Value) → Result (List ℕ) Fault
 bytes_of (Some (Some (value.Bytes places))) = or_fault MissingOperand (some_list places)
 bytes_of _ = Err MissingOperand
 
--- the lengths, the names or the addresses that a required operand says
+-- the lengths that a required operand says
 abbrev pub lengths_of : Option (Option Value) → Result (List ℕ) Fault
 lengths_of (Some (Some (value.LengthList places))) = or_fault MissingOperand (some_list places)
 lengths_of _ = Err MissingOperand
 
+-- the names that a required operand says
 abbrev pub names_of : Option (Option Value) → Result (List Name) Fault
 names_of (Some (Some (value.NameList places))) = or_fault MissingOperand (some_list places)
 names_of _ = Err MissingOperand
 
+-- the addresses that a required operand says
 abbrev pub locations_of : Option (Option Value) → Result (List Location) Fault
 locations_of (Some (Some (value.AddressList places))) = or_fault MissingOperand (some_list places)
 locations_of _ = Err MissingOperand

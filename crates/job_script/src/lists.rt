@@ -4,8 +4,9 @@ ghost use Rattle.std.specs.Prelude.{◌≡◌, ◌≤◌, [], List, ℕ, Result,
 ghost use Rattle.std.specs.List.{list_any};
 ghost use Rattle.mvs_model.specs.declared.line.Fault.{Fault};
 ghost use Rattle.job_script.specs.Addresses.{location_at};
+ghost use Rattle.job_script.specs.Chains.{is_malformed};
 ghost use Rattle.job_script.specs.Pieces.{pieces_of};
-ghost use Rattle.job_script.specs.Lists.{length_item, name_item, is_malformed_item, items_behind, list_in, repeats, names_in, list_at, names_at};
+ghost use Rattle.job_script.specs.Lists.{length_item, name_item, items_behind, list_in, repeats, names_in, list_at, names_at};
 
 use crate::address::read_location;
 use crate::name::read_name;
@@ -54,14 +55,14 @@ impl Item for Location {
 
 // Whether an item is malformed.
 fn is_malformed<T: Item>(text: &[u8]) -> bool
-    ensures { result ≡ is_malformed_item (T.item_at text.now) }
+    ensures { result ≡ is_malformed (T.item_at text.now) }
 {
     matches!(T::read_item(text), Err(Fault::InvalidOperand))
 }
 
 // Whether some item is malformed.
 fn some_malformed<T: Item>(inner: &[u8]) -> bool
-    ensures { result ≡ list_any (λ piece. is_malformed_item (T.item_at piece)) (pieces_of inner.now) }
+    ensures { result ≡ list_any (λ piece. is_malformed (T.item_at piece)) (pieces_of inner.now) }
 {
     let mut rest = inner;
     'pieces: loop {

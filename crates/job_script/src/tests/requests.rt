@@ -49,7 +49,9 @@ fn bytes_are_put(rt: HostRuntime) {
 
 #[test]
 fn a_put_has_its_faults(rt: HostRuntime) {
-    let malformed: [&[u8]; 12] = [
+    let malformed: [&[u8]; 14] = [
+        b"JOB PUT X,X'00 00'",
+        b"JOB PUT X,X'00,00'",
         b"JOB PUT X,",
         b"JOB PUT ,X'00'",
         b"JOB PUT X,X''",
