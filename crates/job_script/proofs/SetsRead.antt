@@ -10,8 +10,7 @@ use Rattle.mvs_model.specs.Presents.{IsPresents}
 use Rattle.job_script.specs.declared.operands.Kind.TheVariants as kind
 use Rattle.job_script.specs.declared.operands.Value.{Value}
 use Rattle.job_script.specs.declared.operands.Value.TheVariants as value
-use Rattle.job_script.specs.Chains.{or_fault}
-use Rattle.job_script.specs.Lists.{is_malformed_item}
+use Rattle.job_script.specs.Chains.{or_fault, is_malformed}
 use Rattle.job_script.specs.Operands.{IsKept, is_set}
 use Rattle.job_script.specs.Pairs.{inside_at}
 use Rattle.job_script.specs.Pieces.{pieces_of}
@@ -43,7 +42,7 @@ set_in_even false false pieces r e = set_with_even 0 pieces r refl e
 pub set_even : (text : List ℕ) (r : ℕ) → set_at text ≡ Ok r → r % 2 ≡ 0
 set_even text r e =
     let inner = bind_ok (or_fault InvalidOperand (inside_at text)) (λ inner. set_in (pieces_of inner)) r e in
-    set_in_even (list_any (λ piece. is_malformed_item (gift_at piece)) (pieces_of inner.0)) (twice (pieces_of inner.0)) (pieces_of inner.0) r inner.2
+    set_in_even (list_any (λ piece. is_malformed (gift_at piece)) (pieces_of inner.0)) (twice (pieces_of inner.0)) (pieces_of inner.0) r inner.2
 
 -- the set of one number, or of a list, lacks 0
 one_even : (o : Option (Option Value)) → IsKept (Some (kind.Number 1 127)) o → set_of o % 2 ≡ 0

@@ -3,8 +3,7 @@ use Rattle.std.specs.Prelude.{ℕ, ◌^◌, List, [], ◌∷◌, ◌==◌, ◌||
 use Rattle.std.specs.List.{list_any}
 use Rattle.mvs_model.specs.declared.line.Fault.{Fault}
 use Rattle.mvs_model.specs.declared.line.Fault.TheVariants.{InvalidOperand, Repeated}
-use Rattle.job_script.specs.Chains.{◌>>=◌, or_fault}
-use Rattle.job_script.specs.Lists.{is_malformed_item}
+use Rattle.job_script.specs.Chains.{◌>>=◌, or_fault, is_malformed}
 use Rattle.job_script.specs.Numbers.{number_at}
 use Rattle.job_script.specs.Pairs.{inside_at}
 use Rattle.job_script.specs.Pieces.{pieces_of}
@@ -35,7 +34,7 @@ set_with set (piece ∷ pieces) = gift_at piece >>= λ n. set_with (bit_or set (
 -- the set of numbers of which each stands once
 abbrev pub set_in : List (List ℕ) → Result ℕ Fault
 set_in pieces =
-    if list_any (λ piece. is_malformed_item (gift_at piece)) pieces then Err InvalidOperand
+    if list_any (λ piece. is_malformed (gift_at piece)) pieces then Err InvalidOperand
     else (if twice pieces then Err Repeated
     else set_with 0 pieces)
 

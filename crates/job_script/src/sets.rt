@@ -3,7 +3,7 @@
 ghost use Rattle.std.specs.Prelude.{◌≡◌, ◌<◌, ◌≤◌, ◌%◌, ◌^◌, bit_or};
 ghost use Rattle.std.specs.List.{list_any};
 ghost use Rattle.job_script.specs.Pieces.{pieces_of};
-ghost use Rattle.job_script.specs.Lists.{is_malformed_item};
+ghost use Rattle.job_script.specs.Chains.{is_malformed};
 ghost use Rattle.job_script.specs.Sets.{gift_at, significant, same_number, twice, set_with, set_in, set_at};
 
 use crate::number::read_number;
@@ -30,14 +30,14 @@ fn is_same(one: &[u8], other: &[u8]) -> bool
 
 // Whether a piece is malformed.
 fn is_malformed(text: &[u8]) -> bool
-    ensures { result ≡ is_malformed_item (gift_at text.now) }
+    ensures { result ≡ is_malformed (gift_at text.now) }
 {
     matches!(read_number(1, 127, text), Err(Fault::InvalidOperand))
 }
 
 // Whether some piece is malformed.
 fn some_malformed(inner: &[u8]) -> bool
-    ensures { result ≡ list_any (λ piece. is_malformed_item (gift_at piece)) (pieces_of inner.now) }
+    ensures { result ≡ list_any (λ piece. is_malformed (gift_at piece)) (pieces_of inner.now) }
 {
     let mut rest = inner;
     'pieces: loop {
