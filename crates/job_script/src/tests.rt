@@ -14,6 +14,7 @@ use mvs_model::want::{Ask, Loc, Residence, Side};
 mod lists;
 mod places;
 mod requests;
+mod tasks;
 
 // The first of the lines that is not answered by this fault.
 pub fn exception<'a>(lines: &[&'a [u8]], first: bool, fault: Fault) -> Option<&'a [u8]> {
