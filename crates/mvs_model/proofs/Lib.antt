@@ -7,6 +7,7 @@ pub mod Keyed
 pub mod Kept
 pub mod Made
 pub mod NameText
+pub mod Operands
 pub mod Orders
 pub mod Owning
 pub mod Pages
