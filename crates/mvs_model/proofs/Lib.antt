@@ -1,4 +1,5 @@
 pub mod Asked
+pub mod CellPlaces
 pub mod Decide
 pub mod Elements
 pub mod Falling
