@@ -24,3 +24,4 @@ pub mod SmallLaws
 pub mod StorageLaws
 pub mod Stuck
 pub mod Tables
+pub mod TakenCells
