@@ -12,6 +12,7 @@ pub mod Operands
 pub mod Orders
 pub mod Owning
 pub mod Pages
+pub mod PartsFewer
 pub mod Printed
 pub mod RegionsKept
 pub mod Search
