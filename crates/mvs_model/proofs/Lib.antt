@@ -13,6 +13,7 @@ pub mod Orders
 pub mod Owning
 pub mod Pages
 pub mod PartsFewer
+pub mod PartsFreed
 pub mod Printed
 pub mod RegionsKept
 pub mod Search

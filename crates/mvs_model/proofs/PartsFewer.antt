@@ -48,10 +48,10 @@ module _ (old new : State) (less : (n : Name) (q : Pool) → get new.pools n ≡
 pub cells_same : (old new : State) (a : ℕ) → new.pools ≡ old.pools → in_cell new a ≡ in_cell old a
 cells_same old new a e = ap (λ m. list_any (λ name. has (λ pool. in_taken pool a) (get m name)) (keys m)) e
 
-pools_same : (old new : State) → new.pools ≡ old.pools → (n : Name) (q : Pool) → get new.pools n ≡ Some q → get old.pools n ≡ Some q
+pub pools_same : (old new : State) → new.pools ≡ old.pools → (n : Name) (q : Pool) → get new.pools n ≡ Some q → get old.pools n ≡ Some q
 pools_same old new e n q h = sym (ap (λ m. get m n) e) ∙ h
 
-covered_same : (old new : State) → new.pools ≡ old.pools → ((d s : ℕ) → get new.held d ≡ Some (pooled s) → get old.held d ≡ Some (pooled s)) → Covered old → Covered new
+pub covered_same : (old new : State) → new.pools ≡ old.pools → ((d s : ℕ) → get new.held d ≡ Some (pooled s) → get old.held d ≡ Some (pooled s)) → Covered old → Covered new
 covered_same old new e back covered d s h = let c = covered d s (back d s h) in (c.0, c.1, ap (λ m. get m c.0) e ∙ c.2, c.3, c.4)
 
 -- what holds a doubleword that nobody holds
