@@ -12,8 +12,10 @@ pub mod Operands
 pub mod Orders
 pub mod Owning
 pub mod Pages
+pub mod PartsDeleted
 pub mod PartsFewer
 pub mod PartsFreed
+pub mod PoolPut
 pub mod Printed
 pub mod RegionsKept
 pub mod Search
