@@ -15,6 +15,7 @@ pub mod Pages
 pub mod PartsDeleted
 pub mod PartsFewer
 pub mod PartsFreed
+pub mod PartsGiven
 pub mod PartsTaken
 pub mod PoolPut
 pub mod Printed

@@ -21,10 +21,6 @@ use Rattle.mvs_model.proofs.TakenCells.{InCell, in_cell_is, in_cell_from, same_c
 use Rattle.mvs_model.proofs.PoolPut.{put_here, put_else, put_cases, kept_cases}
 use Rattle.mvs_model.proofs.PartsFewer.{Covered, BytesGranted}
 
--- the pool with other cells taken
-with_taken : Pool → set.FinSet nat_cmp → Pool
-with_taken pool taken = record pool { taken = taken }
-
 -- A pool of a state, which has the parts that another has.
 record Like (st : State) (n : Name) (q : Pool) : Type 0 where
   before : Pool
@@ -78,3 +74,66 @@ module _ (old new : State) (name : Name) (pool : Pool) (taken : set.FinSet nat_c
     ];
     bytes = bytes;
   }
+
+-- the test of a set's numbers
+pub equal_numbers : (x c : ℕ) → eq_by_cmp nat_cmp x c ≡ true → x ≡ c
+equal_numbers x c e = let f : eqb x c ≡ true = sym (eq_by_cmp_is x c) ∙ e in grind (arith, nat_tests)
+
+pub same_number : (c : ℕ) → eq_by_cmp nat_cmp c c ≡ true
+same_number c = eq_by_cmp_is c c ∙ grind (arith, nat_tests)
+
+-- a cell is taken
+module _ (old new : State) (name : Name) (pool : Pool) (c : ℕ) (is : get old.pools name ≡ Some pool) (cell : IsCell pool c) (g : TakesCell old name pool c new) (a : Apart old) where
+  taken_cells : (x : ℕ) → set.contains (set.insert pool.taken c) x ≡ true → IsCell pool x
+  taken_cells x e = at (eq_by_cmp nat_cmp x c) refl (sym (set.contains-insert nat_cmp_total pool.taken c x) ∙ e) where
+    at : (b : Bool) → eq_by_cmp nat_cmp x c ≡ b → (b || set.contains pool.taken x) ≡ true → IsCell pool x
+    at true s f = subst (λ y. IsCell pool y) (sym (equal_numbers x c s)) cell
+    at false s f = a.cells name pool x is f
+
+  here : get new.pools name ≡ Some (record pool { taken = set.insert pool.taken c })
+  here = put_here old new name (Some (record pool { taken = set.insert pool.taken c })) g.pools
+
+  -- the cell's addresses may be read now
+  now_in : (x : ℕ) → has_address (cell_at pool c) x ≡ true → InCell new x
+  now_in x e = record { name = name; pool = _; first = c; is_pool = here; taken = set.contains-insert nat_cmp_total pool.taken c c ∙ ap (λ b. b || set.contains pool.taken c) (same_number c); inside = e }
+
+  -- and no others more than before
+  to : (x : ℕ) → InCell old x → InCell new x
+  to x i = elim (kept_cases old new name (Some (record pool { taken = set.insert pool.taken c })) g.pools i.name i.pool i.is_pool) [
+    | inl n ↦ let p : i.pool ≡ pool = (let f : Some i.pool ≡ Some pool = sym i.is_pool ∙ ap (get old.pools) n ∙ is in cc) in
+        record { name = name; pool = _; first = i.first; is_pool = here; taken = more (ap (λ q. set.contains q.taken i.first) (sym p) ∙ i.taken); inside = ap (λ q. has_address (cell_at q i.first) x) (sym p) ∙ i.inside }
+    | inr k ↦ record { name = i.name; pool = i.pool; first = i.first; is_pool = k.1; taken = i.taken; inside = i.inside }
+  ] where
+    or_true : (b t : Bool) → t ≡ true → (b || t) ≡ true
+    or_true true t e = refl
+    or_true false t e = e
+
+    more : set.contains pool.taken i.first ≡ true → set.contains (set.insert pool.taken c) i.first ≡ true
+    more e = set.contains-insert nat_cmp_total pool.taken c i.first ∙ or_true (eq_by_cmp nat_cmp i.first c) _ e
+
+  back : (x : ℕ) → has_address (cell_at pool c) x ≡ false → InCell new x → InCell old x
+  back x out i = elim (put_cases old new name (Some (record pool { taken = set.insert pool.taken c })) g.pools i.name i.pool i.is_pool) [
+    | inl h ↦ let s : record pool { taken = set.insert pool.taken c } ≡ i.pool = cc in
+        fewer (eq_by_cmp nat_cmp i.first c) refl
+        (sym (set.contains-insert nat_cmp_total pool.taken c i.first) ∙ ap (λ q. set.contains q.taken i.first) s ∙ i.taken)
+        (ap (λ q. has_address (cell_at q i.first) x) s ∙ i.inside)
+    | inr h ↦ record { name = i.name; pool = i.pool; first = i.first; is_pool = h.1; taken = i.taken; inside = i.inside }
+  ] where
+    fewer : (b : Bool) → eq_by_cmp nat_cmp i.first c ≡ b → (b || set.contains pool.taken i.first) ≡ true → has_address (cell_at pool i.first) x ≡ true → InCell old x
+    fewer true s t e = absurd (let f : true ≡ false = sym e ∙ ap (λ y. has_address (cell_at pool y) x) (equal_numbers i.first c s) ∙ out in cc)
+    fewer false s t e = record { name = name; pool = pool; first = i.first; is_pool = is; taken = t; inside = e }
+
+  taken_bytes : BytesGranted new
+  taken_bytes x =
+      ap is_some (g.bytes x) ∙ at (has_address (cell_at pool c) x) (λ e. in_cell_from new x (now_in x e)) (λ e. same_cells old new x (to x) (back x e))
+      ∙ ap (λ m. is_plain (get m (x / 8)) || in_cell new x) (sym g.held) where
+        or_second : (b d : Bool) → d ≡ true → true ≡ (b || d)
+        or_second true d e = refl
+        or_second false d e = sym e
+
+        at : (b : Bool) → (b ≡ true → in_cell new x ≡ true) → (b ≡ false → in_cell new x ≡ in_cell old x) → is_some (cond b (Some old.regions.fill) (get old.bytes x)) ≡ (is_plain (get old.held (x / 8)) || in_cell new x)
+        at true f h = or_second _ _ (f refl)
+        at false f h = a.bytes x ∙ ap (λ b. is_plain (get old.held (x / 8)) || b) (sym (h refl))
+
+  pub taken_apart : Apart new
+  taken_apart = retaken_apart old new name pool (set.insert pool.taken c) is g.held g.pools a taken_cells taken_bytes
