@@ -12,10 +12,12 @@ pub mod Operands
 pub mod Orders
 pub mod Owning
 pub mod Pages
+pub mod PartsApart
 pub mod PartsDeleted
 pub mod PartsFewer
 pub mod PartsFreed
 pub mod PartsGiven
+pub mod PartsGrown
 pub mod PartsTaken
 pub mod PoolPut
 pub mod Printed
