@@ -1,9 +1,9 @@
 -- Where the cells of a part lie.
-use Rattle.std.proofs.Common.{◌≡◌, ℕ, suc, ◌+◌, ◌-◌, ◌*◌, ◌/◌, ◌%◌, ◌<◌, ◌≤◌, inl, inr, Bool, true, false, sym, ap, ◌∙◌, arith}
+use Rattle.std.proofs.Common.{◌≡◌, ℕ, suc, ◌+◌, ◌*◌, ◌/◌, ◌%◌, ◌<◌, ◌≤◌, inl, inr, true, sym, ap, ◌∙◌, arith}
 use Rattle.std.proofs.Math.Nat.{mul-le-mul_right}
 use Rattle.std.proofs.lemmas.Bool.{cases_lt}
 use Rattle.std.proofs.lemmas.Bool.Decides.{nat_tests}
-use Rattle.mvs_model.specs.Span.{Span, span, round8}
+use Rattle.mvs_model.specs.Span.{Span}
 use Rattle.mvs_model.specs.Storage.{IsWhole, Covers, covers, has_address}
 use Rattle.mvs_model.specs.Pools.{Part, part_length, first_cell, IsCellOf}
 

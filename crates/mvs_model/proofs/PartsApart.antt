@@ -1,7 +1,6 @@
 -- In every state of a run the parts of pools keep apart.
-use Rattle.std.proofs.Common.{◌≡◌, ℕ, ◌/◌, ◌<◌, ◌≤◌, Bool, true, false, List, [], ◌∷◌, map, Option, Some, None, refl, sym, ap, ◌∙◌, subst, arith}
+use Rattle.std.proofs.Common.{◌≡◌, ℕ, ◌/◌, true, false, [], ◌∷◌, Option, Some, None, refl, sym, ap, ◌∙◌, arith}
 use Rattle.std.specs.Prelude.{is_some, ◌||◌}
-use Rattle.std.specs.List.{Contains}
 use Rattle.std.proofs.lemmas.List.Elements.{Contains-append_right}
 use Rattle.std.specs.Ordering.{nat_cmp}
 use Rattle.std.specs.FinMap.{get, empty, keys, get-empty, contains_key}
@@ -10,13 +9,13 @@ use Rattle.mvs_model.specs.declared.name.Name.{Name}
 use Rattle.mvs_model.specs.Card.{StepCard}
 use Rattle.mvs_model.specs.Finite.{has}
 use Rattle.mvs_model.specs.Name.{name_cmp}
-use Rattle.mvs_model.specs.Pools.{Pool, Part, in_taken}
-use Rattle.mvs_model.specs.State.{State, Holding, pooled, is_plain, in_cell, granted}
+use Rattle.mvs_model.specs.Pools.{Pool, in_taken}
+use Rattle.mvs_model.specs.State.{State, pooled, is_plain, in_cell, granted}
 use Rattle.mvs_model.specs.Start.{start}
 use Rattle.mvs_model.specs.Changes.{with_part}
 use Rattle.mvs_model.specs.Steps.{Plan, new_pool}
 use Rattle.mvs_model.specs.WellFormed.{Apart, PoolsSized}
-use Rattle.mvs_model.specs.Runs.{Job, Before, In}
+use Rattle.mvs_model.specs.Runs.{Before, In}
 use Rattle.mvs_model.specs.Laws.{PartsApart}
 use Rattle.mvs_model.proofs.Kept.{Closed}
 use Rattle.mvs_model.proofs.Sized.{sized_closed}
@@ -31,8 +30,8 @@ use Rattle.mvs_model.proofs.PartsGrown.{Stands, grown_apart}
 use Rattle.mvs_model.proofs.Going.{runs_keep, start_sized}
 
 -- What stays together: the parts are apart, and the pools have sizes and counts.
-abbrev Kept : State → Type 0
-Kept st = Apart st × PoolsSized st
+abbrev StaysApart : State → Type 0
+StaysApart st = Apart st × PoolsSized st
 
 -- a pool of the state stands in it
 stands_there : (st : State) (name : Name) (pool : Pool) → Apart st → get st.pools name ≡ Some pool → Stands st name pool
@@ -55,7 +54,7 @@ stands_new st name s plan fresh = record {
   only = λ q e. absurd (no_pool fresh q e);
 }
 
-apart_closed : Closed Kept
+apart_closed : Closed StaysApart
 apart_closed = record {
   granted = λ old t number want p new g k. (grant_apart old new t number want p g k.0, sized_closed.granted old t number want p new g k.1);
   freed = λ old s ps new w r f k. (freed_apart old new s ps w r f k.0, sized_closed.freed old s ps new w r f k.1);
@@ -106,4 +105,4 @@ module _ (card : StepCard) where
 
 -- In every state of a run the parts of pools keep apart, and there are bytes just where they may be read.
 pub parts_apart : PartsApart
-parts_apart job is = (runs_keep Kept apart_closed (λ card. (start_apart card, start_sized card)) is.read is.is_reader 1 is.lines Before (In job) is.runs tt).0
+parts_apart job is = (runs_keep StaysApart apart_closed (λ card. (start_apart card, start_sized card)) is.read is.is_reader 1 is.lines Before (In job) is.runs tt).0

@@ -1,17 +1,15 @@
 -- A pool that goes leaves the parts of the others apart.
-use Rattle.std.proofs.Common.{◌≡◌, ◌≢◌, ℕ, ◌/◌, ◌⊎◌, inl, inr, Bool, true, false, cond, Option, Some, None, refl, sym, ap, ◌∙◌, subst}
-use Rattle.std.specs.Prelude.{is_some, not, ◌||◌}
+use Rattle.std.proofs.Common.{◌≡◌, ◌≢◌, ℕ, ◌/◌, inl, inr, Bool, true, false, cond, Option, Some, None, refl, sym, ap, ◌∙◌}
+use Rattle.std.specs.Prelude.{is_some, ◌||◌}
 use Rattle.std.specs.List.{Contains}
 use Rattle.std.specs.FinMap.{get}
-use Rattle.std.specs.FinSet as set
 use Rattle.mvs_model.specs.declared.name.Name.{Name}
-use Rattle.mvs_model.specs.Finite.{has}
-use Rattle.mvs_model.specs.Storage.{Covers, has_address}
-use Rattle.mvs_model.specs.Pools.{Pool, Part, cell_at, in_parts, in_taken}
+use Rattle.mvs_model.specs.Storage.{Covers}
+use Rattle.mvs_model.specs.Pools.{Pool, Part, in_parts, in_taken}
 use Rattle.mvs_model.specs.State.{State, Holding, pooled, is_plain, in_cell}
 use Rattle.mvs_model.specs.Changes.{DropsPool}
 use Rattle.mvs_model.specs.WellFormed.{Apart}
-use Rattle.mvs_model.proofs.TakenCells.{InCell, in_cell_is, same_cells, never, taken_found, taken_from, part_found, part_from, CellPart, cell_part}
+use Rattle.mvs_model.proofs.TakenCells.{InCell, in_cell_is, same_cells, never, taken_found, taken_from, part_found, part_from, cell_part}
 use Rattle.mvs_model.proofs.PoolPut.{put_cases, kept_cases}
 use Rattle.mvs_model.proofs.PartsFewer.{Covered, BytesGranted, fewer_apart, fewer_cells}
 

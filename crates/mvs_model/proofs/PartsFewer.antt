@@ -1,24 +1,20 @@
 -- Parts of pools keep apart where no pool gets a part.
-use Rattle.std.proofs.Common.{◌≡◌, ◌≢◌, ℕ, ◌/◌, ◌<◌, ◌⊎◌, inl, inr, Bool, true, false, cond, List, [], ◌∷◌, Option, Some, None, refl, sym, ap, ◌∙◌, subst, arith}
-use Rattle.std.specs.Prelude.{is_some, not, ◌||◌}
-use Rattle.std.specs.List.{Contains, AllByRecursion, list_any}
+use Rattle.std.proofs.Common.{◌≡◌, ℕ, ◌/◌, Bool, true, false, cond, Option, Some, None, refl, sym, ap, ◌∙◌}
+use Rattle.std.specs.Prelude.{is_some, ◌||◌}
+use Rattle.std.specs.List.{Contains, list_any}
 use Rattle.std.specs.FinMap.{get, keys}
 use Rattle.mvs_model.specs.declared.name.Name.{Name}
-use Rattle.mvs_model.specs.Finite.{has, kept}
-use Rattle.mvs_model.specs.Name.{same_name}
+use Rattle.mvs_model.specs.Finite.{has}
 use Rattle.mvs_model.specs.Span.{Span}
 use Rattle.mvs_model.specs.Wanted.{Wanted}
-use Rattle.mvs_model.specs.Storage.{IsWhole, Covers, covers, has_address, Chosen}
+use Rattle.mvs_model.specs.Storage.{IsWhole, Covers, covers, Chosen}
 use Rattle.mvs_model.specs.Pools.{Pool, Part, in_parts, in_taken}
 use Rattle.mvs_model.specs.State.{State, Holding, plain, pooled, subpool_in, holder, is_plain, in_cell, granted}
-use Rattle.mvs_model.specs.Changes.{GrantTo, HeldPlain, Releasable, any_covers, any_has, Frees, Drops, DropsPool, Writes}
-use Rattle.mvs_model.specs.Steps.{all_granted}
+use Rattle.mvs_model.specs.Changes.{GrantTo}
 use Rattle.mvs_model.specs.WellFormed.{Apart}
-use Rattle.mvs_model.proofs.StorageLaws.{covers_is, covers_from}
-use Rattle.mvs_model.proofs.Orders.{same_name_is, same_name_self, differs}
-use Rattle.mvs_model.proofs.Operands.{HasBytes, HasByte}
+use Rattle.mvs_model.proofs.StorageLaws.{covers_is}
 use Rattle.mvs_model.proofs.CellPlaces.{whole_has}
-use Rattle.mvs_model.proofs.TakenCells.{InCell, in_cell_is, in_cell_from, same_cells, never, taken_found, taken_from, part_found, part_from, cell_part, cell_pooled, one_pool}
+use Rattle.mvs_model.proofs.TakenCells.{InCell}
 
 -- Each doubleword that is held for pools lies in a part of one.
 abbrev pub Covered : State → Type 0

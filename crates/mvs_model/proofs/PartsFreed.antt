@@ -1,14 +1,13 @@
 -- What is released or written leaves the parts of pools apart.
-use Rattle.std.proofs.Common.{◌≡◌, ℕ, ◌+◌, ◌-◌, ◌/◌, ◌<◌, ◌≤◌, ◌⊎◌, inl, inr, Bool, true, false, cond, List, [], ◌∷◌, Option, Some, None, refl, sym, ap, ◌∙◌, subst, arith}
+use Rattle.std.proofs.Common.{◌≡◌, ℕ, ◌+◌, ◌-◌, ◌/◌, ◌<◌, ◌≤◌, inl, inr, Bool, true, false, cond, List, [], ◌∷◌, Option, Some, None, refl, sym, ap, ◌∙◌, arith}
 use Rattle.std.specs.Prelude.{is_some, not, ◌||◌}
-use Rattle.std.specs.List.{Contains, AllByRecursion}
-use Rattle.std.proofs.lemmas.Bool.Decides.{nat_tests}
+use Rattle.std.specs.List.{AllByRecursion}
 use Rattle.std.specs.FinMap.{get}
 use Rattle.mvs_model.specs.declared.name.Name.{Name}
 use Rattle.mvs_model.specs.Finite.{has, kept}
 use Rattle.mvs_model.specs.Span.{Span}
-use Rattle.mvs_model.specs.Storage.{IsWhole, Covers, covers, has_address}
-use Rattle.mvs_model.specs.Pools.{Pool, Part}
+use Rattle.mvs_model.specs.Storage.{IsWhole, covers, has_address}
+use Rattle.mvs_model.specs.Pools.{Pool}
 use Rattle.mvs_model.specs.State.{State, Holding, plain, pooled, is_plain, in_cell, granted}
 use Rattle.mvs_model.specs.Changes.{HeldPlain, Releasable, any_covers, any_has, Frees, Drops, Writes}
 use Rattle.mvs_model.specs.Steps.{all_granted}
@@ -17,8 +16,8 @@ use Rattle.mvs_model.proofs.StorageLaws.{covers_is}
 use Rattle.mvs_model.proofs.SeenAccess.{below_each}
 use Rattle.mvs_model.proofs.Operands.{HasBytes, HasByte}
 use Rattle.mvs_model.proofs.CellPlaces.{has_is, whole_has}
-use Rattle.mvs_model.proofs.TakenCells.{InCell, in_cell_is, in_cell_from, never, cell_pooled}
-use Rattle.mvs_model.proofs.PartsFewer.{Covered, BytesGranted, fewer_apart, fewer_cells, cells_same, pools_same, covered_same, past_change}
+use Rattle.mvs_model.proofs.TakenCells.{in_cell_is, in_cell_from, never, cell_pooled}
+use Rattle.mvs_model.proofs.PartsFewer.{Covered, BytesGranted, fewer_apart, fewer_cells, cells_same, pools_same, covered_same}
 
 -- places of whole doublewords
 any_whole_has : (ps : List Span) (a : ℕ) → AllByRecursion IsWhole ps → any_has ps a ≡ any_covers ps (a / 8)

@@ -1,5 +1,5 @@
 -- A cell that is given back leaves the parts of pools apart.
-use Rattle.std.proofs.Common.{◌≡◌, ◌≢◌, ℕ, ◌/◌, ◌⊎◌, inl, inr, Bool, true, false, cond, Option, Some, None, refl, sym, ap, ◌∙◌, subst}
+use Rattle.std.proofs.Common.{◌≡◌, ℕ, ◌/◌, inl, inr, Bool, true, false, cond, Some, None, refl, sym, ap, ◌∙◌, subst}
 use Rattle.std.specs.Prelude.{is_some, not, ◌&&◌, ◌||◌}
 use Rattle.std.specs.Ordering.{nat_cmp, eq_by_cmp}
 use Rattle.std.specs.Cmp.{nat_cmp_total}
@@ -7,12 +7,12 @@ use Rattle.std.specs.FinMap.{get}
 use Rattle.std.specs.FinSet as set
 use Rattle.mvs_model.specs.declared.name.Name.{Name}
 use Rattle.mvs_model.specs.Storage.{has_address}
-use Rattle.mvs_model.specs.Pools.{Pool, IsCell, IsCellOf, cell_at}
-use Rattle.mvs_model.specs.State.{State, pooled, is_plain, in_cell}
+use Rattle.mvs_model.specs.Pools.{Pool, IsCellOf, cell_at}
+use Rattle.mvs_model.specs.State.{State, is_plain, in_cell}
 use Rattle.mvs_model.specs.Changes.{GivesCell}
 use Rattle.mvs_model.specs.WellFormed.{Apart}
 use Rattle.mvs_model.proofs.CellPlaces.{has_is, one_cell}
-use Rattle.mvs_model.proofs.TakenCells.{InCell, in_cell_is, same_cells, never, one_part, CellPart, cell_part, cell_pooled}
+use Rattle.mvs_model.proofs.TakenCells.{InCell, in_cell_is, same_cells, never, one_part, cell_part, cell_pooled}
 use Rattle.mvs_model.proofs.PoolPut.{put_here, put_cases, kept_cases}
 use Rattle.mvs_model.proofs.PartsFewer.{BytesGranted}
 use Rattle.mvs_model.proofs.PartsTaken.{equal_numbers, same_number, retaken_apart}

@@ -1,16 +1,16 @@
 -- A further part of a pool misses all parts that there are.
-use Rattle.std.proofs.Common.{◌≡◌, ◌≢◌, ℕ, ◌/◌, ◌<◌, ◌≤◌, ◌⊎◌, inl, inr, Bool, true, false, cond, List, [], ◌∷◌, ◌++◌, map, length, Option, Some, None, refl, sym, ap, ◌∙◌, subst, arith}
-use Rattle.std.specs.Prelude.{is_some, not, ◌||◌}
+use Rattle.std.proofs.Common.{◌≡◌, ◌≢◌, ℕ, ◌/◌, ◌<◌, ◌≤◌, ◌⊎◌, inl, inr, Bool, true, false, cond, List, [], ◌∷◌, ◌++◌, map, Option, Some, None, refl, sym, ap, ◌∙◌, subst, arith}
+use Rattle.std.specs.Prelude.{is_some, ◌||◌}
 use Rattle.std.specs.List.{Contains, AllByRecursion}
 use Rattle.std.proofs.lemmas.List.Elements.{Contains-append_left, Contains-append_right, Contains-append_cases}
 use Rattle.std.specs.FinMap.{get}
 use Rattle.std.specs.FinSet as set
 use Rattle.mvs_model.specs.declared.name.Name.{Name}
 use Rattle.mvs_model.specs.Span.{Span}
-use Rattle.mvs_model.specs.Storage.{Covers, covers, has_address}
+use Rattle.mvs_model.specs.Storage.{covers, has_address}
 use Rattle.mvs_model.specs.Owners.{Owners}
-use Rattle.mvs_model.specs.Pools.{Pool, Part, part_length, part_want, IsCell, cell_at, in_parts}
-use Rattle.mvs_model.specs.State.{State, Holding, pooled, is_plain, in_cell, granted}
+use Rattle.mvs_model.specs.Pools.{Pool, Part, part_length, IsCell, cell_at, in_parts}
+use Rattle.mvs_model.specs.State.{State, Holding, pooled, is_plain, in_cell}
 use Rattle.mvs_model.specs.Changes.{Misses, Disjoint, Extends, with_part}
 use Rattle.mvs_model.specs.WellFormed.{Apart, IsPart}
 use Rattle.mvs_model.proofs.StorageLaws.{covers_is, covers_from}

@@ -1,6 +1,6 @@
 -- Cells that are taken and given back leave the parts of pools apart.
-use Rattle.std.proofs.Common.{◌≡◌, ◌≢◌, ℕ, ◌/◌, ◌⊎◌, inl, inr, Bool, true, false, cond, eqb, map, Option, Some, None, refl, sym, ap, ◌∙◌, subst, arith}
-use Rattle.std.specs.Prelude.{is_some, not, ◌&&◌, ◌||◌}
+use Rattle.std.proofs.Common.{◌≡◌, ℕ, ◌/◌, inl, inr, Bool, true, false, cond, eqb, map, Some, refl, sym, ap, ◌∙◌, subst, arith}
+use Rattle.std.specs.Prelude.{is_some, ◌||◌}
 use Rattle.std.proofs.lemmas.Bool.Decides.{nat_tests}
 use Rattle.std.specs.Ordering.{nat_cmp, eq_by_cmp}
 use Rattle.std.specs.Cmp.{nat_cmp_total}
@@ -8,17 +8,16 @@ use Rattle.std.specs.List.{Contains}
 use Rattle.std.specs.FinMap.{get}
 use Rattle.std.specs.FinSet as set
 use Rattle.mvs_model.specs.declared.name.Name.{Name}
-use Rattle.mvs_model.specs.Finite.{Changes, has}
+use Rattle.mvs_model.specs.Finite.{Changes}
 use Rattle.mvs_model.specs.Name.{same_name}
-use Rattle.mvs_model.specs.Storage.{Covers, has_address}
-use Rattle.mvs_model.specs.Pools.{Pool, Part, part_length, IsCell, cell_at, in_parts, in_taken}
-use Rattle.mvs_model.specs.State.{State, Holding, pooled, is_plain, in_cell, granted}
-use Rattle.mvs_model.specs.Changes.{Disjoint, TakesCell, GivesCell}
+use Rattle.mvs_model.specs.Storage.{has_address}
+use Rattle.mvs_model.specs.Pools.{Pool, Part, part_length, IsCell, cell_at, in_parts}
+use Rattle.mvs_model.specs.State.{State, pooled, is_plain, in_cell}
+use Rattle.mvs_model.specs.Changes.{Disjoint, TakesCell}
 use Rattle.mvs_model.specs.WellFormed.{Apart, IsPart}
 use Rattle.mvs_model.proofs.Tables.{eq_by_cmp_is}
-use Rattle.mvs_model.proofs.CellPlaces.{has_is, one_cell}
-use Rattle.mvs_model.proofs.TakenCells.{InCell, in_cell_is, in_cell_from, same_cells, never, one_part, CellPart, cell_part, cell_pooled}
-use Rattle.mvs_model.proofs.PoolPut.{put_here, put_else, put_cases, kept_cases}
+use Rattle.mvs_model.proofs.TakenCells.{InCell, in_cell_from, same_cells}
+use Rattle.mvs_model.proofs.PoolPut.{put_here, put_cases, kept_cases}
 use Rattle.mvs_model.proofs.PartsFewer.{Covered, BytesGranted}
 
 -- A pool of a state, which has the parts that another has.

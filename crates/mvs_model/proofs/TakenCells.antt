@@ -1,7 +1,7 @@
 -- The addresses in taken cells, and the parts that these lie in.
-use Rattle.std.proofs.Common.{◌≡◌, ◌≢◌, ℕ, ◌+◌, ◌/◌, ◌<◌, ◌≤◌, ◌⊎◌, inl, inr, Bool, true, false, cond, List, [], ◌∷◌, map, Option, Some, None, refl, sym, ap, ◌∙◌, subst, arith}
-use Rattle.std.specs.Prelude.{is_some, not, ◌||◌}
-use Rattle.std.specs.List.{Contains, AllByRecursion, list_any}
+use Rattle.std.proofs.Common.{◌≡◌, ℕ, ◌/◌, ◌<◌, ◌⊎◌, inl, inr, Bool, true, false, List, [], ◌∷◌, map, Option, Some, None, refl, sym, ap, ◌∙◌, subst, arith}
+use Rattle.std.specs.Prelude.{is_some}
+use Rattle.std.specs.List.{Contains, AllByRecursion}
 use Rattle.std.proofs.lemmas.Map.Views.{Contains-from_any, list_any-from_Contains}
 use Rattle.std.specs.Cmp.{eq_by_cmp_equiv, nat_cmp_total}
 use Rattle.std.specs.FinMap.{get, keys, contains_key-keys, nat_cmp-IsAntisymmetric}
@@ -12,13 +12,13 @@ use Rattle.mvs_model.specs.Name.{same_name}
 use Rattle.mvs_model.specs.Span.{Span}
 use Rattle.mvs_model.specs.Storage.{Covers, covers, has_address}
 use Rattle.mvs_model.specs.Pools.{Pool, Part, IsCellOf, cell_at, in_parts, in_taken}
-use Rattle.mvs_model.specs.State.{State, pooled, is_plain, in_cell, granted}
+use Rattle.mvs_model.specs.State.{State, pooled, in_cell}
 use Rattle.mvs_model.specs.Changes.{Misses, Disjoint}
 use Rattle.mvs_model.specs.WellFormed.{Apart}
 use Rattle.mvs_model.proofs.StorageLaws.{covers_is, covers_from}
 use Rattle.mvs_model.proofs.Orders.{same_name_is, equal_keys, differs}
 use Rattle.mvs_model.proofs.Elements.{first_or_later, any_found, any_from}
-use Rattle.mvs_model.proofs.CellPlaces.{has_is, cell_inside, one_cell}
+use Rattle.mvs_model.proofs.CellPlaces.{has_is, cell_inside}
 
 -- The address lies in a taken cell of a pool.
 pub record InCell (st : State) (a : ℕ) : Type 0 where
