@@ -1,7 +1,6 @@
 -- What is read by the tables is of the kinds of the tables.
 use Rattle.std.proofs.Common.{◌≡◌, ℕ, zero, suc, ◌+◌, ◌≤◌, Bool, true, false, cond, List, [], ◌∷◌, ◌++◌, length, take, drop, map, Option, Some, None, Result, Ok, Err, refl, ap, sym, ◌∙◌, subst, ◌⊎◌, inl, inr, arith}
-use Rattle.std.specs.Prelude.{if◌then◌else◌, replicate, slice_get, slice_set, is_some, nat_lt, ◌||◌, not, ◌==◌, bytes_eq, codes}
-use Rattle.std.specs.List.{list_all}
+use Rattle.std.specs.Prelude.{if◌then◌else◌, replicate, slice_get, slice_set, is_some, nat_lt, ◌||◌, bytes_eq, codes}
 use Rattle.std.proofs.lemmas.Option.{slice_get-map}
 use Rattle.std.proofs.lemmas.Bool.Decides.{nat_tests}
 use Rattle.std.specs.Option.{option_map}
@@ -14,7 +13,7 @@ use Rattle.job_script.specs.declared.operands.Value.{Value}
 use Rattle.job_script.specs.declared.operands.Value.TheVariants as value
 use Rattle.job_script.specs.Chains.{◌>>=◌, or_fault, is_malformed}
 use Rattle.job_script.proofs.Chains.{bind_ok, or_fault_ok}
-use Rattle.job_script.specs.Numbers.{number_at, subpool_at, is_digit, value_of}
+use Rattle.job_script.specs.Numbers.{number_at, subpool_at}
 use Rattle.job_script.specs.NameTexts.{name_at}
 use Rattle.job_script.specs.Hex.{byte_at, bytes_at}
 use Rattle.job_script.specs.Pairs.{pair_at, in_order, inside_at, two_of}

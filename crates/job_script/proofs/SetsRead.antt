@@ -1,10 +1,9 @@
 -- Sets of subpool numbers that are read lack 0.
-use Rattle.std.proofs.Common.{◌≡◌, ℕ, zero, suc, ◌+◌, ◌*◌, ◌%◌, ◌^◌, ◌≤◌, Bool, true, false, cond, List, [], ◌∷◌, Option, Some, None, Result, Ok, Err, refl, subst, ◌∙◌, arith, pow-suc}
+use Rattle.std.proofs.Common.{◌≡◌, ℕ, zero, suc, ◌%◌, ◌^◌, ◌≤◌, Bool, true, false, cond, List, [], ◌∷◌, Option, Some, Ok, Err, refl, subst, ◌∙◌, arith, pow-suc}
 use Rattle.std.specs.Prelude.{bit_or, bit_and, ◌==◌, ◌&&◌, IfOk}
 use Rattle.std.specs.List.{list_any}
 use Rattle.std.proofs.lemmas.Nat.{or_mod}
 use Rattle.std.proofs.lemmas.Bool.Decides.{nat_tests}
-use Rattle.mvs_model.specs.declared.line.Fault.{Fault}
 use Rattle.mvs_model.specs.declared.line.Fault.TheVariants.{InvalidOperand, Repeated, Conflicting}
 use Rattle.mvs_model.specs.Presents.{IsPresents}
 use Rattle.job_script.specs.declared.operands.Kind.TheVariants as kind

@@ -1,5 +1,5 @@
 -- Sets of subpool numbers, which ATTACH gives and shares.
-use Rattle.std.specs.Prelude.{ℕ, ◌^◌, List, [], ◌∷◌, ◌==◌, ◌||◌, Bool, true, false, if◌then◌else◌, Result, Ok, Err, bytes_eq, bit_or}
+use Rattle.std.specs.Prelude.{ℕ, ◌^◌, List, [], ◌∷◌, ◌==◌, ◌||◌, Bool, false, if◌then◌else◌, Result, Ok, Err, bytes_eq, bit_or}
 use Rattle.std.specs.List.{list_any}
 use Rattle.mvs_model.specs.declared.line.Fault.{Fault}
 use Rattle.mvs_model.specs.declared.line.Fault.TheVariants.{InvalidOperand, Repeated}

@@ -1,5 +1,5 @@
 -- ATTACH, RETURN and ABEND.
-use Rattle.std.specs.Prelude.{ℕ, List, [], ◌==◌, Bool, not, if◌then◌else◌, Result, Ok, Err, Option, None, slice_get, replicate, bit_and}
+use Rattle.std.specs.Prelude.{ℕ, List, [], ◌==◌, Bool, if◌then◌else◌, Result, Ok, Err, Option, None, slice_get, replicate, bit_and}
 use Rattle.mvs_model.specs.declared.name.Name.{Name}
 use Rattle.mvs_model.specs.declared.want.Residence.{Residence}
 use Rattle.mvs_model.specs.declared.line.Fault.{Fault}

@@ -1,6 +1,5 @@
-use Rattle.std.proofs.Common.{◌≡◌, Bool, true, false, cond, Result, Ok, Err, sym, subst, ap, ◌∙◌, refl}
+use Rattle.std.proofs.Common.{◌≡◌, true, Ok, ap, refl}
 use Rattle.std.specs.Prelude.{bit_and, ◌==◌}
-use Rattle.mvs_model.specs.declared.line.Fault.TheVariants.{Conflicting}
 use Rattle.mvs_model.specs.declared.line.Statement.TheVariants as says
 use Rattle.mvs_model.specs.declared.line.Asked.TheVariants as asked
 use Rattle.mvs_model.specs.Presents.{Presents}
