@@ -83,7 +83,7 @@ no_pools name = search (gets)
 start_pages : (card : StepCard) → Pages (start card)
 start_pages card d e s u page hd he = absurd (let k : None ≡ Some s = sym (ap subpool_in (none_held d)) ∙ hd in cc)
 
-start_sized : (card : StepCard) → PoolsSized (start card)
+pub start_sized : (card : StepCard) → PoolsSized (start card)
 start_sized card name pool e = absurd (let k : None ≡ Some pool = sym (no_pools name) ∙ e in cc)
 
 -- In every state of a run each page is of one subpool.

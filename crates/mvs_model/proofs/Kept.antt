@@ -2,7 +2,7 @@
 use Rattle.std.proofs.Common.{◌≡◌, ℕ, ◌≤◌, ◌⊎◌, inl, inr, Bool, true, false, List, [], ◌∷◌, map, length, Option, Some, None, refl, sym, subst}
 use Rattle.std.specs.Prelude.{not, ◌&&◌, nat_le, ◌==◌}
 use Rattle.std.specs.Bool.{MatchBool}
-use Rattle.std.specs.List.{list_all}
+use Rattle.std.specs.List.{list_all, AllByRecursion}
 use Rattle.std.specs.FinMap.{get, contains_key, len}
 use Rattle.std.specs.FinSet as set
 use Rattle.mvs_model.specs.declared.name.Name.{Name}
@@ -18,13 +18,14 @@ use Rattle.mvs_model.specs.declared.request.Reply.TheVariants.{NotRun, Rc0, NoCe
 use Rattle.mvs_model.specs.Span.{Span, span}
 use Rattle.mvs_model.specs.Wanted.{Wanted, wanted_of, fixed_want, side_of}
 use Rattle.mvs_model.specs.Presents.{Presents}
-use Rattle.mvs_model.specs.Storage.{NoPlace}
+use Rattle.mvs_model.specs.Storage.{NoPlace, IsWhole}
 use Rattle.mvs_model.specs.Owners.{Owners, is_active, entry, SubpoolOf, Enters, attach_refusal, has_subtask}
 use Rattle.mvs_model.specs.Pools.{Pool, part_want, IsCellOf, IsFreeCell}
 use Rattle.mvs_model.specs.State.{State, holder}
 use Rattle.mvs_model.specs.Codes.{family, is_conditional, short, not_held}
 use Rattle.mvs_model.specs.Changes.{with_part, GrantTo, ShortOf, ListGrant, Releasable, Frees, Empties, End, Extends, TakesCell, GivesCell, DropsPool, Writes}
 use Rattle.mvs_model.specs.Steps.{Plan, Abends, Fails, Refuses, is_invalid, side_for, residence_of, ObtainStep, ObtainListStep, whole, on_doubleword, MayRelease, ReleaseStep, EmptiesEntry, ReleaseWholeStep, new_pool, Builds, BuildStep, GetsMore, GetsNone, GetStep, FreeStep, DeleteStep, Attaches, AttachCase, ReturnStep, all_granted, Accesses, bytes_from, moved_from, Acts, Step, IsRequest}
+use Rattle.mvs_model.proofs.Operands.{whole_places, HasBytes, bytes_put, moved_granted}
 
 -- what a plan of a pool has in its ranges
 abbrev pub IsPlan : Plan → Type 0
@@ -56,7 +57,7 @@ plan_in_range (Move to from n) r = tt
 -- The property stays through each change that a request can make.
 pub record Closed (P : State → Type 0) : Type 0 where
   pub granted : (old : State) (t : Name) (number : ℕ) (want : Wanted) (p : Span) (new : State) → GrantTo old t number want p new → P old → P new
-  pub freed : (old : State) (s : ℕ) (ps : List Span) (new : State) → Releasable old s ps → Frees old ps new → P old → P new
+  pub freed : (old : State) (s : ℕ) (ps : List Span) (new : State) → AllByRecursion IsWhole ps → Releasable old s ps → Frees old ps new → P old → P new
   pub emptied : (old : State) (s : ℕ) (new : State) → Empties old s new → P old → P new
   pub ended : (old : State) (t : Name) (new : State) → End old t new → P old → P new
   pub built : (old : State) (t name : Name) (number s : ℕ) (plan : Plan) (p : Span) (o : Owners) (new : State) → contains_key old.pools name ≡ false → IsPlan plan → SubpoolOf old.owners t number s → Enters old.owners t number s o → Extends old name (new_pool s plan) plan.primary p o new → P old → P new
@@ -65,7 +66,7 @@ pub record Closed (P : State → Type 0) : Type 0 where
   pub given : (old : State) (name : Name) (pool : Pool) (c : ℕ) (new : State) → get old.pools name ≡ Some pool → set.contains pool.taken c ≡ true → GivesCell old name pool c new → P old → P new
   pub dropped : (old : State) (name : Name) (pool : Pool) (new : State) → get old.pools name ≡ Some pool → DropsPool old name pool new → P old → P new
   pub attached : (old : State) (t name : Name) (gifts : Presents) (residence : Residence) (new : State) → attach_refusal old.owners t name gifts ≡ None → Attaches old t name gifts residence new → P old → P new
-  pub written : (old : State) (p : Span) (value : ℕ → Option ℕ) (new : State) → all_granted old p ≡ true → Writes old p value new → P old → P new
+  pub written : (old : State) (p : Span) (value : ℕ → Option ℕ) (new : State) → all_granted old p ≡ true → HasBytes old p value → Writes old p value new → P old → P new
 
 -- by cases on a test
 chosen : {P Q R : Type 0} (b : Bool) → MatchBool b P Q → (b ≡ true → P → R) → (b ≡ false → Q → R) → R
@@ -105,16 +106,16 @@ module _ (P : State → Type 0) (closed : Closed P) where
   obtains_list old t form number wants reply new h p =
       chosen (is_invalid number) h (λ _ a. abends old t _ reply new a p) (λ _ k. elim k [ inl f ↦ fails _ old t _ reply new f.1 p | inr g ↦ lists t number wants g.0 old new g.2 p ])
 
-  frees : (o : Option ℕ) (old : State) (ps : List Span) (new : State) → MayRelease old o ps → Frees old ps new → P old → P new
-  frees None old ps new m f p = absurd m
-  frees (Some s) old ps new m f p = closed.freed old s ps new m f p
+  frees : (o : Option ℕ) (old : State) (ps : List Span) (new : State) → AllByRecursion IsWhole ps → MayRelease old o ps → Frees old ps new → P old → P new
+  frees None old ps new w m f p = absurd m
+  frees (Some s) old ps new w m f p = closed.freed old s ps new w m f p
 
   releases : (old : State) (t : Name) (form : Form) (number : ℕ) (ps : List Span) (reply : Reply) (new : State) → ReleaseStep old t form number ps reply new → P old → P new
   releases old t form number ps reply new h p =
-      chosen (is_invalid number) h (λ _ a. abends old t _ reply new a p) (λ _ k. chosen (not (list_all on_doubleword ps)) k (λ _ a. abends old t _ reply new a p) (λ _ m. choice m)) where
-        choice : (((MayRelease old (entry old.owners t number) (map whole ps) → ⊥) × Fails (is_conditional form) old t (not_held (family form)) reply new) ⊎ (MayRelease old (entry old.owners t number) (map whole ps) × (reply ≡ Rc0) × Frees old (map whole ps) new)) → P new
-        choice (inl f) = fails _ old t _ reply new f.1 p
-        choice (inr g) = frees (entry old.owners t number) old (map whole ps) new g.0 g.2 p
+      chosen (is_invalid number) h (λ _ a. abends old t _ reply new a p) (λ _ k. chosen (not (list_all on_doubleword ps)) k (λ _ a. abends old t _ reply new a p) (λ e m. choice (whole_places ps (is_so (list_all on_doubleword ps) e)) m)) where
+        choice : AllByRecursion IsWhole (map whole ps) → (((MayRelease old (entry old.owners t number) (map whole ps) → ⊥) × Fails (is_conditional form) old t (not_held (family form)) reply new) ⊎ (MayRelease old (entry old.owners t number) (map whole ps) × (reply ≡ Rc0) × Frees old (map whole ps) new)) → P new
+        choice w (inl f) = fails _ old t _ reply new f.1 p
+        choice w (inr g) = frees (entry old.owners t number) old (map whole ps) new w g.0 g.2 p
 
   empties : (o : Option ℕ) (old new : State) → EmptiesEntry old o new → P old → P new
   empties None old new h p = subst P (sym h) p
@@ -178,9 +179,9 @@ module _ (P : State → Type 0) (closed : Closed P) where
   acts old t Return reply new r h p = returns old t reply new h p
   acts old t (Abend n) reply new r h p = abends old t _ reply new h p
   acts old t (Show a n) reply new r h p = accesses old t (all_granted old (span a n)) (new ≡ old) reply new h (λ _ e k. subst P (sym e) k) p
-  acts old t (Put a bytes) reply new r h p = accesses old t (all_granted old (span a (length bytes))) _ reply new h (λ e w k. closed.written old (span a (length bytes)) (bytes_from a bytes) new e w k) p
+  acts old t (Put a bytes) reply new r h p = accesses old t (all_granted old (span a (length bytes))) _ reply new h (λ e w k. closed.written old (span a (length bytes)) (bytes_from a bytes) new e (bytes_put old a bytes) w k) p
   acts old t (Move to from n) reply new r h p =
-      accesses old t (all_granted old (span to n) && all_granted old (span from n)) _ reply new h (λ e w k. closed.written old (span to n) (moved_from old to from) new (left _ _ e) w k) p
+      accesses old t (all_granted old (span to n) && all_granted old (span from n)) _ reply new h (λ e w k. closed.written old (span to n) (moved_from old to from) new (left _ _ e) (moved_granted old to from n e) w k) p
 
   -- what stays through each of the changes stays through each step
   pub step_keeps : (old : State) (t : Name) (request : Request) (reply : Reply) (new : State) → HasPlan request → Step old t request reply new → P old → P new

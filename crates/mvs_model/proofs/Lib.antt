@@ -1,4 +1,5 @@
 pub mod Asked
+pub mod CellPlaces
 pub mod Decide
 pub mod Elements
 pub mod Falling
@@ -7,9 +8,18 @@ pub mod Keyed
 pub mod Kept
 pub mod Made
 pub mod NameText
+pub mod Operands
 pub mod Orders
 pub mod Owning
 pub mod Pages
+pub mod PartsApart
+pub mod PartsDeleted
+pub mod PartsFewer
+pub mod PartsFreed
+pub mod PartsGiven
+pub mod PartsGrown
+pub mod PartsTaken
+pub mod PoolPut
 pub mod Printed
 pub mod RegionsKept
 pub mod Search
@@ -22,3 +32,4 @@ pub mod SmallLaws
 pub mod StorageLaws
 pub mod Stuck
 pub mod Tables
+pub mod TakenCells

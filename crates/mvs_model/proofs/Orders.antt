@@ -1,5 +1,5 @@
 -- The orders of names and of entries are total, and what they call equal is the same.
-use Rattle.std.proofs.Common.{◌≡◌, ℕ, true, List, eqb, ap, arith, refl}
+use Rattle.std.proofs.Common.{◌≡◌, ◌≢◌, ℕ, Bool, true, false, List, eqb, ap, arith, refl, sym, ◌∙◌}
 use Rattle.std.specs.Prelude.{◌&&◌, ◌==◌}
 use Rattle.std.proofs.lemmas.Bool.Decides.{nat_tests}
 use Rattle.std.proofs.lemmas.Cmp.{then_total, on_total, nat_list_cmp_total, tied_itself}
@@ -50,3 +50,13 @@ tied_pair Greater m n = refl
 -- two entries are the same where their names and their numbers are
 pub same_entry_is : (e d : List ℕ × ℕ) → eq_by_cmp entry_cmp e d ≡ (same_name e.0 d.0 && (e.1 == d.1))
 same_entry_is e d = tied_pair (name_cmp e.0 d.0) e.1 d.1
+
+-- names that the test tells apart
+pub differs : (m n : List ℕ) → same_name m n ≡ false → m ≢ n
+differs m n f e = let g : true ≡ false = sym (same_name_self n) ∙ ap (λ x. same_name x n) (sym e) ∙ f in cc
+
+pub told : (m n : List ℕ) → m ≢ n → same_name m n ≡ false
+told m n ne = at (same_name m n) (same_name_is m n) where
+  at : (b : Bool) → (b ≡ true → m ≡ n) → b ≡ false
+  at true is = absurd (ne (is refl))
+  at false is = refl

@@ -46,7 +46,7 @@ Pages st = PageRule (holder st)
 pub pages_closed : Closed Pages
 pages_closed = record {
   granted = λ old t number want p new g rule. pages_chosen old new g.subpool _ want p g.chosen refl g.held rule;
-  freed = λ old s ps new r f rule. pages_less old new _ f.held rule;
+  freed = λ old s ps new w r f rule. pages_less old new _ f.held rule;
   emptied = λ old s new e rule. pages_drops old new _ e.drops rule;
   ended = λ old t new e rule. pages_drops old new _ e.drops rule;
   built = λ old t name number s plan p o new fresh r is enters x rule. pages_chosen old new s _ _ p x.chosen refl x.held rule;
@@ -55,5 +55,5 @@ pages_closed = record {
   given = λ old name pool c new e is k rule. pages_same old new k.held rule;
   dropped = λ old name pool new e k rule. pages_less old new _ k.held rule;
   attached = λ old t name gifts residence new e k rule. pages_same old new k.held rule;
-  written = λ old p value new e k rule. pages_same old new k.held rule;
+  written = λ old p value new e has k rule. pages_same old new k.held rule;
 }

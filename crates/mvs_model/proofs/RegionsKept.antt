@@ -1,9 +1,7 @@
 -- The regions of a step stay, and what is granted lies in them.
-use Rattle.std.proofs.Common.{◌≡◌, ℕ, ◌+◌, ◌*◌, ◌≤◌, ◌∙◌, inl, inr, Bool, true, false, List, [], ◌∷◌, Some, refl, ap, subst, sym, arith}
-use Rattle.std.specs.Bool.{MatchBool}
+use Rattle.std.proofs.Common.{◌≡◌, ℕ, ◌∙◌, List, [], ◌∷◌, refl, subst}
 use Rattle.std.specs.List.{AllByRecursion}
 use Rattle.mvs_model.specs.declared.name.Name.{Name}
-use Rattle.mvs_model.specs.declared.code.Form.{Form}
 use Rattle.mvs_model.specs.declared.request.Request.{Request}
 use Rattle.mvs_model.specs.declared.request.Reply.{Reply}
 use Rattle.mvs_model.specs.Span.{Span}
@@ -17,7 +15,7 @@ use Rattle.mvs_model.proofs.Kept.{Closed, HasPlan, step_keeps}
 regions_closed : (r : Regions) → Closed (λ st. st.regions ≡ r)
 regions_closed r = record {
   granted = λ old t number want p new g e. g.regions ∙ e;
-  freed = λ old s ps new k f e. f.regions ∙ e;
+  freed = λ old s ps new w k f e. f.regions ∙ e;
   emptied = λ old s new k e. k.drops.regions ∙ e;
   ended = λ old t new k e. k.drops.regions ∙ e;
   built = λ old t name number s plan p o new fresh k is enters x e. x.regions ∙ e;
@@ -26,7 +24,7 @@ regions_closed r = record {
   given = λ old name pool c new is f k e. k.regions ∙ e;
   dropped = λ old name pool new is k e. k.regions ∙ e;
   attached = λ old t name gifts residence new is k e. k.regions ∙ e;
-  written = λ old p value new is k e. k.regions ∙ e;
+  written = λ old p value new is has k e. k.regions ∙ e;
 }
 
 pub regions_stay : (old : State) (t : Name) (request : Request) (reply : Reply) (new : State) → HasPlan request → Step old t request reply new → new.regions ≡ old.regions

@@ -24,7 +24,7 @@ use Rattle.mvs_model.proofs.Tables.{get-table_all, same_maps}
 use Rattle.mvs_model.proofs.Made.{get-retained}
 
 -- without pools no doubleword lies in a part, and no address in a cell
-all_names : (p : Name → Bool) (names : List Name) → ((name : Name) → p name ≡ false) → list_any p names ≡ false
+pub all_names : (p : Name → Bool) (names : List Name) → ((name : Name) → p name ≡ false) → list_any p names ≡ false
 all_names p names h = list_any_none p names (All-from_get_or (λ name. p name ≡ false) names [] (λ i l. h (get_or names i [])))
 
 no_parts : (d : ℕ) → in_pools empty d ≡ false

@@ -1,0 +1,30 @@
+-- The pools after one of them is changed.
+use Rattle.std.proofs.Common.{◌≡◌, ◌≢◌, ◌⊎◌, inl, inr, Bool, true, false, cond, Option, Some, refl, sym, ap, ◌∙◌}
+use Rattle.std.specs.FinMap.{get}
+use Rattle.mvs_model.specs.declared.name.Name.{Name}
+use Rattle.mvs_model.specs.Finite.{Changes}
+use Rattle.mvs_model.specs.Name.{same_name}
+use Rattle.mvs_model.specs.Pools.{Pool}
+use Rattle.mvs_model.specs.State.{State}
+use Rattle.mvs_model.proofs.Orders.{same_name_is, same_name_self, differs, told}
+
+module _ (old new : State) (name : Name) (v : Option Pool) (changes : Changes (get old.pools) (λ n. same_name n name) v (get new.pools)) where
+  pub put_here : get new.pools name ≡ v
+  put_here = changes name ∙ ap (λ b. cond b v (get old.pools name)) (same_name_self name)
+
+  pub put_else : (n : Name) → n ≢ name → get new.pools n ≡ get old.pools n
+  put_else n ne = changes n ∙ ap (λ b. cond b v (get old.pools n)) (told n name ne)
+
+  -- a pool is the new one, or as before
+  pub put_cases : (n : Name) (q : Pool) → get new.pools n ≡ Some q → ((n ≡ name) × (v ≡ Some q)) ⊎ ((n ≢ name) × (get old.pools n ≡ Some q))
+  put_cases n q e = at (same_name n name) refl (sym (changes n) ∙ e) where
+    at : (b : Bool) → same_name n name ≡ b → cond b v (get old.pools n) ≡ Some q → ((n ≡ name) × (v ≡ Some q)) ⊎ ((n ≢ name) × (get old.pools n ≡ Some q))
+    at true s f = inl (same_name_is n name s, f)
+    at false s f = inr (differs n name s, f)
+
+  -- a pool from before is the changed one, or stands
+  pub kept_cases : (n : Name) (q : Pool) → get old.pools n ≡ Some q → (n ≡ name) ⊎ ((n ≢ name) × (get new.pools n ≡ Some q))
+  kept_cases n q e = at (same_name n name) refl where
+    at : (b : Bool) → same_name n name ≡ b → (n ≡ name) ⊎ ((n ≢ name) × (get new.pools n ≡ Some q))
+    at true s = inl (same_name_is n name s)
+    at false s = inr (differs n name s, put_else n (differs n name s) ∙ e)
