@@ -8,22 +8,41 @@ use mvs_model::want::Residence;
 
 // What an ATTACH gives and shares, and where its subtask resides.
 fn attached(line: &[u8]) -> Option<(Gifts, Residence)> {
-    match asked(line) {
+    match &asked(line) {
         Some(
             Asked::Attach {
                 gifts,
                 residence,
                 ..
             },
-        ) => Some((gifts, residence)),
+        ) => Some((*gifts, *residence)),
         _ => None,
+    }
+}
+
+// The code of an ABEND.
+fn code(line: &[u8]) -> Option<u32> {
+    match &asked(line) {
+        Some(Asked::Abend(code)) => Some(code.get()),
+        _ => None,
+    }
+}
+
+// Whether the line is a RETURN.
+fn is_return(line: &[u8]) -> bool {
+    match &asked(line) {
+        Some(Asked::Return) => true,
+        _ => false,
     }
 }
 
 #[test]
 fn tasks_are_read(rt: HostRuntime) {
     let alone = Gifts::new(0, 0, true).expect(&rt, "gifts");
-    assert_eq!(rt; attached(b"JOB ATTACH TASK=A"), Some((alone, Residence::Below)));
+    assert_eq!(rt;
+        attached(b"JOB ATTACH TASK=A"),
+        Some((alone, Residence::Below))
+    );
     let some = Gifts::new(1 << 5 | 1 << 127, 1 << 6, false).expect(&rt, "gifts");
     assert_eq!(rt;
         attached(b"JOB ATTACH RES=ABOVE,SZERO=NO,SHSPV=6,GSPL=(127,005),TASK=A"),
@@ -34,10 +53,10 @@ fn tasks_are_read(rt: HostRuntime) {
         attached(b"JOB ATTACH TASK=A,GSPV=1,SHSPL=(2,3),SZERO=YES,RES=BELOW remark"),
         Some((one, Residence::Below))
     );
-    assert!(rt; matches!(asked(b"JOB RETURN"), Some(Asked::Return)));
-    assert!(rt; matches!(asked(b"JOB RETURN TASK=1,(remark"), Some(Asked::Return)));
-    assert!(rt; matches!(asked(b"JOB ABEND 0"), Some(Asked::Abend(code)) if code.get() == 0));
-    assert!(rt; matches!(asked(b"JOB ABEND 4095 remark"), Some(Asked::Abend(code)) if code.get() == 4095));
+    assert!(rt; is_return(b"JOB RETURN"));
+    assert!(rt; is_return(b"JOB RETURN TASK=1,(remark"));
+    assert_eq!(rt; code(b"JOB ABEND 0"), Some(0));
+    assert_eq!(rt; code(b"JOB ABEND 4095 remark"), Some(4095));
 }
 
 #[test]
