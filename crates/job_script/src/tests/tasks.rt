@@ -23,7 +23,10 @@ fn attached(line: &[u8]) -> Option<(Gifts, Residence)> {
 #[test]
 fn tasks_are_read(rt: HostRuntime) {
     let alone = Gifts::new(0, 0, true).expect(&rt, "gifts");
-    assert_eq!(rt; attached(b"JOB ATTACH TASK=A"), Some((alone, Residence::Below)));
+    assert_eq!(rt;
+        attached(b"JOB ATTACH TASK=A"),
+        Some((alone, Residence::Below))
+    );
     let some = Gifts::new(1 << 5 | 1 << 127, 1 << 6, false).expect(&rt, "gifts");
     assert_eq!(rt;
         attached(b"JOB ATTACH RES=ABOVE,SZERO=NO,SHSPV=6,GSPL=(127,005),TASK=A"),
@@ -37,7 +40,9 @@ fn tasks_are_read(rt: HostRuntime) {
     assert!(rt; matches!(asked(b"JOB RETURN"), Some(Asked::Return)));
     assert!(rt; matches!(asked(b"JOB RETURN TASK=1,(remark"), Some(Asked::Return)));
     assert!(rt; matches!(asked(b"JOB ABEND 0"), Some(Asked::Abend(code)) if code.get() == 0));
-    assert!(rt; matches!(asked(b"JOB ABEND 4095 remark"), Some(Asked::Abend(code)) if code.get() == 4095));
+    assert!(rt;
+        matches!(asked(b"JOB ABEND 4095 remark"), Some(Asked::Abend(code)) if code.get() == 4095)
+    );
 }
 
 #[test]
