@@ -76,7 +76,7 @@ abbrev pub number_of : Owners → Name → ℕ → Option ℕ
 number_of o t s = first_from 0 128 (λ n. if has (λ r. r == s) (entry o t n) then Some n else None)
 
 -- a number, where there is one
-abbrev decimal_of : Option ℕ → List ℕ
+abbrev pub decimal_of : Option ℕ → List ℕ
 decimal_of None = []
 decimal_of (Some n) = decimal n
 
