@@ -22,13 +22,14 @@ use Rattle.mvs_model.specs.declared.code.Form.TheVariants as form
 use Rattle.mvs_model.specs.declared.line.Location.{Location}
 use Rattle.job_script.specs.declared.access.TheConstants.{PUT, SHOW, MOVE, WHERE}
 use Rattle.job_script.specs.declared.statements.Operation.{Operation}
-use Rattle.job_script.specs.declared.statements.Operation.TheVariants.{Region, Getmain, Freemain, Storage, Attach, Return, Abend, Put, Show, Move, Where}
+use Rattle.job_script.specs.declared.statements.Operation.TheVariants.{Region, Getmain, Freemain, Storage, Attach, Return, Abend, Put, Show, Move, Where, Report}
 use Rattle.job_script.specs.Built.{IsBuiltLine, IsBuiltStatement}
 use Rattle.job_script.specs.Chains.{◌>>=◌, or_fault}
 use Rattle.job_script.specs.Fields.{is_plain_byte, is_blank_byte, word_of, after_word}
 use Rattle.job_script.specs.NameTexts.{name_at}
 use Rattle.job_script.specs.Operands.{operands_at, is_set, IsKept, AreOf}
 use Rattle.job_script.specs.Values.{lengths_of, names_of, locations_of, number_of, number_or, extent_of, name_of, location_of, bytes_of, number_in, location_in, subpool_or_zero, either_set, is_not_no, residence_or_below}
+use Rattle.job_script.specs.Report.{alone_at, report_at}
 use Rattle.job_script.specs.Requests.{plain_of, placed_of, start_of, released}
 use Rattle.job_script.specs.Storage.{storage_at, obtain_at, obtain_in, release_at, release_in, form_if}
 use Rattle.job_script.specs.Forms.{form_of, form_named}
@@ -272,6 +273,14 @@ where_said task pieces =
     chain P (operands_at WHERE [] (replicate 1 None) 0 pieces) where_of (λ values read.
     chain P (name_of (slice_get values 0)) _ (λ area name. (refl, tt)))
 
+report_said : (task : Name) (pieces : List (List ℕ)) → IfOk (report_at pieces) (IsSaid false task)
+report_said task pieces =
+    let P = IsSaid false task in
+    chain P (form_of pieces) _ (λ r read.
+    of_two P (bytes_eq r.0 (codes "SP")) (bytes_eq r.0 (codes "MAP")) (alone_at says.ReportSubpools r.1) (alone_at says.ReportMap r.1)
+    (chain P (operands_at [] [] (replicate 0 None) 0 r.1) (λ values. Ok says.ReportSubpools) (λ values none. (refl, tt)))
+    (chain P (operands_at [] [] (replicate 0 None) 0 r.1) (λ values. Ok says.ReportMap) (λ values none. (refl, tt))))
+
 -- what each operation but REGION says
 later_said : (task : Name) (operation : Operation) (pieces : List (List ℕ)) → is_in_place false operation ≡ true → IfOk (statement_of operation pieces) (IsSaid false task)
 later_said task Region pieces is = absurd (cc)
@@ -285,6 +294,7 @@ later_said task Put pieces is = put_said task pieces
 later_said task Show pieces is = show_said task pieces
 later_said task Move pieces is = move_said task pieces
 later_said task Where pieces is = where_said task pieces
+later_said task Report pieces is = report_said task pieces
 
 statement_said : (first : Bool) (task : Name) (operation : Operation) (pieces : List (List ℕ)) → is_in_place first operation ≡ true → IfOk (statement_of operation pieces) (IsSaid first task)
 statement_said true task Region pieces is = region_said task pieces

@@ -18,10 +18,8 @@ IsBuiltAsked _ = Unit {0}
 
 -- the same of a statement
 abbrev pub IsBuiltStatement : Statement → Type 0
-IsBuiltStatement (says.Region below above fill residence) = Unit {0}
 IsBuiltStatement (says.Request a) = IsBuiltAsked a
-IsBuiltStatement (says.Where name) = Unit {0}
-IsBuiltStatement _ = ⊥
+IsBuiltStatement _ = Unit {0}
 
 -- the same of what a line says
 abbrev pub IsBuiltLine : Result Line Fault → Type 0

@@ -16,6 +16,7 @@ pub mod Operands
 pub mod Pairs
 pub mod Pieces
 pub mod Region
+pub mod Report
 pub mod Requests
 pub mod Sets
 pub mod Somes

@@ -5,12 +5,13 @@ use Rattle.mvs_model.specs.declared.line.Statement.{Statement}
 use Rattle.mvs_model.specs.declared.line.Statement.TheVariants as says
 use Rattle.mvs_model.specs.declared.line.Asked.TheVariants as asked
 use Rattle.job_script.specs.declared.statements.Operation.{Operation}
-use Rattle.job_script.specs.declared.statements.Operation.TheVariants.{Region, Getmain, Freemain, Storage, Attach, Return, Abend, Put, Show, Move, Where}
+use Rattle.job_script.specs.declared.statements.Operation.TheVariants.{Region, Getmain, Freemain, Storage, Attach, Return, Abend, Put, Show, Move, Where, Report}
 use Rattle.job_script.specs.Pieces.{pieces_of}
 use Rattle.job_script.specs.Region.{region_at}
 use Rattle.job_script.specs.Getmain.{getmain_at}
 use Rattle.job_script.specs.Freemain.{freemain_at}
 use Rattle.job_script.specs.Access.{put_at, show_at, move_at, where_at}
+use Rattle.job_script.specs.Report.{report_at}
 use Rattle.job_script.specs.Storage.{storage_at}
 use Rattle.job_script.specs.Tasks.{attach_at, abend_at}
 
@@ -28,7 +29,8 @@ operation_of word =
     else (if bytes_eq word (codes "SHOW") then Some Show
     else (if bytes_eq word (codes "MOVE") then Some Move
     else (if bytes_eq word (codes "WHERE") then Some Where
-    else None))))))))))
+    else (if bytes_eq word (codes "REPORT") then Some Report
+    else None)))))))))))
 
 -- the operands of a field, which has none where it is empty
 abbrev pub pieces_in : List ℕ → List (List ℕ)
@@ -48,3 +50,4 @@ statement_of Put pieces = put_at pieces
 statement_of Show pieces = show_at pieces
 statement_of Move pieces = move_at pieces
 statement_of Where pieces = where_at pieces
+statement_of Report pieces = report_at pieces

@@ -26,6 +26,7 @@ mod operands;
 mod pair;
 mod pieces;
 mod region;
+mod report;
 mod requests;
 mod sets;
 mod somes;

@@ -7,6 +7,7 @@ use crate::access::{read_move, read_put, read_show, read_where};
 use crate::freemain::read_freemain;
 use crate::getmain::read_getmain;
 use crate::region::read_region;
+use crate::report::read_report;
 use crate::storage::read_storage;
 use crate::tasks::{read_abend, read_attach};
 use mvs_model::line::{Asked, Fault, Statement};
@@ -25,6 +26,7 @@ pub enum Operation {
     Show,
     Move,
     Where,
+    Report,
 }
 
 /// The operation that a word names.
@@ -53,6 +55,8 @@ pub fn read_operation(word: &[u8]) -> Option<Operation>
         Some(Operation::Move)
     } else if word == b"WHERE".as_slice() {
         Some(Operation::Where)
+    } else if word == b"REPORT".as_slice() {
+        Some(Operation::Report)
     } else {
         None
     }
@@ -75,5 +79,6 @@ pub fn read_operands_of(operation: Operation, field: &[u8]) -> Result<Statement,
         Operation::Show => read_show(field),
         Operation::Move => read_move(field),
         Operation::Where => read_where(field),
+        Operation::Report => read_report(field),
     }
 }

@@ -1,3 +1,4 @@
 pub mod Accessing
 pub mod Copying
 pub mod Regions
+pub mod Reporting

@@ -2,6 +2,7 @@
 #![tactic(auto)]
 
 mod access;
+mod report;
 mod step;
 mod subtasking;
 #[cfg(test)]

@@ -1,6 +1,6 @@
 //! The machine of one step.
 
-ghost use Rattle.std.specs.Prelude.{◌≡◌, ◌<◌, ◌+◌, ◌||◌, ◌↔◌, ℕ, false, IfOk, IfSome, IsSome, OnErr, length, slice_get};
+ghost use Rattle.std.specs.Prelude.{◌≡◌, ◌<◌, ◌+◌, ◌||◌, ◌↔◌, ℕ, false, IfOk, IfSome, IsSome, MatchOption, OnErr, length, slice_get};
 ghost use Rattle.std.specs.FinMap.{get};
 ghost use Rattle.mvs_model.specs.Storage.{IsStorage};
 ghost use Rattle.mvs_model.specs.Owners.{is_active};
@@ -13,14 +13,17 @@ ghost use Rattle.task_owner.specs.Directory.{IsTask, name_of};
 ghost use Rattle.request_forms.specs.Answers.{Answers};
 ghost use Rattle.job_step.specs.Access.{IsStepStorage};
 ghost use Rattle.job_step.specs.Progress.{IsBuilt};
+ghost use Rattle.job_step.specs.Reports.{HasNone, IsMapEnd, IsMapRun, IsSubpoolLine};
 
 use crate::access::{all_held, move_bytes, put, show};
+use crate::report::{map_run, subpool_line};
 use crate::subtasking::{abend, attach, finish};
 use mvs_model::card::Card;
 use mvs_model::code::Code;
 use mvs_model::error::OutOfMemory;
 use mvs_model::name::Name;
-use mvs_model::place::Place;
+use mvs_model::place::{Addr, Place};
+use mvs_model::report::{MapRun, SubpoolLine};
 use mvs_model::request::{Reply, Request};
 use mvs_model::want::Placement;
 use request_forms::obtain::obtain;
@@ -135,6 +138,23 @@ impl Step {
             return None;
         }
         Some(self.store.bytes(place))
+    }
+
+    /// The line of REPORT SP for the first number at or after `from` that the task has. None where it has none, as where
+    /// it is not active.
+    pub fn subpool_line(&self, name: &Name, from: u8) -> Option<SubpoolLine>
+        ensures { MatchOption result
+            (HasNone self.now.state.owners name.now from 128)
+            (IsSubpoolLine self.now.state name.now from) }
+    {
+        subpool_line(&self.store, &self.tasks, name, from)
+    }
+
+    /// The first run of REPORT MAP that begins at or after an address. None where there is none.
+    pub fn map_run(&self, from: Addr) -> Option<MapRun>
+        ensures { MatchOption result (IsMapEnd self.now.state from) (IsMapRun self.now.state from) }
+    {
+        map_run(&self.store, &self.tasks, from)
     }
 
     /// Serves a request of a task, which need not be active. It always replies.

@@ -27,6 +27,7 @@ pub mod Seen
 pub mod SeenAccess
 pub mod SeenEnd
 pub mod SeenRelease
+pub mod SeenReports
 pub mod Sized
 pub mod SmallLaws
 pub mod StorageLaws

@@ -67,7 +67,7 @@ module _ (st : Storage) (o : Owners) (is : IsStorage st) where
     at (Some b) = refl
 
 -- a place for one is a place for the other
-same_holder : (st : Storage) (o : Owners) → IsStorage st → holder (seen st o) ≡ held_by st
+pub same_holder : (st : Storage) (o : Owners) → IsStorage st → holder (seen st o) ≡ held_by st
 same_holder st o is = λ i d. holder_seen st o is d i
 
 pub no_place_seen : (st : Storage) (o : Owners) (s : ℕ) (want : Wanted) → IsStorage st → NoPlace st.regions (held_by st) s want → NoPlace st.regions (holder (seen st o)) s want

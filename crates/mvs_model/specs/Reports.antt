@@ -32,7 +32,7 @@ subpool_line number st t n s =
     reply_line number t (codes "SP " ++ decimal n ++ (if owns st.owners t s then codes " OWNED PLAIN " else codes " SHARED PLAIN ") ++ decimal (bytes_held st s false) ++ codes " POOL " ++ decimal (bytes_held st s true))
 
 -- the line of a number, where the task has it
-abbrev entry_line : ℕ → State → Name → ℕ → Option ℕ → List ℕ
+abbrev pub entry_line : ℕ → State → Name → ℕ → Option ℕ → List ℕ
 entry_line number st t n None = []
 entry_line number st t n (Some s) = subpool_line number st t n s
 
@@ -55,7 +55,7 @@ pub record PageRun : Type 0 where
   pub subpool : Option ℕ
 
 -- whether two pages are assigned alike
-abbrev same_subpool : Option ℕ → Option ℕ → Bool
+abbrev pub same_subpool : Option ℕ → Option ℕ → Bool
 same_subpool None None = true
 same_subpool None (Some s) = false
 same_subpool (Some r) None = false
@@ -76,12 +76,12 @@ abbrev pub number_of : Owners → Name → ℕ → Option ℕ
 number_of o t s = first_from 0 128 (λ n. if has (λ r. r == s) (entry o t n) then Some n else None)
 
 -- a number, where there is one
-abbrev decimal_of : Option ℕ → List ℕ
+abbrev pub decimal_of : Option ℕ → List ℕ
 decimal_of None = []
 decimal_of (Some n) = decimal n
 
 -- what is said of a subpool with this owner
-abbrev owner_text : Owners → ℕ → Option Name → List ℕ
+abbrev pub owner_text : Owners → ℕ → Option Name → List ℕ
 owner_text o s None = codes "FREE"
 owner_text o s (Some t) = codes "SP " ++ decimal_of (number_of o t s) ++ codes " OWNER " ++ trimmed t
 

@@ -17,6 +17,8 @@ use Rattle.mvs_model.specs.Steps.{Step}
 use Rattle.mvs_model.specs.declared.line.Statement.{Statement}
 use Rattle.mvs_model.specs.declared.line.Statement.TheVariants as says
 use Rattle.mvs_model.specs.Texts.{reply_line, region_text, fault_text}
+use Rattle.mvs_model.specs.State.{State}
+use Rattle.mvs_model.specs.Reports.{map_text, subpools_text}
 use Rattle.mvs_model.specs.Owners.{is_active}
 use Rattle.mvsjob.specs.declared.job.Stop.{Stop}
 use Rattle.mvsjob.specs.Serving.{Performs, RunsLine, stage_of}
@@ -50,6 +52,13 @@ pub where_does : (number : ℕ) (old : Job) (t : Name) (s : Statement) (name : N
 where_does number old t s name place is active lies =
     subst (λ s. Does number old t s (reply_line number t (where_text place)) old) (sym is)
     (does_said number old t (says.Where name) _ old active (ap (λ o. reply_line number t (where_text o)) lies, refl))
+
+-- A report is what its statement does.
+pub subpools_does : (number : ℕ) (old : Job) (t : Name) (s : Statement) (st : State) → st ≡ old.state → s ≡ says.ReportSubpools → is_active old.state.owners t ≡ true → Does number old t s (subpools_text number st t) old
+subpools_does number old t s st same is active = subst (λ s. Does number old t s (subpools_text number st t) old) (sym is) (does_said number old t says.ReportSubpools _ old active (ap (λ x. subpools_text number x t) same, refl))
+
+pub map_does : (number : ℕ) (old : Job) (t : Name) (s : Statement) (st : State) → st ≡ old.state → s ≡ says.ReportMap → is_active old.state.owners t ≡ true → Does number old t s (map_text number st t) old
+map_does number old t s st same is active = subst (λ s. Does number old t s (map_text number st t) old) (sym is) (does_said number old t says.ReportMap _ old active (ap (λ x. map_text number x t) same, refl))
 
 -- What is said of a region is what its statement prints.
 pub begins_said : (number : ℕ) (t : Name) (s : Statement) (card : StepCard) (said : List ℕ) (job : Job) → Begins number t s (region_text number card) (In (first_job card))

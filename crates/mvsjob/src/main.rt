@@ -7,6 +7,7 @@ ghost use Rattle.mvsjob.specs.Statuses.{status_of};
 mod job;
 mod names;
 mod print;
+mod reports;
 mod resolve;
 mod run;
 mod serve;

@@ -13,6 +13,7 @@ ghost use Rattle.mvsjob.specs.Writing.{WritesAll};
 use crate::job::Stop;
 use crate::names::Names;
 use crate::print::{at_said, length_said, print_abend, print_data, print_line};
+use crate::reports::{print_map, print_subpools};
 use crate::resolve::{place_shown, resolve, set_names};
 use job_step::Step;
 use mvs_model::card::Card;
@@ -209,7 +210,15 @@ impl Running {
                 print_where(writer, number, task, self.names.get(name))?;
                 Ok(())
             }
-            _ => unreachable!(),
+            Statement::ReportSubpools => {
+                print_subpools(writer, number, task, &self.step)?;
+                Ok(())
+            }
+            Statement::ReportMap => {
+                print_map(writer, number, task, &self.step)?;
+                Ok(())
+            }
+            Statement::Region { .. } => unreachable!(),
         }
     }
 }

@@ -290,6 +290,13 @@ impl Half {
         count(&self.held, &self.pages, subpool)
     }
 
+    // How many pages the region has.
+    pub fn page_count(&self) -> u32
+        ensures { result ≡ self.now.pages }
+    {
+        self.pages.pages() as u32
+    }
+
     // The subpool that the page of an address is assigned to.
     pub fn page_owner(&self, addr: Addr) -> Option<SubpoolId>
         ensures { OwnsPage self.now (addr / 4096) result }

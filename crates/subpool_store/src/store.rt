@@ -214,6 +214,21 @@ impl Store {
             self.above.holder(addr)
         }
     }
+
+    /// How many pages the region below has.
+    pub fn pages_below(&self) -> u32
+        ensures { result ≡ self.now.regions.below }
+    {
+        self.below.page_count()
+    }
+
+    /// How many pages the region above has.
+    pub fn pages_above(&self) -> u32
+        ensures { result ≡ self.now.regions.above }
+    {
+        self.above.page_count()
+    }
+
     /// How many bytes the subpool holds.
     pub fn held_bytes(&self, subpool: SubpoolId) -> u32
         ensures { result ≡ held_bytes self.now subpool }

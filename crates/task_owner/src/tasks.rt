@@ -324,7 +324,8 @@ impl Tasks {
 
     /// The number under which the subpool stands, and the name of its owner.
     pub fn label(&self, subpool: SubpoolId) -> Option<(SubNo, Name)>
-        ensures { MatchOption result (get self.now.owners.owner subpool ≡ None) (λ r. (get self.now.owners.owner subpool ≡ Some r.1) × (entry self.now.owners r.1 r.0 ≡ Some subpool)) }
+        ensures label { MatchOption result (get self.now.owners.owner subpool ≡ None) (λ r. (get self.now.owners.owner subpool ≡ Some r.1) × (entry self.now.owners r.1 r.0 ≡ Some subpool)) }
+        ensures kept { OwnersKept self.now.owners }
     {
         match self.owned[subpool.get() as usize] {
             Some(owned) => Some((

@@ -3,6 +3,7 @@ use Rattle.mvs_model.specs.Owners.{entry}
 use Rattle.task_owner.proofs.tasks.Tasks.label.Goals as goal
 use Rattle.task_owner.proofs.Places.{read_at}
 use Rattle.task_owner.proofs.Reading.{number_low}
+use Rattle.task_owner.proofs.Keeping.{kept_at}
 use Rattle.task_owner.proofs.Labels.{labelled, unlabelled}
 
 pub number_at-requires : goal.number_at-requires
@@ -18,14 +19,20 @@ seat_at-requires c =
     let o = read_at c.self.inside.owned.items c.get.result c.args.subpool c.index.result.now c.index.ensures c.get.ensures.value range ∙ c.in-Some.is in
     ap is_some (c.self.invariant.0.owners c.args.subpool c.in-Some.owned o).1
 
-pub returns-in-Some : goal.returns-in-Some
-returns-in-Some c =
+pub returns-in-Some-clause-label : goal.returns-in-Some-clause-label
+returns-in-Some-clause-label c =
     let range : c.get.result < length c.self.inside.owned.items = omega (arith, c.self.invariant.1, c.get.ensures.low) in
     let o = read_at c.self.inside.owned.items c.get.result c.args.subpool c.index.result.now c.index.ensures c.get.ensures.value range ∙ c.in-Some.is in
     let both = labelled _ _ _ c.args.subpool c.self.view_is c.self.invariant.0 c.in-Some.owned c.seat_at.result.now o c.seat_at.ensures in
     (both.0, ap (entry c.args.self.now.owners c.seat_at.result.now.name) c.number_at.ensures ∙ both.1)
 
-pub returns-in-None : goal.returns-in-None
-returns-in-None c =
+pub returns-in-None-clause-label : goal.returns-in-None-clause-label
+returns-in-None-clause-label c =
     let range : c.get.result < length c.self.inside.owned.items = omega (arith, c.self.invariant.1, c.get.ensures.low) in
     unlabelled _ _ _ c.args.subpool c.self.view_is (read_at c.self.inside.owned.items c.get.result c.args.subpool c.index.result.now c.index.ensures c.get.ensures.value range ∙ c.in-None.is)
+
+pub returns-in-Some-clause-kept : goal.returns-in-Some-clause-kept
+returns-in-Some-clause-kept c = kept_at _ _ _ c.self.view_is c.self.invariant.0 c.self.invariant.1 c.self.invariant.2
+
+pub returns-in-None-clause-kept : goal.returns-in-None-clause-kept
+returns-in-None-clause-kept c = kept_at _ _ _ c.self.view_is c.self.invariant.0 c.self.invariant.1 c.self.invariant.2

@@ -1,0 +1,20 @@
+use Rattle.std.proofs.Common.{◌≡◌, ◌+◌, ◌/◌, ap, sym, ℕ}
+use Rattle.job_step.proofs.Reporting.{run_below, run_above, no_run}
+use Rattle.job_step.proofs.report.map_run.Goals as goal
+
+pub returns-in-Some : goal.returns-in-Some
+returns-in-Some c =
+    let first = ap (λ n. (n + 4095) / 4096) c.get.ensures.value in
+    let found = c.in-Some.ensures in
+    run_below c.args.store.now c.args.tasks.now.owners c.requires c.args.from ((c.get.result + 4095) / 4096) c.pages_below.result first c.pages_below.ensures _ _ _ found.0 found.1 found.2 c.map_line.ensures.addr c.map_line.ensures.len c.map_line.ensures.holder
+
+pub returns-in_default-first_run : goal.returns-in_default-first_run
+returns-in_default-first_run c =
+    let first = ap (λ n. (n + 4095) / 4096) c.get.ensures.value in
+    no_run c.args.store.now c.args.tasks.now.owners c.requires c.args.from ((c.get.result + 4095) / 4096) c.pages_below.result first c.pages_below.ensures c.pages_above.result c.pages_above.ensures c.in_default.ensures c.in_default-first_run.ensures
+
+pub returns : goal.returns
+returns c =
+    let first = ap (λ n. (n + 4095) / 4096) c.get.ensures.value in
+    let found = c.in-Some-first_run.ensures in
+    run_above c.args.store.now c.args.tasks.now.owners c.requires c.args.from ((c.get.result + 4095) / 4096) c.pages_below.result first c.pages_below.ensures c.pages_above.result _ _ _ c.pages_above.ensures c.in_default.ensures found.0 found.1 found.2 c.map_line-2.ensures.addr c.map_line-2.ensures.len c.map_line-2.ensures.holder

@@ -1,0 +1,96 @@
+-- What the reports say of a store and the owners.
+use Rattle.std.proofs.Common.{◌≡◌, ℕ, zero, suc, ◌+◌, ◌*◌, ◌<◌, ◌≤◌, inl, inr, Bool, true, false, cond, Option, Some, None, refl, sym, ap, ◌∙◌, arith}
+use Rattle.std.specs.Prelude.{◌==◌, ◌&&◌, not}
+use Rattle.std.specs.Option.{option_map}
+use Rattle.std.specs.FinMap.{get}
+use Rattle.std.proofs.lemmas.Bool.{cases_lt}
+use Rattle.std.proofs.lemmas.Bool.Decides.{nat_tests}
+use Rattle.mvs_model.specs.declared.name.Name.{Name}
+use Rattle.mvs_model.specs.Finite.{has, count_below}
+use Rattle.mvs_model.specs.Storage.{Storage, holder as held_by, IsStorage, end_of, holds, held_bytes}
+use Rattle.mvs_model.specs.Owners.{Owners, entry}
+use Rattle.mvs_model.specs.Kept.{OwnersKept}
+use Rattle.mvs_model.specs.State.{Holding, plain}
+use Rattle.mvs_model.specs.View.{seen}
+use Rattle.mvs_model.specs.Reports.{bytes_held, first_from, number_of}
+use Rattle.mvs_model.proofs.Seen.{held_seen}
+
+-- the first of the values that a function has
+module _ {X : Type 0} where
+  first_empty : (k : ℕ) (f : ℕ → Option X) → first_from k zero f ≡ None
+  unfolding first_from
+  first_empty k f = refl
+
+  first_here : (k n : ℕ) (f : ℕ → Option X) (x : X) → f k ≡ Some x → first_from k (suc n) f ≡ Some x
+  unfolding first_from
+  first_here k n f x is = rw (is) refl
+
+  first_later : (k n : ℕ) (f : ℕ → Option X) → f k ≡ None → first_from k (suc n) f ≡ first_from (k + 1) n f
+  unfolding first_from
+  first_later k n f is = rw (is) refl
+
+  pub first_none : (k n : ℕ) (f : ℕ → Option X) → ((d : ℕ) → k ≤ d → d < k + n → f d ≡ None) → first_from k n f ≡ None
+  first_none k zero f h = first_empty k f
+  first_none k (suc n) f h = first_later k n f (h k (omega arith) (omega arith)) ∙ first_none (k + 1) n f (λ d low high. h d (omega arith) (omega arith))
+
+  -- where there is but one
+  pub first_only : (k n d : ℕ) (f : ℕ → Option X) (x : X) → k ≤ d → d < k + n → f d ≡ Some x → ((e : ℕ) (y : X) → k ≤ e → e < k + n → f e ≡ Some y → y ≡ x) → first_from k n f ≡ Some x
+  first_only k zero d f x low high is only = absurd (omega arith)
+  first_only k (suc n) d f x low high is only = at (f k) refl (λ less. first_only (k + 1) n d f x (omega (arith, less)) (omega arith) is (λ e y low high. only e y (omega arith) (omega arith))) where
+    at : (v : Option X) → f k ≡ v → (k < d → first_from (k + 1) n f ≡ Some x) → first_from k (suc n) f ≡ Some x
+    at (Some y) e more = first_here k n f y e ∙ ap Some (only k y (omega arith) (omega arith) e)
+    at None e more =
+        elim (cases_lt k d) [
+          | inl less ↦ first_later k n f e ∙ more less
+          | inr same ↦ (let s : d ≡ k = omega arith in absurd (let g : None ≡ Some x = sym e ∙ ap f (sym s) ∙ is in cc))
+        ]
+
+and_true : (b : Bool) → (b && true) ≡ b
+and_true true = refl
+and_true false = refl
+
+and_false : (b : Bool) → (b && false) ≡ false
+and_false true = refl
+and_false false = refl
+
+count_none : (n : ℕ) → count_below n (λ d. false) ≡ 0
+unfolding count_below
+count_none zero = refl
+count_none (suc n) = let e : count_below n (λ d. false) ≡ 0 = count_none n in omega (arith, e)
+
+-- what a subpool holds lies outside of pools
+module _ (st : Storage) (o : Owners) (s : ℕ) (is : IsStorage st) where
+  plain_test : (d : ℕ) → has (λ (h : Holding). (h.subpool == s) && not h.pooled) (get (seen st o).held d) ≡ holds st s d
+  plain_test d = ap (has (λ (h : Holding). (h.subpool == s) && not h.pooled)) (held_seen st o is d) ∙ at (held_by st d) where
+    at : (v : Option ℕ) → has (λ (h : Holding). (h.subpool == s) && not h.pooled) (option_map plain v) ≡ has (λ t. t == s) v
+    at None = refl
+    at (Some t) = and_true (t == s)
+
+  pool_test : (d : ℕ) → has (λ (h : Holding). (h.subpool == s) && h.pooled) (get (seen st o).held d) ≡ false
+  pool_test d = ap (has (λ (h : Holding). (h.subpool == s) && h.pooled)) (held_seen st o is d) ∙ at (held_by st d) where
+    at : (v : Option ℕ) → has (λ (h : Holding). (h.subpool == s) && h.pooled) (option_map plain v) ≡ false
+    at None = refl
+    at (Some t) = and_false (t == s)
+
+  pub plain_seen : bytes_held (seen st o) s false ≡ held_bytes st s
+  plain_seen = ap (λ test. 8 * count_below (end_of st.regions) test) (λ i d. plain_test d i)
+
+  pub pool_seen : bytes_held (seen st o) s true ≡ 0
+  pool_seen = ap (λ test. 8 * count_below (end_of st.regions) test) (λ i d. pool_test d i) ∙ ap (λ n. 8 * n) (count_none (end_of st.regions))
+
+-- the number under which a subpool stands is the one that its owner has for it
+pub number_kept : (o : Owners) (t : Name) (n s : ℕ) → OwnersKept o → entry o t n ≡ Some s → number_of o t s ≡ Some n
+number_kept o t n s kept is =
+    first_only 0 128 n (λ m. cond (has (λ r. r == s) (entry o t m)) (Some m) None) n (omega arith) (kept.numbers t n s is)
+    (ap (λ v. cond (has (λ r. r == s) v) (Some n) None) is ∙ ap (λ b. cond b (Some n) None) (let e : (s == s) ≡ true = grind (arith, nat_tests) in e))
+    (λ m y low high e. at (entry o t m) m y refl e) where
+      at : (v : Option ℕ) (m y : ℕ) → entry o t m ≡ v → cond (has (λ r. r == s) v) (Some m) None ≡ Some y → y ≡ n
+      at None m y has e = absurd (let g : None ≡ Some y = e in cc)
+      at (Some r) m y has e = by (r == s) refl e where
+        by : (b : Bool) → (r == s) ≡ b → cond b (Some m) None ≡ Some y → y ≡ n
+        by true same f =
+            let r_is : r ≡ s = grind (arith, nat_tests) in
+            let m_is : m ≡ n = kept.one_number t t m n s (has ∙ ap Some r_is) is in
+            let y_is : m ≡ y = cc in
+            sym y_is ∙ m_is
+        by false same f = absurd (let g : None ≡ Some y = f in cc)

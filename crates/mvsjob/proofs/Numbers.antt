@@ -1,0 +1,100 @@
+-- The lines of the numbers that a task has, one after another.
+use Rattle.std.proofs.Common.{◌≡◌, ℕ, zero, suc, ◌+◌, ◌<◌, ◌≤◌, ◌⊎◌, ◌++◌, List, [], ◌∷◌, Bool, true, false, inl, inr, Option, None, Some, codes, decimal, length, length-append, refl, ap, sym, ◌∙◌, add-one, append_assoc, append-nil, subst, arith}
+use Rattle.std.proofs.lemmas.Bool.{cases_lt}
+use Rattle.std.specs.Io.KnownBytes.{Appends}
+use Rattle.std.proofs.KnownBytes.{Appends-trans}
+use Rattle.mvs_model.specs.declared.name.Name.{Name}
+use Rattle.mvs_model.specs.declared.report.SubpoolLine.{SubpoolLine}
+use Rattle.mvs_model.specs.Name.{trimmed}
+use Rattle.mvs_model.specs.Owners.{entry, owns}
+use Rattle.mvs_model.specs.State.{State}
+use Rattle.mvs_model.specs.Texts.{reply_line}
+use Rattle.mvs_model.specs.Reports.{each_below, entry_line, or_none, bytes_held, subpools_text}
+use Rattle.job_step.specs.Reports.{HasNone, IsSubpoolLine}
+use Rattle.mvsjob.specs.Reports.{subpool_said}
+use Rattle.mvsjob.specs.Writing.{AppendsFront}
+use Rattle.mvsjob.proofs.Appending.{front_longer, front_more}
+
+-- the lists below a bound
+module _ (f : ℕ → List ℕ) where
+  pub each_none : each_below zero f ≡ []
+  unfolding each_below
+  each_none = refl
+
+  each_more : (n : ℕ) → each_below (suc n) f ≡ each_below n f ++ f n
+  unfolding each_below
+  each_more n = refl
+
+  pub each_next : (n : ℕ) → each_below (n + 1) f ≡ each_below n f ++ f n
+  each_next n = ap (λ m. each_below m f) (add-one n) ∙ each_more n
+
+  -- those that are empty add nothing
+  pub each_skip : (from n : ℕ) → from ≤ n → ((m : ℕ) → from ≤ m → m < n → f m ≡ []) → each_below n f ≡ each_below from f
+  each_skip from zero low none = ap (λ m. each_below m f) (let e : zero ≡ from = omega (arith, low) in e)
+  each_skip from (suc n) low none = at (cases_lt n from) (λ le. each_skip from n le (λ m l h. none m l (omega (arith, h)))) where
+    at : (n < from) ⊎ (from ≤ n) → (from ≤ n → each_below n f ≡ each_below from f) → each_below (suc n) f ≡ each_below from f
+    at (inl over) rest = ap (λ m. each_below m f) (let e : suc n ≡ from = omega (arith, over, low) in e)
+    at (inr le) rest = each_more n ∙ ap (λ z. each_below n f ++ z) (none n le (omega arith)) ∙ append-nil (each_below n f) ∙ rest le
+
+  -- those below a lower bound stand in front
+  pub each_front : (m n : ℕ) → m ≤ n → (rest : List ℕ) × (each_below n f ≡ each_below m f ++ rest)
+  each_front m zero low = ([], ap (λ k. each_below k f) (let e : zero ≡ m = omega (arith, low) in e) ∙ sym (append-nil (each_below m f)))
+  each_front m (suc n) low = at (cases_lt n m) (λ le. each_front m n le) where
+    at : (n < m) ⊎ (m ≤ n) → (m ≤ n → (rest : List ℕ) × (each_below n f ≡ each_below m f ++ rest)) → (rest : List ℕ) × (each_below (suc n) f ≡ each_below m f ++ rest)
+    at (inl over) rest = ([], ap (λ k. each_below k f) (let e : suc n ≡ m = omega (arith, over, low) in e) ∙ sym (append-nil (each_below m f)))
+    at (inr le) rest = let r = rest le in (r.0 ++ f n, each_more n ∙ ap (λ z. z ++ f n) r.1 ∙ append_assoc (each_below m f) r.0 (f n))
+
+module _ (number : ℕ) (st : State) (t : Name) where
+  -- the line of each number
+  abbrev pub number_line : ℕ → List ℕ
+  number_line n = entry_line number st t n (entry st.owners t n)
+
+  -- what is printed of a number that the task has
+  abbrev pub line_text : SubpoolLine → List ℕ
+  line_text line = reply_line number t (subpool_said line.number line.owned line.plain line.pool)
+
+  pub lines_none : (from end : ℕ) → from ≤ end → HasNone st.owners t from end → each_below end number_line ≡ each_below from number_line
+  lines_none from end low none = each_skip number_line from end low (λ n l h. ap (entry_line number st t n) (none n l h))
+
+  line_said : (from : ℕ) (line : SubpoolLine) → IsSubpoolLine st t from line → number_line line.number ≡ line_text line
+  line_said from line is =
+      ap (entry_line number st t line.number) is.has
+      ∙ (λ i. reply_line number t (subpool_said line.number (sym is.owned i) (sym is.plain i) (sym is.pool i)))
+
+  -- the lines up to a number, and its own
+  pub lines_with : (from : ℕ) (line : SubpoolLine) → IsSubpoolLine st t from line → each_below (line.number + 1) number_line ≡ each_below from number_line ++ line_text line
+  lines_with from line is =
+      each_next number_line line.number ∙ ap (λ z. z ++ number_line line.number) (lines_none from line.number is.behind is.first) ∙ ap (λ z. each_below from number_line ++ z) (line_said from line is)
+
+  -- a line that is printed, in full or in part
+  pub numbers_more : (a b c : Option (List ℕ)) (from : ℕ) (line : SubpoolLine) → IsSubpoolLine st t from line → Appends a b (each_below from number_line) → Appends b c (line_text line) → Appends a c (each_below (line.number + 1) number_line)
+  numbers_more a b c from line is so_far p = rw (lines_with from line is) (Appends-trans a b c _ _ so_far p)
+
+  pub numbers_front : (a b c : Option (List ℕ)) (from : ℕ) (line : SubpoolLine) → IsSubpoolLine st t from line → Appends a b (each_below from number_line) → AppendsFront b c (line_text line) → AppendsFront a c (each_below 128 number_line)
+  numbers_front a b c from line is so_far p =
+      let all = each_front number_line (line.number + 1) 128 (omega (arith, is.low)) in
+      subst (AppendsFront a c) (ap (λ z. z ++ all.0) (sym (lines_with from line is)) ∙ sym all.1) (front_longer a c _ all.0 (front_more a b c _ _ so_far p))
+
+  -- the report of a task that has a number, and of one that has none
+  or_some : (bs : List ℕ) → 0 < length bs → or_none number t bs ≡ bs
+  or_some [] some = absurd (omega (arith, some))
+  or_some (b ∷ bs) some = refl
+
+  longer : (x y : List ℕ) → 0 < length y → 0 < length (x ++ y)
+  longer x y some = omega (arith, some, length-append x y)
+
+  some_line : (text : List ℕ) → 0 < length (reply_line number t text)
+  some_line text = longer (decimal number ++ codes " " ++ trimmed t ++ codes " " ++ text) (codes "\n") (let e : 0 < 1 = omega arith in e)
+
+  pub some_text : (line : SubpoolLine) → IsSubpoolLine st t 0 line → each_below 128 number_line ≡ subpools_text number st t
+  some_text line is =
+      let all = each_front number_line (line.number + 1) 128 (omega (arith, is.low)) in
+      let with = all.1 ∙ ap (λ z. z ++ all.0) (lines_with 0 line is) in
+      let one = some_line (subpool_said line.number line.owned line.plain line.pool) in
+      let two = length-append (each_below 0 number_line) (line_text line) in
+      let three = length-append (each_below 0 number_line ++ line_text line) all.0 in
+      let four = ap length with in
+      sym (or_some (each_below 128 number_line) (omega (arith, one, two, three, four)))
+
+  pub none_text : HasNone st.owners t 0 128 → reply_line number t (codes "SP NONE") ≡ subpools_text number st t
+  none_text none = sym (ap (or_none number t) (lines_none 0 128 (omega arith) none ∙ each_none number_line))

@@ -1,0 +1,15 @@
+use Rattle.std.proofs.Common.{◌≡◌, ℕ, ◌-◌, ◌≤◌}
+use Rattle.std.specs.Io.KnownBytes.{Appends}
+use Rattle.mvs_model.specs.Reports.{each_below}
+use Rattle.mvsjob.proofs.Numbers.{number_line}
+use Rattle.mvsjob.proofs.reports.print_numbers.Given as goal
+
+abbrev pub invariant-lines : goal.invariant-lines
+invariant-lines g l = record {
+  so_far : Appends (g.W.Write.contents l.initial.writer.inner) (g.W.Write.contents l.writer.inner) (each_below l.from (number_line l.number l.step.state l.task));
+  low : l.from ≤ 128;
+  same : l.writer.failed ≡ l.initial.writer.failed;
+}
+
+abbrev pub decreases-lines : goal.decreases-lines
+decreases-lines g l = 128 - l.from
