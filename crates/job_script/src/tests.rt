@@ -13,6 +13,7 @@ use mvs_model::want::{Ask, Loc, Residence, Side};
 
 mod lists;
 mod places;
+mod reports;
 mod requests;
 mod tasks;
 

@@ -10,5 +10,6 @@ macro_rules! says {
 mod access;
 mod asked;
 mod long_run;
+mod reports;
 mod storage;
 mod subtasks;

@@ -2,6 +2,7 @@ mod codes;
 mod examples;
 mod lists;
 mod places;
+mod reports;
 mod storage;
 mod tasks;
 
