@@ -1,4 +1,4 @@
-use Rattle.std.proofs.Common.{◌≡◌, ◌+◌, ◌/◌, ap, sym, ℕ}
+use Rattle.std.proofs.Common.{◌+◌, ◌/◌, ap}
 use Rattle.job_step.proofs.Reporting.{run_below, run_above, no_run}
 use Rattle.job_step.proofs.report.map_run.Goals as goal
 

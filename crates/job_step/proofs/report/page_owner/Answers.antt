@@ -1,4 +1,4 @@
-use Rattle.std.proofs.Common.{◌≡◌, ◌*◌, ◌/◌, ap, ◌∙◌, arith}
+use Rattle.std.proofs.Common.{arith}
 use Rattle.job_step.proofs.Reporting.{page_owned}
 use Rattle.job_step.proofs.report.page_owner.Goals as goal
 

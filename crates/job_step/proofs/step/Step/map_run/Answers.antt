@@ -1,4 +1,4 @@
-use Rattle.std.proofs.Common.{◌≡◌, ap, subst, MatchOption}
+use Rattle.std.proofs.Common.{ap, subst, MatchOption}
 use Rattle.mvs_model.specs.State.{State}
 use Rattle.job_step.specs.Reports.{IsMapEnd, IsMapRun}
 use Rattle.job_step.proofs.step.Step.map_run.Goals as goal
