@@ -1,7 +1,6 @@
 //! The reports on subpools and pages, which are this project's own.
 
 ghost use Rattle.std.specs.Prelude.{◌≡◌, ◌≢◌, ◌<◌, ◌≤◌, ◌+◌, ◌*◌, Some, None, MatchBool, MatchOption};
-ghost use Rattle.mvs_model.specs.Kept.{OwnersKept};
 ghost use Rattle.mvs_model.specs.Owners.{entry};
 ghost use Rattle.mvs_model.specs.Storage.{IsStorage};
 ghost use Rattle.mvs_model.specs.View.{seen};
