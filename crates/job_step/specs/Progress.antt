@@ -10,6 +10,7 @@ pub record Progress : Type 0 where
   pub state : State
   pub abended : Bool
 
+-- a code, for a model's value
 abbrev pub progress_code : Coded Progress
 progress_code = code_by (State × Bool) (coded× state_code coded_bool) (λ p. (p.state, p.abended)) (λ p. record { state = p.0; abended = p.1 }) (λ _. refl)
 

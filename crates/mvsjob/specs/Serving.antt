@@ -12,6 +12,7 @@ use Rattle.mvs_model.specs.Runs.{Job, Stage, Before, In, ServesRead, Faults}
 use Rattle.mvsjob.specs.declared.job.Stop.{Stop}
 use Rattle.mvsjob.specs.Writing.{AppendsFront}
 
+-- a code, for a model's value
 abbrev pub job_code : Coded Job
 job_code = code_by (State × (map.FinMap name_cmp Span × Bool)) (coded× state_code (coded× (map.code name_code span_code) coded_bool)) (λ j. (j.state, (j.names, j.abended))) (λ p. record { state = p.0; names = p.1.0; abended = p.1.1 }) (λ _. refl)
 

@@ -22,10 +22,11 @@ pub record IsFreeRun (bits : List Bool) (from to start end : ℕ) : Type 0 where
   pub free : (i : ℕ) → start ≤ i → i < end → slice_index_or bits i false ≡ false
   pub stops : end < to → slice_index_or bits end false ≡ true
 
--- no bit of the page is set; some bit of the page is set
+-- no bit of the page is set
 abbrev pub HasNoBit : List Bool → ℕ → Type 0
 HasNoBit bits p = (i : ℕ) → i / 512 ≡ p → slice_index_or bits i false ≡ false
 
+-- some bit of the page is set
 abbrev pub HasBit : List Bool → ℕ → Type 0
 HasBit bits p = (i : ℕ) × (i / 512 ≡ p) × (slice_index_or bits i false ≡ true)
 

@@ -26,6 +26,7 @@ pub record HalfState : Type 0 where
   pub held : FinMap nat_cmp ℕ
   pub bytes : FinMap nat_cmp ℕ
 
+-- a code, for a model's value
 abbrev pub half_code : Coded HalfState
 half_code =
     code_by (ℕ × (ℕ × (FinMap nat_cmp ℕ × FinMap nat_cmp ℕ))) (coded× coded_ℕ (coded× coded_ℕ (coded× (code coded_ℕ coded_ℕ) (code coded_ℕ coded_ℕ))))
@@ -41,9 +42,11 @@ held_of first bits pages = table (first + length bits) (shifted first (cell bits
 abbrev pub byte_at : ℕ → List Bool → List (Option ℕ) → List ℕ → ℕ → Option ℕ
 byte_at first bits pages bytes a = if is_some (shifted first (cell bits pages) (a / 8)) then Some (slice_index bytes (a - 8 * first)) else None
 
+-- the bytes of what is held
 abbrev pub bytes_of : ℕ → List Bool → List (Option ℕ) → List ℕ → FinMap nat_cmp ℕ
 bytes_of first bits pages bytes = table (8 * (first + length bits)) (byte_at first bits pages bytes)
 
+-- what these are as one region
 abbrev pub half_of : ℕ → List Bool → List (Option ℕ) → List ℕ → HalfState
 half_of first bits pages bytes = record { first = first; pages = length pages; held = held_of first bits pages; bytes = bytes_of first bits pages bytes }
 

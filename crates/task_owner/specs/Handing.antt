@@ -12,10 +12,11 @@ use Rattle.task_owner.specs.Seats.{item_at}
 use Rattle.task_owner.specs.declared.seat.Seat.{Seat}
 use Rattle.task_owner.specs.declared.seat.Owned.{Owned}
 
--- what the subtask has under a number, and what the mother still has
+-- what the subtask has under a number
 abbrev pub taken : Presents → List (Option ℕ) → ℕ → Option ℕ
 taken gifts numbers n = if gives gifts n || shares gifts n then item_at numbers n else None
 
+-- what the mother still has under it
 abbrev pub left_over : Presents → List (Option ℕ) → ℕ → Option ℕ
 left_over gifts numbers n = if gives gifts n then None else item_at numbers n
 

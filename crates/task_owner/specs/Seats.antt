@@ -34,11 +34,12 @@ names [] = []
 names (None ∷ rest) = names rest
 names (Some x ∷ rest) = x.name ∷ names rest
 
--- the name of the mother, and with the residence what is said of a task
+-- the name of the mother
 abbrev pub mother_of : List (Option Seat) → Option ℕ → Option Name
 mother_of seats None = None
 mother_of seats (Some key) = name_of_seat seats key
 
+-- what is said of a task
 abbrev pub task_of : List (Option Seat) → Seat → Task
 task_of seats x = record { mother = mother_of seats x.mother; residence = x.residence }
 
