@@ -1,16 +1,17 @@
 -- Two starts decide for a whole run.
-use Rattle.std.proofs.Common.{◌≡◌, ℕ, ◌+◌, ◌%◌, ◌^◌, ◌<◌, ◌≤◌, ◌↔◌, ◌⊎◌, refl, inl, inr, arith}
-use Rattle.mvs_model.specs.Span.{Span, span}
-use Rattle.mvs_model.specs.Wanted.{Wanted, IsWanted}
+use Rattle.std.proofs.Common.{◌≡◌, ℕ, ◌+◌, ◌-◌, ◌%◌, ◌^◌, ◌<◌, ◌≤◌, ◌↔◌, ◌⊎◌, refl, subst, inl, inr, arith}
+use Rattle.std.specs.Prelude.{IfSome}
+use Rattle.mvs_model.specs.Place.{PlaceValue, place_at}
+use Rattle.mvs_model.specs.Want.{WantValue, IsWant}
 use Rattle.mvs_model.specs.Storage.{Meets, IsLength, IsRun, InRun}
 use Rattle.boundary_loc.specs.declared.Starts.{Starts}
-use Rattle.boundary_loc.specs.Boundary.{Fits, IsLeastMultiple, IsNextStart, Allows}
+use Rattle.boundary_loc.specs.Boundary.{Fits, IsWithin, IsLeastMultiple, IsGreatestMultiple, IsLastStart, IsNextStart, Allows}
 use Rattle.boundary_loc.specs.Starts.{Serves, IsStarts}
 use Rattle.boundary_loc.proofs.Multiples.{lower_power}
 
 -- at a start in the run, what fits is what serves
-serving : (run : Span) (want : Wanted) (a n : ℕ) → IsRun run → IsWanted want → Allows want.side run.addr → run.addr ≤ a → a % 2 ^ want.start ≡ 0 → 0 < n →
-    Fits want.within (run.addr + run.len) n a ↔ Serves run want (span a n)
+serving : (run : PlaceValue) (want : WantValue) (a n : ℕ) → IsRun run → IsWant want → Allows want.side run.addr → run.addr ≤ a → a % 2 ^ want.start ≡ 0 → 0 < n →
+    Fits want.within (run.addr + run.len) n a ↔ Serves run want (place_at a n)
 serving run want a n is_run is_want allowed from on some = (
   λ fits. (
     (from, fits.0),
@@ -28,7 +29,7 @@ serving run want a n is_run is_want allowed from on some = (
   λ serves. (serves.0.1, serves.1.within),
 )
 
-pub starts_decide : (run : Span) (want : Wanted) (first next first_room next_room : ℕ) → IsRun run → IsWanted want → Allows want.side run.addr →
+pub starts_decide : (run : PlaceValue) (want : WantValue) (first next first_room next_room : ℕ) → IsRun run → IsWant want → Allows want.side run.addr →
     IsLeastMultiple (2 ^ want.start) run.addr first → IsNextStart want.start want.within first next →
     ((n : ℕ) → 0 < n → (n ≤ first_room) ↔ Fits want.within (run.addr + run.len) n first) →
     ((n : ℕ) → 0 < n → (n ≤ next_room) ↔ Fits want.within (run.addr + run.len) n next) →
@@ -51,26 +52,26 @@ starts_decide run want first next first_room next_room is_run is_want allowed le
     }
 
 -- what is asked of the lowest place of a length, and of a longest place
-abbrev pub IsLowest : Span → Wanted → ℕ → Span → Type 0
-IsLowest run want n p = (p.len ≡ n) × InRun run p × Meets want p × ((q : Span) → q.len ≡ n → InRun run q → Meets want q → p.addr ≤ q.addr)
+abbrev pub IsLowest : PlaceValue → WantValue → ℕ → PlaceValue → Type 0
+IsLowest run want n p = (p.len ≡ n) × InRun run p × Meets want p × ((q : PlaceValue) → q.len ≡ n → InRun run q → Meets want q → p.addr ≤ q.addr)
 
-abbrev pub IsLongest : Span → Wanted → Span → Type 0
-IsLongest run want p = IsLength want p.len × InRun run p × Meets want p × ((q : Span) → IsLength want q.len → InRun run q → Meets want q → q.len ≤ p.len)
+abbrev pub IsLongest : PlaceValue → WantValue → PlaceValue → Type 0
+IsLongest run want p = IsLength want p.len × InRun run p × Meets want p × ((q : PlaceValue) → IsLength want q.len → InRun run q → Meets want q → q.len ≤ p.len)
 
-pub lowest_at_first : (run : Span) (want : Wanted) (starts : Starts) (n : ℕ) → IsStarts run want starts → 8 ≤ n → n ≤ starts.first_room → IsLowest run want n (span starts.first n)
+pub lowest_at_first : (run : PlaceValue) (want : WantValue) (starts : Starts) (n : ℕ) → IsStarts run want starts → 8 ≤ n → n ≤ starts.first_room → IsLowest run want n (place_at starts.first n)
 lowest_at_first run want starts n decide some short =
-    let serves : Serves run want (span starts.first n) = (decide.first n (omega arith)).0 short in
+    let serves : Serves run want (place_at starts.first n) = (decide.first n (omega arith)).0 short in
     (refl, serves.0, serves.1, λ q len inside meets. decide.lowest q inside meets)
 
-pub lowest_at_next : (run : Span) (want : Wanted) (starts : Starts) (n : ℕ) → IsStarts run want starts → 8 ≤ n → starts.first_room < n → n ≤ starts.next_room → IsLowest run want n (span starts.next n)
+pub lowest_at_next : (run : PlaceValue) (want : WantValue) (starts : Starts) (n : ℕ) → IsStarts run want starts → 8 ≤ n → starts.first_room < n → n ≤ starts.next_room → IsLowest run want n (place_at starts.next n)
 lowest_at_next run want starts n decide some long short =
-    let serves : Serves run want (span starts.next n) = (decide.next n (omega arith)).0 short in
+    let serves : Serves run want (place_at starts.next n) = (decide.next n (omega arith)).0 short in
     (refl, serves.0, serves.1, λ q len inside meets. elim (decide.enough q (omega arith) inside meets) [ inl fits ↦ absurd (omega arith) | inr fits ↦ fits.0 ])
 
 -- a whole length at least as great as each that the rooms allow bounds each length that serves
-longest_in_room : (run : Span) (want : Wanted) (starts : Starts) (n : ℕ) → IsStarts run want starts → IsWanted want →
+longest_in_room : (run : PlaceValue) (want : WantValue) (starts : Starts) (n : ℕ) → IsStarts run want starts → IsWant want →
     ((m : ℕ) → m % 8 ≡ 0 → m ≤ want.most → (m ≤ starts.first_room) ⊎ (m ≤ starts.next_room) → m ≤ n) →
-    (q : Span) → IsLength want q.len → InRun run q → Meets want q → q.len ≤ n
+    (q : PlaceValue) → IsLength want q.len → InRun run q → Meets want q → q.len ≤ n
 longest_in_room run want starts n decide is_want bound q len inside meets =
     let some : 8 ≤ want.least = is_want.some in
     let least : want.least ≤ q.len = len.least in
@@ -80,20 +81,39 @@ longest_in_room run want starts n decide is_want bound q len inside meets =
     ]
 
 -- that length at a start whose room it does not pass is a longest place
-pub longest_at_first : (run : Span) (want : Wanted) (starts : Starts) (n : ℕ) → IsStarts run want starts → IsWanted want → IsLength want n → n ≤ starts.first_room →
+pub longest_at_first : (run : PlaceValue) (want : WantValue) (starts : Starts) (n : ℕ) → IsStarts run want starts → IsWant want → IsLength want n → n ≤ starts.first_room →
     ((m : ℕ) → m % 8 ≡ 0 → m ≤ want.most → (m ≤ starts.first_room) ⊎ (m ≤ starts.next_room) → m ≤ n) →
-    IsLongest run want (span starts.first n)
+    IsLongest run want (place_at starts.first n)
 longest_at_first run want starts n decide is_want len short bound =
     let some : 8 ≤ want.least = is_want.some in
     let least : want.least ≤ n = len.least in
-    let serves : Serves run want (span starts.first n) = (decide.first n (omega arith)).0 short in
+    let serves : Serves run want (place_at starts.first n) = (decide.first n (omega arith)).0 short in
     (len, serves.0, serves.1, longest_in_room run want starts n decide is_want bound)
 
-pub longest_at_next : (run : Span) (want : Wanted) (starts : Starts) (n : ℕ) → IsStarts run want starts → IsWanted want → IsLength want n → n ≤ starts.next_room →
+pub longest_at_next : (run : PlaceValue) (want : WantValue) (starts : Starts) (n : ℕ) → IsStarts run want starts → IsWant want → IsLength want n → n ≤ starts.next_room →
     ((m : ℕ) → m % 8 ≡ 0 → m ≤ want.most → (m ≤ starts.first_room) ⊎ (m ≤ starts.next_room) → m ≤ n) →
-    IsLongest run want (span starts.next n)
+    IsLongest run want (place_at starts.next n)
 longest_at_next run want starts n decide is_want len short bound =
     let some : 8 ≤ want.least = is_want.some in
     let least : want.least ≤ n = len.least in
-    let serves : Serves run want (span starts.next n) = (decide.next n (omega arith)).0 short in
+    let serves : Serves run want (place_at starts.next n) = (decide.next n (omega arith)).0 short in
     (len, serves.0, serves.1, longest_in_room run want starts n decide is_want bound)
+
+-- what is asked of the highest place of a length
+abbrev pub IsHighest : PlaceValue → WantValue → ℕ → PlaceValue → Type 0
+IsHighest run want n p = (p.len ≡ n) × InRun run p × Meets want p × ((q : PlaceValue) → q.len ≡ n → InRun run q → Meets want q → q.addr ≤ p.addr)
+
+-- the last start up to the last one at which the length ends in time
+pub highest_at_last : (run : PlaceValue) (want : WantValue) (n last at : ℕ) → IsRun run → IsWant want → Allows want.side run.addr → 8 ≤ n → n ≤ run.len →
+    IsGreatestMultiple (2 ^ want.start) (run.addr + (run.len - n)) last → IsLastStart want.start want.within n last at → run.addr ≤ at → IsHighest run want n (place_at at n)
+highest_at_last run want n last at is_run is_want allowed some room down decide from =
+    let low : at ≤ last = decide.before in
+    let high : last ≤ run.addr + (run.len - n) = down.before in
+    let serves : Serves run want (place_at at n) = (serving run want at n is_run is_want allowed from decide.on_start (omega arith)).0 (omega arith, decide.lies_within) in (
+      refl,
+      serves.0,
+      serves.1,
+      λ q len inside meets.
+          let ends : q.addr + q.len ≤ run.addr + run.len = inside.1 in
+          decide.highest q.addr (down.greatest q.addr (omega arith) meets.start) meets.start (subst (λ m. IfSome want.within (λ k. IsWithin (2 ^ k) m q.addr)) len meets.within),
+    )

@@ -1,3 +1,4 @@
 pub mod Deciding
 pub mod Multiples
 pub mod Next
+pub mod Last

@@ -3,7 +3,7 @@ use Rattle.std.proofs.Common.{◌≡◌, ℕ, ◌+◌, ◌-◌, ◌*◌, ◌/◌
 use Rattle.std.proofs.lemmas.Bool.{cases_lt}
 use Rattle.std.proofs.lemmas.Nat.{mod-pow-add, div-add-mod'}
 use Rattle.std.proofs.Math.Nat.{mul-le-mul_right, mul-mod_left}
-use Rattle.boundary_loc.specs.Boundary.{IsWithin, IsLeastMultiple}
+use Rattle.boundary_loc.specs.Boundary.{IsWithin, IsLeastMultiple, IsGreatestMultiple}
 
 -- a number is below the next multiple, and not below its own
 below_next : (x u : ℕ) → 0 < u → x < x / u * u + u
@@ -36,6 +36,17 @@ rounded n u some = record {
       let low : (n + u - 1) / u * u ≤ n + u - 1 = quotient_below (n + u - 1) u in
       let le : (n + u - 1) / u ≤ p / u = quotient_le ((n + u - 1) / u) u (p / u) (omega arith) in
       let les : (n + u - 1) / u * u ≤ p / u * u = mul-le-mul_right u le in
+      omega arith;
+}
+
+pub rounded_down : (n u : ℕ) → 0 < u → IsGreatestMultiple u n (n / u * u)
+rounded_down n u some = record {
+  before = quotient_below n u;
+  multiple = mul-mod_left (n / u) u;
+  greatest = λ q low on.
+      let q_is : q / u * u ≡ q = multiple q u on in
+      let le : q / u ≤ n / u = quotient_mono q n u some low in
+      let les : q / u * u ≤ n / u * u = mul-le-mul_right u le in
       omega arith;
 }
 
@@ -81,3 +92,35 @@ within_earlier b first m n q some bytes next from before same =
     let low : first / b ≤ (first + n - 1) / b = quotient_mono first (first + n - 1) b some (omega arith) in
     let high : (first + n - 1) / b ≤ (q + n - 1) / b = quotient_mono (first + n - 1) (q + n - 1) b some (omega arith) in
     omega (arith, same)
+
+-- bytes whose last multiple of the bound is no later than their first do not pass one
+pub within_unpassed : (b n last passed : ℕ) → 0 < b → 0 < n → IsGreatestMultiple b (last + n - 1) passed → passed ≤ last → IsWithin b n last
+within_unpassed b n last passed some bytes is low =
+    let end : passed / b * b ≡ passed = multiple passed b is.multiple in
+    let up : last / b ≤ (last + n - 1) / b = quotient_mono last (last + n - 1) b some (omega arith) in
+    let most : (last + n - 1) / b * b ≤ passed = is.greatest ((last + n - 1) / b * b) (quotient_below (last + n - 1) b) (mul-mod_left ((last + n - 1) / b) b) in
+    let down : (last + n - 1) / b ≤ last / b = quotient_from last ((last + n - 1) / b) b some (omega arith) in
+    omega arith
+
+-- bytes that end at or before a multiple and begin no further before it than the bound lie within the bound
+pub within_before : (b n m r : ℕ) → 0 < b → 0 < n → m % b ≡ 0 → b ≤ m → m - b ≤ r → r + n ≤ m → IsWithin b n r
+within_before b n m r some bytes on big low short =
+    let is : m / b * b ≡ m = multiple m b on in
+    between (m / b - 1) (let front : 1 ≤ m / b = quotient_from m 1 b some (omega arith) in omega arith) where
+      between : (p : ℕ) → m / b ≡ p + 1 → IsWithin b n r
+      between p e =
+          let is : p * b + b ≡ m = omega (arith, ap (λ q. q * b) e, multiple m b on) in
+          let from : p ≤ r / b = quotient_from r p b some (omega arith) in
+          let mono : r / b ≤ (r + n - 1) / b = quotient_mono r (r + n - 1) b some (omega arith) in
+          let to : (r + n - 1) / b ≤ p = quotient_to (r + n - 1) p b (omega arith) in
+          omega arith
+
+-- bytes from before a multiple to behind it pass it
+pub passes : (b n m q : ℕ) → 0 < b → m % b ≡ 0 → q < m → m ≤ q + n - 1 → IsWithin b n q → ⊥
+passes b n m q some on before behind same =
+    let is : m / b * b ≡ m = multiple m b on in
+    let high : m / b ≤ (q + n - 1) / b = quotient_mono m (q + n - 1) b some behind in
+    let low : q / b * b ≤ q = quotient_below q b in
+    let le : m / b ≤ q / b = omega (arith, same) in
+    let les : m / b * b ≤ q / b * b = mul-le-mul_right b le in
+    absurd (omega arith)

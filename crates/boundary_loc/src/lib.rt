@@ -2,12 +2,13 @@
 #![tactic(auto)]
 
 ghost use Rattle.std.specs.Prelude.{◌≡◌, ◌<◌, ◌≤◌, ◌+◌, ◌%◌, ◌^◌, ◌↔◌, ℕ, Option, Some, None, IfSome, MatchOption, IsTrue};
-ghost use Rattle.mvs_model.specs.Span.{Span, span};
+ghost use Rattle.mvs_model.specs.Place.{PlaceValue, place_at};
 ghost use Rattle.mvs_model.specs.Storage.{Meets, IsLength, IsRun, InRun};
-ghost use Rattle.boundary_loc.specs.Boundary.{IsWithin, Fits, IsLeastMultiple, IsNextStart, Allows};
+ghost use Rattle.boundary_loc.specs.Boundary.{IsWithin, Fits, IsLeastMultiple, IsGreatestMultiple, IsNextStart, IsLastStart, Allows};
 ghost use Rattle.boundary_loc.specs.Starts.{IsStarts};
-ghost use Rattle.mvs_model.specs.Wanted.{side_of};
+ghost use Rattle.mvs_model.specs.Want.{side_of};
 
+use mvs_model::numbers::ABOVE_BEGINS;
 use mvs_model::place::{Addr, Place};
 use mvs_model::want::{Loc, Residence, Side, Want};
 
@@ -30,6 +31,15 @@ fn round_up(number: u64, unit: u64) -> u64
     ensures near { result < number + unit }
 {
     (number + unit - 1) / unit * unit
+}
+
+// The greatest multiple of the unit up to a number.
+fn round_down(number: u64, unit: u64) -> u64
+    requires some { 0 < unit }
+    requires unit { unit ≤ 2 ^ 31 }
+    ensures { IsGreatestMultiple unit number result }
+{
+    number / unit * unit
 }
 
 // The bytes from an address up to the next containing boundary.
@@ -68,12 +78,42 @@ fn next_start(first: u64, start: u8, within: Option<u8>) -> u64
     }
 }
 
+// The last start for a length up to one: that one, or the last before the containing boundary that it would pass.
+fn last_start(last: u64, start: u8, within: Option<u8>, len: u64) -> u64
+    requires start { start ≤ 31 }
+    requires within { IfSome within (λ k. (k ≤ 31) × (len ≤ 2 ^ k)) }
+    requires on_start { last % 2 ^ start ≡ 0 }
+    requires small { last + len ≤ 2 ^ 33 }
+    requires some { 0 < len }
+    ensures { IsLastStart start within len last result }
+{
+    let Some(within) = within else {
+        return last;
+    };
+    let passed = round_down(last + len - 1, power(within));
+    if passed <= last {
+        return last;
+    }
+    round_down(passed - len, power(start))
+}
+
+// Whether a length lies within a boundary at all.
+fn is_short(len: u64, within: Option<u8>) -> bool
+    requires { IfSome within (λ k. k ≤ 31) }
+    ensures { IsTrue result ↔ IfSome within (λ k. len ≤ 2 ^ k) }
+{
+    match within {
+        None => true,
+        Some(within) => len <= power(within),
+    }
+}
+
 // Whether an area on this side may begin at the address.
 fn allows(side: Side, addr: u32) -> bool
     ensures { IsTrue result ↔ Allows side addr }
 {
     match side {
-        Side::Below => addr < 0x100_0000,
+        Side::Below => addr < ABOVE_BEGINS,
         Side::Either => true,
     }
 }
@@ -91,7 +131,7 @@ struct Starts {
 fn starts_in(run: Place, want: &Want) -> Option<Starts>
     requires { IsRun run }
     ensures { MatchOption result
-        ((q : Span) → InRun run q → Meets want.now q → ⊥)
+        ((q : PlaceValue) → InRun run q → Meets want.now q → ⊥)
         (IsStarts run want.now) }
 {
     let from = run.addr().get();
@@ -116,7 +156,7 @@ fn place(addr: u64, len: u64) -> Place
     requires addr { addr < 2 ^ 31 }
     requires some { 1 ≤ len }
     requires most { len ≤ 2 ^ 31 }
-    ensures { result ≡ span addr len }
+    ensures { result ≡ place_at addr len }
 {
     Place::new(Addr::new(addr as u32), len as u32)
 }
@@ -128,9 +168,9 @@ pub fn first_in(run: Place, want: &Want, len: u32) -> Option<Place>
     requires whole { len % 8 ≡ 0 }
     requires some { 8 ≤ len }
     ensures { MatchOption result
-        ((q : Span) → q.len ≡ len → InRun run q → Meets want.now q → ⊥)
+        ((q : PlaceValue) → q.len ≡ len → InRun run q → Meets want.now q → ⊥)
         (λ p. (p.len ≡ len) × InRun run p × Meets want.now p
-        × ((q : Span) → q.len ≡ len → InRun run q → Meets want.now q → p.addr ≤ q.addr)) }
+        × ((q : PlaceValue) → q.len ≡ len → InRun run q → Meets want.now q → p.addr ≤ q.addr)) }
 {
     let starts = starts_in(run, want)?;
     let len = u64::from(len);
@@ -143,13 +183,44 @@ pub fn first_in(run: Place, want: &Want, len: u32) -> Option<Place>
     }
 }
 
+/// The highest place of a length in bytes that lies in the run and meets what is wanted but for its lengths; None
+/// where there is none.
+pub fn last_in(run: Place, want: &Want, len: u32) -> Option<Place>
+    requires run { IsRun run }
+    requires whole { len % 8 ≡ 0 }
+    requires some { 8 ≤ len }
+    ensures { MatchOption result
+        ((q : PlaceValue) → q.len ≡ len → InRun run q → Meets want.now q → ⊥)
+        (λ p. (p.len ≡ len) × InRun run p × Meets want.now p
+        × ((q : PlaceValue) → q.len ≡ len → InRun run q → Meets want.now q → q.addr ≤ p.addr)) }
+{
+    let from = u64::from(run.addr().get());
+    let room = u64::from(run.len());
+    let len = u64::from(len);
+    if !allows(want.side(), run.addr().get()) {
+        return None;
+    }
+    if !is_short(len, want.within()) {
+        return None;
+    }
+    if room < len {
+        return None;
+    }
+    let last = round_down(from + (room - len), power(want.start()));
+    let at = last_start(last, want.start(), want.within(), len);
+    if at < from {
+        return None;
+    }
+    Some(place(at, len))
+}
+
 /// A longest place in the run of a length that is wanted, which meets what is wanted; None where there is none.
 pub fn longest_in(run: Place, want: &Want) -> Option<Place>
     requires { IsRun run }
     ensures { MatchOption result
-        ((q : Span) → IsLength want.now q.len → InRun run q → Meets want.now q → ⊥)
+        ((q : PlaceValue) → IsLength want.now q.len → InRun run q → Meets want.now q → ⊥)
         (λ p. IsLength want.now p.len × InRun run p × Meets want.now p
-        × ((q : Span) → IsLength want.now q.len → InRun run q → Meets want.now q → q.len ≤ p.len)) }
+        × ((q : PlaceValue) → IsLength want.now q.len → InRun run q → Meets want.now q → q.len ≤ p.len)) }
 {
     let starts = starts_in(run, want)?;
     let most = u64::from(want.most());

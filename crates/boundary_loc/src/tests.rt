@@ -2,10 +2,10 @@
 
 ghost use Rattle.std.specs.Prelude.{◌≡◌, ◌≤◌, ◌<◌, ◌^◌, IfSome};
 ghost use Rattle.mvs_model.specs.Storage.{IsRun};
-ghost use Rattle.mvs_model.specs.Wanted.{IsExponent};
-ghost use Rattle.mvs_model.specs.Span.{span};
+ghost use Rattle.mvs_model.specs.Want.{IsExponent};
+ghost use Rattle.mvs_model.specs.Place.{place_at};
 
-use super::{first_in, longest_in, side};
+use super::{first_in, last_in, longest_in, side};
 use mvs_model::bounded::{Exponent, Length};
 use mvs_model::place::{Addr, Place};
 use mvs_model::want::{Ask, Loc, Residence, Side, Want};
@@ -29,8 +29,8 @@ fn want(least: u32, most: u32, start: u32, within: Option<u32>, side: Side) -> W
 
 // The free doublewords from an address on.
 fn run(addr: u32, len: u32) -> Place
-    requires { IsRun (span addr len) }
-    ensures { result ≡ span addr len }
+    requires { IsRun (place_at addr len) }
+    ensures { result ≡ place_at addr len }
 {
     Place::new(Addr::new(addr), len)
 }
@@ -98,4 +98,21 @@ fn the_location_decides_the_side(rt: HostRuntime) {
     assert_eq!(rt; side(Loc::Any, Residence::Below), Side::Either);
     assert_eq!(rt; side(Loc::Res, Residence::Below), Side::Below);
     assert_eq!(rt; side(Loc::Res, Residence::Above), Side::Either);
+}
+
+// The highest places, also where the last one would pass the containing boundary.
+#[test]
+fn the_last_place_of_a_run(rt: HostRuntime) {
+    let run = run(0x6008, 0x3000);
+    let doubleword = want(8, 8, 3, None, Side::Below);
+    assert_eq!(rt; found(last_in(run, &doubleword, 8)), Some((0x9000, 8)));
+    let page = want(0x1000, 0x1000, 3, Some(12), Side::Below);
+    assert_eq!(rt; found(last_in(run, &page, 0x1000)), Some((0x8000, 0x1000)));
+    let within = want(0x1800, 0x1800, 3, Some(13), Side::Below);
+    assert_eq!(rt;
+        found(last_in(run, &within, 0x1800)),
+        Some((0x6800, 0x1800))
+    );
+    let more = want(0x1008, 0x1008, 3, Some(12), Side::Below);
+    assert_eq!(rt; found(last_in(run, &more, 0x1008)), None);
 }

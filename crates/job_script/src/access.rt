@@ -1,60 +1,100 @@
 //! PUT, SHOW, MOVE and WHERE, this project's own statements.
 
-ghost use Rattle.std.specs.Prelude.{◌≡◌};
-ghost use Rattle.job_script.specs.Operands.{pieces_after};
-ghost use Rattle.job_script.specs.Access.{put_at, show_at, move_at, where_at};
+ghost use Rattle.std.specs.Prelude.{◌≡◌, []};
+ghost use Rattle.mvs_model.specs.Grammar.{Puts, Shows, Moves, AsksWhere};
+ghost use Rattle.mvs_model.specs.Reading.{statement_of};
+ghost use Rattle.job_script.specs.Given.{IsRead, by_place};
+ghost use Rattle.job_script.specs.Taken.{IsSomeBytes};
+ghost use Rattle.job_script.specs.Said.{said_line, Holds, IsRanged, IsNamed, IsLocated};
 
-use crate::operands::{Kind, read_values};
-use crate::values::{bytes, location, name, number};
-use mvs_model::line::{Asked, Fault, Statement};
+use crate::addresses::{location, name};
+use crate::digits::bounded;
+use crate::given::Given;
+use crate::taken::bytes;
+use mvs_model::line::{Fault, Line, Statement, Written};
+use mvs_model::name::Name;
 
-/// The operands of PUT: an address and bytes.
-pub const PUT: [Kind; 2] = [Kind::Address, Kind::Bytes];
+impl Given<'_> {
+    /// PUT.
+    pub fn put(&self, task: Name) -> Result<Line, Fault>
+        requires read { IsRead self.now }
+        requires to { Holds (IsLocated) ((by_place self.now).at 0) }
+        requires bytes { Holds (IsSomeBytes) ((by_place self.now).at 1) }
+        ensures { result ≡ said_line task (statement_of Puts [] (by_place self.now)) }
+    {
+        let Some(to) = self.positional(0) else {
+            return Err(Fault::MissingOperand);
+        };
+        let Some(digits) = self.positional(1) else {
+            return Err(Fault::MissingOperand);
+        };
+        Ok(Line::Statement(
+            task,
+            Statement::Request(Written::Put {
+                to: location(to),
+                bytes: bytes(digits),
+            }),
+        ))
+    }
 
-/// The operands of SHOW: an address, and how many bytes.
-pub const SHOW: [Kind; 2] = [Kind::Address, Kind::Number(1, 4_096)];
+    /// SHOW.
+    pub fn show(&self, task: Name) -> Result<Line, Fault>
+        requires read { IsRead self.now }
+        requires from { Holds (IsLocated) ((by_place self.now).at 0) }
+        requires len { Holds (IsRanged 1 4096) ((by_place self.now).at 1) }
+        ensures { result ≡ said_line task (statement_of Shows [] (by_place self.now)) }
+    {
+        let Some(from) = self.positional(0) else {
+            return Err(Fault::MissingOperand);
+        };
+        let Some(len) = self.positional(1) else {
+            return Err(Fault::MissingOperand);
+        };
+        Ok(Line::Statement(
+            task,
+            Statement::Request(Written::Show {
+                from: location(from),
+                len: bounded(len),
+            }),
+        ))
+    }
 
-/// The operands of MOVE: the address to move to, the address to move from, and how many bytes.
-pub const MOVE: [Kind; 3] = [Kind::Address, Kind::Address, Kind::Number(1, 65_536)];
+    /// MOVE.
+    pub fn move_bytes(&self, task: Name) -> Result<Line, Fault>
+        requires read { IsRead self.now }
+        requires to { Holds (IsLocated) ((by_place self.now).at 0) }
+        requires from { Holds (IsLocated) ((by_place self.now).at 1) }
+        requires len { Holds (IsRanged 1 65536) ((by_place self.now).at 2) }
+        ensures { result ≡ said_line task (statement_of Moves [] (by_place self.now)) }
+    {
+        let Some(to) = self.positional(0) else {
+            return Err(Fault::MissingOperand);
+        };
+        let Some(from) = self.positional(1) else {
+            return Err(Fault::MissingOperand);
+        };
+        let Some(len) = self.positional(2) else {
+            return Err(Fault::MissingOperand);
+        };
+        Ok(Line::Statement(
+            task,
+            Statement::Request(Written::Move {
+                to: location(to),
+                from: location(from),
+                len: bounded(len),
+            }),
+        ))
+    }
 
-/// The operand of WHERE: the name of an area.
-pub const WHERE: [Kind; 1] = [Kind::Name];
-
-/// The operands of PUT.
-pub fn read_put(field: Option<&[u8]>) -> Result<Statement, Fault>
-    ensures { result ≡ put_at (pieces_after field.entry) }
-{
-    let values = read_values::<2>(&PUT, &[], field)?;
-    let to = location(&values[0])?;
-    let bytes = bytes(&values[1])?;
-    Ok(Statement::Request(Asked::Put { to, bytes }))
-}
-
-/// The operands of SHOW.
-pub fn read_show(field: Option<&[u8]>) -> Result<Statement, Fault>
-    ensures { result ≡ show_at (pieces_after field.entry) }
-{
-    let values = read_values::<2>(&SHOW, &[], field)?;
-    let from = location(&values[0])?;
-    let len = number(&values[1])?;
-    Ok(Statement::Request(Asked::Show { from, len }))
-}
-
-/// The operands of MOVE.
-pub fn read_move(field: Option<&[u8]>) -> Result<Statement, Fault>
-    ensures { result ≡ move_at (pieces_after field.entry) }
-{
-    let values = read_values::<3>(&MOVE, &[], field)?;
-    let to = location(&values[0])?;
-    let from = location(&values[1])?;
-    let len = number(&values[2])?;
-    Ok(Statement::Request(Asked::Move { to, from, len }))
-}
-
-/// The operands of WHERE.
-pub fn read_where(field: Option<&[u8]>) -> Result<Statement, Fault>
-    ensures { result ≡ where_at (pieces_after field.entry) }
-{
-    let values = read_values::<1>(&WHERE, &[], field)?;
-    Ok(Statement::Where(name(&values[0])?))
+    /// WHERE.
+    pub fn ask_where(&self, task: Name) -> Result<Line, Fault>
+        requires read { IsRead self.now }
+        requires area { Holds (IsNamed) ((by_place self.now).at 0) }
+        ensures { result ≡ said_line task (statement_of AsksWhere [] (by_place self.now)) }
+    {
+        let Some(area) = self.positional(0) else {
+            return Err(Fault::MissingOperand);
+        };
+        Ok(Line::Statement(task, Statement::Where(name(area))))
+    }
 }

@@ -1,76 +1,105 @@
 //! Reads the lines of a script.
 #![tactic(auto)]
 
-ghost use Rattle.std.specs.Prelude.{◌≡◌};
-ghost use Rattle.mvs_model.specs.Runs.{IsLine};
-ghost use Rattle.job_script.specs.Built.{IsBuiltLine};
-ghost use Rattle.job_script.specs.Lines.{is_in_place, statement_at, line_of};
+ghost use Rattle.std.specs.Prelude.{◌≡◌, ◌==◌, ◌&&◌, nat_le};
+ghost use Rattle.std.specs.List.{list_all};
+ghost use Rattle.mvs_model.specs.Lines.{IsLine};
+ghost use Rattle.mvs_model.specs.Reading.{IsReading, says_nothing};
+ghost use Rattle.job_script.specs.Lines.{line_of};
+ghost use Rattle.job_script.specs.Operations.{operation_text};
+ghost use Rattle.job_script.specs.Stated.{is_in_place, field_of, StatementReading};
 
-use crate::fields::{is_blank, is_plain, next_word};
-use crate::name::read_name;
-use crate::statements::{Operation, read_operands_of, read_operation};
+use crate::addresses::{is_name, name};
+use crate::operations::{Operation, read_operation};
+use crate::parted::{next_word, parted};
+use crate::statement::read_operands;
 use mvs_model::line::{Fault, Line};
 
 mod access;
-mod address;
-mod fields;
-mod forms;
-mod freemain;
-mod getmain;
-mod hex;
-mod keywords;
-mod lists;
-mod name;
-mod number;
-mod operands;
-mod pair;
-mod pieces;
-mod region;
-mod report;
-mod requests;
-mod sets;
-mod somes;
-mod statements;
-mod storage;
-mod tasks;
-mod values;
-mod words;
+mod addresses;
+mod checks;
+mod digits;
+mod given;
+mod items;
+mod keys;
+mod kinds;
+mod operations;
+mod parted;
+mod pools;
+mod rows;
+mod statement;
+mod storage_requests;
+mod subtasks;
+mod taken;
 
 /// The most bytes of a line, without its end. This project's choice.
 const LONGEST: usize = 255;
 
+// Whether each byte is one that a script may have.
+fn is_plain(line: &[u8]) -> bool
+    ensures { result ≡ list_all (λ b. nat_le 32 b && nat_le b 126) line.now }
+{
+    line.iter().all(|byte| *byte >= b' ' && *byte <= b'~')
+}
+
+// Whether the line has no byte but blanks.
+fn is_blank(line: &[u8]) -> bool
+    ensures { result ≡ list_all (λ b. b == 32) line.now }
+{
+    line.iter().all(|byte| *byte == b' ')
+}
+
+// Whether the line is blank or a comment.
+fn says_nothing(line: &[u8]) -> bool
+    ensures { result ≡ says_nothing line.now }
+{
+    match line {
+        [] => true,
+        [first, ..] => *first == b'*' || is_blank(line),
+    }
+}
+
 // Whether the operation may be the first statement, or a later one.
 fn is_in_place(first: bool, operation: Operation) -> bool
-    ensures { result ≡ is_in_place first operation }
+    ensures { result ≡ is_in_place first (operation_text operation) }
 {
     first == matches!(operation, Operation::Region)
 }
 
+// The field of operands behind an operation. What follows RETURN is a remark.
+fn field_of<'a>(operation: Operation, rest: &'a [u8]) -> &'a [u8]
+    ensures { result.now ≡ field_of operation rest.now }
+{
+    match operation {
+        Operation::Return => &[],
+        _ => next_word(rest).0,
+    }
+}
+
 // Reads a statement.
 fn read_statement(line: &[u8], first: bool) -> Result<Line, Fault>
-    ensures { result ≡ statement_at line.now first }
+    ensures { StatementReading first line.now result }
 {
-    let (task, rest) = next_word(line);
-    let (operation, rest) = next_word(rest);
-    let (field, _) = next_word(rest);
-    let Some(task) = read_name(task) else {
+    let (task, rest) = parted(line, b' ');
+    if !is_name(task) {
+        return Err(Fault::UnknownOperation);
+    }
+    let Some(rest) = rest else {
         return Err(Fault::UnknownOperation);
     };
-    let Some(operation) = read_operation(operation) else {
+    let (word, rest) = next_word(rest);
+    let Some(operation) = read_operation(word) else {
         return Err(Fault::UnknownOperation);
     };
     if !is_in_place(first, operation) {
         return Err(Fault::OutOfPlace);
     }
-    Ok(Line::Statement(task, read_operands_of(operation, field)?))
+    read_operands(name(task), operation, field_of(operation, rest))
 }
 
-/// Reads a line without its end, and answers the first fault that applies; `first` says whether no statement came before it. Of a line that is too long any front
-/// of more than 255 bytes serves. The notation is this project's own.
-pub fn read_line(line: &[u8], first: bool) -> Result<Line, Fault>
-    ensures line { result ≡ line_of line.now first }
-    ensures in_range { IsLine first result }
-    ensures built { IsBuiltLine result }
+// Reads a line, and answers the first fault that applies.
+fn read(line: &[u8], first: bool) -> Result<Line, Fault>
+    ensures { IsReading first line.now result }
 {
     if line.len() > LONGEST {
         return Err(Fault::TooLong);
@@ -78,10 +107,20 @@ pub fn read_line(line: &[u8], first: bool) -> Result<Line, Fault>
     if !is_plain(line) {
         return Err(Fault::InvalidByte);
     }
-    if is_blank(line) || matches!(line, [b'*', ..]) {
+    if says_nothing(line) {
         return Ok(Line::Nothing);
     }
     read_statement(line, first)
+}
+
+/// Reads a line without its end, and answers the first fault that applies; `first` says whether no statement came before it. Of a line that is too
+/// long any front of more than 255 bytes serves. The notation is this project's own.
+pub fn read_line(line: &[u8], first: bool) -> Result<Line, Fault>
+    ensures reading { IsReading first line.now result }
+    ensures line { result ≡ line_of line.now first }
+    ensures in_range { IsLine first result }
+{
+    read(line, first)
 }
 
 #[cfg(test)]

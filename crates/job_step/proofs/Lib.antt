@@ -1,4 +1,0 @@
-pub mod Accessing
-pub mod Copying
-pub mod Regions
-pub mod Reporting

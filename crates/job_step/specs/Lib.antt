@@ -1,3 +1,1 @@
-pub mod Access
-pub mod Progress
-pub mod Reports
+pub mod Step

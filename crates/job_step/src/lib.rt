@@ -1,10 +1,7 @@
 //! One step of a job: the requests of its tasks and their replies.
 #![tactic(auto)]
 
-mod access;
-mod report;
 mod step;
-mod subtasking;
 #[cfg(test)]
 mod tests;
 

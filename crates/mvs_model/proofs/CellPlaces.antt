@@ -3,16 +3,16 @@ use Rattle.std.proofs.Common.{◌≡◌, ℕ, suc, ◌+◌, ◌*◌, ◌/◌, �
 use Rattle.std.proofs.Math.Nat.{mul-le-mul_right}
 use Rattle.std.proofs.lemmas.Bool.{cases_lt}
 use Rattle.std.proofs.lemmas.Bool.Decides.{nat_tests}
-use Rattle.mvs_model.specs.Span.{Span}
+use Rattle.mvs_model.specs.Place.{PlaceValue}
 use Rattle.mvs_model.specs.Storage.{IsWhole, Covers, covers, has_address}
 use Rattle.mvs_model.specs.Pools.{Part, part_length, first_cell, IsCellOf}
 
 -- a place has an address, or it has not
-pub has_is : (p : Span) (a : ℕ) → has_address p a ≡ true → (p.addr ≤ a) × (a < p.addr + p.len)
+pub has_is : (p : PlaceValue) (a : ℕ) → has_address p a ≡ true → (p.addr ≤ a) × (a < p.addr + p.len)
 has_is p a e = grind (arith, nat_tests)
 
 -- a place of whole doublewords has an address just where it has its doubleword
-pub whole_has : (p : Span) (a : ℕ) → IsWhole p → has_address p a ≡ covers p (a / 8)
+pub whole_has : (p : PlaceValue) (a : ℕ) → IsWhole p → has_address p a ≡ covers p (a / 8)
 whole_has p a w = let u : p.addr % 8 ≡ 0 = w.0 in let v : p.len % 8 ≡ 0 = w.1 in grind (arith, nat_tests)
 
 -- a later cell begins behind the end of an earlier one

@@ -10,11 +10,11 @@ use Rattle.mvs_model.specs.declared.line.Line.TheVariants as line
 use Rattle.mvs_model.specs.declared.line.Statement.{Statement}
 use Rattle.mvs_model.specs.declared.line.Statement.TheVariants as says
 use Rattle.mvs_model.specs.declared.line.Fault.{Fault}
-use Rattle.mvs_model.specs.declared.line.Asked.{Asked}
+use Rattle.mvs_model.specs.declared.line.Written.{Written}
 use Rattle.mvs_model.specs.declared.outcome.Outcome.{Outcome}
 use Rattle.mvs_model.specs.declared.outcome.Outcome.TheVariants.{ScriptFault}
 use Rattle.mvs_model.specs.declared.request.Request.{Request}
-use Rattle.mvs_model.specs.Card.{StepCard}
+use Rattle.mvs_model.specs.Card.{CardValue, IsCard}
 use Rattle.mvs_model.specs.Name.{name_cmp}
 use Rattle.mvs_model.specs.Owners.{is_active}
 use Rattle.mvs_model.specs.Pools.{Pool}
@@ -23,9 +23,13 @@ use Rattle.mvs_model.specs.Start.{start}
 use Rattle.mvs_model.specs.Steps.{IsRequest}
 use Rattle.mvs_model.specs.WellFormed.{PoolsSized}
 use Rattle.mvs_model.specs.Texts.{fault_text}
-use Rattle.mvs_model.specs.Runs.{Job, Stage, Before, In, is_before, card_of, resolved, all_set, names_set, places_in, is_abend, Tells, Asks, Says, Does, Begins, Serves, ServesRead, Faults, Closes, Reader, Prints, Runs, IsStatement, IsLine, IsReader}
+use Rattle.mvs_model.specs.Job.{JobValue}
+use Rattle.mvs_model.specs.Lines.{card_of, Reader, IsStatement, IsLine, IsReader}
+use Rattle.mvs_model.specs.Replies.{is_abend}
+use Rattle.mvs_model.specs.Resolving.{resolved, all_set, names_set, places_in}
+use Rattle.mvs_model.specs.Runs.{Stage, Before, In, is_before, Tells, Asks, Says, Does, Begins, Serves, ServesRead, Faults, Closes, Prints, Runs}
 use Rattle.mvs_model.specs.Laws.{PagesKept, NeverStuck}
-use Rattle.mvs_model.proofs.Asked.{is_request}
+use Rattle.mvs_model.proofs.Requested.{is_request}
 use Rattle.mvs_model.proofs.Kept.{Closed, plan_in_range, step_keeps}
 use Rattle.mvs_model.proofs.Pages.{Pages, pages_closed}
 use Rattle.mvs_model.proofs.Sized.{sized_closed}
@@ -40,28 +44,28 @@ abbrev pub Holds : (State → Type 0) → Stage → Type 0
 Holds P Before = Unit {0}
 Holds P (In job) = P job.state
 
-module _ (P : State → Type 0) (closed : Closed P) (at_start : (card : StepCard) → P (start card)) where
-  asks_keeps : (number : ℕ) (old : Job) (t : Name) (a : Asked) (o : Option Request) (text : List ℕ) (new : Job) → ((r : Request) → o ≡ Some r → IsRequest r) → Asks number old t a o text new → P old.state → P new.state
+module _ (P : State → Type 0) (closed : Closed P) (at_start : (card : CardValue) → IsCard card → P (start card)) where
+  asks_keeps : (number : ℕ) (old : JobValue) (t : Name) (a : Written) (o : Option Request) (text : List ℕ) (new : JobValue) → ((r : Request) → o ≡ Some r → IsRequest r) → Asks number old t a o text new → P old.state → P new.state
   asks_keeps number old t a None text new r h p = subst (λ job. P job.state) (sym h.1) p
   asks_keeps number old t a (Some q) text new r h p = step_keeps P closed old.state t q h.reply new.state (plan_in_range q (r q refl)) h.step p
 
-  says_keeps : (number : ℕ) (old : Job) (t : Name) (s : Statement) (text : List ℕ) (new : Job) → IsStatement false t s → Says number old t s text new → P old.state → P new.state
+  says_keeps : (number : ℕ) (old : JobValue) (t : Name) (s : Statement) (text : List ℕ) (new : JobValue) → IsStatement false t s → Says number old t s text new → P old.state → P new.state
   says_keeps number old t (says.Region below above fill residence) text new r h p = absurd h
   says_keeps number old t (says.Request a) text new r h p = asks_keeps number old t a (resolved old.names a) text new (λ q e. is_request old.names a q r.1 e) h p
   says_keeps number old t (says.Where name) text new r h p = subst (λ job. P job.state) (sym h.1) p
   says_keeps number old t says.ReportSubpools text new r h p = subst (λ job. P job.state) (sym h.1) p
   says_keeps number old t says.ReportMap text new r h p = subst (λ job. P job.state) (sym h.1) p
 
-  begins_keeps : (number : ℕ) (t : Name) (s : Statement) (text : List ℕ) (new : Stage) → Begins number t s text new → Holds P new
-  begins_keeps number t (says.Region below above fill residence) text new h = subst (Holds P) (sym h.1) (at_start (card_of t below above fill residence))
-  begins_keeps number t (says.Request a) text new h = absurd h
-  begins_keeps number t (says.Where name) text new h = absurd h
-  begins_keeps number t says.ReportSubpools text new h = absurd h
-  begins_keeps number t says.ReportMap text new h = absurd h
+  begins_keeps : (number : ℕ) (t : Name) (s : Statement) (text : List ℕ) (new : Stage) → IsStatement true t s → Begins number t s text new → Holds P new
+  begins_keeps number t (says.Region below above fill residence) text new r h = subst (Holds P) (sym h.1) (at_start (card_of t below above fill residence) r.1)
+  begins_keeps number t (says.Request a) text new r h = absurd h
+  begins_keeps number t (says.Where name) text new r h = absurd h
+  begins_keeps number t says.ReportSubpools text new r h = absurd h
+  begins_keeps number t says.ReportMap text new r h = absurd h
 
   serves_keeps : (number : ℕ) (old : Stage) (l : Line) (text : List ℕ) (new : Stage) → IsLine (is_before old) (Ok l) → Serves number old l text new → Holds P old → Holds P new
   serves_keeps number old line.Nothing text new r h p = subst (Holds P) (sym h.1) p
-  serves_keeps number Before (line.Statement t s) text new r h p = begins_keeps number t s text new h
+  serves_keeps number Before (line.Statement t s) text new r h p = begins_keeps number t s text new r h
   serves_keeps number (In job) (line.Statement t s) text new r h p =
       subst (Holds P) (sym h.1) (chosen (not (is_active job.state.owners t)) h.2 (λ n. subst (λ j. P j.state) (sym n.1) p) (λ k. says_keeps number job t s text h.0 r k p))
 
@@ -80,46 +84,46 @@ none_held d = search (gets)
 no_pools : (name : Name) → get (empty {X = Pool} {R = name_cmp}) name ≡ None
 no_pools name = search (gets)
 
-start_pages : (card : StepCard) → Pages (start card)
+start_pages : (card : CardValue) → Pages (start card)
 start_pages card d e s u page hd he = absurd (let k : None ≡ Some s = sym (ap subpool_in (none_held d)) ∙ hd in cc)
 
-pub start_sized : (card : StepCard) → PoolsSized (start card)
+pub start_sized : (card : CardValue) → PoolsSized (start card)
 start_sized card name pool e = absurd (let k : None ≡ Some pool = sym (no_pools name) ∙ e in cc)
 
 -- In every state of a run each page is of one subpool.
 pub pages_kept : PagesKept
-pages_kept job is = runs_keep Pages pages_closed start_pages is.read is.is_reader 1 is.lines Before (In job) is.runs tt
+pages_kept job is = runs_keep Pages pages_closed (λ card is. start_pages card) is.read is.is_reader 1 is.lines Before (In job) is.runs tt
 
 -- In every state of a run each request has a step.
 pub never_stuck : NeverStuck
-never_stuck job is asker request r = step_some job.state asker request (runs_keep PoolsSized sized_closed start_sized is.read is.is_reader 1 is.lines Before (In job) is.runs tt) r
+never_stuck job is asker request r = step_some job.state asker request (runs_keep PoolsSized sized_closed (λ card is. start_sized card) is.read is.is_reader 1 is.lines Before (In job) is.runs tt) r
 
 -- each pool has some cells in a part
 abbrev pub Sized : Stage → Type 0
 Sized stage = Holds PoolsSized stage
 
 pub reads_keep_sized : (number : ℕ) (old : Stage) (r : Result Line Fault) (text : List ℕ) (new : Stage) → IsLine (is_before old) r → ServesRead number old r text new → Sized old → Sized new
-reads_keep_sized = reads_keep PoolsSized sized_closed start_sized
+reads_keep_sized = reads_keep PoolsSized sized_closed (λ card is. start_sized card)
 
 -- a line has a text and a stage after it
-asks_some : (number : ℕ) (old : Job) (t : Name) (a : Asked) (o : Option Request) → ((r : Request) → o ≡ Some r → IsRequest r) → PoolsSized old.state → (text : List ℕ) × (new : Job) × Asks number old t a o text new
+asks_some : (number : ℕ) (old : JobValue) (t : Name) (a : Written) (o : Option Request) → ((r : Request) → o ≡ Some r → IsRequest r) → PoolsSized old.state → (text : List ℕ) × (new : JobValue) × Asks number old t a o text new
 asks_some number old t a None r all = (_, old, (refl, refl))
 asks_some number old t a (Some q) r all =
     let s = step_some old.state t q all (r q refl) in
     (_, record { state = s.1.0; names = all_set old.names (names_set a) (places_in s.0); abended = old.abended || is_abend s.0 }, record { reply = s.0; step = s.1.1; names = refl; abended = refl; text_is = refl })
 
-says_some : (number : ℕ) (old : Job) (t : Name) (s : Statement) → IsStatement false t s → PoolsSized old.state → (text : List ℕ) × (new : Job) × Says number old t s text new
+says_some : (number : ℕ) (old : JobValue) (t : Name) (s : Statement) → IsStatement false t s → PoolsSized old.state → (text : List ℕ) × (new : JobValue) × Says number old t s text new
 says_some number old t (says.Region below above fill residence) r all = absurd (let f : false ≡ true = r.0 in cc)
 says_some number old t (says.Request a) r all = asks_some number old t a (resolved old.names a) (λ q e. is_request old.names a q r.1 e) all
 says_some number old t (says.Where name) r all = (_, old, (refl, refl))
 says_some number old t says.ReportSubpools r all = (_, old, (refl, refl))
 says_some number old t says.ReportMap r all = (_, old, (refl, refl))
 
-either_some : {P Q : List ℕ → Job → Type 0} (b : Bool) → ((text : List ℕ) × (new : Job) × P text new) → ((text : List ℕ) × (new : Job) × Q text new) → (text : List ℕ) × (new : Job) × MatchBool b (P text new) (Q text new)
+either_some : {P Q : List ℕ → JobValue → Type 0} (b : Bool) → ((text : List ℕ) × (new : JobValue) × P text new) → ((text : List ℕ) × (new : JobValue) × Q text new) → (text : List ℕ) × (new : JobValue) × MatchBool b (P text new) (Q text new)
 either_some true p q = p
 either_some false p q = q
 
-does_some : (number : ℕ) (old : Job) (t : Name) (s : Statement) → IsStatement false t s → PoolsSized old.state → (text : List ℕ) × (new : Job) × Does number old t s text new
+does_some : (number : ℕ) (old : JobValue) (t : Name) (s : Statement) → IsStatement false t s → PoolsSized old.state → (text : List ℕ) × (new : JobValue) × Does number old t s text new
 does_some number old t s r all =
     either_some {P = Tells number old t (codes "NOT RUN")} {Q = Says number old t s} (not (is_active old.state.owners t)) (_, old, (refl, refl)) (says_some number old t s r all)
 

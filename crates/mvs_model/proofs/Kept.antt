@@ -9,15 +9,15 @@ use Rattle.mvs_model.specs.declared.name.Name.{Name}
 use Rattle.mvs_model.specs.declared.want.Side.TheVariants.{Below}
 use Rattle.mvs_model.specs.declared.want.Residence.{Residence}
 use Rattle.mvs_model.specs.declared.code.Form.{Form}
-use Rattle.mvs_model.specs.declared.code.Family.TheVariants.{X}
+use Rattle.mvs_model.specs.declared.code.Family.TheVariants.{Located}
 use Rattle.mvs_model.specs.declared.code.Code.{Code}
 use Rattle.mvs_model.specs.declared.request.Request.{Request}
 use Rattle.mvs_model.specs.declared.request.Request.TheVariants.{Obtain, ObtainList, Release, ReleaseList, ReleaseWhole, Build, Get, Free, Delete, Attach, Return, Abend, Show, Put, Move}
 use Rattle.mvs_model.specs.declared.request.Reply.{Reply}
 use Rattle.mvs_model.specs.declared.request.Reply.TheVariants.{NotRun, Rc0, NoCell}
-use Rattle.mvs_model.specs.Span.{Span, span}
-use Rattle.mvs_model.specs.Wanted.{Wanted, wanted_of, fixed_want, side_of}
-use Rattle.mvs_model.specs.Presents.{Presents}
+use Rattle.mvs_model.specs.Place.{PlaceValue, place_at}
+use Rattle.mvs_model.specs.Want.{WantValue, want_of, fixed_want, side_of}
+use Rattle.mvs_model.specs.Gifts.{GiftsValue}
 use Rattle.mvs_model.specs.Storage.{NoPlace, IsWhole}
 use Rattle.mvs_model.specs.Owners.{Owners, is_active, entry, SubpoolOf, Enters, attach_refusal, has_subtask}
 use Rattle.mvs_model.specs.Pools.{Pool, part_want, IsCellOf, IsFreeCell}
@@ -56,17 +56,17 @@ plan_in_range (Move to from n) r = tt
 
 -- The property stays through each change that a request can make.
 pub record Closed (P : State → Type 0) : Type 0 where
-  pub granted : (old : State) (t : Name) (number : ℕ) (want : Wanted) (p : Span) (new : State) → GrantTo old t number want p new → P old → P new
-  pub freed : (old : State) (s : ℕ) (ps : List Span) (new : State) → AllByRecursion IsWhole ps → Releasable old s ps → Frees old ps new → P old → P new
+  pub granted : (old : State) (t : Name) (number : ℕ) (want : WantValue) (p : PlaceValue) (new : State) → GrantTo old t number want p new → P old → P new
+  pub freed : (old : State) (s : ℕ) (ps : List PlaceValue) (new : State) → AllByRecursion IsWhole ps → Releasable old s ps → Frees old ps new → P old → P new
   pub emptied : (old : State) (s : ℕ) (new : State) → Empties old s new → P old → P new
   pub ended : (old : State) (t : Name) (new : State) → End old t new → P old → P new
-  pub built : (old : State) (t name : Name) (number s : ℕ) (plan : Plan) (p : Span) (o : Owners) (new : State) → contains_key old.pools name ≡ false → IsPlan plan → SubpoolOf old.owners t number s → Enters old.owners t number s o → Extends old name (new_pool s plan) plan.primary p o new → P old → P new
-  pub grown : (old : State) (name : Name) (pool : Pool) (p : Span) (mid : State) (c : ℕ) (new : State) → get old.pools name ≡ Some pool → Extends old name pool pool.secondary p old.owners mid → IsCellOf pool.cell_size (record { place = p; count = pool.secondary }) c → TakesCell mid name (with_part pool pool.secondary p) c new → P old → P new
+  pub built : (old : State) (t name : Name) (number s : ℕ) (plan : Plan) (p : PlaceValue) (o : Owners) (new : State) → contains_key old.pools name ≡ false → IsPlan plan → SubpoolOf old.owners t number s → Enters old.owners t number s o → Extends old name (new_pool s plan) plan.primary p o new → P old → P new
+  pub grown : (old : State) (name : Name) (pool : Pool) (p : PlaceValue) (mid : State) (c : ℕ) (new : State) → get old.pools name ≡ Some pool → Extends old name pool pool.secondary p old.owners mid → IsCellOf pool.cell_size (record { place = p; count = pool.secondary }) c → TakesCell mid name (with_part pool pool.secondary p) c new → P old → P new
   pub taken : (old : State) (name : Name) (pool : Pool) (c : ℕ) (new : State) → get old.pools name ≡ Some pool → IsFreeCell pool c → TakesCell old name pool c new → P old → P new
   pub given : (old : State) (name : Name) (pool : Pool) (c : ℕ) (new : State) → get old.pools name ≡ Some pool → set.contains pool.taken c ≡ true → GivesCell old name pool c new → P old → P new
   pub dropped : (old : State) (name : Name) (pool : Pool) (new : State) → get old.pools name ≡ Some pool → DropsPool old name pool new → P old → P new
-  pub attached : (old : State) (t name : Name) (gifts : Presents) (residence : Residence) (new : State) → attach_refusal old.owners t name gifts ≡ None → Attaches old t name gifts residence new → P old → P new
-  pub written : (old : State) (p : Span) (value : ℕ → Option ℕ) (new : State) → all_granted old p ≡ true → HasBytes old p value → Writes old p value new → P old → P new
+  pub attached : (old : State) (t name : Name) (gifts : GiftsValue) (residence : Residence) (new : State) → attach_refusal old.owners t name gifts ≡ None → Attaches old t name gifts residence new → P old → P new
+  pub written : (old : State) (p : PlaceValue) (value : ℕ → Option ℕ) (new : State) → all_granted old p ≡ true → HasBytes old p value → Writes old p value new → P old → P new
 
 -- by cases on a test
 chosen : {P Q R : Type 0} (b : Bool) → MatchBool b P Q → (b ≡ true → P → R) → (b ≡ false → Q → R) → R
@@ -92,25 +92,25 @@ module _ (P : State → Type 0) (closed : Closed P) where
   fails true old t code reply new h p = subst P (sym h.1) p
   fails false old t code reply new h p = closed.ended old t new h.0 p
 
-  obtains : (old : State) (t : Name) (form : Form) (number : ℕ) (want : Wanted) (reply : Reply) (new : State) → ObtainStep old t form number want reply new → P old → P new
+  obtains : (old : State) (t : Name) (form : Form) (number : ℕ) (want : WantValue) (reply : Reply) (new : State) → ObtainStep old t form number want reply new → P old → P new
   obtains old t form number want reply new h p =
       chosen (is_invalid number) h (λ _ a. abends old t _ reply new a p) (λ _ k. elim k [ inl f ↦ fails _ old t _ reply new f.1 p | inr g ↦ closed.granted old t number want g.0 new g.2 p ])
 
-  lists : (t : Name) (number : ℕ) (wants : List Wanted) (ps : List Span) (old new : State) → ListGrant old t number wants ps new → P old → P new
+  lists : (t : Name) (number : ℕ) (wants : List WantValue) (ps : List PlaceValue) (old new : State) → ListGrant old t number wants ps new → P old → P new
   lists t number [] [] old new h p = subst P (sym h) p
   lists t number [] (q ∷ ps) old new h p = absurd h
   lists t number (want ∷ wants) [] old new h p = absurd h
   lists t number (want ∷ wants) (q ∷ ps) old new h p = lists t number wants ps h.0 new h.2 (closed.granted old t number want q h.0 h.1 p)
 
-  obtains_list : (old : State) (t : Name) (form : Form) (number : ℕ) (wants : List Wanted) (reply : Reply) (new : State) → ObtainListStep old t form number wants reply new → P old → P new
+  obtains_list : (old : State) (t : Name) (form : Form) (number : ℕ) (wants : List WantValue) (reply : Reply) (new : State) → ObtainListStep old t form number wants reply new → P old → P new
   obtains_list old t form number wants reply new h p =
       chosen (is_invalid number) h (λ _ a. abends old t _ reply new a p) (λ _ k. elim k [ inl f ↦ fails _ old t _ reply new f.1 p | inr g ↦ lists t number wants g.0 old new g.2 p ])
 
-  frees : (o : Option ℕ) (old : State) (ps : List Span) (new : State) → AllByRecursion IsWhole ps → MayRelease old o ps → Frees old ps new → P old → P new
+  frees : (o : Option ℕ) (old : State) (ps : List PlaceValue) (new : State) → AllByRecursion IsWhole ps → MayRelease old o ps → Frees old ps new → P old → P new
   frees None old ps new w m f p = absurd m
   frees (Some s) old ps new w m f p = closed.freed old s ps new w m f p
 
-  releases : (old : State) (t : Name) (form : Form) (number : ℕ) (ps : List Span) (reply : Reply) (new : State) → ReleaseStep old t form number ps reply new → P old → P new
+  releases : (old : State) (t : Name) (form : Form) (number : ℕ) (ps : List PlaceValue) (reply : Reply) (new : State) → ReleaseStep old t form number ps reply new → P old → P new
   releases old t form number ps reply new h p =
       chosen (is_invalid number) h (λ _ a. abends old t _ reply new a p) (λ _ k. chosen (not (list_all on_doubleword ps)) k (λ _ a. abends old t _ reply new a p) (λ e m. choice (whole_places ps (is_so (list_all on_doubleword ps) e)) m)) where
         choice : AllByRecursion IsWhole (map whole ps) → (((MayRelease old (entry old.owners t number) (map whole ps) → ⊥) × Fails (is_conditional form) old t (not_held (family form)) reply new) ⊎ (MayRelease old (entry old.owners t number) (map whole ps) × (reply ≡ Rc0) × Frees old (map whole ps) new)) → P new
@@ -130,7 +130,7 @@ module _ (P : State → Type 0) (closed : Closed P) where
       chosen (is_invalid number) h (λ _ a. abends old t _ reply new a p)
       (λ _ k. chosen (contains_key old.pools name) k (λ _ a. abends old t _ reply new a p)
       (λ fresh l. chosen (nat_le 64 (len old.pools)) l (λ _ a. abends old t _ reply new a p) (λ _ m. choice fresh m))) where
-        choice : contains_key old.pools name ≡ false → ((ShortOf old t number (part_want plan.cell_size plan.primary plan.side) × Abends old t (short X) reply new) ⊎ (Builds old t name number plan new × (reply ≡ Rc0))) → P new
+        choice : contains_key old.pools name ≡ false → ((ShortOf old t number (part_want plan.cell_size plan.primary plan.side) × Abends old t (short Located) reply new) ⊎ (Builds old t name number plan new × (reply ≡ Rc0))) → P new
         choice fresh (inl f) = abends old t _ reply new f.1 p
         choice fresh (inr g) = let b = g.0 in closed.built old t name number b.0 plan b.2.0 b.2.1 new fresh r b.1 b.2.2 b.2.3 p
 
@@ -143,7 +143,7 @@ module _ (P : State → Type 0) (closed : Closed P) where
   deletes None old t name reply new e h p = abends old t _ reply new h p
   deletes (Some pool) old t name reply new e h p = closed.dropped old name pool new e h.1 p
 
-  attaches : (refusal : Option Code) (old : State) (t name : Name) (gifts : Presents) (residence : Residence) (reply : Reply) (new : State) → attach_refusal old.owners t name gifts ≡ refusal → AttachCase old t name gifts residence refusal reply new → P old → P new
+  attaches : (refusal : Option Code) (old : State) (t name : Name) (gifts : GiftsValue) (residence : Residence) (reply : Reply) (new : State) → attach_refusal old.owners t name gifts ≡ refusal → AttachCase old t name gifts residence refusal reply new → P old → P new
   attaches (Some code) old t name gifts residence reply new e h p = abends old t code reply new h p
   attaches None old t name gifts residence reply new e h p = closed.attached old t name gifts residence new e h.1 p
 
@@ -152,7 +152,7 @@ module _ (P : State → Type 0) (closed : Closed P) where
 
   gets_none : (old : State) (t name : Name) (conditional : Bool) (pool : Pool) (reply : Reply) (new : State) → get old.pools name ≡ Some pool → GetsNone old t name conditional pool reply new → P old → P new
   gets_none old t name conditional pool reply new e h p = chosen conditional h (λ _ r. refuses old NoCell reply new r p) (λ _ m. choice m) where
-    choice : ((NoPlace old.regions (holder old) pool.subpool (part_want pool.cell_size pool.secondary pool.side) × Abends old t (short X) reply new) ⊎ GetsMore old name pool reply new) → P new
+    choice : ((NoPlace old.regions (holder old) pool.subpool (part_want pool.cell_size pool.secondary pool.side) × Abends old t (short Located) reply new) ⊎ GetsMore old name pool reply new) → P new
     choice (inl f) = abends old t _ reply new f.1 p
     choice (inr g) = let c = g.3 in closed.grown old name pool g.0 g.1 c.0 new e g.2 c.1 c.2.0 p
 
@@ -165,7 +165,7 @@ module _ (P : State → Type 0) (closed : Closed P) where
   accesses old t allowed done reply new h f p = chosen (not allowed) h (λ _ a. abends old t _ reply new a p) (λ e d. f (is_so allowed e) d.1 p)
 
   acts : (old : State) (t : Name) (request : Request) (reply : Reply) (new : State) → HasPlan request → Acts old t request reply new → P old → P new
-  acts old t (Obtain form number ask) reply new r h p = obtains old t form number (wanted_of ask (side_for old t form ask.loc)) reply new h p
+  acts old t (Obtain form number ask) reply new r h p = obtains old t form number (want_of ask (side_for old t form ask.loc)) reply new h p
   acts old t (ObtainList form number lengths start) reply new r h p = obtains_list old t form number (map (λ n. fixed_want n start Below) lengths) reply new h p
   acts old t (Release form number q) reply new r h p = releases old t form number (q ∷ []) reply new h p
   acts old t (ReleaseList form number ps) reply new r h p = releases old t form number ps reply new h p
@@ -178,10 +178,10 @@ module _ (P : State → Type 0) (closed : Closed P) where
   acts old t (Attach name gifts residence) reply new r h p = attaches (attach_refusal old.owners t name gifts) old t name gifts residence reply new refl h p
   acts old t Return reply new r h p = returns old t reply new h p
   acts old t (Abend n) reply new r h p = abends old t _ reply new h p
-  acts old t (Show a n) reply new r h p = accesses old t (all_granted old (span a n)) (new ≡ old) reply new h (λ _ e k. subst P (sym e) k) p
-  acts old t (Put a bytes) reply new r h p = accesses old t (all_granted old (span a (length bytes))) _ reply new h (λ e w k. closed.written old (span a (length bytes)) (bytes_from a bytes) new e (bytes_put old a bytes) w k) p
+  acts old t (Show a n) reply new r h p = accesses old t (all_granted old (place_at a n)) (new ≡ old) reply new h (λ _ e k. subst P (sym e) k) p
+  acts old t (Put a bytes) reply new r h p = accesses old t (all_granted old (place_at a (length bytes))) _ reply new h (λ e w k. closed.written old (place_at a (length bytes)) (bytes_from a bytes) new e (bytes_put old a bytes) w k) p
   acts old t (Move to from n) reply new r h p =
-      accesses old t (all_granted old (span to n) && all_granted old (span from n)) _ reply new h (λ e w k. closed.written old (span to n) (moved_from old to from) new (left _ _ e) (moved_granted old to from n e) w k) p
+      accesses old t (all_granted old (place_at to n) && all_granted old (place_at from n)) _ reply new h (λ e w k. closed.written old (place_at to n) (moved_from old to from) new (left _ _ e) (moved_granted old to from n e) w k) p
 
   -- what stays through each of the changes stays through each step
   pub step_keeps : (old : State) (t : Name) (request : Request) (reply : Reply) (new : State) → HasPlan request → Step old t request reply new → P old → P new

@@ -10,7 +10,7 @@ use Rattle.std.specs.FinMap.{FinMap, get, insert, keys, contains_key-keys, get-i
 use Rattle.mvs_model.specs.declared.name.Name.{Name}
 use Rattle.mvs_model.specs.declared.want.Residence.{Residence}
 use Rattle.mvs_model.specs.Name.{same_name}
-use Rattle.mvs_model.specs.Presents.{Presents, gives, shares}
+use Rattle.mvs_model.specs.Gifts.{GiftsValue, gives, shares}
 use Rattle.mvs_model.specs.Finite.{has, any_below}
 use Rattle.mvs_model.specs.Keyed.{keyed}
 use Rattle.mvs_model.specs.Owners.{Owners, Task, entry_cmp, entry, IsSpare, SubpoolOf, Binds, Enters, EntersBelow, none, passed, entered, handed, Attach, goes, ends_with, Ends}
@@ -109,7 +109,7 @@ enters_below_some o t wanted (suc n) = at (wanted n) refl (enters_below_some o t
   at false e now = (now.0, passed now.1 e)
   at true e now = let s = subpool_some now.0 t n in let new = enters_some now.0 t n s.0 in (new.0, entered s.0 now.1 e s.1 new.1)
 
-module _ (ready : Owners) (mother name : Name) (gifts : Presents) where
+module _ (ready : Owners) (mother name : Name) (gifts : GiftsValue) where
   -- the table after the gifts are handed over
   after : Name × ℕ → Option ℕ
   after e = handed ready mother name gifts e.0 e.1
@@ -189,7 +189,7 @@ module _ (ready : Owners) (mother name : Name) (gifts : Presents) where
   get-given_below (suc n) s = one_more (gives gifts n) (entry ready mother n) (given_below n) _ s (get-given_below n s)
 
 -- a subtask can be attached
-pub attach_some : (o : Owners) (mother name : Name) (gifts : Presents) (residence : Residence) → (new : Owners) × Attach o mother name gifts residence new
+pub attach_some : (o : Owners) (mother name : Name) (gifts : GiftsValue) (residence : Residence) → (new : Owners) × Attach o mother name gifts residence new
 attach_some o mother name gifts residence =
     let task : Task = record { mother = Some mother; residence = residence } in
     let ready = enters_below_some o mother (shares gifts) 128 in

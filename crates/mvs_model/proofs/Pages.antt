@@ -1,8 +1,8 @@
 -- No step lets two subpools hold doublewords of one page.
 use Rattle.std.proofs.Common.{◌≡◌, ℕ, Bool, true, false, cond, Option, Some, None, refl, sym, ap, ◌∙◌, subst}
 use Rattle.std.specs.FinMap.{get}
-use Rattle.mvs_model.specs.Span.{Span}
-use Rattle.mvs_model.specs.Wanted.{Wanted}
+use Rattle.mvs_model.specs.Place.{PlaceValue}
+use Rattle.mvs_model.specs.Want.{WantValue}
 use Rattle.mvs_model.specs.Finite.{Changes, kept}
 use Rattle.mvs_model.specs.Storage.{PageRule, Chosen, covers}
 use Rattle.mvs_model.specs.State.{State, Holding, subpool_in, holder}
@@ -25,7 +25,7 @@ less_kept test (Some h) s e = at (test h) e where
   at true f = f
   at false f = absurd (let g : None ≡ Some s = f in cc)
 
-pages_chosen : (old new : State) (s : ℕ) (h : Holding) (want : Wanted) (p : Span) → Chosen old.regions (holder old) s want p → h.subpool ≡ s → Changes (get old.held) (covers p) (Some h) (get new.held) → PageRule (holder old) → PageRule (holder new)
+pages_chosen : (old new : State) (s : ℕ) (h : Holding) (want : WantValue) (p : PlaceValue) → Chosen old.regions (holder old) s want p → h.subpool ≡ s → Changes (get old.held) (covers p) (Some h) (get new.held) → PageRule (holder old) → PageRule (holder new)
 pages_chosen old new s h want p c e held rule =
     taking_keeps_pages (holder old) (holder new) (covers p) s
     (λ d. ap subpool_in (held d) ∙ subpool_of_cond (covers p d) h (get old.held d) ∙ ap (λ u. cond (covers p d) (Some u) (holder old d)) e)

@@ -6,7 +6,7 @@ use Rattle.std.specs.Ordering.{nat_cmp}
 use Rattle.std.specs.FinMap.{get, empty, keys, get-empty, contains_key}
 use Rattle.std.specs.FinSet as set
 use Rattle.mvs_model.specs.declared.name.Name.{Name}
-use Rattle.mvs_model.specs.Card.{StepCard}
+use Rattle.mvs_model.specs.Card.{CardValue}
 use Rattle.mvs_model.specs.Finite.{has}
 use Rattle.mvs_model.specs.Name.{name_cmp}
 use Rattle.mvs_model.specs.Pools.{Pool, in_taken}
@@ -19,7 +19,7 @@ use Rattle.mvs_model.specs.Runs.{Before, In}
 use Rattle.mvs_model.specs.Laws.{PartsApart}
 use Rattle.mvs_model.proofs.Kept.{Closed}
 use Rattle.mvs_model.proofs.Sized.{sized_closed}
-use Rattle.mvs_model.proofs.Seen.{all_names}
+use Rattle.mvs_model.proofs.SeenStart.{all_names}
 use Rattle.mvs_model.proofs.PoolPut.{put_here}
 use Rattle.mvs_model.proofs.PartsFewer.{grant_apart}
 use Rattle.mvs_model.proofs.PartsFreed.{freed_apart, same_apart, same_granted, written_apart, drops_apart}
@@ -30,7 +30,7 @@ use Rattle.mvs_model.proofs.PartsGrown.{Stands, grown_apart}
 use Rattle.mvs_model.proofs.Going.{runs_keep, start_sized}
 
 -- What stays together: the parts are apart, and the pools have sizes and counts.
-abbrev StaysApart : State → Type 0
+abbrev pub StaysApart : State → Type 0
 StaysApart st = Apart st × PoolsSized st
 
 -- a pool of the state stands in it
@@ -54,7 +54,7 @@ stands_new st name s plan fresh = record {
   only = λ q e. absurd (no_pool fresh q e);
 }
 
-apart_closed : Closed StaysApart
+pub apart_closed : Closed StaysApart
 apart_closed = record {
   granted = λ old t number want p new g k. (grant_apart old new t number want p g k.0, sized_closed.granted old t number want p new g k.1);
   freed = λ old s ps new w r f k. (freed_apart old new s ps w r f k.0, sized_closed.freed old s ps new w r f k.1);
@@ -81,7 +81,7 @@ apart_closed = record {
 }
 
 -- at the start nothing is held
-module _ (card : StepCard) where
+module _ (card : CardValue) where
   no_pool_yet : (n : Name) (q : Pool) → get (start card).pools n ≡ Some q → ⊥
   no_pool_yet n q e = let f : None ≡ Some q = sym (get-empty name_cmp n) ∙ e in absurd (cc)
 
@@ -93,7 +93,7 @@ module _ (card : StepCard) where
     cells : in_cell (start card) a ≡ false
     cells = all_names _ (keys (empty {X = Pool} {R = name_cmp})) (λ name. ap (has (λ pool. in_taken pool a)) (get-empty name_cmp name))
 
-  start_apart : Apart (start card)
+  pub start_apart : Apart (start card)
   start_apart = record {
     parts = λ n q part e h. absurd (no_pool_yet n q e);
     within = λ n q e. absurd (no_pool_yet n q e);
@@ -105,4 +105,4 @@ module _ (card : StepCard) where
 
 -- In every state of a run the parts of pools keep apart, and there are bytes just where they may be read.
 pub parts_apart : PartsApart
-parts_apart job is = (runs_keep StaysApart apart_closed (λ card. (start_apart card, start_sized card)) is.read is.is_reader 1 is.lines Before (In job) is.runs tt).0
+parts_apart job is = (runs_keep StaysApart apart_closed (λ card is. (start_apart card, start_sized card)) is.read is.is_reader 1 is.lines Before (In job) is.runs tt).0

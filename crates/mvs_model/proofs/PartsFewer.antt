@@ -5,8 +5,8 @@ use Rattle.std.specs.List.{Contains, list_any}
 use Rattle.std.specs.FinMap.{get, keys}
 use Rattle.mvs_model.specs.declared.name.Name.{Name}
 use Rattle.mvs_model.specs.Finite.{has}
-use Rattle.mvs_model.specs.Span.{Span}
-use Rattle.mvs_model.specs.Wanted.{Wanted}
+use Rattle.mvs_model.specs.Place.{PlaceValue}
+use Rattle.mvs_model.specs.Want.{WantValue}
 use Rattle.mvs_model.specs.Storage.{IsWhole, Covers, covers, Chosen}
 use Rattle.mvs_model.specs.Pools.{Pool, Part, in_parts, in_taken}
 use Rattle.mvs_model.specs.State.{State, Holding, plain, pooled, subpool_in, holder, is_plain, in_cell, granted}
@@ -56,10 +56,10 @@ none_held None e = refl
 none_held (Some h) e = absurd (let f : Some h.subpool ≡ None = e in cc)
 
 -- a place that is chosen is whole, and free
-pub chosen_whole : (st : State) (s : ℕ) (want : Wanted) (p : Span) → Chosen st.regions (holder st) s want p → IsWhole p
+pub chosen_whole : (st : State) (s : ℕ) (want : WantValue) (p : PlaceValue) → Chosen st.regions (holder st) s want p → IsWhole p
 chosen_whole st s want p c = (c.placed.1.on_doubleword, c.length.whole)
 
-pub chosen_free : (st : State) (s : ℕ) (want : Wanted) (p : Span) (d : ℕ) → Chosen st.regions (holder st) s want p → covers p d ≡ true → get st.held d ≡ None
+pub chosen_free : (st : State) (s : ℕ) (want : WantValue) (p : PlaceValue) (d : ℕ) → Chosen st.regions (holder st) s want p → covers p d ≡ true → get st.held d ≡ None
 chosen_free st s want p d c e = none_held (get st.held d) (c.placed.0.each d (covers_is p d e)).free
 
 -- what is held where something is changed
@@ -68,7 +68,7 @@ past_change true v o x free e = absurd (let f : None ≡ Some x = sym (free refl
 past_change false v o x free e = e
 
 -- a grant
-grant_bytes : (old new : State) (t : Name) (number : ℕ) (want : Wanted) (p : Span) → GrantTo old t number want p new → BytesGranted old → BytesGranted new
+grant_bytes : (old new : State) (t : Name) (number : ℕ) (want : WantValue) (p : PlaceValue) → GrantTo old t number want p new → BytesGranted old → BytesGranted new
 grant_bytes old new t number want p g bytes a =
     let w = chosen_whole old g.subpool want p g.chosen in
     ap is_some (g.bytes a) ∙ ap (λ b. is_some (cond b (Some old.regions.fill) (get old.bytes a))) (whole_has p a w)
@@ -78,7 +78,7 @@ grant_bytes old new t number want p g bytes a =
       at true o h cell e = refl
       at false o h cell e = e
 
-pub grant_apart : (old new : State) (t : Name) (number : ℕ) (want : Wanted) (p : Span) → GrantTo old t number want p new → Apart old → Apart new
+pub grant_apart : (old new : State) (t : Name) (number : ℕ) (want : WantValue) (p : PlaceValue) → GrantTo old t number want p new → Apart old → Apart new
 grant_apart old new t number want p g a =
     fewer_apart old new (pools_same old new g.pools)
     (λ n q part d e h c is. g.held d ∙ past_change (covers p d) _ (get old.held d) (pooled q.subpool) (chosen_free old g.subpool want p d g.chosen) is)

@@ -5,7 +5,7 @@ use Rattle.std.specs.List.{AllByRecursion}
 use Rattle.std.specs.FinMap.{get}
 use Rattle.mvs_model.specs.declared.name.Name.{Name}
 use Rattle.mvs_model.specs.Finite.{has, kept}
-use Rattle.mvs_model.specs.Span.{Span}
+use Rattle.mvs_model.specs.Place.{PlaceValue}
 use Rattle.mvs_model.specs.Storage.{IsWhole, covers, has_address}
 use Rattle.mvs_model.specs.Pools.{Pool}
 use Rattle.mvs_model.specs.State.{State, Holding, plain, pooled, is_plain, in_cell, granted}
@@ -20,11 +20,11 @@ use Rattle.mvs_model.proofs.TakenCells.{in_cell_is, in_cell_from, never, cell_po
 use Rattle.mvs_model.proofs.PartsFewer.{Covered, BytesGranted, fewer_apart, fewer_cells, cells_same, pools_same, covered_same}
 
 -- places of whole doublewords
-any_whole_has : (ps : List Span) (a : ℕ) → AllByRecursion IsWhole ps → any_has ps a ≡ any_covers ps (a / 8)
+pub any_whole_has : (ps : List PlaceValue) (a : ℕ) → AllByRecursion IsWhole ps → any_has ps a ≡ any_covers ps (a / 8)
 any_whole_has [] a w = refl
 any_whole_has (p ∷ ps) a w = λ i. whole_has p a w.0 i || any_whole_has ps a w.1 i
 
-any_plain : (st : State) (s : ℕ) (ps : List Span) (d : ℕ) → AllByRecursion (HeldPlain st s) ps → any_covers ps d ≡ true → get st.held d ≡ Some (plain s)
+any_plain : (st : State) (s : ℕ) (ps : List PlaceValue) (d : ℕ) → AllByRecursion (HeldPlain st s) ps → any_covers ps d ≡ true → get st.held d ≡ Some (plain s)
 any_plain st s [] d h e = absurd (let f : false ≡ true = e in cc)
 any_plain st s (p ∷ ps) d h e = at (covers p d) refl e (any_plain st s ps d h.1) where
   at : (b : Bool) → covers p d ≡ b → (b || any_covers ps d) ≡ true → (any_covers ps d ≡ true → get st.held d ≡ Some (plain s)) → get st.held d ≡ Some (plain s)
@@ -35,7 +35,7 @@ any_plain st s (p ∷ ps) d h e = at (covers p d) refl e (any_plain st s ps d h.
 pub plain_or_pooled : (o : Option Holding) (s r : ℕ) → o ≡ Some (plain s) → o ≡ Some (pooled r) → ⊥
 plain_or_pooled o s r e f = absurd (let g : true ≡ false = ap (λ h. has (λ k. not k.pooled) h) (sym e ∙ f) in cc)
 
-module _ (old new : State) (s : ℕ) (ps : List Span) (w : AllByRecursion IsWhole ps) (r : Releasable old s ps) (f : Frees old ps new) (a : Apart old) where
+module _ (old new : State) (s : ℕ) (ps : List PlaceValue) (w : AllByRecursion IsWhole ps) (r : Releasable old s ps) (f : Frees old ps new) (a : Apart old) where
   left_held : (d u : ℕ) → get old.held d ≡ Some (pooled u) → get new.held d ≡ Some (pooled u)
   left_held d u e = f.held d ∙ at (any_covers ps d) (any_plain old s ps d r.0) where
     at : (b : Bool) → (b ≡ true → get old.held d ≡ Some (plain s)) → cond b None (get old.held d) ≡ Some (pooled u)
@@ -72,7 +72,7 @@ pub same_granted : (old new : State) (x : ℕ) → new.held ≡ old.held → new
 same_granted old new x held pools = λ i. is_plain (get (held i) (x / 8)) || cells_same old new x pools i
 
 -- bytes are written where there are some
-module _ (old new : State) (p : Span) (value : ℕ → Option ℕ) (all : all_granted old p ≡ true) (some : HasBytes old p value) (w : Writes old p value new) (a : Apart old) where
+module _ (old new : State) (p : PlaceValue) (value : ℕ → Option ℕ) (all : all_granted old p ≡ true) (some : HasBytes old p value) (w : Writes old p value new) (a : Apart old) where
   was_granted : (x : ℕ) → has_address p x ≡ true → granted old x ≡ true
   was_granted x e =
       let h = has_is p x e in let low : p.addr ≤ x = h.0 in let high : x < p.addr + p.len = h.1 in

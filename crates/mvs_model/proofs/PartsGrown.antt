@@ -6,7 +6,7 @@ use Rattle.std.proofs.lemmas.List.Elements.{Contains-append_left, Contains-appen
 use Rattle.std.specs.FinMap.{get}
 use Rattle.std.specs.FinSet as set
 use Rattle.mvs_model.specs.declared.name.Name.{Name}
-use Rattle.mvs_model.specs.Span.{Span}
+use Rattle.mvs_model.specs.Place.{PlaceValue}
 use Rattle.mvs_model.specs.Storage.{covers, has_address}
 use Rattle.mvs_model.specs.Owners.{Owners}
 use Rattle.mvs_model.specs.Pools.{Pool, Part, part_length, IsCell, cell_at, in_parts}
@@ -27,7 +27,7 @@ pub record Stands (st : State) (name : Name) (pool : Pool) : Type 0 where
   pub only : (q : Pool) → get st.pools name ≡ Some q → q ≡ pool
 
 -- a list without overlap, and a place that misses each of it
-all_more : (p : Span) (parts : List Part) (y : Part) → AllByRecursion (Misses p) (map (λ part. part.place) parts) → Misses p y.place → AllByRecursion (Misses p) (map (λ part. part.place) (parts ++ y ∷ []))
+all_more : (p : PlaceValue) (parts : List Part) (y : Part) → AllByRecursion (Misses p) (map (λ part. part.place) parts) → Misses p y.place → AllByRecursion (Misses p) (map (λ part. part.place) (parts ++ y ∷ []))
 all_more p [] y all m = (m, tt)
 all_more p (x ∷ parts) y all m = (all.0, all_more p parts y all.1 m)
 
@@ -38,7 +38,7 @@ disjoint_more (x ∷ parts) y d m = (all_more x.place parts y d.0 (m x (0, omega
 alone : (x y : Part) → Contains (x ∷ []) y → x ≡ y
 alone x y h = elim (first_or_later y x [] h) [ inl e ↦ e | inr m ↦ absurd (let l : m.0 < 0 = m.1 in omega arith) ]
 
-module _ (old new : State) (name : Name) (pool : Pool) (count : ℕ) (p : Span) (owners : Owners) (some : 1 ≤ count) (stands : Stands old name pool) (g : Extends old name pool count p owners new) (a : Apart old) where
+module _ (old new : State) (name : Name) (pool : Pool) (count : ℕ) (p : PlaceValue) (owners : Owners) (some : 1 ≤ count) (stands : Stands old name pool) (g : Extends old name pool count p owners new) (a : Apart old) where
   added : Part
   added = record { place = p; count = count }
 

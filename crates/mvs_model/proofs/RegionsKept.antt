@@ -4,8 +4,8 @@ use Rattle.std.specs.List.{AllByRecursion}
 use Rattle.mvs_model.specs.declared.name.Name.{Name}
 use Rattle.mvs_model.specs.declared.request.Request.{Request}
 use Rattle.mvs_model.specs.declared.request.Reply.{Reply}
-use Rattle.mvs_model.specs.Span.{Span}
-use Rattle.mvs_model.specs.Wanted.{Wanted}
+use Rattle.mvs_model.specs.Place.{PlaceValue}
+use Rattle.mvs_model.specs.Want.{WantValue}
 use Rattle.mvs_model.specs.Storage.{Regions, InRegion}
 use Rattle.mvs_model.specs.State.{State}
 use Rattle.mvs_model.specs.Changes.{GrantTo, ListGrant}
@@ -31,11 +31,11 @@ pub regions_stay : (old : State) (t : Name) (request : Request) (reply : Reply) 
 regions_stay old t request reply new plan step = step_keeps (λ st. st.regions ≡ old.regions) (regions_closed old.regions) old t request reply new plan step refl
 
 -- a granted area lies in a region
-pub grant_inside : (old : State) (t : Name) (number : ℕ) (want : Wanted) (p : Span) (new : State) → GrantTo old t number want p new → InRegion old.regions p
+pub grant_inside : (old : State) (t : Name) (number : ℕ) (want : WantValue) (p : PlaceValue) (new : State) → GrantTo old t number want p new → InRegion old.regions p
 grant_inside old t number want p new g = g.chosen.placed.0.inside
 
 -- so does each area of a list
-pub list_inside : (r : Regions) (t : Name) (number : ℕ) (wants : List Wanted) (ps : List Span) (old new : State) → old.regions ≡ r → ListGrant old t number wants ps new → AllByRecursion (InRegion r) ps
+pub list_inside : (r : Regions) (t : Name) (number : ℕ) (wants : List WantValue) (ps : List PlaceValue) (old new : State) → old.regions ≡ r → ListGrant old t number wants ps new → AllByRecursion (InRegion r) ps
 list_inside r t number [] [] old new e h = tt
 list_inside r t number [] (p ∷ ps) old new e h = absurd h
 list_inside r t number (want ∷ wants) [] old new e h = absurd h

@@ -1,10 +1,10 @@
 -- Whether there is a place, and which: by trying every length and every address.
 use Rattle.std.proofs.Common.{◌≡◌, ℕ, ◌+◌, ◌-◌, ◌*◌, ◌/◌, ◌%◌, ◌^◌, ◌<◌, ◌≤◌, ◌⊎◌, inl, inr, Option, Some, None, arith, refl, subst}
 use Rattle.std.specs.Prelude.{IfSome}
-use Rattle.mvs_model.specs.Wanted.{Wanted}
+use Rattle.mvs_model.specs.Want.{WantValue}
 use Rattle.mvs_model.specs.declared.want.Side.{Side}
 use Rattle.mvs_model.specs.declared.want.Side.TheVariants.{Below, Either}
-use Rattle.mvs_model.specs.Span.{Span, span}
+use Rattle.mvs_model.specs.Place.{PlaceValue, place_at}
 use Rattle.mvs_model.specs.Storage.{Regions, LiesIn, IsBelow, Covers, MayTake, Open, Meets, Places, Chosen, NoPlace}
 use Rattle.mvs_model.proofs.Decide.{Decided, decided_and, decided_or, decided_implies, decided_like, decided_lt, decided_le, decided_eq, decided_some, decided_all, greatest_below}
 
@@ -29,34 +29,34 @@ module _ (holder : ℕ → Option ℕ) (s : ℕ) where
   decided_may_take d =
       decided_like (λ h. record { free = h.0; page = h.1 }) (λ m. (m.free, m.page)) (decided_and (decided_none (holder d)) (decided_page d))
 
-  decided_each : (p : Span) → Decided ((d : ℕ) → Covers p d → MayTake holder s d)
+  decided_each : (p : PlaceValue) → Decided ((d : ℕ) → Covers p d → MayTake holder s d)
   decided_each p =
       decided_like (λ h d c. h d (let l : 8 * d < p.addr + p.len = c.1 in omega arith) c) (λ h d l c. h d c)
       (decided_all (λ d. Covers p d → MayTake holder s d) (λ d. decided_implies (decided_and (decided_lt p.addr (8 * d + 8)) (decided_lt (8 * d) (p.addr + p.len))) (decided_may_take d)) (p.addr + p.len))
 
-  decided_open : (r : Regions) (p : Span) → Decided (Open r holder s p)
+  decided_open : (r : Regions) (p : PlaceValue) → Decided (Open r holder s p)
   decided_open r p =
       decided_like (λ h. record { inside = h.0; each = h.1 }) (λ o. (o.inside, o.each))
       (decided_and (decided_or (lies 0x6000 (0x6000 + 4096 * r.below)) (lies 0x1000000 (0x1000000 + 4096 * r.above))) (decided_each p)) where
         lies : (from to : ℕ) → Decided (LiesIn from to p)
         lies from to = decided_and (decided_le from p.addr) (decided_le (p.addr + p.len) to)
 
-decided_within : (o : Option ℕ) (p : Span) → Decided (IfSome o (λ k. p.addr / 2 ^ k ≡ (p.addr + p.len - 1) / 2 ^ k))
+decided_within : (o : Option ℕ) (p : PlaceValue) → Decided (IfSome o (λ k. p.addr / 2 ^ k ≡ (p.addr + p.len - 1) / 2 ^ k))
 decided_within None p = inl tt
 decided_within (Some k) p = decided_eq (p.addr / 2 ^ k) ((p.addr + p.len - 1) / 2 ^ k)
 
-decided_side : (side : Side) (p : Span) → Decided (side ≡ Below → IsBelow p)
+decided_side : (side : Side) (p : PlaceValue) → Decided (side ≡ Below → IsBelow p)
 decided_side Below p = decided_like (λ h _. h) (λ h. h refl) (decided_lt p.addr 0x1000000)
 decided_side Either p = inl (λ e. absurd (let h : Either ≡ Below = e in cc))
 
-decided_meets : (want : Wanted) (p : Span) → Decided (Meets want p)
+decided_meets : (want : WantValue) (p : PlaceValue) → Decided (Meets want p)
 decided_meets want p =
     decided_like (λ h. record { on_doubleword = h.0; start = h.1.0; within = h.1.1.0; side = h.1.1.1 }) (λ m. (m.on_doubleword, (m.start, (m.within, m.side))))
     (decided_and (decided_eq (p.addr % 8) 0) (decided_and (decided_eq (p.addr % 2 ^ want.start) 0) (decided_and (decided_within want.within p) (decided_side want.side p))))
 
-module _ (r : Regions) (holder : ℕ → Option ℕ) (s : ℕ) (want : Wanted) where
+module _ (r : Regions) (holder : ℕ → Option ℕ) (s : ℕ) (want : WantValue) where
   pub decided_place : (n a : ℕ) → Decided (Places r holder s want n a)
-  decided_place n a = decided_and (decided_open holder s r (span a n)) (decided_meets want (span a n))
+  decided_place n a = decided_and (decided_open holder s r (place_at a n)) (decided_meets want (place_at a n))
 
   -- no place begins past the regions
   abbrev past : ℕ
@@ -85,18 +85,18 @@ module _ (r : Regions) (holder : ℕ → Option ℕ) (s : ℕ) (want : Wanted) w
   decided_serves n = decided_and (decided_and (decided_eq (n % 8) 0) (decided_le want.least n)) (decided_has_place n)
 
   -- Where the lengths are whole and in order, a place is chosen or there is none of the least length.
-  pub chosen_or_none : want.least % 8 ≡ 0 → want.least ≤ want.most → ((p : Span) × Chosen r holder s want p) ⊎ NoPlace r holder s want
+  pub chosen_or_none : want.least % 8 ≡ 0 → want.least ≤ want.most → ((p : PlaceValue) × Chosen r holder s want p) ⊎ NoPlace r holder s want
   chosen_or_none even ordered =
       elim (greatest_below Serves decided_serves (want.most + 1)) [
         | inl g ↦ inl (found g)
         | inr h ↦ inr (λ a p. h want.least (omega arith) ((even, omega arith), (a, p)))
       ] where
-        found : ((n : ℕ) × (n < want.most + 1) × Serves n × ((j : ℕ) → n < j → j < want.most + 1 → Serves j → ⊥)) → (p : Span) × Chosen r holder s want p
+        found : ((n : ℕ) × (n < want.most + 1) × Serves n × ((j : ℕ) → n < j → j < want.most + 1 → Serves j → ⊥)) → (p : PlaceValue) × Chosen r holder s want p
         found g = elim (decided_has_high g.0) [
-          | inl h ↦ (span h.0 g.0, make h.0 h.1.1 (λ a p l. h.1.0))
-          | inr none ↦ (span g.2.1.0 g.0, make g.2.1.0 g.2.1.1 (λ a p l. absurd (none (a, (l, p)))))
+          | inl h ↦ (place_at h.0 g.0, make h.0 h.1.1 (λ a p l. h.1.0))
+          | inr none ↦ (place_at g.2.1.0 g.0, make g.2.1.0 g.2.1.1 (λ a p l. absurd (none (a, (l, p)))))
         ] where
-          make : (a : ℕ) → Places r holder s want g.0 a → ((b : ℕ) → Places r holder s want g.0 b → 0x1000000 ≤ b → 0x1000000 ≤ a) → Chosen r holder s want (span a g.0)
+          make : (a : ℕ) → Places r holder s want g.0 a → ((b : ℕ) → Places r holder s want g.0 b → 0x1000000 ≤ b → 0x1000000 ≤ a) → Chosen r holder s want (place_at a g.0)
           make a p high = record {
             length = record { least = g.2.0.1; most = (let l : g.0 < want.most + 1 = g.1 in omega arith); whole = g.2.0.0 };
             placed = p;

@@ -2,24 +2,25 @@
 use Rattle.std.proofs.Common.{◌≡◌, ℕ, ◌+◌, ◌/◌, ◌<◌, Bool, true, false, cond, List, [], ◌∷◌, ◌++◌, length, take, get_or, Option, Some, None, refl, sym, ap, ◌∙◌, subst, arith}
 use Rattle.std.specs.Prelude.{is_some, not, ◌||◌, ◌==◌, ◌↔◌}
 use Rattle.std.specs.List.{Contains}
-use Rattle.std.specs.Option.{option_map}
 use Rattle.std.proofs.lemmas.Bool.Decides.{nat_tests}
 use Rattle.std.proofs.lemmas.List.{take_more}
 use Rattle.std.proofs.lemmas.List.Folds.{list_any-append}
-use Rattle.std.specs.FinMap.{get, get-empty}
+use Rattle.std.specs.FinMap.{FinMap, get}
 use Rattle.mvs_model.specs.declared.name.Name.{Name}
 use Rattle.mvs_model.specs.Name.{name_cmp}
-use Rattle.mvs_model.specs.Finite.{kept, has}
+use Rattle.mvs_model.specs.Finite.{Keeps, kept, has}
 use Rattle.mvs_model.specs.Storage.{Storage, holder as held_by, IsStorage, ReleaseAll, is_one_of, ReleaseEach}
 use Rattle.mvs_model.specs.Owners.{Owners, IsFallen, ends_with, Ends}
-use Rattle.mvs_model.specs.State.{plain, granted}
-use Rattle.mvs_model.specs.View.{seen}
+use Rattle.mvs_model.specs.Pools.{Pool}
+use Rattle.mvs_model.specs.View.{state_of}
 use Rattle.mvs_model.specs.declared.code.Code.{Code}
 use Rattle.mvs_model.specs.declared.request.Reply.TheVariants.{Abended}
-use Rattle.mvs_model.specs.Changes.{End}
+use Rattle.mvs_model.specs.Changes.{End, Drops}
 use Rattle.mvs_model.specs.Steps.{Abends}
 use Rattle.mvs_model.proofs.Elements.{one_of_contained, contained_one_of}
-use Rattle.mvs_model.proofs.Seen.{held_seen, granted_seen, bytes_seen}
+use Rattle.mvs_model.proofs.SeenRelease.{drops_seen}
+use Rattle.mvs_model.proofs.Stand.{Stand}
+use Rattle.mvs_model.proofs.TakenCells.{same_test}
 
 -- no subpool is released at first
 kept_all : {X : Type 0} (v : Option X) → v ≡ kept (λ _. true) v
@@ -69,59 +70,41 @@ releases_next old mid new done s each one = record {
 pub releases_more : (old mid new : Storage) (subpools : List ℕ) (i s : ℕ) → i < length subpools → s ≡ get_or subpools i s → ReleaseEach old (take i subpools) mid → ReleaseAll mid s new → ReleaseEach old (take (i + 1) subpools) new
 releases_more old mid new subpools i s l e each one = subst (λ xs. ReleaseEach old xs new) (ap (λ x. take i subpools ++ x ∷ []) e ∙ sym (take_more subpools i s l)) (releases_next old mid new (take i subpools) s each one)
 
-same_test : (a b : Bool) → (a ≡ true → b ≡ true) → (b ≡ true → a ≡ true) → a ≡ b
-same_test true b f g = sym (f refl)
-same_test false true f g = g refl
-same_test false false f g = refl
+-- the same of the pools of the subpools
+pub keeps_none : (f : Name → Option Pool) → Keeps f (λ _ p. not (is_one_of [] p.subpool)) f
+keeps_none f name = kept_all (f name)
 
--- the end of a task, whose subpools and those of its descendants were released
-pub end_seen : (st new : Storage) (o after : Owners) (t : Name) (fallen : List Name) (freed : List ℕ) → IsStorage st → IsStorage new → IsFallen o t fallen → Ends o t fallen after
-    → ((s : ℕ) → Contains freed s ↔ (ends_with o t fallen s ≡ true)) → ReleaseEach st freed new → End (seen st o) t (seen new after)
-end_seen st new o after t fallen freed is now is_fallen ends frees each = record {
-  fallen = fallen;
-  is_fallen = is_fallen;
-  drops = record {
-    regions = each.regions;
-    held = held;
-    pools = λ name. get-empty name_cmp name ∙ ap (kept _) (sym (get-empty name_cmp name));
-    bytes = bytes;
-  };
-  owners = ends;
-} where
-  freed_is : (s : ℕ) → is_one_of freed s ≡ ends_with o t fallen s
-  freed_is s = same_test _ _ (λ e. (frees s).0 (contained_one_of freed s e)) (λ e. one_of_contained freed s ((frees s).1 e))
+keeps_next : (f g h : Name → Option Pool) (done : List ℕ) (s : ℕ) → Keeps f (λ _ p. not (is_one_of done p.subpool)) g → Keeps g (λ _ p. not (p.subpool == s)) h → Keeps f (λ _ p. not (is_one_of (done ++ s ∷ []) p.subpool)) h
+keeps_next f g h done s one next name = next name ∙ ap (kept (λ p. not (p.subpool == s))) (one name) ∙ at (f name) where
+  by : (p : Pool) (b : Bool) → kept (λ (q : Pool). not (q.subpool == s)) (cond (not b) (Some p) None) ≡ cond (not (b || (s == p.subpool))) (Some p) None
+  by p true = refl
+  by p false = ap (λ x. cond (not x) (Some p) None) (turned done s p.subpool)
 
-  held : (d : ℕ) → get (seen new after).held d ≡ kept (λ h. not (ends_with o t fallen h.subpool)) (get (seen st o).held d)
-  held d = held_seen new after now d ∙ ap (option_map plain) (each.held d) ∙ at (held_by st d) ∙ ap (kept (λ h. not (ends_with o t fallen h.subpool))) (sym (held_seen st o is d)) where
-    pick : (b : Bool) (s : ℕ) → option_map plain (cond b (Some s) None) ≡ cond b (Some (plain s)) None
-    pick true s = refl
-    pick false s = refl
+  at : (v : Option Pool) → kept (λ p. not (p.subpool == s)) (kept (λ p. not (is_one_of done p.subpool)) v) ≡ kept (λ p. not (is_one_of (done ++ s ∷ []) p.subpool)) v
+  at None = refl
+  at (Some p) = by p (is_one_of done p.subpool) ∙ ap (λ b. cond (not b) (Some p) None) (sym (joined done s p.subpool))
 
-    at : (v : Option ℕ) → option_map plain (kept (λ s. not (is_one_of freed s)) v) ≡ kept (λ h. not (ends_with o t fallen h.subpool)) (option_map plain v)
-    at None = refl
-    at (Some s) = pick (not (is_one_of freed s)) s ∙ ap (λ b. cond (not b) (Some (plain s)) None) (freed_is s)
+pub keeps_more : (f g h : Name → Option Pool) (subpools : List ℕ) (i s : ℕ) → i < length subpools → s ≡ get_or subpools i s → Keeps f (λ _ p. not (is_one_of (take i subpools) p.subpool)) g → Keeps g (λ _ p. not (p.subpool == s)) h
+    → Keeps f (λ _ p. not (is_one_of (take (i + 1) subpools) p.subpool)) h
+keeps_more f g h subpools i s l e one next =
+    subst (λ xs. Keeps f (λ _ p. not (is_one_of xs p.subpool)) h) (ap (λ x. take i subpools ++ x ∷ []) e ∙ sym (take_more subpools i s l)) (keeps_next f g h (take i subpools) s one next)
 
-  bytes : (a : ℕ) → get (seen new after).bytes a ≡ kept (λ _. granted (seen new after) a) (get (seen st o).bytes a)
-  bytes a =
-      bytes_seen new after now a ∙ each.bytes a ∙ at (held_by st (a / 8)) (get st.bytes a) (is.bytes a)
-      ∙ ap (λ b. kept (λ _. b) (get st.bytes a)) (sym (granted_seen new after now a ∙ ap is_some (each.held (a / 8))))
-      ∙ ap (kept (λ _. granted (seen new after) a)) (sym (bytes_seen st o is a)) where
-        picked : (b : Bool) (s x : ℕ) → cond b None (Some x) ≡ kept (λ _. is_some (cond (not b) (Some s) None)) (Some x)
-        picked true s x = refl
-        picked false s x = refl
+-- the end of a task, whose subpools and those of its descendants were released with their pools
+module _ (st new : Storage) (o after : Owners) (pools fewer : FinMap name_cmp Pool) (t : Name) (fallen : List Name) (freed : List ℕ) (is : IsStorage st) (now : IsStorage new) (stand : Stand st pools) (stands : Stand new fewer)
+    (is_fallen : IsFallen o t fallen) (ends : Ends o t fallen after) (frees : (s : ℕ) → Contains freed s ↔ (ends_with o t fallen s ≡ true)) (each : ReleaseEach st freed new)
+    (less : Keeps (get pools) (λ _ p. not (is_one_of freed p.subpool)) (get fewer)) where
+  freed_is : is_one_of freed ≡ ends_with o t fallen
+  freed_is = λ i s. same_test _ _ (λ e. (frees s).0 (contained_one_of freed s e)) (λ e. one_of_contained freed s ((frees s).1 e)) i
 
-        none_picked : (b : Bool) → cond {A = Option ℕ} b None None ≡ None
-        none_picked true = refl
-        none_picked false = refl
+  pub end_seen : End (state_of st o pools) t (state_of new after fewer)
+  end_seen = record {
+    fallen = fallen;
+    is_fallen = is_fallen;
+    drops = subst (λ test. Drops (state_of st o pools) test (state_of new after fewer)) freed_is (drops_seen st new o after pools fewer (is_one_of freed) is now stand stands each.held each.bytes less each.regions);
+    owners = ends;
+  }
 
-        at : (h v : Option ℕ) → is_some v ≡ is_some h → cond (has (is_one_of freed) h) None v ≡ kept (λ _. is_some (kept (λ s. not (is_one_of freed s)) h)) v
-        at None None e = refl
-        at None (Some x) e = absurd (let f : true ≡ false = e in cc)
-        at (Some s) None e = none_picked (is_one_of freed s)
-        at (Some s) (Some x) e = picked (is_one_of freed s) s x
-
--- an abend of a task
-pub abends_seen : (st new : Storage) (o after : Owners) (t : Name) (code : Code) (fallen : List Name) (freed : List ℕ) → IsStorage st → IsStorage new → IsFallen o t fallen → Ends o t fallen after
-    → ((s : ℕ) → Contains freed s ↔ (ends_with o t fallen s ≡ true)) → ReleaseEach st freed new → Abends (seen st o) t code (Abended code fallen) (seen new after)
-unfolding end_seen
-abends_seen st new o after t code fallen freed is now is_fallen ends frees each = (end_seen st new o after t fallen freed is now is_fallen ends frees each, refl)
+  -- an abend of a task
+  pub abends_seen : (code : Code) → Abends (state_of st o pools) t code (Abended code fallen) (state_of new after fewer)
+  unfolding end_seen
+  abends_seen code = (end_seen, refl)

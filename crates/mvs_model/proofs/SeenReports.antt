@@ -13,7 +13,6 @@ use Rattle.mvs_model.specs.Kept.{OwnersKept}
 use Rattle.mvs_model.specs.State.{Holding, plain}
 use Rattle.mvs_model.specs.View.{seen}
 use Rattle.mvs_model.specs.Reports.{bytes_held, first_from, number_of}
-use Rattle.mvs_model.proofs.Seen.{held_seen}
 
 -- the first of the values that a function has
 module _ {X : Type 0} where
@@ -44,39 +43,6 @@ module _ {X : Type 0} where
           | inl less ↦ first_later k n f e ∙ more less
           | inr same ↦ (let s : d ≡ k = omega arith in absurd (let g : None ≡ Some x = sym e ∙ ap f (sym s) ∙ is in cc))
         ]
-
-and_true : (b : Bool) → (b && true) ≡ b
-and_true true = refl
-and_true false = refl
-
-and_false : (b : Bool) → (b && false) ≡ false
-and_false true = refl
-and_false false = refl
-
-count_none : (n : ℕ) → count_below n (λ d. false) ≡ 0
-unfolding count_below
-count_none zero = refl
-count_none (suc n) = let e : count_below n (λ d. false) ≡ 0 = count_none n in omega (arith, e)
-
--- what a subpool holds lies outside of pools
-module _ (st : Storage) (o : Owners) (s : ℕ) (is : IsStorage st) where
-  plain_test : (d : ℕ) → has (λ (h : Holding). (h.subpool == s) && not h.pooled) (get (seen st o).held d) ≡ holds st s d
-  plain_test d = ap (has (λ (h : Holding). (h.subpool == s) && not h.pooled)) (held_seen st o is d) ∙ at (held_by st d) where
-    at : (v : Option ℕ) → has (λ (h : Holding). (h.subpool == s) && not h.pooled) (option_map plain v) ≡ has (λ t. t == s) v
-    at None = refl
-    at (Some t) = and_true (t == s)
-
-  pool_test : (d : ℕ) → has (λ (h : Holding). (h.subpool == s) && h.pooled) (get (seen st o).held d) ≡ false
-  pool_test d = ap (has (λ (h : Holding). (h.subpool == s) && h.pooled)) (held_seen st o is d) ∙ at (held_by st d) where
-    at : (v : Option ℕ) → has (λ (h : Holding). (h.subpool == s) && h.pooled) (option_map plain v) ≡ false
-    at None = refl
-    at (Some t) = and_false (t == s)
-
-  pub plain_seen : bytes_held (seen st o) s false ≡ held_bytes st s
-  plain_seen = ap (λ test. 8 * count_below (end_of st.regions) test) (λ i d. plain_test d i)
-
-  pub pool_seen : bytes_held (seen st o) s true ≡ 0
-  pool_seen = ap (λ test. 8 * count_below (end_of st.regions) test) (λ i d. pool_test d i) ∙ ap (λ n. 8 * n) (count_none (end_of st.regions))
 
 -- the number under which a subpool stands is the one that its owner has for it
 pub number_kept : (o : Owners) (t : Name) (n s : ℕ) → OwnersKept o → entry o t n ≡ Some s → number_of o t s ≡ Some n

@@ -8,9 +8,9 @@ use Rattle.std.proofs.Math.Nat.{mul_assoc, mul_comm, add-mul}
 use Rattle.std.specs.FinMap.{get, nat_cmp-IsAntisymmetric}
 use Rattle.mvs_model.specs.declared.name.Name.{Name}
 use Rattle.mvs_model.specs.declared.want.Side.TheVariants.{Below, Either}
-use Rattle.mvs_model.specs.Span.{Span, span}
+use Rattle.mvs_model.specs.Place.{PlaceValue, place_at}
 use Rattle.mvs_model.specs.Name.{same_name}
-use Rattle.mvs_model.specs.Presents.{gives, shares}
+use Rattle.mvs_model.specs.Gifts.{gives, shares}
 use Rattle.mvs_model.specs.Finite.{kept, has, any_below}
 use Rattle.mvs_model.specs.Storage.{Regions, Open, Places, Chosen, holder, covers, Covers, has_address}
 use Rattle.mvs_model.specs.Owners.{Owners, entry, Binds, EntersBelow, none, passed, entered, is_given, goes, ends_with}
@@ -22,7 +22,7 @@ use Rattle.mvs_model.proofs.Made.{made_without}
 use Rattle.mvs_model.proofs.StorageLaws.{covers_from}
 
 -- a place across an own page and a free one
-own_open : Open two_pages one_held 1 (span 0x6008 0x1000)
+own_open : Open two_pages one_held 1 (place_at 0x6008 0x1000)
 own_open = record {
   inside = inl (omega arith, omega arith);
   each = λ d c. let l : 0x6008 < 8 * d + 8 = c.0 in record { free = free d (omega arith); page = λ e t same h. own (e == 0xC00) t h };
@@ -34,7 +34,7 @@ own_open = record {
   own true t h = let e : 1 ≡ t = cc in sym e
   own false t h = absurd (let e : None ≡ Some t = h in cc)
 
-foreign_closed : (e d : ℕ) → e ≢ 0xC00 → Covers (span 0x6008 0x1000) d → e / 512 ≡ d / 512 → Open two_pages (two_held e) 1 (span 0x6008 0x1000) → ⊥
+foreign_closed : (e d : ℕ) → e ≢ 0xC00 → Covers (place_at 0x6008 0x1000) d → e / 512 ≡ d / 512 → Open two_pages (two_held e) 1 (place_at 0x6008 0x1000) → ⊥
 foreign_closed e d other c same o =
     differs 2 1 refl refl ((o.each d c).page e 2 same (held e other)) where
       differs : (a b : ℕ) → a ≡ 2 → b ≡ 1 → a ≡ b → ⊥
@@ -98,20 +98,20 @@ placed r n a inside even = (
   record { on_doubleword = even; start = even; within = tt; side = λ e. absurd (let f : Either ≡ Below = e in cc) },
 )
 
-same_span : (p : Span) (a n : ℕ) → p.addr ≡ a → p.len ≡ n → p ≡ span a n
+same_span : (p : PlaceValue) (a n : ℕ) → p.addr ≡ a → p.len ≡ n → p ≡ place_at a n
 same_span p a n e f = λ i. record { addr = e i; len = f i }
 
-at_least : (r : Regions) (p : Span) (n a : ℕ) → Chosen r nothing_held 1 most_want p → 8 ≤ n → n ≤ 0x4000 → n % 8 ≡ 0 → Places r nothing_held 1 most_want n a → n ≤ p.len
+at_least : (r : Regions) (p : PlaceValue) (n a : ℕ) → Chosen r nothing_held 1 most_want p → 8 ≤ n → n ≤ 0x4000 → n % 8 ≡ 0 → Places r nothing_held 1 most_want n a → n ≤ p.len
 at_least r p n a c some most even place = elim (cases_lt p.len n) [ inl short ↦ absurd (c.greatest n a short (record { least = some; most = most; whole = even }) place) | inr long ↦ long ]
 
-tie : (p : Span) → Chosen (pages 1 1) nothing_held 1 most_want p → p ≡ span 0x1000000 0x1000
+tie : (p : PlaceValue) → Chosen (pages 1 1) nothing_held 1 most_want p → p ≡ place_at 0x1000000 0x1000
 tie p c =
     let long = at_least (pages 1 1) p 0x1000 0x1000000 c (omega arith) (omega arith) (omega arith) (placed (pages 1 1) 0x1000 0x1000000 (inr (omega arith, omega arith)) (omega arith)) in
     let len : p.len ≡ 0x1000 = elim c.placed.0.inside [ inl b ↦ (let l : 0x6000 ≤ p.addr = b.0 in omega (arith, b.1)) | inr b ↦ (let l : 0x1000000 ≤ p.addr = b.0 in omega (arith, b.1)) ] in
     let high : 0x1000000 ≤ p.addr = c.above 0x1000000 (placed (pages 1 1) p.len 0x1000000 (inr (omega arith, omega arith)) (omega arith)) (omega arith) in
     same_span p 0x1000000 0x1000 (elim c.placed.0.inside [ inl b ↦ omega (arith, b.1) | inr b ↦ omega (arith, b.1) ]) len
 
-longer : (p : Span) → Chosen (pages 2 1) nothing_held 1 most_want p → p ≡ span 0x6000 0x2000
+longer : (p : PlaceValue) → Chosen (pages 2 1) nothing_held 1 most_want p → p ≡ place_at 0x6000 0x2000
 longer p c =
     let long = at_least (pages 2 1) p 0x2000 0x6000 c (omega arith) (omega arith) (omega arith) (placed (pages 2 1) 0x2000 0x6000 (inl (omega arith, omega arith)) (omega arith)) in
     elim c.placed.0.inside [
@@ -123,10 +123,10 @@ pub above_on_a_tie : AboveOnATie
 above_on_a_tie = (tie, longer)
 
 -- parts and joined places
-covers_joined : (a m n d : ℕ) → a % 8 ≡ 0 → m % 8 ≡ 0 → covers (span a (m + n)) d ≡ (covers (span a m) d || covers (span (a + m) n) d)
+covers_joined : (a m n d : ℕ) → a % 8 ≡ 0 → m % 8 ≡ 0 → covers (place_at a (m + n)) d ≡ (covers (place_at a m) d || covers (place_at (a + m) n) d)
 covers_joined a m n d even whole = grind (arith, nat_tests)
 
-has_joined : (a m n x : ℕ) → has_address (span a (m + n)) x ≡ (has_address (span a m) x || has_address (span (a + m) n) x)
+has_joined : (a m n x : ℕ) → has_address (place_at a (m + n)) x ≡ (has_address (place_at a m) x || has_address (place_at (a + m) n) x)
 has_joined a m n x = grind (arith, nat_tests)
 
 gone_twice : (b c : Bool) (o : Option ℕ) → cond c None (cond b None o) ≡ cond (b || c) None o
@@ -139,23 +139,23 @@ releases_join old mid new s a m n one two = record {
   whole = (one.whole.0, let e : m % 8 ≡ 0 = one.whole.1 in let f : n % 8 ≡ 0 = two.whole.1 in omega arith);
   was_held = λ d c. held d c;
   regions = two.regions ∙ one.regions;
-  held = λ d. two.held d ∙ ap (cond (covers (span (a + m) n) d) None) (one.held d) ∙ gone_twice (covers (span a m) d) (covers (span (a + m) n) d) (get old.held d) ∙ ap (λ b. cond b None (get old.held d)) (sym (covers_joined a m n d one.whole.0 one.whole.1));
-  bytes = λ x. two.bytes x ∙ ap (cond (has_address (span (a + m) n) x) None) (one.bytes x) ∙ gone_twice (has_address (span a m) x) (has_address (span (a + m) n) x) (get old.bytes x) ∙ ap (λ b. cond b None (get old.bytes x)) (sym (has_joined a m n x));
+  held = λ d. two.held d ∙ ap (cond (covers (place_at (a + m) n) d) None) (one.held d) ∙ gone_twice (covers (place_at a m) d) (covers (place_at (a + m) n) d) (get old.held d) ∙ ap (λ b. cond b None (get old.held d)) (sym (covers_joined a m n d one.whole.0 one.whole.1));
+  bytes = λ x. two.bytes x ∙ ap (cond (has_address (place_at (a + m) n) x) None) (one.bytes x) ∙ gone_twice (has_address (place_at a m) x) (has_address (place_at (a + m) n) x) (get old.bytes x) ∙ ap (λ b. cond b None (get old.bytes x)) (sym (has_joined a m n x));
 } where
   kept : (b : Bool) (o : Option ℕ) → cond b None o ≡ Some s → o ≡ Some s
   kept true o e = absurd (let f : None ≡ Some s = e in cc)
   kept false o e = e
 
-  held : (d : ℕ) → Covers (span a (m + n)) d → holder old d ≡ Some s
+  held : (d : ℕ) → Covers (place_at a (m + n)) d → holder old d ≡ Some s
   held d c = elim (cases_lt (8 * d) (a + m)) [
     | inl low ↦ one.was_held d (c.0, low)
-    | inr high ↦ kept (covers (span a m) d) (get old.held d) (sym (one.held d) ∙ two.was_held d ((omega arith), (let l : 8 * d < a + (m + n) = c.1 in omega arith)))
+    | inr high ↦ kept (covers (place_at a m) d) (get old.held d) (sym (one.held d) ∙ two.was_held d ((omega arith), (let l : 8 * d < a + (m + n) = c.1 in omega arith)))
   ]
 
 pub parts_released : PartsReleased
 parts_released old mid s want p a n g even whole low high =
-    let held = made_without nat_cmp-IsAntisymmetric mid.held (covers (span a n)) in
-    let bytes = made_without nat_cmp-IsAntisymmetric mid.bytes (has_address (span a n)) in (
+    let held = made_without nat_cmp-IsAntisymmetric mid.held (covers (place_at a n)) in
+    let bytes = made_without nat_cmp-IsAntisymmetric mid.bytes (has_address (place_at a n)) in (
       record { regions = mid.regions; held = held.0; bytes = bytes.0 },
       record {
         whole = (even, whole);
@@ -266,12 +266,12 @@ sharers_keep old t fallen new other n s ends stays e =
 
 pub small_part : SmallPart
 small_part = (refl, λ a c. (forth a c, back a c)) where
-  forth : (a c : ℕ) → IsCellOf 12 (record { place = span a 48; count = 2 }) c → (c ≡ a + 24) ⊎ (c ≡ a + 36)
+  forth : (a c : ℕ) → IsCellOf 12 (record { place = place_at a 48; count = 2 }) c → (c ≡ a + 24) ⊎ (c ≡ a + 36)
   forth a c h = elim (cases_lt h.0 1) [
     | inl low ↦ inl (let e : c ≡ a + 48 - 24 + h.0 * 12 = h.2 in omega arith)
     | inr high ↦ inr (let e : c ≡ a + 48 - 24 + h.0 * 12 = h.2 in let l : h.0 < 2 = h.1 in omega arith)
   ]
 
-  back : (a c : ℕ) → (c ≡ a + 24) ⊎ (c ≡ a + 36) → IsCellOf 12 (record { place = span a 48; count = 2 }) c
+  back : (a c : ℕ) → (c ≡ a + 24) ⊎ (c ≡ a + 36) → IsCellOf 12 (record { place = place_at a 48; count = 2 }) c
   back a c (inl e) = (0, omega arith, omega arith)
   back a c (inr e) = (1, omega arith, omega arith)

@@ -11,16 +11,16 @@ use Rattle.mvs_model.specs.declared.want.Side.{Side}
 use Rattle.mvs_model.specs.declared.want.Side.TheVariants.{Below}
 use Rattle.mvs_model.specs.declared.want.Residence.{Residence}
 use Rattle.mvs_model.specs.declared.code.Form.{Form}
-use Rattle.mvs_model.specs.declared.code.Family.TheVariants.{X}
+use Rattle.mvs_model.specs.declared.code.Family.TheVariants.{Located}
 use Rattle.mvs_model.specs.declared.code.Code.{Code}
 use Rattle.mvs_model.specs.declared.code.Code.TheVariants.{System, User}
 use Rattle.mvs_model.specs.declared.request.Request.{Request}
 use Rattle.mvs_model.specs.declared.request.Request.TheVariants.{Obtain, ObtainList, Release, ReleaseList, ReleaseWhole, Build, Get, Free, Delete, Attach, Return, Abend, Show, Put, Move}
 use Rattle.mvs_model.specs.declared.request.Reply.{Reply}
 use Rattle.mvs_model.specs.declared.request.Reply.TheVariants.{NotRun, Rc0, Rc4, Granted, Listed, Cell, NoCell, Attached, Ended, Done, Abended}
-use Rattle.mvs_model.specs.Span.{Span, span, round8}
-use Rattle.mvs_model.specs.Wanted.{Wanted, wanted_of, fixed_want}
-use Rattle.mvs_model.specs.Presents.{Presents}
+use Rattle.mvs_model.specs.Place.{PlaceValue, place_at, round8}
+use Rattle.mvs_model.specs.Want.{WantValue, want_of, fixed_want}
+use Rattle.mvs_model.specs.Gifts.{GiftsValue}
 use Rattle.mvs_model.specs.Storage.{Chosen, NoPlace, covers, Covers, has_address}
 use Rattle.mvs_model.specs.Owners.{Owners, is_active, entry, SubpoolOf, Ends, ends_with, attach_refusal, has_subtask}
 use Rattle.mvs_model.specs.Pools.{Pool, Part, part_want, part_length, first_cell, IsCellOf, IsFreeCell, cell_at, in_parts, in_taken}
@@ -38,14 +38,14 @@ use Rattle.mvs_model.proofs.Falling.{fallen_some}
 use Rattle.mvs_model.proofs.Owning.{subpool_some, enters_some, ends_some, attach_some}
 
 -- A doubleword that a place covers, and an address in it, are below a bound.
-covers_low : (p : Span) (d : ℕ) → covers p d ≡ true → d < p.addr + p.len
+covers_low : (p : PlaceValue) (d : ℕ) → covers p d ≡ true → d < p.addr + p.len
 covers_low p d e = grind (arith, nat_tests)
 
-has_low : (p : Span) (a : ℕ) → has_address p a ≡ true → a < p.addr + p.len
+has_low : (p : PlaceValue) (a : ℕ) → has_address p a ≡ true → a < p.addr + p.len
 has_low p a e = grind (arith, nat_tests)
 
 -- a place that is chosen can be granted
-granted_some : (old : State) (t : Name) (number : ℕ) (want : Wanted) (s : ℕ) (p : Span) → SubpoolOf old.owners t number s → Chosen old.regions (holder old) s want p → (new : State) × GrantTo old t number want p new
+granted_some : (old : State) (t : Name) (number : ℕ) (want : WantValue) (s : ℕ) (p : PlaceValue) → SubpoolOf old.owners t number s → Chosen old.regions (holder old) s want p → (new : State) × GrantTo old t number want p new
 granted_some old t number want s p is c =
     let held = made_changes old.held (p.addr + p.len) (covers p) (plain s) (covers_low p) in
     let bytes = made_changes old.bytes (p.addr + p.len) (has_address p) old.regions.fill (has_low p) in
@@ -76,7 +76,7 @@ end_some old t =
 empties_some : (old : State) (s : ℕ) → (new : State) × Empties old s new
 empties_some old s = let d = drops_some old (λ u. u == s) old.owners in (d.0, record { drops = d.1.0; owners = d.1.1 })
 
-frees_some : (old : State) (ps : List Span) → (new : State) × Frees old ps new
+frees_some : (old : State) (ps : List PlaceValue) → (new : State) × Frees old ps new
 frees_some old ps =
     let held = made_without nat_cmp-IsAntisymmetric old.held (any_covers ps) in
     let bytes = made_without nat_cmp-IsAntisymmetric old.bytes (any_has ps) in (
@@ -115,7 +115,7 @@ part_whole size count = at ((count + 63) / 64) ((count * size + 7) / 8) where
   at x y = omega arith
 
 -- a grant, or shortage
-area_some : (old : State) (t : Name) (number : ℕ) (want : Wanted) → want.least % 8 ≡ 0 → want.least ≤ want.most → ShortOf old t number want ⊎ ((p : Span) × (new : State) × GrantTo old t number want p new)
+area_some : (old : State) (t : Name) (number : ℕ) (want : WantValue) → want.least % 8 ≡ 0 → want.least ≤ want.most → ShortOf old t number want ⊎ ((p : PlaceValue) × (new : State) × GrantTo old t number want p new)
 area_some old t number want even ordered =
     let s = subpool_some old.owners t number in
     elim (chosen_or_none old.regions (holder old) s.0 want even ordered) [
@@ -123,15 +123,15 @@ area_some old t number want even ordered =
       | inr none ↦ inl (s.0, s.1, none)
     ]
 
-obtain_some : (old : State) (t : Name) (form : Form) (number : ℕ) (want : Wanted) → want.least % 8 ≡ 0 → want.least ≤ want.most → Some2 (ObtainStep old t form number want)
+obtain_some : (old : State) (t : Name) (form : Form) (number : ℕ) (want : WantValue) → want.least % 8 ≡ 0 → want.least ≤ want.most → Some2 (ObtainStep old t form number want)
 obtain_some old t form number want even ordered = either_some (is_invalid number) (λ _. abends_some old t (bad_subpool (family form) true)) (λ _. choice) where
-  choice : Some2 (λ reply new. (ShortOf old t number want × Fails (is_conditional form) old t (short (family form)) reply new) ⊎ ((p : Span) × (reply ≡ Granted p) × GrantTo old t number want p new))
+  choice : Some2 (λ reply new. (ShortOf old t number want × Fails (is_conditional form) old t (short (family form)) reply new) ⊎ ((p : PlaceValue) × (reply ≡ Granted p) × GrantTo old t number want p new))
   choice = elim (area_some old t number want even ordered) [
     | inl short_of ↦ let f = fails_some (is_conditional form) old t (short (family form)) in (f.0, (f.1.0, inl (short_of, f.1.1)))
     | inr g ↦ (Granted g.0, (g.1, inr (g.0, refl, g.2)))
   ]
 
-list_some : (t : Name) (number start : ℕ) (lengths : List ℕ) (old : State) → ListShort old t number (map (λ n. fixed_want n start Below) lengths) ⊎ ((ps : List Span) × (new : State) × ListGrant old t number (map (λ n. fixed_want n start Below) lengths) ps new)
+list_some : (t : Name) (number start : ℕ) (lengths : List ℕ) (old : State) → ListShort old t number (map (λ n. fixed_want n start Below) lengths) ⊎ ((ps : List PlaceValue) × (new : State) × ListGrant old t number (map (λ n. fixed_want n start Below) lengths) ps new)
 list_some t number start [] old = inr ([], old, refl)
 list_some t number start (n ∷ ns) old =
     elim (area_some old t number (fixed_want n start Below) (round8_whole n) (omega arith)) [
@@ -144,7 +144,7 @@ list_some t number start (n ∷ ns) old =
 
 obtain_list_some : (old : State) (t : Name) (form : Form) (number start : ℕ) (lengths : List ℕ) → Some2 (ObtainListStep old t form number (map (λ n. fixed_want n start Below) lengths))
 obtain_list_some old t form number start lengths = either_some (is_invalid number) (λ _. abends_some old t (bad_subpool (family form) true)) (λ _. choice) where
-  choice : Some2 (λ reply new. (ListShort old t number (map (λ n. fixed_want n start Below) lengths) × Fails (is_conditional form) old t (short (family form)) reply new) ⊎ ((ps : List Span) × (reply ≡ Listed ps) × ListGrant old t number (map (λ n. fixed_want n start Below) lengths) ps new))
+  choice : Some2 (λ reply new. (ListShort old t number (map (λ n. fixed_want n start Below) lengths) × Fails (is_conditional form) old t (short (family form)) reply new) ⊎ ((ps : List PlaceValue) × (reply ≡ Listed ps) × ListGrant old t number (map (λ n. fixed_want n start Below) lengths) ps new))
   choice = elim (list_some t number start lengths old) [
     | inl s ↦ let f = fails_some (is_conditional form) old t (short (family form)) in (f.0, (f.1.0, inl (s, f.1.1)))
     | inr g ↦ (Listed g.0, (g.1, inr (g.0, refl, g.2)))
@@ -169,15 +169,15 @@ decided_is (Some h) s = decided_like there back (decided_and (decided_eq h.subpo
   back : Some h ≡ Some (plain s) → (h.subpool ≡ s) × (h.pooled ≡ false)
   back e = (let u : Some h.subpool ≡ Some s = ap subpool_in e in cc, let u : Some h.pooled ≡ Some false = ap pooled_in e in cc)
 
-decided_covers : (p : Span) (d : ℕ) → Decided (Covers p d)
+decided_covers : (p : PlaceValue) (d : ℕ) → Decided (Covers p d)
 decided_covers p d = decided_and (decided_lt p.addr (8 * d + 8)) (decided_lt (8 * d) (p.addr + p.len))
 
-decided_held : (st : State) (s : ℕ) (p : Span) → Decided (HeldPlain st s p)
+decided_held : (st : State) (s : ℕ) (p : PlaceValue) → Decided (HeldPlain st s p)
 decided_held st s p =
     decided_like (λ h d c. h d (let l : 8 * d < p.addr + p.len = c.1 in omega arith) c) (λ h d l c. h d c)
     (decided_all (λ d. Covers p d → get st.held d ≡ Some (plain s)) (λ d. decided_implies (decided_covers p d) (decided_is (get st.held d) s)) (p.addr + p.len))
 
-decided_misses : (p q : Span) → Decided (Misses p q)
+decided_misses : (p q : PlaceValue) → Decided (Misses p q)
 decided_misses p q =
     decided_like (λ h d c e. h d (let l : 8 * d < p.addr + p.len = c.1 in omega arith) c e) (λ h d l c e. h d c e)
     (decided_all (λ d. Covers p d → Covers q d → ⊥) (λ d. decided_implies (decided_covers p d) (decided_implies (decided_covers q d) (inr (λ f. f)))) (p.addr + p.len))
@@ -186,15 +186,15 @@ decided_each : {X : Type 0} → (P : X → Type 0) → ((x : X) → Decided (P x
 decided_each P decide [] = inl tt
 decided_each P decide (x ∷ xs) = decided_and (decide x) (decided_each P decide xs)
 
-decided_disjoint : (ps : List Span) → Decided (Disjoint ps)
+decided_disjoint : (ps : List PlaceValue) → Decided (Disjoint ps)
 decided_disjoint [] = inl tt
 decided_disjoint (p ∷ ps) = decided_and (decided_each (Misses p) (decided_misses p) ps) (decided_disjoint ps)
 
-decided_may_release : (st : State) (o : Option ℕ) (ps : List Span) → Decided (MayRelease st o ps)
+decided_may_release : (st : State) (o : Option ℕ) (ps : List PlaceValue) → Decided (MayRelease st o ps)
 decided_may_release st None ps = inr (λ h. h)
 decided_may_release st (Some s) ps = decided_and (decided_each (HeldPlain st s) (decided_held st s) ps) (decided_disjoint ps)
 
-release_some : (old : State) (t : Name) (form : Form) (number : ℕ) (ps : List Span) → Some2 (ReleaseStep old t form number ps)
+release_some : (old : State) (t : Name) (form : Form) (number : ℕ) (ps : List PlaceValue) → Some2 (ReleaseStep old t form number ps)
 release_some old t form number ps =
     either_some (is_invalid number) (λ _. abends_some old t (bad_subpool (family form) false)) (λ _. either_some (not (list_all on_doubleword ps)) (λ _. abends_some old t (bad_address (family form))) (λ _. choice)) where
       choice : Some2 (λ reply new. ((MayRelease old (entry old.owners t number) (map whole ps) → ⊥) × Fails (is_conditional form) old t (not_held (family form)) reply new) ⊎ (MayRelease old (entry old.owners t number) (map whole ps) × (reply ≡ Rc0) × Frees old (map whole ps) new))
@@ -212,7 +212,7 @@ release_whole_some old t form number =
     either_some (is_invalid number) (λ _. abends_some old t (bad_subpool (family form) false))
     (λ _. either_some (number == 0) (λ _. abends_some old t (User 4006)) (λ _. let e = empties_entry_some old (entry old.owners t number) in (Rc0, (e.0, (refl, e.1)))))
 
-extends_some : (old : State) (name : Name) (pool : Pool) (count : ℕ) (p : Span) (owners : Owners) → Chosen old.regions (holder old) pool.subpool (part_want pool.cell_size count pool.side) p → (new : State) × Extends old name pool count p owners new
+extends_some : (old : State) (name : Name) (pool : Pool) (count : ℕ) (p : PlaceValue) (owners : Owners) → Chosen old.regions (holder old) pool.subpool (part_want pool.cell_size count pool.side) p → (new : State) × Extends old name pool count p owners new
 extends_some old name pool count p owners c =
     let held = made_changes old.held (p.addr + p.len) (covers p) (pooled pool.subpool) (covers_low p) in (
       record { regions = old.regions; held = held.0; bytes = old.bytes; owners = owners; pools = insert old.pools name (with_part pool count p) },
@@ -242,7 +242,7 @@ drops_pool_some old name pool =
       record { regions = refl; held = held.1; bytes = bytes.1; owners = refl; pools = pools.1 },
     )
 
-writes_some : (old : State) (p : Span) (value : ℕ → Option ℕ) → (new : State) × Writes old p value new
+writes_some : (old : State) (p : PlaceValue) (value : ℕ → Option ℕ) → (new : State) × Writes old p value new
 writes_some old p value =
     let bytes = made_values old.bytes (p.addr + p.len) (has_address p) value (has_low p) in (
       record { regions = old.regions; held = old.held; bytes = bytes.0; owners = old.owners; pools = old.pools },
@@ -250,20 +250,20 @@ writes_some old p value =
     )
 
 -- a part for a pool, or shortage
-part_some : (old : State) (s size count : ℕ) (side : Side) → ((p : Span) × Chosen old.regions (holder old) s (part_want size count side) p) ⊎ NoPlace old.regions (holder old) s (part_want size count side)
+part_some : (old : State) (s size count : ℕ) (side : Side) → ((p : PlaceValue) × Chosen old.regions (holder old) s (part_want size count side) p) ⊎ NoPlace old.regions (holder old) s (part_want size count side)
 part_some old s size count side = chosen_or_none old.regions (holder old) s (part_want size count side) (part_whole size count) (omega arith)
 
 build_some : (old : State) (t name : Name) (number : ℕ) (plan : Plan) → Some2 (BuildStep old t name number plan)
 build_some old t name number plan =
-    either_some (is_invalid number) (λ _. abends_some old t (bad_subpool X true))
+    either_some (is_invalid number) (λ _. abends_some old t (bad_subpool Located true))
     (λ _. either_some (contains_key old.pools name) (λ _. abends_some old t (User 4008))
     (λ _. either_some (nat_le 64 (len old.pools)) (λ _. abends_some old t (User 4007)) (λ _. choice))) where
-      choice : Some2 (λ reply new. (ShortOf old t number (part_want plan.cell_size plan.primary plan.side) × Abends old t (short X) reply new) ⊎ (Builds old t name number plan new × (reply ≡ Rc0)))
+      choice : Some2 (λ reply new. (ShortOf old t number (part_want plan.cell_size plan.primary plan.side) × Abends old t (short Located) reply new) ⊎ (Builds old t name number plan new × (reply ≡ Rc0)))
       choice =
           let s = subpool_some old.owners t number in
           elim (part_some old s.0 plan.cell_size plan.primary plan.side) [
             | inl c ↦ let o = enters_some old.owners t number s.0 in let e = extends_some old name (new_pool s.0 plan) plan.primary c.0 o.0 c.1 in (Rc0, (e.0, inr ((s.0, s.1, (c.0, o.0, o.1, e.1)), refl)))
-            | inr none ↦ let f = abends_some old t (short X) in (f.0, (f.1.0, inl ((s.0, s.1, none), f.1.1)))
+            | inr none ↦ let f = abends_some old t (short Located) in (f.0, (f.1.0, inl ((s.0, s.1, none), f.1.1)))
           ]
 
 decided_taken : (pool : Pool) (c : ℕ) → Decided (set.contains pool.taken c ≡ false)
@@ -305,9 +305,9 @@ gets_some old name pool c = let k = takes_some old name pool c in (Cell (cell_at
 
 gets_none_some : (old : State) (t name : Name) (conditional : Bool) (pool : Pool) → 1 ≤ pool.secondary → Some2 (GetsNone old t name conditional pool)
 gets_none_some old t name conditional pool counts = either_some conditional (λ _. refuses_some old NoCell) (λ _. choice) where
-  choice : Some2 (λ reply new. (NoPlace old.regions (holder old) pool.subpool (part_want pool.cell_size pool.secondary pool.side) × Abends old t (short X) reply new) ⊎ GetsMore old name pool reply new)
+  choice : Some2 (λ reply new. (NoPlace old.regions (holder old) pool.subpool (part_want pool.cell_size pool.secondary pool.side) × Abends old t (short Located) reply new) ⊎ GetsMore old name pool reply new)
   choice = elim (part_some old pool.subpool pool.cell_size pool.secondary pool.side) [
-    | inr none ↦ let f = abends_some old t (short X) in (f.0, (f.1.0, inl (none, f.1.1)))
+    | inr none ↦ let f = abends_some old t (short Located) in (f.0, (f.1.0, inl (none, f.1.1)))
     | inl p ↦
         let e = extends_some old name pool pool.secondary p.0 old.owners p.1 in
         let part : Part = record { place = p.0; count = pool.secondary } in
@@ -332,7 +332,7 @@ delete_some : (old : State) (t name : Name) (o : Option Pool) → Some2 (DeleteS
 delete_some old t name None = abends_some old t (User 4002)
 delete_some old t name (Some pool) = let d = drops_pool_some old name pool in (Rc0, (d.0, (refl, d.1)))
 
-attach_case_some : (old : State) (t name : Name) (gifts : Presents) (residence : Residence) (refusal : Option Code) → Some2 (AttachCase old t name gifts residence refusal)
+attach_case_some : (old : State) (t name : Name) (gifts : GiftsValue) (residence : Residence) (refusal : Option Code) → Some2 (AttachCase old t name gifts residence refusal)
 attach_case_some old t name gifts residence (Some code) = abends_some old t code
 attach_case_some old t name gifts residence None =
     let o = attach_some old.owners t name gifts residence in
@@ -345,7 +345,7 @@ access_some : (old : State) (t : Name) (allowed : Bool) (done : State → Type 0
 access_some old t allowed done d = either_some (not allowed) (λ _. abends_some old t (System 0x0C4)) (λ _. (Done, (d.0, (refl, d.1))))
 
 acts_some : (old : State) (t : Name) (request : Request) → PoolsSized old → IsRequest request → Some2 (Acts old t request)
-acts_some old t (Obtain form number ask) w r = obtain_some old t form number (wanted_of ask (side_for old t form ask.loc)) (round8_whole ask.least) (round8_rises ask.least ask.most r.ordered)
+acts_some old t (Obtain form number ask) w r = obtain_some old t form number (want_of ask (side_for old t form ask.loc)) (round8_whole ask.least) (round8_rises ask.least ask.most r.ordered)
 acts_some old t (ObtainList form number lengths start) w r = obtain_list_some old t form number start lengths
 acts_some old t (Release form number p) w r = release_some old t form number (p ∷ [])
 acts_some old t (ReleaseList form number ps) w r = release_some old t form number ps
@@ -357,9 +357,9 @@ acts_some old t (Delete name) w r = delete_some old t name (get old.pools name)
 acts_some old t (Attach name gifts residence) w r = attach_case_some old t name gifts residence (attach_refusal old.owners t name gifts)
 acts_some old t Return w r = return_some old t
 acts_some old t (Abend n) w r = abends_some old t (User n)
-acts_some old t (Show a n) w r = access_some old t (all_granted old (span a n)) (λ new. new ≡ old) (old, refl)
-acts_some old t (Put a bytes) w r = access_some old t (all_granted old (span a (length bytes))) (Writes old (span a (length bytes)) (bytes_from a bytes)) (writes_some old (span a (length bytes)) (bytes_from a bytes))
-acts_some old t (Move to from n) w r = access_some old t (all_granted old (span to n) && all_granted old (span from n)) (Writes old (span to n) (moved_from old to from)) (writes_some old (span to n) (moved_from old to from))
+acts_some old t (Show a n) w r = access_some old t (all_granted old (place_at a n)) (λ new. new ≡ old) (old, refl)
+acts_some old t (Put a bytes) w r = access_some old t (all_granted old (place_at a (length bytes))) (Writes old (place_at a (length bytes)) (bytes_from a bytes)) (writes_some old (place_at a (length bytes)) (bytes_from a bytes))
+acts_some old t (Move to from n) w r = access_some old t (all_granted old (place_at to n) && all_granted old (place_at from n)) (Writes old (place_at to n) (moved_from old to from)) (writes_some old (place_at to n) (moved_from old to from))
 
 -- Each request has a reply and a new state, where each pool has some cells in a part.
 pub step_some : (old : State) (t : Name) (request : Request) → PoolsSized old → IsRequest request → Some2 (Step old t request)

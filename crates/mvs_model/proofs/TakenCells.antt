@@ -9,7 +9,7 @@ use Rattle.std.specs.FinSet as set
 use Rattle.mvs_model.specs.declared.name.Name.{Name}
 use Rattle.mvs_model.specs.Finite.{has}
 use Rattle.mvs_model.specs.Name.{same_name}
-use Rattle.mvs_model.specs.Span.{Span}
+use Rattle.mvs_model.specs.Place.{PlaceValue}
 use Rattle.mvs_model.specs.Storage.{Covers, covers, has_address}
 use Rattle.mvs_model.specs.Pools.{Pool, Part, IsCellOf, cell_at, in_parts, in_taken}
 use Rattle.mvs_model.specs.State.{State, pooled, in_cell}
@@ -75,7 +75,7 @@ pub part_from : (pool : Pool) (d : ℕ) (part : Part) → Contains pool.parts pa
 part_from pool d part h c = any_from (λ part. covers part.place d) pool.parts part h (covers_from part.place d c)
 
 -- of parts that do not overlap only one has a doubleword
-missed : (p : Span) (parts : List Part) (y : Part) → AllByRecursion (Misses p) (map (λ part. part.place) parts) → Contains parts y → Misses p y.place
+missed : (p : PlaceValue) (parts : List Part) (y : Part) → AllByRecursion (Misses p) (map (λ part. part.place) parts) → Contains parts y → Misses p y.place
 missed p [] y all h = absurd (let l : h.0 < 0 = h.1 in omega arith)
 missed p (x ∷ parts) y all h = elim (first_or_later y x parts h) [ inl e ↦ subst (λ z. Misses p z.place) e all.0 | inr m ↦ missed p parts y all.1 m ]
 

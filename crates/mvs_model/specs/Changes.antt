@@ -4,8 +4,8 @@ use Rattle.std.specs.List.{list_any, AllByRecursion}
 use Rattle.std.specs.FinMap.{get}
 use Rattle.std.specs.FinSet as set
 use Rattle.mvs_model.specs.declared.name.Name.{Name}
-use Rattle.mvs_model.specs.Span.{Span}
-use Rattle.mvs_model.specs.Wanted.{Wanted}
+use Rattle.mvs_model.specs.Place.{PlaceValue}
+use Rattle.mvs_model.specs.Want.{WantValue}
 use Rattle.mvs_model.specs.Finite.{Changes, Keeps}
 use Rattle.mvs_model.specs.Name.{same_name}
 use Rattle.mvs_model.specs.Storage.{Chosen, NoPlace, covers, Covers, has_address}
@@ -16,7 +16,7 @@ use Rattle.mvs_model.specs.State.{State, plain, pooled, holder, granted}
 -- A grant of one area under a number of the task: the place is as wanted; its doublewords are now of the task's subpool
 -- under this number, made where there was none, and its bytes the fill byte; all else is as before. (Assembler Services
 -- Reference, GETMAIN)
-pub record GrantTo (old : State) (t : Name) (number : ℕ) (want : Wanted) (p : Span) (new : State) : Type 0 where
+pub record GrantTo (old : State) (t : Name) (number : ℕ) (want : WantValue) (p : PlaceValue) (new : State) : Type 0 where
   pub subpool : ℕ
   pub is_subpool : SubpoolOf old.owners t number subpool
   pub chosen : Chosen old.regions (holder old) subpool want p
@@ -27,52 +27,52 @@ pub record GrantTo (old : State) (t : Name) (number : ℕ) (want : Wanted) (p : 
   pub pools : new.pools ≡ old.pools
 
 -- There is no place of the least length in the subpool that the task has or would have under the number.
-abbrev pub ShortOf : State → Name → ℕ → Wanted → Type 0
+abbrev pub ShortOf : State → Name → ℕ → WantValue → Type 0
 ShortOf old t number want = (s : ℕ) × SubpoolOf old.owners t number s × NoPlace old.regions (holder old) s want
 
 -- Grants one after another, a place for each thing wanted. (Assembler Services Reference, GETMAIN, list requests; all or
 -- none is this project's choice)
-abbrev pub ListGrant : State → Name → ℕ → List Wanted → List Span → State → Type 0
+abbrev pub ListGrant : State → Name → ℕ → List WantValue → List PlaceValue → State → Type 0
 ListGrant old t number [] [] new = new ≡ old
 ListGrant old t number [] (p ∷ ps) new = ⊥
 ListGrant old t number (want ∷ wants) [] new = ⊥
 ListGrant old t number (want ∷ wants) (p ∷ ps) new = (mid : State) × GrantTo old t number want p mid × ListGrant mid t number wants ps new
 
 -- After grants for some of the front there is no place for the next.
-abbrev pub ListShort : State → Name → ℕ → List Wanted → Type 0
+abbrev pub ListShort : State → Name → ℕ → List WantValue → Type 0
 ListShort old t number [] = ⊥
 ListShort old t number (want ∷ wants) =
     ShortOf old t number want
-    ⊎ ((p : Span) × (mid : State) × GrantTo old t number want p mid × ListShort mid t number wants)
+    ⊎ ((p : PlaceValue) × (mid : State) × GrantTo old t number want p mid × ListShort mid t number wants)
 
 -- whether a place of the list has the doubleword
-abbrev pub any_covers : List Span → ℕ → Bool
+abbrev pub any_covers : List PlaceValue → ℕ → Bool
 any_covers ps d = list_any (λ p. covers p d) ps
 
 -- whether a place of the list has the address
-abbrev pub any_has : List Span → ℕ → Bool
+abbrev pub any_has : List PlaceValue → ℕ → Bool
 any_has ps a = list_any (λ p. has_address p a) ps
 
 -- each doubleword of the place is held by s outside the pools
-abbrev pub HeldPlain : State → ℕ → Span → Type 0
+abbrev pub HeldPlain : State → ℕ → PlaceValue → Type 0
 HeldPlain st s p = (d : ℕ) → Covers p d → get st.held d ≡ Some (plain s)
 
 -- the places have no doubleword in common
-abbrev pub Misses : Span → Span → Type 0
+abbrev pub Misses : PlaceValue → PlaceValue → Type 0
 Misses p q = (d : ℕ) → Covers p d → Covers q d → ⊥
 
 -- no two places of the list have a doubleword in common
-abbrev pub Disjoint : List Span → Type 0
+abbrev pub Disjoint : List PlaceValue → Type 0
 Disjoint [] = Unit {0}
 Disjoint (p ∷ ps) = AllByRecursion (Misses p) ps × Disjoint ps
 
 -- The places may be released: each is held by s outside the pools, and no two overlap. (Assembler Services Reference,
 -- FREEMAIN; that overlapping members are refused is this project's choice)
-abbrev pub Releasable : State → ℕ → List Span → Type 0
+abbrev pub Releasable : State → ℕ → List PlaceValue → Type 0
 Releasable st s ps = AllByRecursion (HeldPlain st s) ps × Disjoint ps
 
 -- The places are free now, their bytes are gone, and all else is as before. (Assembler Services Reference, FREEMAIN)
-pub record Frees (old : State) (ps : List Span) (new : State) : Type 0 where
+pub record Frees (old : State) (ps : List PlaceValue) (new : State) : Type 0 where
   pub regions : new.regions ≡ old.regions
   pub held : Changes (get old.held) (any_covers ps) None (get new.held)
   pub bytes : Changes (get old.bytes) (any_has ps) None (get new.bytes)
@@ -100,12 +100,12 @@ pub record End (old : State) (t : Name) (new : State) : Type 0 where
   pub owners : Ends old.owners t fallen new.owners
 
 -- the pool with a further part
-abbrev pub with_part : Pool → ℕ → Span → Pool
+abbrev pub with_part : Pool → ℕ → PlaceValue → Pool
 with_part pool count p = record pool { parts = pool.parts ++ record { place = p; count = count } ∷ [] }
 
 -- A part of so many cells is put to the pool: its doublewords are now held for the pool, and the bytes are as before; the
 -- owners are as said. (Assembler Services Reference, CPOOL)
-pub record Extends (old : State) (name : Name) (pool : Pool) (count : ℕ) (p : Span) (owners : Owners) (new : State) : Type 0 where
+pub record Extends (old : State) (name : Name) (pool : Pool) (count : ℕ) (p : PlaceValue) (owners : Owners) (new : State) : Type 0 where
   pub chosen : Chosen old.regions (holder old) pool.subpool (part_want pool.cell_size count pool.side) p
   pub regions : new.regions ≡ old.regions
   pub held : Changes (get old.held) (covers p) (Some (pooled pool.subpool)) (get new.held)
@@ -140,11 +140,11 @@ pub record DropsPool (old : State) (name : Name) (pool : Pool) (new : State) : T
   pub pools : Changes (get old.pools) (λ n. same_name n name) None (get new.pools)
 
 -- each byte of the place may be read and written
-abbrev pub Granted : State → Span → Type 0
+abbrev pub Granted : State → PlaceValue → Type 0
 Granted st p = (a : ℕ) → p.addr ≤ a → a < p.addr + p.len → granted st a ≡ true
 
 -- The bytes of the place are now others, and all else is as before.
-pub record Writes (old : State) (p : Span) (value : ℕ → Option ℕ) (new : State) : Type 0 where
+pub record Writes (old : State) (p : PlaceValue) (value : ℕ → Option ℕ) (new : State) : Type 0 where
   pub regions : new.regions ≡ old.regions
   pub held : new.held ≡ old.held
   pub bytes : (a : ℕ) → get new.bytes a ≡ (if has_address p a then value a else get old.bytes a)

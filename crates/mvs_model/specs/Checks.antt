@@ -4,9 +4,9 @@ use Rattle.std.specs.FinMap.{get}
 use Rattle.mvs_model.specs.declared.name.Name.{Name}
 use Rattle.mvs_model.specs.declared.want.Residence.{Residence}
 use Rattle.mvs_model.specs.declared.want.Side.TheVariants.{Either}
-use Rattle.mvs_model.specs.Span.{Span, span}
-use Rattle.mvs_model.specs.Wanted.{Wanted, IsExponent}
-use Rattle.mvs_model.specs.Presents.{Presents, gives, shares}
+use Rattle.mvs_model.specs.Place.{PlaceValue, place_at}
+use Rattle.mvs_model.specs.Want.{WantValue, IsExponent}
+use Rattle.mvs_model.specs.Gifts.{GiftsValue, gives, shares}
 use Rattle.mvs_model.specs.Storage.{Regions, Open, Meets, Places, Chosen, Storage, holder, PageRule, Grant, Release, IsStorage}
 use Rattle.mvs_model.specs.Owners.{Owners, entry, goes, ends_with, Attach, Ends}
 use Rattle.mvs_model.specs.Pools.{part_length, IsCellOf}
@@ -27,22 +27,22 @@ two_held e d = if d == 0xC00 then Some 1 else (if d == e then Some 2 else None)
 -- either page.
 abbrev pub AcrossPages : Type 0
 AcrossPages =
-    Open two_pages one_held 1 (span 0x6008 0x1000)
-    × ((e : ℕ) → e ≢ 0xC00 → (e / 512 ≡ 6) ⊎ (e / 512 ≡ 7) → Open two_pages (two_held e) 1 (span 0x6008 0x1000) → ⊥)
+    Open two_pages one_held 1 (place_at 0x6008 0x1000)
+    × ((e : ℕ) → e ≢ 0xC00 → (e / 512 ≡ 6) ⊎ (e / 512 ≡ 7) → Open two_pages (two_held e) 1 (place_at 0x6008 0x1000) → ⊥)
 
 -- eight bytes within a boundary
-abbrev pub within_want : ℕ → Wanted
+abbrev pub within_want : ℕ → WantValue
 within_want k = record { least = 8; most = 8; start = 3; within = Some k; side = Either }
 
 -- eight bytes on a boundary
-abbrev pub start_want : ℕ → Wanted
+abbrev pub start_want : ℕ → WantValue
 start_want k = record { least = 8; most = 8; start = k; within = None; side = Either }
 
 -- An area as long as the containing boundary that begins on it meets it, and one a byte longer does not; and no place of
 -- the regions begins on a boundary of 2 to the 31st.
 abbrev pub BoundaryEdges : Type 0
 BoundaryEdges =
-    ((k a : ℕ) → IsExponent k → a % 2 ^ k ≡ 0 → Meets (within_want k) (span a (2 ^ k)) × (Meets (within_want k) (span a (2 ^ k + 1)) → ⊥))
+    ((k a : ℕ) → IsExponent k → a % 2 ^ k ≡ 0 → Meets (within_want k) (place_at a (2 ^ k)) × (Meets (within_want k) (place_at a (2 ^ k + 1)) → ⊥))
     × ((r : Regions) (h : ℕ → Option ℕ) (s n a : ℕ) → r.below ≤ 2048 → r.above ≤ 8192 → Places r h s (start_want 31) n a → ⊥)
 
 -- nothing is held
@@ -54,41 +54,41 @@ abbrev pub pages : ℕ → ℕ → Regions
 pages below above = record { below = below; above = above; fill = 0 }
 
 -- as much as there is, up to four pages
-abbrev pub most_want : Wanted
+abbrev pub most_want : WantValue
 most_want = record { least = 8; most = 0x4000; start = 3; within = None; side = Either }
 
 -- Of one length above and below, the place above is chosen; a longer one below is chosen before it.
 abbrev pub AboveOnATie : Type 0
 AboveOnATie =
-    ((p : Span) → Chosen (pages 1 1) nothing_held 1 most_want p → p ≡ span 0x1000000 0x1000)
-    × ((p : Span) → Chosen (pages 2 1) nothing_held 1 most_want p → p ≡ span 0x6000 0x2000)
+    ((p : PlaceValue) → Chosen (pages 1 1) nothing_held 1 most_want p → p ≡ place_at 0x1000000 0x1000)
+    × ((p : PlaceValue) → Chosen (pages 2 1) nothing_held 1 most_want p → p ≡ place_at 0x6000 0x2000)
 
 -- Two places that touch, released one after the other, are released as one place is.
 abbrev pub ReleasesJoin : Type 0
-ReleasesJoin = (old mid new : Storage) (s a m n : ℕ) → Release old s (span a m) mid → Release mid s (span (a + m) n) new → Release old s (span a (m + n)) new
+ReleasesJoin = (old mid new : Storage) (s a m n : ℕ) → Release old s (place_at a m) mid → Release mid s (place_at (a + m) n) new → Release old s (place_at a (m + n)) new
 
 -- Each whole part of what was granted may be released.
 abbrev pub PartsReleased : Type 0
 PartsReleased =
-    (old mid : Storage) (s : ℕ) (want : Wanted) (p : Span) (a n : ℕ) → Grant old s want p mid → a % 8 ≡ 0 → n % 8 ≡ 0 → p.addr ≤ a → a + n ≤ p.addr + p.len
-    → (new : Storage) × Release mid s (span a n) new
+    (old mid : Storage) (s : ℕ) (want : WantValue) (p : PlaceValue) (a n : ℕ) → Grant old s want p mid → a % 8 ≡ 0 → n % 8 ≡ 0 → p.addr ≤ a → a + n ≤ p.addr + p.len
+    → (new : Storage) × Release mid s (place_at a n) new
 
 -- A grant keeps that each page is of one subpool, and so does a release.
 abbrev pub GrantKeepsPages : Type 0
-GrantKeepsPages = (old new : Storage) (s : ℕ) (want : Wanted) (p : Span) → Grant old s want p new → PageRule (holder old) → PageRule (holder new)
+GrantKeepsPages = (old new : Storage) (s : ℕ) (want : WantValue) (p : PlaceValue) → Grant old s want p new → PageRule (holder old) → PageRule (holder new)
 
 -- So does a release.
 abbrev pub ReleaseKeepsPages : Type 0
-ReleaseKeepsPages = (old new : Storage) (s : ℕ) (p : Span) → Release old s p new → PageRule (holder old) → PageRule (holder new)
+ReleaseKeepsPages = (old new : Storage) (s : ℕ) (p : PlaceValue) → Release old s p new → PageRule (holder old) → PageRule (holder new)
 
 -- What is granted and released again leaves the storage as it was.
 abbrev pub TakenBack : Type 0
-TakenBack = (old mid new : Storage) (s : ℕ) (want : Wanted) (p : Span) → IsStorage old → Grant old s want p mid → Release mid s p new → new ≡ old
+TakenBack = (old mid new : Storage) (s : ℕ) (want : WantValue) (p : PlaceValue) → IsStorage old → Grant old s want p mid → Release mid s p new → new ≡ old
 
 -- What ATTACH gives goes to the subtask, which owns it; what it shares both have.
 abbrev pub GivesAndShares : Type 0
 GivesAndShares =
-    (old : Owners) (mother name : Name) (gifts : Presents) (residence : Residence) (new : Owners) (g s m r : ℕ)
+    (old : Owners) (mother name : Name) (gifts : GiftsValue) (residence : Residence) (new : Owners) (g s m r : ℕ)
     → mother ≢ name → Attach old mother name gifts residence new
     → g < 128 → gives gifts g ≡ true → entry old mother g ≡ Some s
     → m < 128 → gives gifts m ≡ false → shares gifts m ≡ true → entry old mother m ≡ Some r
@@ -106,4 +106,4 @@ SharersKeep =
 abbrev pub SmallPart : Type 0
 SmallPart =
     (part_length 12 2 ≡ 48)
-    × ((a c : ℕ) → IsCellOf 12 (record { place = span a 48; count = 2 }) c ↔ ((c ≡ a + 24) ⊎ (c ≡ a + 36)))
+    × ((a c : ℕ) → IsCellOf 12 (record { place = place_at a 48; count = 2 }) c ↔ ((c ≡ a + 24) ⊎ (c ≡ a + 36)))

@@ -33,3 +33,8 @@ any_below test (suc n) = test n || any_below test n
 unfoldable pub count_below : ℕ → (ℕ → Bool) → ℕ
 count_below zero test = 0
 count_below (suc n) test = (if test n then 1 else 0) + count_below n test
+
+-- the sum of a function at the numbers below n
+unfoldable pub total_below : ℕ → (ℕ → ℕ) → ℕ
+total_below zero f = 0
+total_below (suc n) f = f n + total_below n f

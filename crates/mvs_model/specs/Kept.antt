@@ -4,6 +4,7 @@ use Rattle.std.specs.FinMap.{get, len}
 use Rattle.mvs_model.specs.declared.name.Name.{Name}
 use Rattle.mvs_model.specs.Subpool.{IsSubpoolNumber}
 use Rattle.mvs_model.specs.Owners.{Task, Owners, is_active, entry, IsMother, Descends}
+use Rattle.mvs_model.specs.Numbers.{most_tasks, most_subpools}
 
 -- The task is active and nobody attached it.
 abbrev pub IsFirst : Owners → Name → Type 0
@@ -13,7 +14,7 @@ IsFirst o t = (task : Task) × (get o.tasks t ≡ Some task) × (task.mother ≡
 -- and none descends from itself.
 -- The subpools that the tasks have are those that have an owner: each stands under one number, and its owner has it there.
 pub record OwnersKept (o : Owners) : Type 0 where
-  pub few : len o.tasks ≤ 32
+  pub few : len o.tasks ≤ most_tasks
   pub mothers : (t x : Name) → IsMother o t x → is_active o t ≡ true
   pub one_first : (t q : Name) → IsFirst o t → IsFirst o q → t ≡ q
   pub reached : (x : Name) → is_active o x ≡ true → (t : Name) × IsFirst o t × ((x ≡ t) ⊎ Descends o t x)
@@ -23,4 +24,4 @@ pub record OwnersKept (o : Owners) : Type 0 where
   pub one_number : (t q : Name) (m n s : ℕ) → entry o t m ≡ Some s → entry o q n ≡ Some s → m ≡ n
   pub active : (t : Name) (n s : ℕ) → entry o t n ≡ Some s → is_active o t ≡ true
   pub numbers : (t : Name) (n s : ℕ) → entry o t n ≡ Some s → IsSubpoolNumber n
-  pub subpools : (t : Name) (s : ℕ) → get o.owner s ≡ Some t → s < 4096
+  pub subpools : (t : Name) (s : ℕ) → get o.owner s ≡ Some t → s < most_subpools

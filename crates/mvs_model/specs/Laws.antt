@@ -7,10 +7,12 @@ use Rattle.mvs_model.specs.Storage.{PageRule}
 use Rattle.mvs_model.specs.State.{State, holder}
 use Rattle.mvs_model.specs.Steps.{Step, IsRequest}
 use Rattle.mvs_model.specs.WellFormed.{Apart}
-use Rattle.mvs_model.specs.Runs.{Job, Before, In, Reader, IsReader, Runs}
+use Rattle.mvs_model.specs.Job.{JobValue}
+use Rattle.mvs_model.specs.Lines.{Reader, IsReader}
+use Rattle.mvs_model.specs.Runs.{Before, In, Runs}
 
 -- The job is in a run of some lines, by some reader.
-pub record IsRunning (job : Job) : Type 0 where
+pub record IsRunning (job : JobValue) : Type 0 where
   pub read : Reader
   pub is_reader : IsReader read
   pub lines : List (List ℕ)
@@ -18,12 +20,12 @@ pub record IsRunning (job : Job) : Type 0 where
 
 -- In every state of a run each page is of one subpool.
 abbrev pub PagesKept : Type 0
-PagesKept = (job : Job) → IsRunning job → PageRule (holder job.state)
+PagesKept = (job : JobValue) → IsRunning job → PageRule (holder job.state)
 
 -- In every state of a run each request has a step.
 abbrev pub NeverStuck : Type 0
-NeverStuck = (job : Job) → IsRunning job → (asker : Name) (request : Request) → IsRequest request → (reply : Reply) × ((new : State) × Step job.state asker request reply new)
+NeverStuck = (job : JobValue) → IsRunning job → (asker : Name) (request : Request) → IsRequest request → (reply : Reply) × ((new : State) × Step job.state asker request reply new)
 
 -- In every state of a run the parts of pools keep apart, and there are bytes just where they may be read.
 abbrev pub PartsApart : Type 0
-PartsApart = (job : Job) → IsRunning job → Apart job.state
+PartsApart = (job : JobValue) → IsRunning job → Apart job.state

@@ -1,25 +1,41 @@
-pub mod Card
+-- The machine: its numbers, its types' values, storage, owners, pools, steps.
+pub mod Numbers
 pub mod Name
-pub mod Presents
-pub mod Span
+pub mod Place
 pub mod Subpool
-pub mod Wanted
-pub mod Finite
-pub mod Table
+pub mod Want
+pub mod Card
+pub mod Gifts
+pub mod Codes
 pub mod Storage
 pub mod Owners
-pub mod Keyed
 pub mod Pools
 pub mod State
 pub mod Start
-pub mod Codes
 pub mod Changes
 pub mod Steps
-pub mod Kept
-pub mod WellFormed
+-- The script: how a line is read, what is printed, the runs of a job, and the label machine.
+pub mod Grammar
+pub mod Reading
+pub mod Lines
+pub mod Resolving
 pub mod Texts
 pub mod Reports
+pub mod Job
+pub mod Replies
 pub mod Runs
+pub mod Labels
+pub mod Tidy
+-- What every state of a run keeps, and the laws.
+pub mod Kept
+pub mod WellFormed
 pub mod Laws
+pub mod ReadingLaws
+pub mod Rows
 pub mod Checks
+-- Helpers: changes of finite maps, and how the crates' values are seen as one state.
+pub mod Finite
+pub mod Table
+pub mod Keyed
 pub mod View
+pub mod Watched

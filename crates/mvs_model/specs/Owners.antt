@@ -13,7 +13,9 @@ use Rattle.mvs_model.specs.declared.code.Code.{Code}
 use Rattle.mvs_model.specs.declared.code.Code.TheVariants.{User}
 use Rattle.mvs_model.specs.Name.{name_cmp, same_name, name_code}
 use Rattle.mvs_model.specs.Finite.{Changes, Keeps, has, any_below}
-use Rattle.mvs_model.specs.Presents.{Presents, gives, shares}
+use Rattle.mvs_model.specs.Gifts.{GiftsValue, gives, shares}
+use Rattle.mvs_model.specs.Numbers.{subpool_numbers, most_tasks}
+use Rattle.mvs_model.specs.Codes.{task_in_use, too_many_tasks, not_owned}
 
 -- An active task: who attached it (nobody, for the job step task), and where it resides. (Assembler Services Guide,
 -- subtasking)
@@ -122,25 +124,25 @@ pub data EntersBelow (old : Owners) (t : Name) (wanted : ℕ → Bool) : ℕ →
   entered : (s : ℕ) {number : ℕ} {now new : Owners} → EntersBelow old t wanted number now → wanted number ≡ true → SubpoolOf now t number s → Enters now t number s new → EntersBelow old t wanted (suc number) new
 
 -- whether the mother gives a number whose subpool she does not own. (this project's choice)
-abbrev pub gives_shared : Owners → Name → Presents → Bool
-gives_shared o mother gifts = any_below (λ n. gives gifts n && has (λ s. not (owns o mother s)) (entry o mother n)) 128
+abbrev pub gives_shared : Owners → Name → GiftsValue → Bool
+gives_shared o mother gifts = any_below (λ n. gives gifts n && has (λ s. not (owns o mother s)) (entry o mother n)) subpool_numbers
 
 -- why an ATTACH is refused, if it is: the name is active, 32 tasks are active, or a number is given whose subpool the
 -- mother does not own. (this project's choice)
-abbrev pub attach_refusal : Owners → Name → Name → Presents → Option Code
+abbrev pub attach_refusal : Owners → Name → Name → GiftsValue → Option Code
 attach_refusal o mother name gifts =
-    if is_active o name then Some (User 4009)
-    else (if nat_le 32 (len o.tasks) then Some (User 4005)
-    else (if gives_shared o mother gifts then Some (User 4003)
+    if is_active o name then Some task_in_use
+    else (if nat_le most_tasks (len o.tasks) then Some too_many_tasks
+    else (if gives_shared o mother gifts then Some not_owned
     else None))
 
 -- whether the subpool is one that the mother has under a number that she gives
-abbrev pub is_given : Owners → Name → Presents → ℕ → Bool
-is_given o mother gifts s = any_below (λ n. gives gifts n && has (λ r. r == s) (entry o mother n)) 128
+abbrev pub is_given : Owners → Name → GiftsValue → ℕ → Bool
+is_given o mother gifts s = any_below (λ n. gives gifts n && has (λ r. r == s) (entry o mother n)) subpool_numbers
 
 -- what a task has under a number once the mother's gifts are handed over: the subtask has what is given and shared, the
 -- mother has no more what she gave
-abbrev pub handed : Owners → Name → Name → Presents → Name → ℕ → Option ℕ
+abbrev pub handed : Owners → Name → Name → GiftsValue → Name → ℕ → Option ℕ
 handed ready mother name gifts t number =
     if same_name t name then (if gives gifts number || shares gifts number then entry ready mother number else None)
     else (if same_name t mother && gives gifts number then None else entry ready t number)
@@ -148,9 +150,9 @@ handed ready mother name gifts t number =
 -- The mother has a subpool under each number that she shares. The name is then that of an active task, which has what she
 -- gives and shares, and owns what she gives; all else is as before. (Assembler Services Reference, ATTACH; what becomes of
 -- numbers that the mother does not have is this project's choice)
-pub record Attach (old : Owners) (mother name : Name) (gifts : Presents) (residence : Residence) (new : Owners) : Type 0 where
+pub record Attach (old : Owners) (mother name : Name) (gifts : GiftsValue) (residence : Residence) (new : Owners) : Type 0 where
   pub ready : Owners
-  pub made : EntersBelow old mother (shares gifts) 128 ready
+  pub made : EntersBelow old mother (shares gifts) subpool_numbers ready
   pub tasks : Changes (get old.tasks) (same_name name) (Some (record { mother = Some mother; residence = residence })) (get new.tasks)
   pub table : (t : Name) (number : ℕ) → entry new t number ≡ handed ready mother name gifts t number
   pub owner : Changes (get ready.owner) (is_given ready mother gifts) (Some name) (get new.owner)

@@ -6,13 +6,13 @@ use Rattle.std.specs.FinSet as set
 use Rattle.std.specs.Coded.{Coded, code_by, coded×, coded_ℕ, coded_bool, coded_list}
 use Rattle.mvs_model.specs.declared.want.Side.{Side}
 use Rattle.mvs_model.specs.declared.want.Side.TheVariants.{Below, Either}
-use Rattle.mvs_model.specs.Span.{Span, span, round8}
-use Rattle.mvs_model.specs.Wanted.{Wanted}
+use Rattle.mvs_model.specs.Place.{PlaceValue, place_at, round8}
+use Rattle.mvs_model.specs.Want.{WantValue}
 use Rattle.mvs_model.specs.Storage.{has_address, covers}
 
 -- A part of a pool: its place, and how many cells it has. (Assembler Services Guide, cell pools)
 pub record Part : Type 0 where
-  pub place : Span
+  pub place : PlaceValue
   pub count : ℕ
 
 -- A pool: the subpool that its storage comes from, the size of a cell, how many cells the first part and the further
@@ -33,7 +33,7 @@ abbrev pub part_length : ℕ → ℕ → ℕ
 part_length size count = 16 + 8 * ((count + 63) / 64) + round8 (count * size)
 
 -- what the place of a part has to meet: one length, on a doubleword. (this project's choice)
-abbrev pub part_want : ℕ → ℕ → Side → Wanted
+abbrev pub part_want : ℕ → ℕ → Side → WantValue
 part_want size count side = record { least = part_length size count; most = part_length size count; start = 3; within = None; side = side }
 
 -- the address of a part's first cell: the cells stand at its end. (this project's choice)
@@ -53,8 +53,8 @@ abbrev pub IsFreeCell : Pool → ℕ → Type 0
 IsFreeCell pool c = IsCell pool c × (set.contains pool.taken c ≡ false)
 
 -- the bytes of a cell
-abbrev pub cell_at : Pool → ℕ → Span
-cell_at pool c = span c pool.cell_size
+abbrev pub cell_at : Pool → ℕ → PlaceValue
+cell_at pool c = place_at c pool.cell_size
 
 -- whether a part of the pool has the doubleword
 abbrev pub in_parts : Pool → ℕ → Bool

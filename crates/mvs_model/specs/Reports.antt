@@ -7,7 +7,9 @@ use Rattle.mvs_model.specs.Name.{trimmed}
 use Rattle.mvs_model.specs.Storage.{end_of}
 use Rattle.mvs_model.specs.Owners.{Owners, entry, owns}
 use Rattle.mvs_model.specs.State.{State, holder}
-use Rattle.mvs_model.specs.Texts.{hex, reply_line}
+use Rattle.mvs_model.specs.Texts.{reply_line, subpool_text, no_subpool, free}
+use Rattle.mvs_model.specs.Texts as texts
+use Rattle.mvs_model.specs.Numbers.{page_bytes, page_doublewords, subpool_numbers, below_begins, first_page_below, above_begins, first_page_above}
 
 -- how many bytes a subpool holds outside of pools, or in them
 abbrev pub bytes_held : State → ℕ → Bool → ℕ
@@ -26,28 +28,30 @@ first_from k (suc n) f = or_next (f k) (first_from (k + 1) n f) where
   or_next (Some x) next = Some x
   or_next None next = next
 
--- the line of a number that the task has
-abbrev pub subpool_line : ℕ → State → Name → ℕ → ℕ → List ℕ
-subpool_line number st t n s =
-    reply_line number t (codes "SP " ++ decimal n ++ (if owns st.owners t s then codes " OWNED PLAIN " else codes " SHARED PLAIN ") ++ decimal (bytes_held st s false) ++ codes " POOL " ++ decimal (bytes_held st s true))
-
--- the line of a number, where the task has it
-abbrev pub entry_line : ℕ → State → Name → ℕ → Option ℕ → List ℕ
-entry_line number st t n None = []
-entry_line number st t n (Some s) = subpool_line number st t n s
+-- the line of a number, where the task has it, by how many bytes a subpool has outside of pools and in them
+abbrev pub line_of_entry : ℕ → Owners → (ℕ → ℕ) → (ℕ → ℕ) → Name → ℕ → Option ℕ → List ℕ
+line_of_entry number o plain pool t n None = []
+line_of_entry number o plain pool t n (Some s) = reply_line number t (subpool_text n (owns o t s) (plain s) (pool s))
 
 -- the lines, or one that says that there is none
 abbrev pub or_none : ℕ → Name → List ℕ → List ℕ
-or_none number t [] = reply_line number t (codes "SP NONE")
+or_none number t [] = reply_line number t no_subpool
 or_none number t (b ∷ bs) = b ∷ bs
 
 -- REPORT SP: a line for each number that the task has, in rising order
+abbrev pub subpools_lines : ℕ → Owners → (ℕ → ℕ) → (ℕ → ℕ) → Name → List ℕ
+subpools_lines number o plain pool t = or_none number t (each_below subpool_numbers (λ n. line_of_entry number o plain pool t n (entry o t n)))
+
+-- the same of a state
+abbrev pub entry_line : ℕ → State → Name → ℕ → Option ℕ → List ℕ
+entry_line number st t n s = line_of_entry number st.owners (λ s. bytes_held st s false) (λ s. bytes_held st s true) t n s
+
 abbrev pub subpools_text : ℕ → State → Name → List ℕ
-subpools_text number st t = or_none number t (each_below 128 (λ n. entry_line number st t n (entry st.owners t n)))
+subpools_text number st t = subpools_lines number st.owners (λ s. bytes_held st s false) (λ s. bytes_held st s true) t
 
 -- the subpool that a page is assigned to: that of its held doublewords
 abbrev pub page_subpool : State → ℕ → Option ℕ
-page_subpool st page = first_from (512 * page) 512 (λ d. holder st d)
+page_subpool st page = first_from (page_doublewords * page) page_doublewords (λ d. holder st d)
 
 -- pages that follow one another and are assigned alike: how many, and to which subpool
 pub record PageRun : Type 0 where
@@ -73,7 +77,7 @@ page_runs st page (suc n) = with_page (page_subpool st page) (page_runs st (page
 
 -- the number under which the owner has the subpool
 abbrev pub number_of : Owners → Name → ℕ → Option ℕ
-number_of o t s = first_from 0 128 (λ n. if has (λ r. r == s) (entry o t n) then Some n else None)
+number_of o t s = first_from 0 subpool_numbers (λ n. if has (λ r. r == s) (entry o t n) then Some n else None)
 
 -- a number, where there is one
 abbrev pub decimal_of : Option ℕ → List ℕ
@@ -82,21 +86,21 @@ decimal_of (Some n) = decimal n
 
 -- what is said of a subpool with this owner
 abbrev pub owner_text : Owners → ℕ → Option Name → List ℕ
-owner_text o s None = codes "FREE"
+owner_text o s None = free
 owner_text o s (Some t) = codes "SP " ++ decimal_of (number_of o t s) ++ codes " OWNER " ++ trimmed t
 
 -- what is said of pages that are assigned so
 abbrev pub holder_text : Owners → Option ℕ → List ℕ
-holder_text o None = codes "FREE"
+holder_text o None = free
 holder_text o (Some s) = owner_text o s (get o.owner s)
 
 -- the lines of runs from an address on
 abbrev pub map_lines : ℕ → Owners → Name → ℕ → List PageRun → List ℕ
 map_lines number o t a [] = []
 map_lines number o t a (run ∷ runs) =
-    reply_line number t (codes "MAP " ++ hex 8 a ++ codes " " ++ hex 8 (4096 * run.count) ++ codes " " ++ holder_text o run.subpool) ++ map_lines number o t (a + 4096 * run.count) runs
+    reply_line number t (texts.map_text a (page_bytes * run.count) (holder_text o run.subpool)) ++ map_lines number o t (a + page_bytes * run.count) runs
 
 -- REPORT MAP: the pages of the region below, and then those of the region above
 abbrev pub map_text : ℕ → State → Name → List ℕ
 map_text number st t =
-    map_lines number st.owners t 0x6000 (page_runs st 6 st.regions.below) ++ map_lines number st.owners t 0x1000000 (page_runs st 4096 st.regions.above)
+    map_lines number st.owners t below_begins (page_runs st first_page_below st.regions.below) ++ map_lines number st.owners t above_begins (page_runs st first_page_above st.regions.above)

@@ -12,25 +12,26 @@ use Rattle.mvs_model.specs.declared.want.Residence.{Residence}
 use Rattle.mvs_model.specs.declared.want.Residence.TheVariants as residence
 use Rattle.mvs_model.specs.declared.want.Loc.{Loc}
 use Rattle.mvs_model.specs.declared.code.Form.{Form}
-use Rattle.mvs_model.specs.declared.code.Family.TheVariants.{X}
+use Rattle.mvs_model.specs.declared.code.Family.TheVariants.{Located}
 use Rattle.mvs_model.specs.declared.code.Code.{Code}
-use Rattle.mvs_model.specs.declared.code.Code.TheVariants.{System, User}
+use Rattle.mvs_model.specs.declared.code.Code.TheVariants.{User}
 use Rattle.mvs_model.specs.declared.request.Request.{Request}
 use Rattle.mvs_model.specs.declared.request.Request.TheVariants.{Obtain, ObtainList, Release, ReleaseList, ReleaseWhole, Build, Get, Free, Delete, Attach, Return, Abend, Show, Put, Move}
 use Rattle.mvs_model.specs.declared.request.Reply.{Reply}
 use Rattle.mvs_model.specs.declared.request.Reply.TheVariants.{NotRun, Rc0, Rc4, Granted, Listed, Cell, NoCell, Attached, Ended, Done, Abended}
-use Rattle.mvs_model.specs.Span.{Span, span, round8}
+use Rattle.mvs_model.specs.Place.{PlaceValue, place_at, round8}
 use Rattle.mvs_model.specs.Subpool.{is_subpool_number}
-use Rattle.mvs_model.specs.Wanted.{Wanted, IsAsking, wanted_of, fixed_want, side_of}
-use Rattle.mvs_model.specs.Presents.{Presents, IsPresents}
+use Rattle.mvs_model.specs.Want.{WantValue, IsAsk, want_of, fixed_want, side_of}
+use Rattle.mvs_model.specs.Gifts.{GiftsValue, IsGifts}
 use Rattle.mvs_model.specs.Finite.{all_below}
 use Rattle.mvs_model.specs.Storage.{NoPlace}
 use Rattle.mvs_model.specs.Owners as owners
 use Rattle.mvs_model.specs.Owners.{Owners, Task, is_active, entry, SubpoolOf, Enters, has_subtask, attach_refusal}
 use Rattle.mvs_model.specs.Pools.{Pool, part_want, IsCellOf, IsFreeCell, cell_at}
 use Rattle.mvs_model.specs.State.{State, holder, granted}
-use Rattle.mvs_model.specs.Codes.{family, form_side, is_conditional, short, bad_subpool, bad_address, not_held}
+use Rattle.mvs_model.specs.Codes.{family, form_side, is_conditional, short, bad_subpool, bad_address, not_held, whole_of_zero, pool_in_use, too_many_pools, no_such_pool, no_such_cell, active_subtask, no_access}
 use Rattle.mvs_model.specs.Changes.{GrantTo, ShortOf, ListGrant, ListShort, Releasable, Frees, Empties, End, Extends, with_part, TakesCell, GivesCell, DropsPool, Writes}
+use Rattle.mvs_model.specs.Numbers.{most_pools}
 
 -- An abend: the task and its descendants end, and the reply names the descendants. (Assembler Services Guide, subtasking)
 abbrev pub Abends : State → Name → Code → Reply → State → Type 0
@@ -59,38 +60,38 @@ is_invalid number = not (is_subpool_number number)
 
 -- An invalid subpool number abends; want of a place is a failure; else the place is granted. (Assembler Services Reference,
 -- GETMAIN; that the number is looked at first is this project's choice)
-abbrev pub ObtainStep : State → Name → Form → ℕ → Wanted → Reply → State → Type 0
+abbrev pub ObtainStep : State → Name → Form → ℕ → WantValue → Reply → State → Type 0
 ObtainStep old t form number want reply new =
     MatchBool (is_invalid number)
     (Abends old t (bad_subpool (family form) true) reply new)
     ((ShortOf old t number want × Fails (is_conditional form) old t (short (family form)) reply new)
-    ⊎ ((p : Span) × (reply ≡ Granted p) × GrantTo old t number want p new))
+    ⊎ ((p : PlaceValue) × (reply ≡ Granted p) × GrantTo old t number want p new))
 
 -- The same for a list: all its places are granted, or none. (Assembler Services Reference, GETMAIN)
-abbrev pub ObtainListStep : State → Name → Form → ℕ → List Wanted → Reply → State → Type 0
+abbrev pub ObtainListStep : State → Name → Form → ℕ → List WantValue → Reply → State → Type 0
 ObtainListStep old t form number wants reply new =
     MatchBool (is_invalid number)
     (Abends old t (bad_subpool (family form) true) reply new)
     ((ListShort old t number wants × Fails (is_conditional form) old t (short (family form)) reply new)
-    ⊎ ((ps : List Span) × (reply ≡ Listed ps) × ListGrant old t number wants ps new))
+    ⊎ ((ps : List PlaceValue) × (reply ≡ Listed ps) × ListGrant old t number wants ps new))
 
 -- the place with its length rounded
-abbrev pub whole : Span → Span
-whole p = span p.addr (round8 p.len)
+abbrev pub whole : PlaceValue → PlaceValue
+whole p = place_at p.addr (round8 p.len)
 
 -- whether the place begins on a doubleword
-abbrev pub on_doubleword : Span → Bool
+abbrev pub on_doubleword : PlaceValue → Bool
 on_doubleword p = p.addr % 8 == 0
 
 -- what the task has under the number may be released in these places
-abbrev pub MayRelease : State → Option ℕ → List Span → Type 0
+abbrev pub MayRelease : State → Option ℕ → List PlaceValue → Type 0
 MayRelease st None ps = ⊥
 MayRelease st (Some s) ps = Releasable st s ps
 
 -- An invalid subpool number abends, then a place that does not begin on a doubleword; places that are not all held are a
 -- failure; else all are freed. (Assembler Services Reference, FREEMAIN; the order of the causes, and that a failure frees
 -- nothing, is this project's choice)
-abbrev pub ReleaseStep : State → Name → Form → ℕ → List Span → Reply → State → Type 0
+abbrev pub ReleaseStep : State → Name → Form → ℕ → List PlaceValue → Reply → State → Type 0
 ReleaseStep old t form number ps reply new =
     MatchBool (is_invalid number)
     (Abends old t (bad_subpool (family form) false) reply new)
@@ -111,7 +112,7 @@ ReleaseWholeStep old t form number reply new =
     MatchBool (is_invalid number)
     (Abends old t (bad_subpool (family form) false) reply new)
     (MatchBool (number == 0)
-    (Abends old t (User 4006) reply new)
+    (Abends old t whole_of_zero reply new)
     ((reply ≡ Rc0) × EmptiesEntry old (entry old.owners t number) new))
 
 -- What CPOOL BUILD says of a pool.
@@ -128,19 +129,19 @@ new_pool s plan = record { subpool = s; cell_size = plan.cell_size; primary = pl
 -- The pool is made with its first part, in the subpool that the task has or now gets under the number.
 abbrev pub Builds : State → Name → Name → ℕ → Plan → State → Type 0
 Builds old t name number plan new =
-    (s : ℕ) × SubpoolOf old.owners t number s × ((p : Span) × (o : Owners) × Enters old.owners t number s o × Extends old name (new_pool s plan) plan.primary p o new)
+    (s : ℕ) × SubpoolOf old.owners t number s × ((p : PlaceValue) × (o : Owners) × Enters old.owners t number s o × Extends old name (new_pool s plan) plan.primary p o new)
 
 -- CPOOL BUILD: the name must be new, at most 64 pools are there, and a first part must find a place. (Assembler Services
 -- Reference, CPOOL; the codes B78, U4008, U4007 and 878, and their order, are this project's choice)
 abbrev pub BuildStep : State → Name → Name → ℕ → Plan → Reply → State → Type 0
 BuildStep old t name number plan reply new =
     MatchBool (is_invalid number)
-    (Abends old t (bad_subpool X true) reply new)
+    (Abends old t (bad_subpool Located true) reply new)
     (MatchBool (contains_key old.pools name)
-    (Abends old t (User 4008) reply new)
-    (MatchBool (nat_le 64 (len old.pools))
-    (Abends old t (User 4007) reply new)
-    ((ShortOf old t number (part_want plan.cell_size plan.primary plan.side) × Abends old t (short X) reply new)
+    (Abends old t pool_in_use reply new)
+    (MatchBool (nat_le most_pools (len old.pools))
+    (Abends old t too_many_pools reply new)
+    ((ShortOf old t number (part_want plan.cell_size plan.primary plan.side) × Abends old t (short Located) reply new)
     ⊎ (Builds old t name number plan new × (reply ≡ Rc0)))))
 
 -- A cell is taken, and the reply is its place.
@@ -150,7 +151,7 @@ Gets old name pool c reply new = TakesCell old name pool c new × (reply ≡ Cel
 -- A further part is put to the pool, and one of its cells is taken.
 abbrev pub GetsMore : State → Name → Pool → Reply → State → Type 0
 GetsMore old name pool reply new =
-    (p : Span) × (mid : State) × Extends old name pool pool.secondary p old.owners mid
+    (p : PlaceValue) × (mid : State) × Extends old name pool pool.secondary p old.owners mid
     × ((c : ℕ) × IsCellOf pool.cell_size (record { place = p; count = pool.secondary }) c × Gets mid name (with_part pool pool.secondary p) c reply new)
 
 -- What becomes of CPOOL GET where no cell is free. (Assembler Services Reference, CPOOL; the code 878 is this project's choice)
@@ -158,13 +159,13 @@ abbrev pub GetsNone : State → Name → Name → Bool → Pool → Reply → St
 GetsNone old t name conditional pool reply new =
     MatchBool conditional
     (Refuses old NoCell reply new)
-    ((NoPlace old.regions (holder old) pool.subpool (part_want pool.cell_size pool.secondary pool.side) × Abends old t (short X) reply new)
+    ((NoPlace old.regions (holder old) pool.subpool (part_want pool.cell_size pool.secondary pool.side) × Abends old t (short Located) reply new)
     ⊎ GetsMore old name pool reply new)
 
 -- CPOOL GET: a free cell, where the pool has one. (Assembler Services Reference, CPOOL; the code U4002 for want of the pool is
 -- this project's choice)
 abbrev pub GetStep : State → Name → Name → Bool → Option Pool → Reply → State → Type 0
-GetStep old t name conditional None reply new = Abends old t (User 4002) reply new
+GetStep old t name conditional None reply new = Abends old t no_such_pool reply new
 GetStep old t name conditional (Some pool) reply new =
     ((c : ℕ) × IsFreeCell pool c × Gets old name pool c reply new)
     ⊎ (((c : ℕ) → IsFreeCell pool c → ⊥) × GetsNone old t name conditional pool reply new)
@@ -172,19 +173,19 @@ GetStep old t name conditional (Some pool) reply new =
 -- CPOOL FREE of a taken cell of the pool. (Assembler Services Reference, CPOOL; U4002 for want of the pool, and U4001 for an
 -- address where no taken cell of it begins, are this project's choice)
 abbrev pub FreeStep : State → Name → Name → ℕ → Option Pool → Reply → State → Type 0
-FreeStep old t name c None reply new = Abends old t (User 4002) reply new
+FreeStep old t name c None reply new = Abends old t no_such_pool reply new
 FreeStep old t name c (Some pool) reply new =
     MatchBool (not (set.contains pool.taken c))
-    (Abends old t (User 4001) reply new)
+    (Abends old t no_such_cell reply new)
     ((reply ≡ Rc0) × GivesCell old name pool c new)
 
 -- CPOOL DELETE. (Assembler Services Reference, CPOOL; the code U4002 for want of the pool is this project's choice)
 abbrev pub DeleteStep : State → Name → Name → Option Pool → Reply → State → Type 0
-DeleteStep old t name None reply new = Abends old t (User 4002) reply new
+DeleteStep old t name None reply new = Abends old t no_such_pool reply new
 DeleteStep old t name (Some pool) reply new = (reply ≡ Rc0) × DropsPool old name pool new
 
 -- The subtask is there, and the storage and the pools are as before.
-pub record Attaches (old : State) (t name : Name) (gifts : Presents) (residence : Residence) (new : State) : Type 0 where
+pub record Attaches (old : State) (t name : Name) (gifts : GiftsValue) (residence : Residence) (new : State) : Type 0 where
   pub regions : new.regions ≡ old.regions
   pub held : new.held ≡ old.held
   pub bytes : new.bytes ≡ old.bytes
@@ -192,29 +193,29 @@ pub record Attaches (old : State) (t name : Name) (gifts : Presents) (residence 
   pub pools : new.pools ≡ old.pools
 
 -- what becomes of ATTACH, by the code that refuses it
-abbrev pub AttachCase : State → Name → Name → Presents → Residence → Option Code → Reply → State → Type 0
+abbrev pub AttachCase : State → Name → Name → GiftsValue → Residence → Option Code → Reply → State → Type 0
 AttachCase old t name gifts residence (Some code) reply new = Abends old t code reply new
 AttachCase old t name gifts residence None reply new = (reply ≡ Attached) × Attaches old t name gifts residence new
 
 -- ATTACH. (Assembler Services Reference, ATTACH; its codes are this project's choice)
-abbrev pub AttachStep : State → Name → Name → Presents → Residence → Reply → State → Type 0
+abbrev pub AttachStep : State → Name → Name → GiftsValue → Residence → Reply → State → Type 0
 AttachStep old t name gifts residence reply new = AttachCase old t name gifts residence (attach_refusal old.owners t name gifts) reply new
 
 -- A return ends the task; with an active subtask it abends A03. (System Codes, A03)
 abbrev pub ReturnStep : State → Name → Reply → State → Type 0
 ReturnStep old t reply new =
     MatchBool (has_subtask old.owners t)
-    (Abends old t (System 0xA03) reply new)
+    (Abends old t active_subtask reply new)
     ((reply ≡ Ended) × End old t new)
 
 -- whether each byte of the place may be read and written
-abbrev pub all_granted : State → Span → Bool
+abbrev pub all_granted : State → PlaceValue → Bool
 all_granted st p = all_below (λ i. granted st (p.addr + i)) p.len
 
 -- A request that touches bytes abends 0C4 where one of them may not be read and written. (System Codes, 0C4; that it is looked
 -- at byte by byte, and that no byte changes then, is this project's choice)
 abbrev pub Accesses : State → Name → Bool → Type 0 → Reply → State → Type 0
-Accesses old t allowed done reply new = MatchBool (not allowed) (Abends old t (System 0x0C4) reply new) ((reply ≡ Done) × done)
+Accesses old t allowed done reply new = MatchBool (not allowed) (Abends old t no_access reply new) ((reply ≡ Done) × done)
 
 -- the bytes of a list, at the addresses from one on
 abbrev pub bytes_from : ℕ → List ℕ → ℕ → Option ℕ
@@ -226,7 +227,7 @@ moved_from old to from x = get old.bytes (from + (x - to))
 
 -- What an active task's request may be answered.
 abbrev pub Acts : State → Name → Request → Reply → State → Type 0
-Acts old t (Obtain form number ask) reply new = ObtainStep old t form number (wanted_of ask (side_for old t form ask.loc)) reply new
+Acts old t (Obtain form number ask) reply new = ObtainStep old t form number (want_of ask (side_for old t form ask.loc)) reply new
 Acts old t (ObtainList form number lengths start) reply new = ObtainListStep old t form number (map (λ n. fixed_want n start Below) lengths) reply new
 Acts old t (Release form number p) reply new = ReleaseStep old t form number (p ∷ []) reply new
 Acts old t (ReleaseList form number ps) reply new = ReleaseStep old t form number ps reply new
@@ -239,9 +240,9 @@ Acts old t (Delete name) reply new = DeleteStep old t name (get old.pools name) 
 Acts old t (Attach name gifts residence) reply new = AttachStep old t name gifts residence reply new
 Acts old t Return reply new = ReturnStep old t reply new
 Acts old t (Abend n) reply new = Abends old t (User n) reply new
-Acts old t (Show a n) reply new = Accesses old t (all_granted old (span a n)) (new ≡ old) reply new
-Acts old t (Put a bytes) reply new = Accesses old t (all_granted old (span a (length bytes))) (Writes old (span a (length bytes)) (bytes_from a bytes) new) reply new
-Acts old t (Move to from n) reply new = Accesses old t (all_granted old (span to n) && all_granted old (span from n)) (Writes old (span to n) (moved_from old to from) new) reply new
+Acts old t (Show a n) reply new = Accesses old t (all_granted old (place_at a n)) (new ≡ old) reply new
+Acts old t (Put a bytes) reply new = Accesses old t (all_granted old (place_at a (length bytes))) (Writes old (place_at a (length bytes)) (bytes_from a bytes) new) reply new
+Acts old t (Move to from n) reply new = Accesses old t (all_granted old (place_at to n) && all_granted old (place_at from n)) (Writes old (place_at to n) (moved_from old to from) new) reply new
 
 -- what a task's request may be answered, and which state it leaves
 abbrev pub Step : State → Name → Request → Reply → State → Type 0
@@ -250,7 +251,7 @@ Step old t request reply new = MatchBool (not (is_active old.owners t)) (Refuses
 -- A request has its operands in their ranges, as its type says: a place's length and address, a list's members, the counts
 -- of a pool, what a mother gives.
 abbrev pub IsRequest : Request → Type 0
-IsRequest (Obtain form number ask) = IsAsking ask
+IsRequest (Obtain form number ask) = IsAsk ask
 IsRequest (Build name number size primary secondary loc) = (4 ≤ size) × (1 ≤ primary) × (1 ≤ secondary)
-IsRequest (Attach name gifts residence) = IsPresents gifts
+IsRequest (Attach name gifts residence) = IsGifts gifts
 IsRequest _ = Unit {0}

@@ -4,10 +4,11 @@ use Rattle.std.specs.Ordering.{nat_cmp}
 use Rattle.std.specs.List.{list_any}
 use Rattle.std.specs.FinMap.{FinMap, get, code}
 use Rattle.std.specs.Coded.{Coded, code_by, coded×, coded_ℕ}
-use Rattle.mvs_model.specs.Span.{Span, span}
-use Rattle.mvs_model.specs.Wanted.{Wanted}
+use Rattle.mvs_model.specs.Place.{PlaceValue, place_at}
+use Rattle.mvs_model.specs.Want.{WantValue}
 use Rattle.mvs_model.specs.declared.want.Side.TheVariants.{Below}
 use Rattle.mvs_model.specs.Finite.{Changes, Keeps, has, count_below}
+use Rattle.mvs_model.specs.Numbers.{page_bytes, page_doublewords, below_begins, above_begins, first_doubleword_above}
 
 -- The pages of the two regions of a step, and the byte that a grant leaves. (Assembler Services Guide, private area; that
 -- a grant leaves one byte everywhere is this project's choice)
@@ -17,88 +18,88 @@ pub record Regions : Type 0 where
   pub fill : ℕ
 
 -- all of the place lies from one address up to another
-abbrev pub LiesIn : ℕ → ℕ → Span → Type 0
+abbrev pub LiesIn : ℕ → ℕ → PlaceValue → Type 0
 LiesIn from to p = (from ≤ p.addr) × (p.addr + p.len ≤ to)
 
 -- the place lies inside one region. (the first addresses are this project's choice)
-abbrev pub InRegion : Regions → Span → Type 0
-InRegion r p = LiesIn 0x6000 (0x6000 + 4096 * r.below) p ⊎ LiesIn 0x1000000 (0x1000000 + 4096 * r.above) p
+abbrev pub InRegion : Regions → PlaceValue → Type 0
+InRegion r p = LiesIn below_begins (below_begins + page_bytes * r.below) p ⊎ LiesIn above_begins (above_begins + page_bytes * r.above) p
 
 -- the place begins below 16 megabytes
-abbrev pub IsBelow : Span → Type 0
-IsBelow p = p.addr < 0x1000000
+abbrev pub IsBelow : PlaceValue → Type 0
+IsBelow p = p.addr < above_begins
 
 -- whether the place has a byte of the doubleword
-abbrev pub covers : Span → ℕ → Bool
+abbrev pub covers : PlaceValue → ℕ → Bool
 covers p d = nat_lt p.addr (8 * d + 8) && nat_lt (8 * d) (p.addr + p.len)
 
 -- whether the place has the address
-abbrev pub has_address : Span → ℕ → Bool
+abbrev pub has_address : PlaceValue → ℕ → Bool
 has_address p a = nat_le p.addr a && nat_lt a (p.addr + p.len)
 
 -- the place has a byte of the doubleword
-abbrev pub Covers : Span → ℕ → Type 0
+abbrev pub Covers : PlaceValue → ℕ → Type 0
 Covers p d = (p.addr < 8 * d + 8) × (8 * d < p.addr + p.len)
 
 -- the place is of whole doublewords
-abbrev pub IsWhole : Span → Type 0
+abbrev pub IsWhole : PlaceValue → Type 0
 IsWhole p = (p.addr % 8 ≡ 0) × (p.len % 8 ≡ 0)
 
 -- No doublewords of one page are held by two subpools. (Assembler Services Guide, subpools)
 abbrev pub PageRule : (ℕ → Option ℕ) → Type 0
-PageRule holder = (d e s t : ℕ) → d / 512 ≡ e / 512 → holder d ≡ Some s → holder e ≡ Some t → s ≡ t
+PageRule holder = (d e s t : ℕ) → d / page_doublewords ≡ e / page_doublewords → holder d ≡ Some s → holder e ≡ Some t → s ≡ t
 
 -- Nothing holds the doubleword, and no other subpool than s holds a doubleword of its page. (Assembler Services Guide,
 -- subpools)
 pub record MayTake (holder : ℕ → Option ℕ) (s d : ℕ) : Type 0 where
   pub free : holder d ≡ None
-  pub page : (e t : ℕ) → e / 512 ≡ d / 512 → holder e ≡ Some t → t ≡ s
+  pub page : (e t : ℕ) → e / page_doublewords ≡ d / page_doublewords → holder e ≡ Some t → t ≡ s
 
 -- The place lies inside one region, and s may take each of its doublewords. (Assembler Services Guide, subpools)
-pub record Open (r : Regions) (holder : ℕ → Option ℕ) (s : ℕ) (p : Span) : Type 0 where
+pub record Open (r : Regions) (holder : ℕ → Option ℕ) (s : ℕ) (p : PlaceValue) : Type 0 where
   pub inside : InRegion r p
   pub each : (d : ℕ) → Covers p d → MayTake holder s d
 
 -- Whole doublewords that follow one another, all below 16 megabytes or all from there on.
-pub record IsRun (run : Span) : Type 0 where
+pub record IsRun (run : PlaceValue) : Type 0 where
   pub whole : IsWhole run
   pub some : 8 ≤ run.len
   pub short : run.addr + run.len ≤ 2 ^ 31
-  pub one_side : run.addr < 0x1000000 → run.addr + run.len ≤ 0x1000000
+  pub one_side : run.addr < above_begins → run.addr + run.len ≤ above_begins
 
 -- all of the place lies in the run
-abbrev pub InRun : Span → Span → Type 0
+abbrev pub InRun : PlaceValue → PlaceValue → Type 0
 InRun run p = LiesIn run.addr (run.addr + run.len) p
 
 -- The place begins on the boundary that is wanted, lies within the one that is wanted, and is on the side that is wanted.
 -- (Assembler Services Reference, GETMAIN: BNDRY, STARTBDY, CONTBDY, LOC)
-pub record Meets (want : Wanted) (p : Span) : Type 0 where
+pub record Meets (want : WantValue) (p : PlaceValue) : Type 0 where
   pub on_doubleword : p.addr % 8 ≡ 0
   pub start : p.addr % 2 ^ want.start ≡ 0
   pub within : IfSome want.within (λ k. p.addr / 2 ^ k ≡ (p.addr + p.len - 1) / 2 ^ k)
   pub side : want.side ≡ Below → IsBelow p
 
 -- The length is whole and in the range that is wanted.
-pub record IsLength (want : Wanted) (n : ℕ) : Type 0 where
+pub record IsLength (want : WantValue) (n : ℕ) : Type 0 where
   pub least : want.least ≤ n
   pub most : n ≤ want.most
   pub whole : n % 8 ≡ 0
 
 -- the addresses at which s has an open place of length n that meets what is wanted
-abbrev pub Places : Regions → (ℕ → Option ℕ) → ℕ → Wanted → ℕ → ℕ → Type 0
-Places r holder s want n a = Open r holder s (span a n) × Meets want (span a n)
+abbrev pub Places : Regions → (ℕ → Option ℕ) → ℕ → WantValue → ℕ → ℕ → Type 0
+Places r holder s want n a = Open r holder s (place_at a n) × Meets want (place_at a n)
 
 -- The place is of the greatest length for which there are places, and above if one of them is above. (Assembler Services
 -- Reference, GETMAIN, variable requests and LOC; that the greatest length over both regions wins, and above on a tie, is
 -- this project's choice)
-pub record Chosen (r : Regions) (holder : ℕ → Option ℕ) (s : ℕ) (want : Wanted) (p : Span) : Type 0 where
+pub record Chosen (r : Regions) (holder : ℕ → Option ℕ) (s : ℕ) (want : WantValue) (p : PlaceValue) : Type 0 where
   pub length : IsLength want p.len
   pub placed : Places r holder s want p.len p.addr
   pub greatest : (n a : ℕ) → p.len < n → IsLength want n → Places r holder s want n a → ⊥
-  pub above : (a : ℕ) → Places r holder s want p.len a → 0x1000000 ≤ a → 0x1000000 ≤ p.addr
+  pub above : (a : ℕ) → Places r holder s want p.len a → above_begins ≤ a → above_begins ≤ p.addr
 
 -- There is no place of the least length.
-abbrev pub NoPlace : Regions → (ℕ → Option ℕ) → ℕ → Wanted → Type 0
+abbrev pub NoPlace : Regions → (ℕ → Option ℕ) → ℕ → WantValue → Type 0
 NoPlace r holder s want = (a : ℕ) → Places r holder s want want.least a → ⊥
 
 -- Storage: which subpool holds a doubleword, and which byte stands at an address.
@@ -125,16 +126,16 @@ abbrev pub holds : Storage → ℕ → ℕ → Bool
 holds st s d = has (λ t. t == s) (holder st d)
 
 -- each doubleword of the place is held by s
-abbrev pub HeldBy : Storage → ℕ → Span → Type 0
+abbrev pub HeldBy : Storage → ℕ → PlaceValue → Type 0
 HeldBy st s p = (d : ℕ) → Covers p d → holder st d ≡ Some s
 
 -- each doubleword of the place is held by some subpool
-abbrev pub AllHeld : Storage → Span → Type 0
+abbrev pub AllHeld : Storage → PlaceValue → Type 0
 AllHeld st p = (d : ℕ) → Covers p d → IsSome (holder st d)
 
 -- the first doubleword behind the regions
 abbrev pub end_of : Regions → ℕ
-end_of r = 0x200000 + 512 * r.above
+end_of r = first_doubleword_above + page_doublewords * r.above
 
 -- how many bytes s holds
 abbrev pub held_bytes : Storage → ℕ → ℕ
@@ -144,18 +145,18 @@ held_bytes st s = 8 * count_below (end_of st.regions) (holds st s)
 -- held. (this project's choice)
 abbrev pub IsPageOwner : Storage → ℕ → Option ℕ → Type 0
 IsPageOwner st a owner = MatchOption owner
-    ((d : ℕ) → d / 512 ≡ a / 4096 → holder st d ≡ None)
-    (λ s. (d : ℕ) × (d / 512 ≡ a / 4096) × (holder st d ≡ Some s))
+    ((d : ℕ) → d / page_doublewords ≡ a / page_bytes → holder st d ≡ None)
+    (λ s. (d : ℕ) × (d / page_doublewords ≡ a / page_bytes) × (holder st d ≡ Some s))
 
 -- Each page is of one subpool, what is held lies in the regions, and there are bytes just where something is held.
 pub record IsStorage (st : Storage) : Type 0 where
   pub pages : PageRule (holder st)
-  pub inside : (d s : ℕ) → holder st d ≡ Some s → InRegion st.regions (span (8 * d) 8)
+  pub inside : (d s : ℕ) → holder st d ≡ Some s → InRegion st.regions (place_at (8 * d) 8)
   pub bytes : (a : ℕ) → is_some (get st.bytes a) ≡ is_some (holder st (a / 8))
 
 -- A place as wanted is given to s: its doublewords are now of s and its bytes the fill byte, and all else is as before.
 -- (Assembler Services Reference, GETMAIN; the fill byte is this project's choice)
-pub record Grant (old : Storage) (s : ℕ) (want : Wanted) (p : Span) (new : Storage) : Type 0 where
+pub record Grant (old : Storage) (s : ℕ) (want : WantValue) (p : PlaceValue) (new : Storage) : Type 0 where
   pub chosen : Chosen old.regions (holder old) s want p
   pub regions : new.regions ≡ old.regions
   pub held : Changes (get old.held) (covers p) (Some s) (get new.held)
@@ -163,7 +164,7 @@ pub record Grant (old : Storage) (s : ℕ) (want : Wanted) (p : Span) (new : Sto
 
 -- The doublewords of the place, which s held, are free now and their bytes are gone; all else is as before. (Assembler
 -- Services Reference, FREEMAIN)
-pub record Release (old : Storage) (s : ℕ) (p : Span) (new : Storage) : Type 0 where
+pub record Release (old : Storage) (s : ℕ) (p : PlaceValue) (new : Storage) : Type 0 where
   pub whole : IsWhole p
   pub was_held : HeldBy old s p
   pub regions : new.regions ≡ old.regions

@@ -1,5 +1,5 @@
 -- How storage, the tasks with what they own, and the cell pools are seen as one state of the machine.
-use Rattle.std.specs.Prelude.{ℕ, ◌+◌, ◌*◌, Bool, Option}
+use Rattle.std.specs.Prelude.{ℕ, ◌+◌, ◌*◌, ◌≤◌, Bool, Option}
 use Rattle.std.specs.List.{list_any}
 use Rattle.std.specs.Option.{option_map}
 use Rattle.std.specs.FinMap.{FinMap, get, keys, empty, retain_keys}
@@ -10,6 +10,12 @@ use Rattle.mvs_model.specs.Storage.{Storage, Regions, holder}
 use Rattle.mvs_model.specs.Owners.{Owners}
 use Rattle.mvs_model.specs.Pools.{Pool, in_parts}
 use Rattle.mvs_model.specs.State.{State, Holding, granted}
+use Rattle.mvs_model.specs.Numbers.{page_doublewords, first_doubleword_above, most_pages_below, most_pages_above}
+
+-- The page counts are at most those of a card. (this project's choice)
+pub record IsBounded (r : Regions) : Type 0 where
+  pub below : r.below ≤ most_pages_below
+  pub above : r.above ≤ most_pages_above
 
 -- whether a pool has a part with the doubleword
 abbrev pub in_pools : FinMap name_cmp Pool → ℕ → Bool
@@ -21,7 +27,7 @@ holding st pools d = option_map (λ s. record { subpool = s; pooled = in_pools p
 
 -- a doubleword behind both regions
 abbrev pub behind : Regions → ℕ
-behind r = 0x200000 + 512 * (r.below + r.above)
+behind r = first_doubleword_above + page_doublewords * (r.below + r.above)
 
 -- the state without the bytes
 abbrev pub without_bytes : Storage → Owners → FinMap name_cmp Pool → State

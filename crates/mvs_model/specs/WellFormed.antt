@@ -9,6 +9,7 @@ use Rattle.mvs_model.specs.Kept.{OwnersKept}
 use Rattle.mvs_model.specs.Pools.{Pool, Part, part_length, IsCell, in_parts}
 use Rattle.mvs_model.specs.State.{State, Holding, pooled, holder, granted}
 use Rattle.mvs_model.specs.Changes.{Misses, Disjoint}
+use Rattle.mvs_model.specs.Numbers.{most_pools}
 
 -- A part of a pool is of whole doublewords, as long as its cells ask, and held by the pool's subpool as a part.
 pub record IsPart (st : State) (pool : Pool) (part : Part) : Type 0 where
@@ -44,4 +45,4 @@ pub record WellFormed (st : State) : Type 0 where
   pub owners : OwnersKept st.owners
   pub held_owner : (d : ℕ) (h : Holding) → get st.held d ≡ Some h → IsSome (get st.owners.owner h.subpool)
   pub sized : PoolsSized st
-  pub pools : len st.pools ≤ 64
+  pub pools : len st.pools ≤ most_pools

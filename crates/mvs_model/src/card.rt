@@ -1,9 +1,11 @@
 //! The card of a step.
 
 ghost use Rattle.std.specs.Prelude.{◌≡◌, ◌≤◌, ◌<◌, SomeIff};
-ghost use Rattle.mvs_model.specs.Card.{StepCard, IsCard};
+ghost use Rattle.mvs_model.specs.Card.{CardValue, IsCard};
+ghost use Rattle.mvs_model.specs.Numbers.{most_pages_below, most_pages_above};
 
 use crate::name::Name;
+use crate::numbers::{MOST_PAGES_ABOVE, MOST_PAGES_BELOW};
 use crate::want::Residence;
 use std::marker::Model;
 
@@ -20,9 +22,9 @@ pub struct Card {
 
 impl Model for Card {
     ghost use Rattle.mvs_model.specs.Name.{IsName};
-    ghost use Rattle.mvs_model.specs.Card.{StepCard, IsCard};
+    ghost use Rattle.mvs_model.specs.Card.{CardValue, IsCard};
 
-    ghost Value = { StepCard };
+    ghost Value = { CardValue };
 
     ghost view = { λ c. record { name = c.name; below = c.below; above = c.above; fill = c.fill; residence = c.residence } };
 
@@ -34,9 +36,9 @@ impl Model for Card {
 impl Card {
     /// The card of a step; None where the pages below are not 1 to 2,048, or those above more than 8,192.
     pub fn new(name: Name, below: u32, above: u32, fill: u8, residence: Residence) -> Option<Card>
-        ensures { let card : StepCard = record { name = name; below = below; above = above; fill = fill; residence = residence } in SomeIff result (IsCard card) card }
+        ensures { let card : CardValue = record { name = name; below = below; above = above; fill = fill; residence = residence } in SomeIff result (IsCard card) card }
     {
-        if below < 1 || below > 2048 || above > 8192 {
+        if below < 1 || below > MOST_PAGES_BELOW || above > MOST_PAGES_ABOVE {
             return None;
         }
         Some(Card {
@@ -59,7 +61,7 @@ impl Card {
     pub fn below(&self) -> u32
         ensures pages { result ≡ self.now.below }
         ensures some { 1 ≤ result }
-        ensures most { result ≤ 2048 }
+        ensures most { result ≤ most_pages_below }
     {
         self.below
     }
@@ -67,7 +69,7 @@ impl Card {
     /// The pages of the region above.
     pub fn above(&self) -> u32
         ensures pages { result ≡ self.now.above }
-        ensures most { result ≤ 8192 }
+        ensures most { result ≤ most_pages_above }
     {
         self.above
     }

@@ -13,6 +13,7 @@ ghost use Rattle.mvs_model.specs.Checks.{
   SharersKeep,
   SmallPart,
 };
+ghost use Rattle.mvs_model.specs.ReadingLaws.{FaultExamples, MoreFaults, LineExamples, SpellingExamples};
 
 /// A place across an own page and a free one is open until another subpool holds a doubleword of either.
 pub fn across_pages()
@@ -68,4 +69,24 @@ pub fn sharers_keep()
 /// A part of two cells of 12 bytes has 48 bytes, and its cells begin at 24 and 36.
 pub fn small_part()
     ensures { SmallPart }
+{}
+
+/// A line for each fault that an operand or an operation may have, behind a REGION statement.
+pub fn fault_examples()
+    ensures { FaultExamples }
+{}
+
+/// Lines at the edges of what is a fault.
+pub fn more_faults()
+    ensures { MoreFaults }
+{}
+
+/// Lines without a fault, and what they say.
+pub fn line_examples()
+    ensures { LineExamples }
+{}
+
+/// Spellings of GETMAIN RU at its limits are read.
+pub fn spelling_examples()
+    ensures { SpellingExamples }
 {}

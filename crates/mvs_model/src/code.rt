@@ -25,7 +25,7 @@ pub enum Form {
 pub enum Family {
     E,
     R,
-    X,
+    Located,
 }
 
 /// A completion code of a task that abended (System Codes).

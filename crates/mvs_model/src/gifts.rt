@@ -1,7 +1,8 @@
 //! What a mother gives and shares by ATTACH.
 
 ghost use Rattle.std.specs.Prelude.{◌≡◌, SomeIff, IsTrue, ◌↔◌, ◌<◌};
-ghost use Rattle.mvs_model.specs.Presents.{Presents, IsPresents, gives, shares};
+ghost use Rattle.mvs_model.specs.Gifts.{GiftsValue, IsGifts, gives, shares};
+ghost use Rattle.mvs_model.specs.Subpool.{IsSubpoolNumber};
 
 use std::marker::Model;
 
@@ -16,13 +17,13 @@ pub struct Gifts {
 }
 
 impl Model for Gifts {
-    ghost use Rattle.mvs_model.specs.Presents.{Presents, IsPresents};
+    ghost use Rattle.mvs_model.specs.Gifts.{GiftsValue, IsGifts};
 
-    ghost Value = { Presents };
+    ghost Value = { GiftsValue };
 
     ghost view = { λ g. record { given = g.given; shared = g.shared; zero = g.zero } };
 
-    ghost invariant = { λ g. IsPresents (record { given = g.given; shared = g.shared; zero = g.zero }) };
+    ghost invariant = { λ g. IsGifts (record { given = g.given; shared = g.shared; zero = g.zero }) };
 
     ghost inverse = { λ g. record { given = g.given; shared = g.shared; zero = g.zero } };
 }
@@ -30,7 +31,7 @@ impl Model for Gifts {
 impl Gifts {
     /// None where bit 0 is set, or a bit is set in both fields.
     pub fn new(given: u128, shared: u128, zero: bool) -> Option<Gifts>
-        ensures { let presents : Presents = record { given = given; shared = shared; zero = zero } in SomeIff result (IsPresents presents) presents }
+        ensures { let presents : GiftsValue = record { given = given; shared = shared; zero = zero } in SomeIff result (IsGifts presents) presents }
     {
         if given & shared != 0 || given % 2 != 0 || shared % 2 != 0 {
             return None;
@@ -44,7 +45,7 @@ impl Gifts {
 
     /// Whether the mother gives the number.
     pub fn gives(&self, number: u8) -> bool
-        requires { number < 128 }
+        requires { IsSubpoolNumber number }
         ensures { result ≡ gives self.now number }
     {
         (self.given >> number) & 1 == 1
@@ -52,7 +53,7 @@ impl Gifts {
 
     /// Whether the mother shares the number.
     pub fn shares(&self, number: u8) -> bool
-        requires { number < 128 }
+        requires { IsSubpoolNumber number }
         ensures { result ≡ shares self.now number }
     {
         (self.shared >> number) & 1 == 1 || self.zero && number == 0

@@ -1,6 +1,9 @@
 //! Laws of the machine, over every run: each function has an empty body, and its contract is the law.
 
 ghost use Rattle.mvs_model.specs.Laws.{PagesKept, NeverStuck, PartsApart};
+ghost use Rattle.mvs_model.specs.Tidy.{TidyStep, TidyText, OneLabelText, PlacesDoNotMatter};
+ghost use Rattle.mvs_model.specs.Rows.{BusyReturn, GivenEnds, MovesOverlap};
+ghost use Rattle.mvs_model.specs.ReadingLaws.{InRanges, OneReading, OnlyWords};
 
 /// In every state of a run each page is of one subpool.
 pub fn page_rule()
@@ -15,4 +18,55 @@ pub fn never_stuck()
 /// In every state of a run the parts of pools lie apart, and there are bytes just where they may be read.
 pub fn apart()
     ensures { PartsApart }
+{}
+
+/// From a state of a run and labels that are linked, a tidy statement that is granted in full prints the same on
+/// both machines, and leaves them linked.
+pub fn tidy_step()
+    ensures { TidyStep }
+{}
+
+/// Each run of a tidy script that is granted in full prints what the label machine prints, wherever its areas lie.
+pub fn tidy_text()
+    ensures { TidyText }
+{}
+
+/// The label machine prints one text for a script.
+pub fn one_label_text()
+    ensures { OneLabelText }
+{}
+
+/// Two runs of a tidy script that are granted in full print the same, wherever their areas lie.
+pub fn places_do_not_matter()
+    ensures { PlacesDoNotMatter }
+{}
+
+/// A script in which a task returns with a subtask is tidy.
+pub fn busy_return()
+    ensures { BusyReturn }
+{}
+
+/// A script that moves bytes within an area is tidy.
+pub fn moves_overlap()
+    ensures { MovesOverlap }
+{}
+
+/// A script in which a given subpool ends while a sibling shares it is tidy.
+pub fn given_ends()
+    ensures { GivenEnds }
+{}
+
+/// Each line is read or has a fault, not both, and says one thing or has one fault.
+pub fn one_reading()
+    ensures { OneReading }
+{}
+
+/// What a line that is read says is in its ranges; REGION is the first statement, and only there.
+pub fn in_ranges()
+    ensures { InRanges }
+{}
+
+/// More blanks between the words of a line and another remark change nothing.
+pub fn only_words()
+    ensures { OnlyWords }
 {}

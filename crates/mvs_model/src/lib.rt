@@ -10,6 +10,7 @@ pub mod gifts;
 pub mod laws;
 pub mod line;
 pub mod name;
+pub mod numbers;
 pub mod outcome;
 pub mod place;
 pub mod report;

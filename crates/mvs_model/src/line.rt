@@ -27,7 +27,7 @@ pub type Locations = ShortList<Location, 1, 16>;
 
 /// A request as written, with the names that it looks up and sets.
 #[derive(Drop)]
-pub enum Asked {
+pub enum Written {
     Obtain {
         form: Form,
         number: u8,
@@ -116,7 +116,7 @@ pub enum Statement {
         fill: u8,
         residence: Residence,
     },
-    Request(Asked),
+    Request(Written),
     Where(Name),
     ReportSubpools,
     ReportMap,

@@ -47,13 +47,13 @@ pub struct Place {
 }
 
 impl Model for Place {
-    ghost use Rattle.mvs_model.specs.Span.{Span, IsSpan};
+    ghost use Rattle.mvs_model.specs.Place.{PlaceValue, IsPlace};
 
-    ghost Value = { Span };
+    ghost Value = { PlaceValue };
 
     ghost view = { λ p. record { addr = p.addr; len = p.len } };
 
-    ghost invariant = { λ p. IsSpan (record { addr = p.addr; len = p.len }) };
+    ghost invariant = { λ p. IsPlace (record { addr = p.addr; len = p.len }) };
 
     ghost inverse = { λ p. record { addr = p.addr; len = p.len } };
 }

@@ -2,7 +2,9 @@
 
 ghost use Rattle.std.specs.Prelude.{◌≡◌, ◌<◌, ◌≤◌, SomeIff};
 ghost use Rattle.mvs_model.specs.Subpool.{IsSubpoolNumber};
+ghost use Rattle.mvs_model.specs.Numbers.{most_subpools};
 
+use crate::numbers::SUBPOOL_NUMBERS;
 use std::marker::Model;
 
 /// The number of a subpool that a program may name: 0 to 127 (Assembler Services Guide, virtual storage
@@ -30,7 +32,7 @@ impl SubNo {
     pub fn new(value: u8) -> Option<SubNo>
         ensures { SomeIff result (IsSubpoolNumber value) value }
     {
-        if value < 128 {
+        if value < SUBPOOL_NUMBERS {
             Some(SubNo { value })
         } else {
             None
@@ -52,20 +54,21 @@ pub struct SubpoolId {
 }
 
 impl Model for SubpoolId {
+    ghost use Rattle.mvs_model.specs.Numbers.{most_subpools};
     ghost use Rattle.std.specs.Prelude.{ℕ, ◌<◌};
 
     ghost Value = { ℕ };
 
     ghost view = { λ s. s.value };
 
-    ghost invariant = { λ s. s.value < 4096 };
+    ghost invariant = { λ s. s.value < most_subpools };
 
     ghost inverse = { λ n. record { value = n } };
 }
 
 impl SubpoolId {
     pub fn new(value: u16) -> SubpoolId
-        requires { value < 4096 }
+        requires { value < most_subpools }
         ensures { result ≡ value }
     {
         SubpoolId { value }
@@ -73,7 +76,7 @@ impl SubpoolId {
 
     pub fn get(&self) -> u16
         ensures value { result ≡ self.now }
-        ensures low { result < 4096 }
+        ensures low { result < most_subpools }
     {
         self.value
     }

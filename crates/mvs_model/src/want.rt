@@ -1,7 +1,7 @@
 //! What an obtaining request wants.
 
 ghost use Rattle.std.specs.Prelude.{◌≡◌, ◌≤◌, ◌<◌};
-ghost use Rattle.mvs_model.specs.Wanted.{Wanted, IsWanted, Asking, IsAsking, wanted_of, fixed_want};
+ghost use Rattle.mvs_model.specs.Want.{WantValue, IsWant, AskValue, IsAsk, want_of, fixed_want};
 
 use crate::bounded::{Exponent, Length};
 use std::marker::Model;
@@ -47,13 +47,13 @@ pub struct Want {
 }
 
 impl Model for Want {
-    ghost use Rattle.mvs_model.specs.Wanted.{Wanted, IsWanted};
+    ghost use Rattle.mvs_model.specs.Want.{WantValue, IsWant};
 
-    ghost Value = { Wanted };
+    ghost Value = { WantValue };
 
     ghost view = { λ w. record { least = w.least; most = w.most; start = w.start; within = w.within; side = w.side } };
 
-    ghost invariant = { λ w. IsWanted (record { least = w.least; most = w.most; start = w.start; within = w.within; side = w.side }) };
+    ghost invariant = { λ w. IsWant (record { least = w.least; most = w.most; start = w.start; within = w.within; side = w.side }) };
 
     ghost inverse = { λ w. record { least = w.least; most = w.most; start = w.start; within = w.within; side = w.side } };
 }
@@ -76,7 +76,7 @@ impl Want {
     /// The least length in bytes.
     pub fn least(&self) -> u32
         ensures least { result ≡ self.now.least }
-        ensures wanted { IsWanted self.now }
+        ensures wanted { IsWant self.now }
     {
         self.least
     }
@@ -84,7 +84,7 @@ impl Want {
     /// The greatest length in bytes.
     pub fn most(&self) -> u32
         ensures most { result ≡ self.now.most }
-        ensures wanted { IsWanted self.now }
+        ensures wanted { IsWant self.now }
     {
         self.most
     }
@@ -92,7 +92,7 @@ impl Want {
     /// The power of two of the boundary that the place begins on.
     pub fn start(&self) -> u8
         ensures start { result ≡ self.now.start }
-        ensures wanted { IsWanted self.now }
+        ensures wanted { IsWant self.now }
     {
         self.start
     }
@@ -100,7 +100,7 @@ impl Want {
     /// The power of two of the boundary that the place lies within.
     pub fn within(&self) -> Option<u8>
         ensures within { result ≡ self.now.within }
-        ensures wanted { IsWanted self.now }
+        ensures wanted { IsWant self.now }
     {
         self.within
     }
@@ -124,13 +124,13 @@ pub struct Ask {
 }
 
 impl Model for Ask {
-    ghost use Rattle.mvs_model.specs.Wanted.{Asking, IsAsking};
+    ghost use Rattle.mvs_model.specs.Want.{AskValue, IsAsk};
 
-    ghost Value = { Asking };
+    ghost Value = { AskValue };
 
     ghost view = { λ a. record { least = a.least; most = a.most; start = a.start; within = a.within; loc = a.loc } };
 
-    ghost invariant = { λ a. IsAsking (record { least = a.least; most = a.most; start = a.start; within = a.within; loc = a.loc }) };
+    ghost invariant = { λ a. IsAsk (record { least = a.least; most = a.most; start = a.start; within = a.within; loc = a.loc }) };
 
     ghost inverse = { λ a. record { least = a.least; most = a.most; start = a.start; within = a.within; loc = a.loc } };
 }
@@ -179,7 +179,7 @@ impl Ask {
 
     /// What is wanted on a side, the lengths rounded up to doublewords.
     pub fn want(&self, side: Side) -> Want
-        ensures { result ≡ wanted_of self.now side }
+        ensures { result ≡ want_of self.now side }
     {
         Want {
             least: self.least.div_ceil(8) * 8,

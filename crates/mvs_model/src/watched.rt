@@ -4,6 +4,7 @@ ghost use Rattle.std.specs.Prelude.{◌≡◌, ◌<◌, ◌≤◌, length, true,
 ghost use Rattle.std.specs.Io.KnownBytes.{ReadConsumes, WriteAppends};
 
 use std::io::{Read, Write};
+use std::marker::Model;
 use thiserror::Error;
 
 /// A call of a reader or a writer failed.
@@ -16,6 +17,14 @@ pub struct Failed;
 pub struct Watched<T> {
     inner: T,
     failed: bool,
+}
+
+impl<T> Model for Watched<T> {
+    ghost use Rattle.mvs_model.specs.Watched.{WatchedValue};
+
+    ghost Value = { WatchedValue T };
+
+    ghost view = { λ w. record { inner = w.inner; failed = w.failed } };
 }
 
 impl<T> Watched<T> {

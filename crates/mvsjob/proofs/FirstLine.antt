@@ -1,7 +1,7 @@
 -- The first line of some bytes.
 use Rattle.std.proofs.Common.{◌≡◌, ℕ, ◌<◌, List, [], ◌∷◌, length, take, drop, get_or, arith, refl, ◌∙◌, ne_eqb, zero, suc}
 use Rattle.std.specs.List.{onto_first}
-use Rattle.mvs_model.specs.Runs.{lines_of}
+use Rattle.mvs_model.specs.Lines.{lines_of}
 
 pub lines_at_feed : (b : ℕ) (bs : List ℕ) → b ≡ 10 → lines_of (b ∷ bs) ≡ [] ∷ lines_of bs
 lines_at_feed b bs e = rw e refl

@@ -13,8 +13,8 @@ use Rattle.mvs_model.specs.Owners.{Owners}
 use Rattle.mvs_model.specs.State.{State}
 use Rattle.mvs_model.specs.Texts.{hex, reply_line}
 use Rattle.mvs_model.specs.Reports.{PageRun, same_subpool, with_page, page_runs, page_subpool, decimal_of, owner_text, holder_text, number_of, map_lines, map_text}
-use Rattle.job_step.specs.Access.{IsBounded}
-use Rattle.job_step.specs.Reports.{Begins, IsHolder, IsMapEnd, IsMapRun, IsPages, NoneBegins}
+use Rattle.mvs_model.specs.View.{IsBounded}
+use Rattle.request_forms.specs.Reports.{Begins, IsHolder, IsMapEnd, IsMapRun, IsPages, NoneBegins}
 use Rattle.mvsjob.specs.Reports.{holder_said, run_said}
 use Rattle.mvsjob.specs.Writing.{AppendsFront}
 use Rattle.mvsjob.proofs.Appending.{front_longer, front_more}

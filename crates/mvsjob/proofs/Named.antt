@@ -6,7 +6,7 @@ use Rattle.std.specs.FinMap.Entries.{find}
 use Rattle.std.specs.Map.{lookup}
 use Rattle.std.specs.BTreeMap.{is_at}
 use Rattle.mvs_model.specs.Name.{name_cmp, same_name}
-use Rattle.mvs_model.specs.Span.{Span}
+use Rattle.mvs_model.specs.Place.{PlaceValue}
 use Rattle.mvsjob.specs.Areas.{IsArea, AreAreas}
 use Rattle.mvs_model.proofs.Orders.{name_cmp_total, name_cmp-IsAntisymmetric, same_name_sym}
 
@@ -25,17 +25,17 @@ module _ {X : Type 0} where
       get_entries q new ∙ h q ∙ ap (λ b. cond b (Some x) (lookup (is_at (name_cmp q)) old)) (same_name_sym k q) ∙ ap (cond (same_name q k) (Some x)) (sym (get_entries q old)) ∙ sym (map.get-insert name_cmp_total (map.from_entries old) k x q))
 
 -- no name is set
-pub no_areas : (m : map.FinMap name_cmp Span) → m ≡ map.empty → AreAreas m
+pub no_areas : (m : map.FinMap name_cmp PlaceValue) → m ≡ map.empty → AreAreas m
 no_areas m is name p e = absurd (let f : None ≡ Some p = sym (map.get-empty name_cmp name) ∙ ap (λ m. map.get m name) (sym is) ∙ e in cc)
 
 -- one more name is set to an area
-pub areas_set : (names : map.FinMap name_cmp Span) (k : List ℕ) (p : Span) → AreAreas names → IsArea p → AreAreas (map.insert names k p)
+pub areas_set : (names : map.FinMap name_cmp PlaceValue) (k : List ℕ) (p : PlaceValue) → AreAreas names → IsArea p → AreAreas (map.insert names k p)
 areas_set names k p are is q r e = at (same_name q k) (sym (map.get-insert name_cmp_total names k p q) ∙ e) where
   at : (b : Bool) → cond b (Some p) (map.get names q) ≡ Some r → IsArea r
   at true f = let same : p ≡ r = cc in subst IsArea same is
   at false f = are q r f
 
 -- what a name is set to is an area
-pub area_of : (o : Option Span) → ((p : Span) → o ≡ Some p → IsArea p) → IfSome o IsArea
+pub area_of : (o : Option PlaceValue) → ((p : PlaceValue) → o ≡ Some p → IsArea p) → IfSome o IsArea
 area_of None h = tt
 area_of (Some p) h = h p refl

@@ -10,7 +10,7 @@ use Rattle.mvs_model.specs.Owners.{entry, owns}
 use Rattle.mvs_model.specs.State.{State}
 use Rattle.mvs_model.specs.Texts.{reply_line}
 use Rattle.mvs_model.specs.Reports.{each_below, entry_line, or_none, bytes_held, subpools_text}
-use Rattle.job_step.specs.Reports.{HasNone, IsSubpoolLine}
+use Rattle.request_forms.specs.Reports.{HasNone, IsSubpoolLine}
 use Rattle.mvsjob.specs.Reports.{subpool_said}
 use Rattle.mvsjob.specs.Writing.{AppendsFront}
 use Rattle.mvsjob.proofs.Appending.{front_longer, front_more}

@@ -6,7 +6,9 @@ use Rattle.mvs_model.specs.declared.outcome.Outcome.{Outcome}
 use Rattle.mvs_model.specs.declared.outcome.Outcome.TheVariants.{Clean, ScriptFault, SomeAbend}
 use Rattle.mvs_model.specs.declared.line.Fault.TheVariants.{OutOfPlace}
 use Rattle.mvs_model.specs.Texts.{fault_text}
-use Rattle.mvs_model.specs.Runs.{Job, Stage, Before, Closes, IsPrinting, IsPrintingFront, is_before, lines_of}
+use Rattle.mvs_model.specs.Job.{JobValue}
+use Rattle.mvs_model.specs.Lines.{lines_of}
+use Rattle.mvs_model.specs.Runs.{Stage, Before, Closes, IsPrinting, IsPrintingFront, is_before}
 use Rattle.mvs_model.proofs.Going.{Reaches, reaches_start, reaches_next, reaches_fault, reaches_end, front_so_far, front_in_line, front_in_fault, front_at_end}
 use Rattle.mvsjob.specs.declared.job.Stop.{Stop}
 use Rattle.job_script.specs.Lines.{line_of}
@@ -76,11 +78,11 @@ no_lines [] e = refl
 no_lines (b ∷ bytes) e = absurd (omega arith)
 
 -- the end of a job before its step, and in it
-pub closes_before : (number : ℕ) (o : Option Job) → o ≡ None → Closes number (stage_of o) (fault_text number OutOfPlace) ScriptFault
+pub closes_before : (number : ℕ) (o : Option JobValue) → o ≡ None → Closes number (stage_of o) (fault_text number OutOfPlace) ScriptFault
 closes_before number o is = subst (λ o. Closes number (stage_of o) (fault_text number OutOfPlace) ScriptFault) (sym is) (refl, refl)
 
-pub closes_abended : (number : ℕ) (o : Option Job) (job : Job) → o ≡ Some job → job.abended ≡ true → Closes number (stage_of o) (codes "STEP ENDED RC 8\n") SomeAbend
+pub closes_abended : (number : ℕ) (o : Option JobValue) (job : JobValue) → o ≡ Some job → job.abended ≡ true → Closes number (stage_of o) (codes "STEP ENDED RC 8\n") SomeAbend
 closes_abended number o job is b = subst (λ o. Closes number (stage_of o) (codes "STEP ENDED RC 8\n") SomeAbend) (sym is) (ap (λ b. cond b (codes "STEP ENDED RC 8\n") (codes "STEP ENDED RC 0\n")) (sym b), ap (λ b. cond b SomeAbend Clean) (sym b))
 
-pub closes_clean : (number : ℕ) (o : Option Job) (job : Job) → o ≡ Some job → job.abended ≡ false → Closes number (stage_of o) (codes "STEP ENDED RC 0\n") Clean
+pub closes_clean : (number : ℕ) (o : Option JobValue) (job : JobValue) → o ≡ Some job → job.abended ≡ false → Closes number (stage_of o) (codes "STEP ENDED RC 0\n") Clean
 closes_clean number o job is b = subst (λ o. Closes number (stage_of o) (codes "STEP ENDED RC 0\n") Clean) (sym is) (ap (λ b. cond b (codes "STEP ENDED RC 8\n") (codes "STEP ENDED RC 0\n")) (sym b), ap (λ b. cond b SomeAbend Clean) (sym b))

@@ -1,28 +1,36 @@
 -- Kinds of requests as they are written.
 use Rattle.std.specs.Prelude.{Bool, true, false, Option, Some, None}
-use Rattle.mvs_model.specs.Span.{Span, span}
+use Rattle.mvs_model.specs.Place.{PlaceValue, place_at}
 use Rattle.mvs_model.specs.declared.request.Request.{Request}
 use Rattle.mvs_model.specs.declared.request.Request.TheVariants as request
 use Rattle.mvs_model.specs.declared.request.Reply.{Reply}
 use Rattle.mvs_model.specs.declared.request.Reply.TheVariants.{Done}
-use Rattle.mvs_model.specs.declared.line.Asked.{Asked}
-use Rattle.mvs_model.specs.declared.line.Asked.TheVariants.{Obtain, ObtainList, Attach, Return, Abend, Release, ReleaseArea, ReleaseList, ReleaseWhole, Show, Put, Move}
+use Rattle.mvs_model.specs.declared.line.Written.{Written}
+use Rattle.mvs_model.specs.declared.line.Written.TheVariants.{Obtain, ObtainList, Build, Get, Free, Delete, Attach, Return, Abend, Release, ReleaseArea, ReleaseList, ReleaseWhole, Show, Put, Move}
 
 -- The request obtains storage.
-abbrev pub IsObtain : Asked → Type 0
+abbrev pub IsObtain : Written → Type 0
 IsObtain (Obtain form number ask variable area) = Unit {0}
 IsObtain (ObtainList form number lengths start areas) = Unit {0}
 IsObtain _ = ⊥
 
 -- The request begins or ends a task.
-abbrev pub IsOfTask : Asked → Type 0
+abbrev pub IsOfTask : Written → Type 0
 IsOfTask (Attach name gifts residence) = Unit {0}
 IsOfTask Return = Unit {0}
 IsOfTask (Abend code) = Unit {0}
 IsOfTask _ = ⊥
 
+-- The request is for a cell pool.
+abbrev pub IsOfPool : Written → Type 0
+IsOfPool (Build pool number size primary secondary loc) = Unit {0}
+IsOfPool (Get pool conditional cell) = Unit {0}
+IsOfPool (Free pool cell) = Unit {0}
+IsOfPool (Delete pool) = Unit {0}
+IsOfPool _ = ⊥
+
 -- The request releases storage.
-abbrev pub IsRelease : Asked → Type 0
+abbrev pub IsRelease : Written → Type 0
 IsRelease (Release form number location len) = Unit {0}
 IsRelease (ReleaseArea form number area) = Unit {0}
 IsRelease (ReleaseList form number locations lengths) = Unit {0}
@@ -30,18 +38,18 @@ IsRelease (ReleaseWhole form number) = Unit {0}
 IsRelease _ = ⊥
 
 -- The request reads or writes bytes.
-abbrev pub IsAccess : Asked → Type 0
+abbrev pub IsAccess : Written → Type 0
 IsAccess (Show from len) = Unit {0}
 IsAccess (Put to bytes) = Unit {0}
 IsAccess (Move to from len) = Unit {0}
 IsAccess _ = ⊥
 
 -- whether the request prints bytes
-abbrev pub shows : Asked → Bool
+abbrev pub shows : Written → Bool
 shows (Show from len) = true
 shows _ = false
 
 -- the place whose bytes are printed: that of SHOW, once it is done
-abbrev pub place_shown : Request → Reply → Option Span
-place_shown (request.Show from len) Done = Some (span from len)
+abbrev pub place_shown : Request → Reply → Option PlaceValue
+place_shown (request.Show from len) Done = Some (place_at from len)
 place_shown _ _ = None

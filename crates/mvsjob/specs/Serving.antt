@@ -5,19 +5,20 @@ use Rattle.std.specs.FinMap as map
 use Rattle.std.specs.Io.KnownBytes.{Appends, Keeps}
 use Rattle.mvs_model.specs.declared.line.Line.{Line}
 use Rattle.mvs_model.specs.declared.line.Fault.{Fault}
-use Rattle.mvs_model.specs.Span.{Span, span_code}
+use Rattle.mvs_model.specs.Place.{PlaceValue, place_code}
 use Rattle.mvs_model.specs.Name.{name_cmp, name_code}
 use Rattle.mvs_model.specs.State.{State, state_code}
-use Rattle.mvs_model.specs.Runs.{Job, Stage, Before, In, ServesRead, Faults}
+use Rattle.mvs_model.specs.Job.{JobValue}
+use Rattle.mvs_model.specs.Runs.{Stage, Before, In, ServesRead, Faults}
 use Rattle.mvsjob.specs.declared.job.Stop.{Stop}
 use Rattle.mvsjob.specs.Writing.{AppendsFront}
 
 -- a code, for a model's value
-abbrev pub job_code : Coded Job
-job_code = code_by (State × (map.FinMap name_cmp Span × Bool)) (coded× state_code (coded× (map.code name_code span_code) coded_bool)) (λ j. (j.state, (j.names, j.abended))) (λ p. record { state = p.0; names = p.1.0; abended = p.1.1 }) (λ _. refl)
+abbrev pub job_code : Coded JobValue
+job_code = code_by (State × (map.FinMap name_cmp PlaceValue × Bool)) (coded× state_code (coded× (map.code name_code place_code) coded_bool)) (λ j. (j.state, (j.names, j.abended))) (λ p. record { state = p.0; names = p.1.0; abended = p.1.1 }) (λ _. refl)
 
 -- how a job stands: before its step, or in it
-abbrev pub stage_of : Option Job → Stage
+abbrev pub stage_of : Option JobValue → Stage
 stage_of None = Before
 stage_of (Some job) = In job
 

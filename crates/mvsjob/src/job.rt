@@ -2,16 +2,18 @@
 
 ghost use Rattle.std.specs.Prelude.{◌≡◌, ◌≢◌, ◌<◌, ◌≤◌, ◌∷◌, ◌^◌, List, ℕ, length, slice_index, true, OnOk, OnErr, IsErrOf, MatchResult};
 ghost use Rattle.std.specs.Io.KnownBytes.{Appends};
-ghost use Rattle.mvs_model.specs.Runs.{Begins, Closes, In, IsPrinting, IsPrintingFront, IsStatement, Serves, first_job, is_before, lines_of};
+ghost use Rattle.mvs_model.specs.Card.{IsCard};
+ghost use Rattle.mvs_model.specs.Job.{first_job};
+ghost use Rattle.mvs_model.specs.Lines.{IsStatement, lines_of};
+ghost use Rattle.mvs_model.specs.Runs.{Begins, Closes, In, IsPrinting, IsPrintingFront, Serves, is_before};
 ghost use Rattle.mvs_model.specs.Texts.{region_text};
 ghost use Rattle.mvs_model.specs.declared.line.Line.TheVariants as line;
-ghost use Rattle.job_script.specs.Built.{IsBuiltStatement};
 ghost use Rattle.job_script.specs.Lines.{line_of};
 ghost use Rattle.mvsjob.specs.Serving.{Performs, RunsLine, stage_of};
 ghost use Rattle.mvsjob.specs.Writing.{AppendsFront};
 
 use crate::print::{print_fault, print_line, region_said, write_all};
-use crate::serve::Running;
+use crate::serve::Job;
 use job_script::read_line;
 use mvs_model::card::Card;
 use mvs_model::line::{Fault, Line, Statement};
@@ -42,6 +44,7 @@ fn card(task: &Name, statement: &Statement) -> Card
     requires { IsStatement true task.now statement.now }
     ensures begins { (number : ℕ) → Begins number task.now statement.now (region_text number result) (In (first_job result)) }
     ensures name { result.name ≡ task.now }
+    ensures in_range { IsCard result }
 {
     let Statement::Region {
         below,
@@ -60,7 +63,7 @@ fn card(task: &Name, statement: &Statement) -> Card
 
 // Begins the step of a REGION statement.
 fn begin<W: Write>(
-    stage: &mut Option<Running>,
+    stage: &mut Option<Job>,
     alloc: Global,
     placement: Placement,
     number: u32,
@@ -74,7 +77,7 @@ fn begin<W: Write>(
     ensures write { IsErrOf result Stop.Write → writer.new.failed ≡ true }
 {
     let card = card(task, statement);
-    let Ok(running) = Running::new(alloc, &card, placement) else {
+    let Ok(running) = Job::new(alloc, &card, placement) else {
         return Err(Stop::Memory);
     };
     *stage = Some(running);
@@ -85,7 +88,7 @@ fn begin<W: Write>(
 
 // Serves a statement of a task: before the step it begins the step.
 fn run_statement<W: Write>(
-    stage: &mut Option<Running>,
+    stage: &mut Option<Job>,
     alloc: Global,
     placement: Placement,
     number: u32,
@@ -93,8 +96,7 @@ fn run_statement<W: Write>(
     statement: &Statement,
     writer: &mut Watched<W>,
 ) -> Result<(), Stop>
-    requires in_range { IsStatement (is_before (stage_of stage.old)) task.now statement.now }
-    requires built { IsBuiltStatement statement.now }
+    requires { IsStatement (is_before (stage_of stage.old)) task.now statement.now }
     ensures served { Performs (Serves number (stage_of stage.old) (line.Statement task.now statement.now)) (W.contents writer.old.inner) (W.contents writer.new.inner) (stage_of stage.new) result }
     ensures ok { OnOk result (writer.new.failed ≡ writer.old.failed) }
     ensures write { IsErrOf result Stop.Write → writer.new.failed ≡ true }
@@ -107,7 +109,7 @@ fn run_statement<W: Write>(
 
 /// Runs one line, and answers whether the job goes on after it.
 fn run_line<W: Write>(
-    stage: &mut Option<Running>,
+    stage: &mut Option<Job>,
     alloc: Global,
     placement: Placement,
     number: u32,
@@ -167,7 +169,7 @@ fn next_line(text: &[u8]) -> (&[u8], &[u8])
 
 // Prints the end of a job that has no more lines, and answers how it ends.
 fn close<W: Write>(
-    stage: &Option<Running>,
+    stage: &Option<Job>,
     number: u32,
     writer: &mut Watched<W>,
 ) -> Result<Outcome, Failed>

@@ -21,13 +21,13 @@ pub struct Names {
 impl Model for Names {
     ghost use Rattle.std.specs.FinMap as map;
     ghost use Rattle.std.specs.Coded.{coded_ℕ};
-    ghost use Rattle.mvs_model.specs.Span.{Span, span_code};
+    ghost use Rattle.mvs_model.specs.Place.{PlaceValue, place_code};
     ghost use Rattle.mvs_model.specs.Name.{name_cmp, name_code};
     ghost use Rattle.mvsjob.specs.Areas.{AreAreas};
 
-    ghost Value = { map.FinMap name_cmp Span };
+    ghost Value = { map.FinMap name_cmp PlaceValue };
 
-    ghost coded = { map.code name_code span_code };
+    ghost coded = { map.code name_code place_code };
 
     ghost view = { λ n. map.from_entries n.places.entries };
 

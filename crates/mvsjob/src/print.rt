@@ -2,14 +2,16 @@
 
 ghost use Rattle.std.specs.Prelude.{◌≡◌, ◌<◌, ◌≤◌, ◌+◌, ◌*◌, ◌/◌, ◌++◌, length, true, false, OnOk, OnErr, codes, decimal};
 ghost use Rattle.std.specs.List.{flat_map};
-ghost use Rattle.mvs_model.specs.Texts.{reply_line, hex, code_text, abend_lines, data_lines, fault_number, fault_text};
+ghost use Rattle.mvs_model.specs.Texts.{reply_line, hex, code_text, abend_lines, data_lines, fault_number, fault_text, line_count};
 ghost use Rattle.mvs_model.specs.Name.{trimmed};
+ghost use Rattle.mvs_model.specs.Numbers.{line_bytes, most_shown};
 ghost use Rattle.mvsjob.specs.Writing.{WritesAll};
 
 use crate::text::Text;
 use mvs_model::code::Code;
 use mvs_model::line::Fault;
 use mvs_model::name::Name;
+use mvs_model::numbers::LINE_BYTES;
 use mvs_model::place::Addr;
 use mvs_model::watched::{Failed, Watched};
 use std::io::Write;
@@ -158,7 +160,7 @@ fn push_bytes(text: &mut Text, bytes: &[u8])
 
 // A line of bytes: the offset of the first one, and two digits for each.
 fn data_said(offset: u32, bytes: &[u8]) -> Text
-    requires { length bytes.now ≤ 32 }
+    requires { length bytes.now ≤ line_bytes }
     ensures text { result ≡ codes "DATA +" ++ hex 4 offset ++ codes " " ++ flat_map (hex 2) bytes.now }
     ensures short { length result ≤ 120 }
 {
@@ -170,24 +172,24 @@ fn data_said(offset: u32, bytes: &[u8]) -> Text
     text
 }
 
-/// Prints bytes, 32 in a line.
+/// Prints bytes, in lines of 32.
 pub fn print_data<W: Write>(
     writer: &mut Watched<W>,
     number: u32,
     task: &Name,
     bytes: &[u8],
 ) -> Result<(), Failed>
-    requires { length bytes.now ≤ 4096 }
-    ensures bytes { WritesAll (W.contents writer.old.inner) (W.contents writer.new.inner) result (data_lines number task.now ((length bytes.now + 31) / 32) 0 bytes.now) }
+    requires { length bytes.now ≤ most_shown }
+    ensures bytes { WritesAll (W.contents writer.old.inner) (W.contents writer.new.inner) result (data_lines number task.now (line_count (length bytes.now)) 0 bytes.now) }
     ensures ok { OnOk result (writer.new.failed ≡ writer.old.failed) }
     ensures err { OnErr result (writer.new.failed ≡ true) }
 {
     let mut offset = 0;
     let mut rest = bytes;
     'lines: while !rest.is_empty() {
-        let (line, more) = rest.split_at(rest.len().min(32));
+        let (line, more) = rest.split_at(rest.len().min(LINE_BYTES));
         print_line(writer, number, task, data_said(offset, line).as_slice())?;
-        offset += 32;
+        offset += LINE_BYTES as u32;
         rest = more;
     }
     Ok(())

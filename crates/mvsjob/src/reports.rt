@@ -1,7 +1,8 @@
 //! Prints the reports on subpools and pages, which are this project's own.
 
 ghost use Rattle.std.specs.Prelude.{◌≡◌, ◌<◌, ◌≤◌, ◌+◌, ◌++◌, length, true, OnOk, OnErr};
-ghost use Rattle.job_step.specs.Access.{IsBounded};
+ghost use Rattle.mvs_model.specs.View.{IsBounded};
+ghost use Rattle.mvs_model.specs.Numbers.{subpool_numbers};
 ghost use Rattle.mvs_model.specs.Owners.{entry};
 ghost use Rattle.mvs_model.specs.Reports.{each_below, entry_line, map_text, subpools_text};
 ghost use Rattle.mvsjob.specs.Reports.{holder_said, run_said, share_said, subpool_said};
@@ -11,6 +12,7 @@ use crate::print::print_line;
 use crate::text::Text;
 use job_step::Step;
 use mvs_model::name::Name;
+use mvs_model::numbers::BELOW_BEGINS;
 use mvs_model::place::Addr;
 use mvs_model::report::{MapRun, SubpoolLine};
 use mvs_model::subpool::SubNo;
@@ -52,7 +54,7 @@ fn print_numbers<W: Write>(
     task: &Name,
     step: &Step,
 ) -> Result<(), Failed>
-    ensures bytes { WritesAll (W.contents writer.old.inner) (W.contents writer.new.inner) result (each_below 128 (λ n. entry_line number step.now.state task.now n (entry step.now.state.owners task.now n))) }
+    ensures bytes { WritesAll (W.contents writer.old.inner) (W.contents writer.new.inner) result (each_below subpool_numbers (λ n. entry_line number step.now.state task.now n (entry step.now.state.owners task.now n))) }
     ensures ok { OnOk result (writer.new.failed ≡ writer.old.failed) }
     ensures err { OnErr result (writer.new.failed ≡ true) }
 {
@@ -125,7 +127,7 @@ pub fn print_map<W: Write>(
     ensures ok { OnOk result (writer.new.failed ≡ writer.old.failed) }
     ensures err { OnErr result (writer.new.failed ≡ true) }
 {
-    let mut from = Addr::new(0x6000);
+    let mut from = Addr::new(BELOW_BEGINS);
     'runs: while let Some(run) = step.map_run(from) {
         print_line(writer, number, task, run_said(&run).as_slice())?;
         from = Addr::new(run.addr.get() + run.len);

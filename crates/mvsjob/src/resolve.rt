@@ -2,18 +2,18 @@
 
 ghost use Rattle.std.specs.Prelude.{◌≡◌, ◌+◌, ◌≤◌, ◌++◌, None, Some, length, IfSome, OnOk, MatchBool};
 ghost use Rattle.std.specs.Option.{option_map};
-ghost use Rattle.job_script.specs.Built.{IsBuiltAsked};
 ghost use Rattle.std.specs.FinMap.{FinMap};
 ghost use Rattle.mvs_model.specs.Name.{name_cmp};
-ghost use Rattle.mvs_model.specs.Span.{Span};
-ghost use Rattle.mvs_model.specs.Runs.{address_of, all_set, names_set, places_in, places_of, resolved};
+ghost use Rattle.mvs_model.specs.Numbers.{most_shown};
+ghost use Rattle.mvs_model.specs.Place.{PlaceValue};
+ghost use Rattle.mvs_model.specs.Resolving.{address_of, all_set, names_set, places_in, places_of, resolved};
 ghost use Rattle.mvsjob.specs.Areas.{Fit};
-ghost use Rattle.mvsjob.specs.Resolving.{IsAccess, IsObtain, IsOfTask, IsRelease, place_shown};
+ghost use Rattle.mvsjob.specs.Resolving.{IsAccess, IsObtain, IsOfPool, IsOfTask, IsRelease, place_shown};
 
 use crate::names::Names;
 use mvs_model::bounded::Length;
 use mvs_model::error::OutOfMemory;
-use mvs_model::line::{Asked, Location, Locations};
+use mvs_model::line::{Location, Locations, Written};
 use mvs_model::name::Name;
 use mvs_model::place::{Addr, Place};
 use mvs_model::request::{Lengths, Places, Reply, Request};
@@ -91,13 +91,13 @@ fn places(names: &Names, locations: &Locations, lengths: &Lengths) -> Option<Pla
 }
 
 // The names that a request sets.
-fn names_set(asked: &Asked) -> &[Name]
-    ensures { result.now ≡ names_set asked.now }
+fn names_set(written: &Written) -> &[Name]
+    ensures { result.now ≡ names_set written.now }
 {
-    match asked {
-        Asked::Obtain { area, .. } => slice::from_ref(area),
-        Asked::ObtainList { areas, .. } => areas.as_slice(),
-        Asked::Get { cell, .. } => slice::from_ref(cell),
+    match written {
+        Written::Obtain { area, .. } => slice::from_ref(area),
+        Written::ObtainList { areas, .. } => areas.as_slice(),
+        Written::Get { cell, .. } => slice::from_ref(cell),
         _ => &[],
     }
 }
@@ -129,20 +129,20 @@ fn set_all(names: &mut Names, areas: &[Name], places: &[Place]) -> Result<(), Ou
 }
 
 /// Sets the names of a request to the places that its reply gives.
-pub fn set_names(names: &mut Names, asked: &Asked, reply: &Reply) -> Result<(), OutOfMemory>
-    requires { Fit (names_set asked.now) (places_in reply.now) }
-    ensures { OnOk result (names.new ≡ all_set names.old (names_set asked.now) (places_in reply.now)) }
+pub fn set_names(names: &mut Names, written: &Written, reply: &Reply) -> Result<(), OutOfMemory>
+    requires { Fit (names_set written.now) (places_in reply.now) }
+    ensures { OnOk result (names.new ≡ all_set names.old (names_set written.now) (places_in reply.now)) }
 {
-    set_all(names, names_set(asked), places_in(reply))
+    set_all(names, names_set(written), places_in(reply))
 }
 
 // A request that releases, where each name that it looks up is set.
-fn release_request(names: &Names, asked: &Asked) -> Option<Request>
-    requires { IsRelease asked.now }
-    ensures { result ≡ resolved names.now asked.now }
+fn release_request(names: &Names, written: &Written) -> Option<Request>
+    requires { IsRelease written.now }
+    ensures { result ≡ resolved names.now written.now }
 {
-    match asked {
-        Asked::Release {
+    match written {
+        Written::Release {
             form,
             number,
             location,
@@ -152,14 +152,14 @@ fn release_request(names: &Names, asked: &Asked) -> Option<Request>
             number: *number,
             place,
         }),
-        Asked::ReleaseArea { form, number, area } => {
+        Written::ReleaseArea { form, number, area } => {
             names.get(area).map(|place| Request::Release {
                 form: *form,
                 number: *number,
                 place,
             })
         }
-        Asked::ReleaseList {
+        Written::ReleaseList {
             form,
             number,
             locations,
@@ -169,7 +169,7 @@ fn release_request(names: &Names, asked: &Asked) -> Option<Request>
             number: *number,
             places,
         }),
-        Asked::ReleaseWhole { form, number } => Some(Request::ReleaseWhole {
+        Written::ReleaseWhole { form, number } => Some(Request::ReleaseWhole {
             form: *form,
             number: *number,
         }),
@@ -178,19 +178,19 @@ fn release_request(names: &Names, asked: &Asked) -> Option<Request>
 }
 
 // A request that reads or writes bytes, where each name that it looks up is set.
-fn access_request(names: &Names, asked: &Asked) -> Option<Request>
-    requires { IsAccess asked.now }
-    ensures { result ≡ resolved names.now asked.now }
+fn access_request(names: &Names, written: &Written) -> Option<Request>
+    requires { IsAccess written.now }
+    ensures { result ≡ resolved names.now written.now }
 {
-    match asked {
-        Asked::Show { from, len } => {
+    match written {
+        Written::Show { from, len } => {
             address(names, from).map(|from| Request::Show { from, len: *len })
         }
-        Asked::Put { to, bytes } => address(names, to).map(|to| Request::Put {
+        Written::Put { to, bytes } => address(names, to).map(|to| Request::Put {
             to,
             bytes: bytes.copied(),
         }),
-        Asked::Move { to, from, len } => {
+        Written::Move { to, from, len } => {
             let Some(to) = address(names, to) else {
                 return None;
             };
@@ -207,7 +207,7 @@ fn access_request(names: &Names, asked: &Asked) -> Option<Request>
 /// The place whose bytes a request prints: that of SHOW, once it is done.
 pub fn place_shown(request: &Request, reply: &Reply) -> Option<Place>
     ensures place { result ≡ place_shown request.now reply.now }
-    ensures short { IfSome result (λ p. p.len ≤ 4096) }
+    ensures short { IfSome result (λ p. p.len ≤ most_shown) }
 {
     match (request, reply) {
         (Request::Show { from, len }, Reply::Done) => Some(Place::new(*from, len.get())),
@@ -216,12 +216,12 @@ pub fn place_shown(request: &Request, reply: &Reply) -> Option<Place>
 }
 
 // A request that begins or ends a task.
-fn task_request(asked: &Asked) -> Request
-    requires { IsOfTask asked.now }
-    ensures { (names : FinMap name_cmp Span) → resolved names asked.now ≡ Some result }
+fn task_request(written: &Written) -> Request
+    requires { IsOfTask written.now }
+    ensures { (names : FinMap name_cmp PlaceValue) → resolved names written.now ≡ Some result }
 {
-    match asked {
-        Asked::Attach {
+    match written {
+        Written::Attach {
             name,
             gifts,
             residence,
@@ -230,19 +230,19 @@ fn task_request(asked: &Asked) -> Request
             gifts: *gifts,
             residence: *residence,
         },
-        Asked::Return => Request::Return,
-        Asked::Abend(code) => Request::Abend(*code),
+        Written::Return => Request::Return,
+        Written::Abend(code) => Request::Abend(*code),
         _ => unreachable!(),
     }
 }
 
 // A request that obtains storage.
-fn obtain_request(asked: &Asked) -> Request
-    requires { IsObtain asked.now }
-    ensures { (names : FinMap name_cmp Span) → resolved names asked.now ≡ Some result }
+fn obtain_request(written: &Written) -> Request
+    requires { IsObtain written.now }
+    ensures { (names : FinMap name_cmp PlaceValue) → resolved names written.now ≡ Some result }
 {
-    match asked {
-        Asked::Obtain {
+    match written {
+        Written::Obtain {
             form,
             number,
             ask,
@@ -252,7 +252,7 @@ fn obtain_request(asked: &Asked) -> Request
             number: *number,
             ask: *ask,
         },
-        Asked::ObtainList {
+        Written::ObtainList {
             form,
             number,
             lengths,
@@ -268,21 +268,60 @@ fn obtain_request(asked: &Asked) -> Request
     }
 }
 
-/// The request that is asked for, where each name that it looks up is set.
-pub fn resolve(names: &Names, asked: &Asked) -> Option<Request>
-    requires { IsBuiltAsked asked.now }
-    ensures { result ≡ resolved names.now asked.now }
+// A request for a cell pool, where the name that it looks up is set.
+fn pool_request(names: &Names, written: &Written) -> Option<Request>
+    requires { IsOfPool written.now }
+    ensures { result ≡ resolved names.now written.now }
 {
-    match asked {
-        Asked::Obtain { .. } | Asked::ObtainList { .. } => Some(obtain_request(asked)),
-        Asked::Release { .. }
-        | Asked::ReleaseArea { .. }
-        | Asked::ReleaseList { .. }
-        | Asked::ReleaseWhole { .. } => release_request(names, asked),
-        Asked::Show { .. } | Asked::Put { .. } | Asked::Move { .. } => {
-            access_request(names, asked)
+    match written {
+        Written::Build {
+            pool,
+            number,
+            size,
+            primary,
+            secondary,
+            loc,
+        } => Some(Request::Build {
+            pool: *pool,
+            number: *number,
+            size: *size,
+            primary: *primary,
+            secondary: *secondary,
+            loc: *loc,
+        }),
+        Written::Get {
+            pool,
+            conditional,
+            ..
+        } => Some(Request::Get {
+            pool: *pool,
+            conditional: *conditional,
+        }),
+        Written::Free { pool, cell } => {
+            address(names, cell).map(|cell| Request::Free { pool: *pool, cell })
         }
-        Asked::Attach { .. } | Asked::Return | Asked::Abend(_) => Some(task_request(asked)),
+        Written::Delete { pool } => Some(Request::Delete { pool: *pool }),
         _ => unreachable!(),
+    }
+}
+
+/// The request that is asked for, where each name that it looks up is set.
+pub fn resolve(names: &Names, written: &Written) -> Option<Request>
+    ensures { result ≡ resolved names.now written.now }
+{
+    match written {
+        Written::Obtain { .. } | Written::ObtainList { .. } => Some(obtain_request(written)),
+        Written::Release { .. }
+        | Written::ReleaseArea { .. }
+        | Written::ReleaseList { .. }
+        | Written::ReleaseWhole { .. } => release_request(names, written),
+        Written::Show { .. } | Written::Put { .. } | Written::Move { .. } => {
+            access_request(names, written)
+        }
+        Written::Build { .. }
+        | Written::Get { .. }
+        | Written::Free { .. }
+        | Written::Delete { .. } => pool_request(names, written),
+        Written::Attach { .. } | Written::Return | Written::Abend(_) => Some(task_request(written)),
     }
 }

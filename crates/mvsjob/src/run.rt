@@ -1,12 +1,16 @@
 //! The whole job, from a reader to a writer.
 
-ghost use Rattle.std.specs.Prelude.{◌≡◌, ◌<◌, ◌≤◌, ◌++◌, ◌⊎◌, List, ℕ, length, true, false, IfOk, IfErr, OnOk, IsErrOf, MatchResult};
+ghost use Rattle.std.specs.Prelude.{◌≡◌, ◌+◌, ◌<◌, ◌≤◌, ◌++◌, ◌⊎◌, List, ℕ, length, true, false, IfOk, IfErr, OnOk, IsErrOf, MatchResult};
 ghost use Rattle.std.specs.Io.KnownBytes.{Consumes, IsAtEnd};
 ghost use Rattle.mvs_model.specs.Runs.{IsPrinting, IsPrintingFront};
+ghost use Rattle.mvs_model.specs.Labels.{IsLabelText};
+ghost use Rattle.mvs_model.specs.Numbers.{most_script_bytes};
+ghost use Rattle.mvs_model.specs.Tidy.{Tidy, IsPrintingInFull};
 ghost use Rattle.job_script.specs.Lines.{line_of};
 ghost use Rattle.mvsjob.specs.Writing.{Exchanges};
 
 use crate::job::{Stop, run_script};
+use mvs_model::numbers::MOST_SCRIPT_BYTES;
 use mvs_model::outcome::Outcome;
 use mvs_model::want::Placement;
 use mvs_model::watched::Watched;
@@ -31,30 +35,29 @@ pub enum RunFault {
     ReadTooLong,
 }
 
-/// The most bytes that a script has. This project's choice.
-pub const MOST: usize = 16_777_215;
-
 /// How many bytes a read asks for at most.
 const CHUNK: usize = 65_536;
 
-// One read into the chunk, whose bytes are added to the script. It answers how many.
+// One read of at most so many bytes into the chunk, which are added to the script. It answers how many.
 fn read_chunk<R: Read>(
     reader: &mut Watched<R>,
     chunk: &mut [u8],
+    room: usize,
     script: &mut Vec<u8>,
 ) -> Result<usize, RunFault>
+    requires { room ≤ length chunk.old }
     ensures bytes { MatchResult result
         (λ count. (told : List ℕ) × Consumes (R.remaining reader.old.inner) (R.remaining reader.new.inner) told
         × (script.new.items ≡ script.old.items ++ told) × (length told ≡ count))
-        (λ _. (told : List ℕ) × Consumes (R.remaining reader.old.inner) (R.remaining reader.new.inner) told) }
-    ensures bound { IfOk result (λ count. count ≤ length chunk.new) }
-    ensures end { IfOk result (λ count. count ≡ 0 → 0 < length chunk.new → IsAtEnd (R.remaining reader.new.inner)) }
+        (λ _. (told : List ℕ) × Consumes (R.remaining reader.old.inner) (R.remaining reader.new.inner) told × (length told ≤ room)) }
+    ensures bound { IfOk result (λ count. count ≤ room) }
+    ensures end { IfOk result (λ count. count ≡ 0 → 0 < room → IsAtEnd (R.remaining reader.new.inner)) }
     ensures healthy { OnOk result (reader.new.failed ≡ reader.old.failed) }
     ensures read { IsErrOf result RunFault.Read → reader.new.failed ≡ true }
     ensures not_write { IsErrOf result RunFault.Write → ⊥ }
     ensures not_long { IsErrOf result RunFault.ReadTooLong → ⊥ }
 {
-    match reader.read(chunk) {
+    match reader.read(&mut chunk[..room]) {
         Ok(count) => match script.extend_from_slice(&chunk[..count]) {
             Ok(()) => Ok(count),
             Err(_) => Err(RunFault::Memory),
@@ -66,9 +69,9 @@ fn read_chunk<R: Read>(
 // All that the reader tells.
 fn read_script<R: Read>(alloc: Global, reader: &mut Watched<R>) -> Result<Vec<u8>, RunFault>
     ensures bytes { MatchResult result
-        (λ script. Consumes (R.remaining reader.old.inner) (R.remaining reader.new.inner) script.items × (length script.items ≤ MOST))
+        (λ script. Consumes (R.remaining reader.old.inner) (R.remaining reader.new.inner) script.items × (length script.items ≤ most_script_bytes))
         (λ fault. (told : List ℕ) × Consumes (R.remaining reader.old.inner) (R.remaining reader.new.inner) told
-        × (fault ≡ RunFault.ReadTooLong → MOST < length told)) }
+        × (length told ≤ most_script_bytes + 1) × (fault ≡ RunFault.ReadTooLong → most_script_bytes < length told)) }
     ensures end { OnOk result (IsAtEnd (R.remaining reader.new.inner)) }
     ensures healthy { OnOk result (reader.new.failed ≡ reader.old.failed) }
     ensures read { IsErrOf result RunFault.Read → reader.new.failed ≡ true }
@@ -76,9 +79,9 @@ fn read_script<R: Read>(alloc: Global, reader: &mut Watched<R>) -> Result<Vec<u8
 {
     let mut script = Vec::new(alloc);
     let mut chunk = [0u8; CHUNK];
-    'reading: while script.len() <= MOST {
-        let room = (MOST + 1 - script.len()).min(CHUNK);
-        let count = read_chunk(reader, &mut chunk[..room], &mut script)?;
+    'reading: while script.len() <= MOST_SCRIPT_BYTES {
+        let room = (MOST_SCRIPT_BYTES + 1 - script.len()).min(CHUNK);
+        let count = read_chunk(reader, &mut chunk, room, &mut script)?;
         if count == 0 {
             return Ok(script);
         }
@@ -86,7 +89,8 @@ fn read_script<R: Read>(alloc: Global, reader: &mut Watched<R>) -> Result<Vec<u8
     Err(RunFault::ReadTooLong)
 }
 
-/// Reads a script and runs it. It reads all the script, at most one byte more than the most, before it prints the first line.
+/// Reads a script and runs it: 16,777,215 bytes at most, and a byte more to see that there are too many. It reads all of it before it
+/// prints the first line.
 pub fn run_job<R: Read, W: Write>(
     alloc: Global,
     reader: &mut Watched<R>,
@@ -98,14 +102,19 @@ pub fn run_job<R: Read, W: Write>(
     // What is written is the printing of a run of what was read.
     ensures ok { IfOk result (λ outcome.
         Exchanges (R.remaining reader.old.inner) (R.remaining reader.new.inner) (W.contents writer.old.inner) (W.contents writer.new.inner)
-        (λ told written. IsPrinting line_of told written outcome)) }
+        (λ told written. (length told ≤ most_script_bytes) × IsPrinting line_of told written outcome)) }
+    // Where a tidy script was granted in full, it is what the label machine prints, wherever the areas lie.
+    ensures tidy { IfOk result (λ outcome.
+        Exchanges (R.remaining reader.old.inner) (R.remaining reader.new.inner) (W.contents writer.old.inner) (W.contents writer.new.inner)
+        (λ told written. IsPrinting line_of told written outcome × (Tidy line_of told → IsPrintingInFull line_of told written outcome → IsLabelText line_of told written))) }
     // All was read.
     ensures end { OnOk result (IsAtEnd (R.remaining reader.new.inner)) }
     ensures healthy { OnOk result ((reader.new.failed ≡ false) × (writer.new.failed ≡ false)) }
     // Else it is a front of such a printing.
     ensures fault { IfErr result (λ fault.
         Exchanges (R.remaining reader.old.inner) (R.remaining reader.new.inner) (W.contents writer.old.inner) (W.contents writer.new.inner)
-        (λ told written. IsPrintingFront line_of told written × (fault ≡ RunFault.ReadTooLong → MOST < length told))) }
+        (λ told written. (length told ≤ most_script_bytes + 1) × IsPrintingFront line_of told written
+        × (fault ≡ RunFault.ReadTooLong → most_script_bytes < length told))) }
     ensures read { IsErrOf result RunFault.Read → reader.new.failed ≡ true }
     ensures write { IsErrOf result RunFault.Write → writer.new.failed ≡ true }
 {

@@ -1,10 +1,15 @@
 //! Serves the statements of a step.
 
 ghost use Rattle.std.specs.Prelude.{◌≡◌, ◌+◌, ◌/◌, ◌≤◌, true, false, None, Some, IfOk, IfSome, OnOk, OnErr, IsErrOf};
-ghost use Rattle.job_script.specs.Built.{IsBuiltAsked, IsBuiltStatement};
+ghost use Rattle.mvs_model.specs.Card.{IsCard};
 ghost use Rattle.mvs_model.specs.Changes.{Granted};
-ghost use Rattle.mvs_model.specs.Runs.{Asks, Does, IsStatement, Job, bytes_at, first_job, where_text, reply_text, resolved};
-ghost use Rattle.mvs_model.specs.Texts.{data_lines, reply_line};
+ghost use Rattle.mvs_model.specs.Job.{JobValue, first_job};
+ghost use Rattle.mvs_model.specs.Lines.{IsStatement, IsWritten};
+ghost use Rattle.mvs_model.specs.Replies.{bytes_at, where_text, reply_text};
+ghost use Rattle.mvs_model.specs.Resolving.{resolved};
+ghost use Rattle.mvs_model.specs.Runs.{Asks, Does};
+ghost use Rattle.mvs_model.specs.Numbers.{most_shown};
+ghost use Rattle.mvs_model.specs.Texts.{data_lines, line_count, reply_line};
 ghost use Rattle.mvs_model.specs.declared.request.Reply.TheVariants.{Done};
 ghost use Rattle.mvsjob.specs.Resolving.{place_shown, shows};
 ghost use Rattle.mvsjob.specs.Serving.{Performs};
@@ -18,7 +23,7 @@ use crate::resolve::{place_shown, resolve, set_names};
 use job_step::Step;
 use mvs_model::card::Card;
 use mvs_model::error::OutOfMemory;
-use mvs_model::line::{Asked, Statement};
+use mvs_model::line::{Statement, Written};
 use mvs_model::name::Name;
 use mvs_model::place::Place;
 use mvs_model::request::{Reply, Request};
@@ -30,23 +35,23 @@ use std::marker::Model;
 
 /// A step with the names that it has set.
 #[derive(Drop)]
-pub struct Running {
+pub struct Job {
     step: Step,
     names: Names,
 }
 
-impl Model for Running {
-    ghost use Rattle.job_step.specs.Access.{IsBounded};
-    ghost use Rattle.mvs_model.specs.Runs.{Job};
+impl Model for Job {
+    ghost use Rattle.mvs_model.specs.Job.{JobValue};
     ghost use Rattle.mvsjob.specs.Serving.{job_code};
+    ghost use Rattle.mvsjob.specs.Steady.{IsSteady};
 
-    ghost Value = { Job };
+    ghost Value = { JobValue };
 
     ghost coded = { job_code };
 
     ghost view = { λ r. record { state = r.step.state; names = r.names; abended = r.step.abended } };
 
-    ghost invariant = { λ r. IsBounded r.step.state.regions };
+    ghost invariant = { λ r. IsSteady r.step.state };
 }
 
 // Prints the reply to a request, which printed no bytes.
@@ -54,17 +59,17 @@ fn print_reply<W: Write>(
     writer: &mut Watched<W>,
     number: u32,
     task: &Name,
-    asked: &Asked,
+    written: &Written,
     reply: &Reply,
 ) -> Result<(), Failed>
-    requires { reply.now ≡ Done → shows asked.now ≡ false }
-    ensures bytes { (old : Job) → WritesAll (W.contents writer.old.inner) (W.contents writer.new.inner) result (reply_text number task.now old asked.now reply.now) }
+    requires { reply.now ≡ Done → shows written.now ≡ false }
+    ensures bytes { (old : JobValue) → WritesAll (W.contents writer.old.inner) (W.contents writer.new.inner) result (reply_text number task.now old written.now reply.now) }
     ensures ok { OnOk result (writer.new.failed ≡ writer.old.failed) }
     ensures err { OnErr result (writer.new.failed ≡ true) }
 {
-    match (reply, asked) {
+    match (reply, written) {
         (Reply::NotRun, _) => print_line(writer, number, task, b"NOT RUN"),
-        (Reply::Granted(place), Asked::Obtain { variable: true, .. }) => {
+        (Reply::Granted(place), Written::Obtain { variable: true, .. }) => {
             print_line(writer, number, task, length_said(place.len()).as_slice())
         }
         (Reply::Rc0 | Reply::Granted(_) | Reply::Listed(_), _) => {
@@ -91,8 +96,8 @@ fn print_shown<W: Write>(
     place: Place,
 ) -> Result<(), Failed>
     requires granted { Granted step.now.state place }
-    requires short { place.len ≤ 4096 }
-    ensures bytes { WritesAll (W.contents writer.old.inner) (W.contents writer.new.inner) result (data_lines number task.now ((place.len + 31) / 32) 0 (bytes_at step.now.state place.addr place.len)) }
+    requires short { place.len ≤ most_shown }
+    ensures bytes { WritesAll (W.contents writer.old.inner) (W.contents writer.new.inner) result (data_lines number task.now (line_count place.len) 0 (bytes_at step.now.state place.addr place.len)) }
     ensures ok { OnOk result (writer.new.failed ≡ writer.old.failed) }
     ensures err { OnErr result (writer.new.failed ≡ true) }
 {
@@ -108,20 +113,20 @@ fn print_answer<W: Write>(
     number: u32,
     task: &Name,
     step: &Step,
-    asked: &Asked,
+    written: &Written,
     request: &Request,
     reply: &Reply,
 ) -> Result<(), Failed>
     requires granted { IfSome (place_shown request.now reply.now) (Granted step.now.state) }
-    requires quiet { place_shown request.now reply.now ≡ None → reply.now ≡ Done → shows asked.now ≡ false }
-    ensures bytes { (old : Job) → resolved old.names asked.now ≡ Some request.now → IfSome (place_shown request.now reply.now) (λ p. old.state ≡ step.now.state)
-        → WritesAll (W.contents writer.old.inner) (W.contents writer.new.inner) result (reply_text number task.now old asked.now reply.now) }
+    requires quiet { place_shown request.now reply.now ≡ None → reply.now ≡ Done → shows written.now ≡ false }
+    ensures bytes { (old : JobValue) → resolved old.names written.now ≡ Some request.now → IfSome (place_shown request.now reply.now) (λ p. old.state ≡ step.now.state)
+        → WritesAll (W.contents writer.old.inner) (W.contents writer.new.inner) result (reply_text number task.now old written.now reply.now) }
     ensures ok { OnOk result (writer.new.failed ≡ writer.old.failed) }
     ensures err { OnErr result (writer.new.failed ≡ true) }
 {
     match place_shown(request, reply) {
         Some(place) => print_shown(writer, number, task, step, place),
-        None => print_reply(writer, number, task, asked, reply),
+        None => print_reply(writer, number, task, written, reply),
     }
 }
 
@@ -142,13 +147,14 @@ fn print_where<W: Write>(
     }
 }
 
-impl Running {
+impl Job {
     /// A step at its start.
-    pub fn new(alloc: Global, card: &Card, placement: Placement) -> Result<Running, OutOfMemory>
+    pub fn new(alloc: Global, card: &Card, placement: Placement) -> Result<Job, OutOfMemory>
+        requires { IsCard card.now }
         ensures { IfOk result (λ job. job ≡ first_job card.now) }
     {
         let step = Step::new(alloc, card, placement)?;
-        Ok(Running {
+        Ok(Job {
             step,
             names: Names::new(alloc),
         })
@@ -166,23 +172,23 @@ impl Running {
         &mut self,
         number: u32,
         task: &Name,
-        asked: &Asked,
+        written: &Written,
         writer: &mut Watched<W>,
     ) -> Result<(), Stop>
-        requires { IsBuiltAsked asked.now }
-        ensures served { Performs (Asks number self.old task.now asked.now (resolved self.old.names asked.now)) (W.contents writer.old.inner) (W.contents writer.new.inner) self.new result }
+        requires { IsWritten written.now }
+        ensures served { Performs (Asks number self.old task.now written.now (resolved self.old.names written.now)) (W.contents writer.old.inner) (W.contents writer.new.inner) self.new result }
         ensures ok { OnOk result (writer.new.failed ≡ writer.old.failed) }
         ensures write { IsErrOf result Stop.Write → writer.new.failed ≡ true }
     {
-        let Some(request) = resolve(&self.names, asked) else {
+        let Some(request) = resolve(&self.names, written) else {
             print_line(writer, number, task, b"NO NAME")?;
             return Ok(());
         };
         let reply = self.step.request(task, &request);
-        let Ok(()) = set_names(&mut self.names, asked, &reply) else {
+        let Ok(()) = set_names(&mut self.names, written, &reply) else {
             return Err(Stop::Memory);
         };
-        print_answer(writer, number, task, &self.step, asked, &request, &reply)?;
+        print_answer(writer, number, task, &self.step, written, &request, &reply)?;
         Ok(())
     }
 
@@ -194,8 +200,7 @@ impl Running {
         statement: &Statement,
         writer: &mut Watched<W>,
     ) -> Result<(), Stop>
-        requires later { IsStatement false task.now statement.now }
-        requires built { IsBuiltStatement statement.now }
+        requires { IsStatement false task.now statement.now }
         ensures served { Performs (Does number self.old task.now statement.now) (W.contents writer.old.inner) (W.contents writer.new.inner) self.new result }
         ensures ok { OnOk result (writer.new.failed ≡ writer.old.failed) }
         ensures write { IsErrOf result Stop.Write → writer.new.failed ≡ true }
@@ -205,7 +210,7 @@ impl Running {
             return Ok(());
         }
         match statement {
-            Statement::Request(asked) => self.ask(number, task, asked, writer),
+            Statement::Request(written) => self.ask(number, task, written, writer),
             Statement::Where(name) => {
                 print_where(writer, number, task, self.names.get(name))?;
                 Ok(())

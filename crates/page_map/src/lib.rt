@@ -2,6 +2,7 @@
 #![tactic(auto)]
 
 ghost use Rattle.std.specs.Prelude.{◌≡◌, ◌<◌, ◌≤◌, Some, None, IfOk, length, slice_set, count_by, replicate};
+ghost use Rattle.mvs_model.specs.Numbers.{most_pages_above};
 ghost use Rattle.page_map.specs.Owners.{owner_of, is_of, is_usable};
 
 use mvs_model::error::OutOfMemory;
@@ -19,19 +20,20 @@ pub struct PageMap {
 }
 
 impl Model for PageMap {
+    ghost use Rattle.mvs_model.specs.Numbers.{most_pages_above};
     ghost use Rattle.std.specs.Prelude.{ℕ, List, Option, length, ◌≤◌};
 
     ghost Value = { List (Option ℕ) };
 
     ghost view = { λ m. m.owners.items };
 
-    ghost invariant = { λ m. length m.owners.items ≤ 8192 };
+    ghost invariant = { λ m. length m.owners.items ≤ most_pages_above };
 }
 
 impl PageMap {
     /// So many pages, none of them assigned. With no pages it takes no memory.
     pub fn new(alloc: Global, pages: usize) -> Result<PageMap, OutOfMemory>
-        requires { pages ≤ 8192 }
+        requires { pages ≤ most_pages_above }
         ensures { IfOk result (λ m. m ≡ replicate pages None) }
     {
         match vec![in alloc; None; pages] {
@@ -43,7 +45,7 @@ impl PageMap {
     /// How many pages there are.
     pub fn pages(&self) -> usize
         ensures pages { result ≡ length self.now }
-        ensures most { result ≤ 8192 }
+        ensures most { result ≤ most_pages_above }
     {
         self.owners.len()
     }

@@ -1,6 +1,12 @@
-pub mod Cases
-pub mod Listing
-pub mod Obtaining
-pub mod Places
-pub mod Releasing
-pub mod Split
+mod Accessing
+mod Building
+mod Bytes
+mod Cases
+mod Copying
+mod Listing
+mod Obtaining
+mod Places
+mod Pooling
+mod Releasing
+mod Reporting
+mod Split

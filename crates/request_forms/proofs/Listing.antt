@@ -2,24 +2,27 @@
 use Rattle.std.proofs.Common.{◌≡◌, ℕ, ◌<◌, ◌≤◌, inl, inr, Bool, true, false, cond, List, [], ◌∷◌, ◌++◌, length, Option, Some, None, Ok, Err, refl, sym, ap, ◌∙◌, subst, append_assoc, arith}
 use Rattle.std.specs.Prelude.{MatchOption, ◌&&◌, ◌==◌}
 use Rattle.std.proofs.lemmas.Bool.Decides.{nat_tests}
-use Rattle.std.specs.FinMap.{get}
+use Rattle.std.specs.FinMap.{FinMap, get}
 use Rattle.mvs_model.specs.declared.name.Name.{Name}
 use Rattle.mvs_model.specs.declared.code.Form.{Form}
 use Rattle.mvs_model.specs.declared.want.Side.TheVariants.{Below}
 use Rattle.mvs_model.specs.declared.request.Reply.TheVariants.{Rc4}
-use Rattle.mvs_model.specs.Name.{same_name}
-use Rattle.mvs_model.specs.Span.{Span}
-use Rattle.mvs_model.specs.Wanted.{Wanted, fixed_want}
+use Rattle.mvs_model.specs.Name.{name_cmp, same_name}
+use Rattle.mvs_model.specs.Place.{PlaceValue}
+use Rattle.mvs_model.specs.Want.{WantValue, fixed_want}
 use Rattle.mvs_model.specs.Storage.{Storage, IsStorage, Grant, Release}
 use Rattle.mvs_model.specs.Owners.{Owners, entry, IsSpare, Binds}
 use Rattle.mvs_model.specs.State.{State}
-use Rattle.mvs_model.specs.View.{seen}
 use Rattle.mvs_model.specs.Codes.{family, is_conditional, short, bad_subpool}
 use Rattle.mvs_model.specs.Changes.{ListGrant, ListShort}
 use Rattle.mvs_model.specs.Steps.{Fails, is_invalid, ObtainListStep}
 use Rattle.mvs_model.proofs.Orders.{same_name_self}
 use Rattle.mvs_model.proofs.Owning.{enters_some}
-use Rattle.mvs_model.proofs.Seen.{no_place_seen, grant_seen}
+use Rattle.mvs_model.proofs.Seen.{no_place_seen}
+use Rattle.cell_pool.specs.Agree.{Agree}
+use Rattle.cell_pool.specs.Roots.{Root, pools_of}
+use Rattle.request_forms.specs.Machine.{machine_state}
+use Rattle.request_forms.proofs.Pooling.{granted, grant_agrees, grants_agree}
 use Rattle.mvs_model.proofs.StorageLaws.{taken_back}
 use Rattle.request_forms.specs.Answers.{Answers}
 use Rattle.request_forms.specs.Lists.{GrantsEach, ShortEach, list_wants}
@@ -27,32 +30,18 @@ use Rattle.request_forms.proofs.Cases.{not_valid, is_valid, yes_match, no_match}
 use Rattle.request_forms.proofs.Obtaining.{its_subpool, new_subpool, stays_entered, now_entered}
 
 -- the first member granted, and then the others
-pub first_granted : (st mid new : Storage) (s start n : ℕ) (rest lengths : List ℕ) (p : Span) (done ps : List Span) → lengths ≡ n ∷ rest → IsStorage mid → Grant st s (fixed_want n start Below) p mid
-    → (more : List Span) × (ps ≡ (done ++ p ∷ []) ++ more) × GrantsEach mid s (list_wants rest start) more new
-    → (more : List Span) × (ps ≡ done ++ more) × GrantsEach st s (list_wants lengths start) more new
+pub first_granted : (st mid new : Storage) (s start n : ℕ) (rest lengths : List ℕ) (p : PlaceValue) (done ps : List PlaceValue) → lengths ≡ n ∷ rest → IsStorage mid → Grant st s (fixed_want n start Below) p mid
+    → (more : List PlaceValue) × (ps ≡ (done ++ p ∷ []) ++ more) × GrantsEach mid s (list_wants rest start) more new
+    → (more : List PlaceValue) × (ps ≡ done ++ more) × GrantsEach st s (list_wants lengths start) more new
 first_granted st mid new s start n rest lengths p done ps e is g h =
-    subst (λ l. (more : List Span) × (ps ≡ done ++ more) × GrantsEach st s (list_wants l start) more new) (sym e)
+    subst (λ l. (more : List PlaceValue) × (ps ≡ done ++ more) × GrantsEach st s (list_wants l start) more new) (sym e)
     (p ∷ h.0, h.1 ∙ append_assoc done (p ∷ []) h.0, (mid, is, g, h.2))
 
 -- the first member granted, and taken back where the others are short
-pub first_taken_back : (st mid new : Storage) (s start n : ℕ) (rest lengths : List ℕ) (p : Span) → lengths ≡ n ∷ rest → IsStorage st → IsStorage mid → Grant st s (fixed_want n start Below) p mid
+pub first_taken_back : (st mid new : Storage) (s start n : ℕ) (rest lengths : List ℕ) (p : PlaceValue) → lengths ≡ n ∷ rest → IsStorage st → IsStorage mid → Grant st s (fixed_want n start Below) p mid
     → ShortEach mid s (list_wants rest start) → Release mid s p new → ShortEach st s (list_wants lengths start) × (new ≡ st)
 first_taken_back st mid new s start n rest lengths p e is after g h r =
     (subst (λ l. ShortEach st s (list_wants l start)) (sym e) (inr (p, mid, after, g, h)), taken_back st mid new s _ p is g r)
-
--- grants of a subpool that the task has
-each_granted : (st new : Storage) (o : Owners) (t : Name) (number s : ℕ) (wants : List Wanted) (ps : List Span) → IsStorage st → IsStorage new → entry o t number ≡ Some s → GrantsEach st s wants ps new → ListGrant (seen st o) t number wants ps (seen new o)
-each_granted st new o t number s [] [] is now e h = ap (λ x. seen x o) h
-each_granted st new o t number s [] (p ∷ ps) is now e h = h
-each_granted st new o t number s (want ∷ wants) [] is now e h = h
-each_granted st new o t number s (want ∷ wants) (p ∷ ps) is now e h =
-    (seen h.0 o, grant_seen st h.0 o o t number s want p is h.1 (its_subpool o t number s e) (stays_entered o t number s e) h.2, each_granted h.0 new o t number s wants ps h.1 now e h.3)
-
-each_short : (st : Storage) (o : Owners) (t : Name) (number s : ℕ) (wants : List Wanted) → IsStorage st → entry o t number ≡ Some s → ShortEach st s wants → ListShort (seen st o) t number wants
-each_short st o t number s [] is e h = h
-each_short st o t number s (want ∷ wants) is e (inl none) = inl (s, its_subpool o t number s e, no_place_seen st o s want is none)
-each_short st o t number s (want ∷ wants) is e (inr h) =
-    inr (h.0, seen h.1 o, grant_seen st h.1 o o t number s want h.0 is h.2 (its_subpool o t number s e) (stays_entered o t number s e) h.3, each_short h.1 o t number s wants h.2 e h.4)
 
 -- what is bound is entered
 bound_entry : (o after : Owners) (t : Name) (number s : ℕ) → Binds o t number s after → entry after t number ≡ Some s
@@ -62,54 +51,90 @@ bound_entry o after t number s b = b.table (t, number) ∙ at (same_name t t) (n
   at true false e f = absurd (let g : false ≡ true = f in cc)
   at false b e f = absurd (let g : false ≡ true = e in cc)
 
--- grants of a subpool that the task has from the first one on
-areas_of_new : (st new : Storage) (o after : Owners) (t : Name) (number s : ℕ) (wants : List Wanted) (ps : List Span) → IsStorage st → IsStorage new → 1 ≤ length wants → entry o t number ≡ None → IsSpare o s → Binds o t number s after
-    → GrantsEach st s wants ps new → ListGrant (seen st o) t number wants ps (seen new after)
-areas_of_new st new o after t number s [] ps is now some e spare b h = absurd (omega arith)
-areas_of_new st new o after t number s (want ∷ wants) [] is now some e spare b h = h
-areas_of_new st new o after t number s (want ∷ wants) (p ∷ ps) is now some e spare b h =
-    (seen h.0 after, grant_seen st h.0 o after t number s want p is h.1 (new_subpool o t number s e spare) (now_entered o t number s after e b) h.2, each_granted h.0 new after t number s wants ps h.1 now (bound_entry o after t number s b) h.3)
-
 -- the subpool that a task would have
 bound_some : (o : Owners) (t : Name) (number s : ℕ) → entry o t number ≡ None → (after : Owners) × Binds o t number s after
 bound_some o t number s e = let h = enters_some o t number s in (h.0, subst (λ v. MatchOption v (Binds o t number s h.0) (λ _. h.0 ≡ o)) e h.1)
 
-areas_short_of_new : (st : Storage) (o : Owners) (t : Name) (number s : ℕ) (wants : List Wanted) → IsStorage st → entry o t number ≡ None → IsSpare o s → ShortEach st s wants → ListShort (seen st o) t number wants
-areas_short_of_new st o t number s [] is e spare h = h
-areas_short_of_new st o t number s (want ∷ wants) is e spare (inl none) = inl (s, new_subpool o t number s e spare, no_place_seen st o s want is none)
-areas_short_of_new st o t number s (want ∷ wants) is e spare (inr h) =
-    let b = bound_some o t number s e in
-    inr (h.0, seen h.1 b.0, grant_seen st h.1 o b.0 t number s want h.0 is h.2 (new_subpool o t number s e spare) (now_entered o t number s b.0 e b.1) h.3, each_short h.1 b.0 t number s wants h.2 (bound_entry o b.0 t number s b.1) h.4)
+module _ (roots : FinMap name_cmp Root) where
+  -- grants of a subpool that the task has
+  each_granted : (st new : Storage) (o : Owners) (t : Name) (number s : ℕ) (wants : List WantValue) (ps : List PlaceValue) → Agree roots st → entry o t number ≡ Some s → GrantsEach st s wants ps new
+      → ListGrant (machine_state roots st o) t number wants ps (machine_state roots new o)
+  each_granted st new o t number s [] [] agree e h = ap (λ x. machine_state roots x o) h
+  each_granted st new o t number s [] (p ∷ ps) agree e h = h
+  each_granted st new o t number s (want ∷ wants) [] agree e h = h
+  each_granted st new o t number s (want ∷ wants) (p ∷ ps) agree e h = (
+    machine_state roots h.0 o,
+    granted roots st h.0 o o t number s want p agree h.1 (its_subpool o t number s e) (stays_entered o t number s e) h.2,
+    each_granted h.0 new o t number s wants ps (grant_agrees roots st h.0 s want p agree h.1 h.2).0 e h.3,
+  )
 
--- areas of a subpool that the task has
-pub areas_of : {D : Type 0} (d : D) (st new : Storage) (o : Owners) (t : Name) (number s start : ℕ) (items lengths : List ℕ) (r : Option (List Span)) → IsStorage st → IsStorage new → items ≡ lengths → entry o t number ≡ Some s
-    → MatchOption r (ShortEach st s (list_wants items start) × (new ≡ st)) (λ ps. (more : List Span) × (ps ≡ [] ++ more) × GrantsEach st s (list_wants items start) more new)
-    → MatchOption r (ListShort (seen st o) t number (list_wants lengths start) × (new ≡ st) × (d ≡ d)) (λ ps. ListGrant (seen st o) t number (list_wants lengths start) ps (seen new o))
-areas_of d st new o t number s start items lengths r is now same e h =
-    subst (λ l. MatchOption r (ListShort (seen st o) t number (list_wants l start) × (new ≡ st) × (d ≡ d)) (λ ps. ListGrant (seen st o) t number (list_wants l start) ps (seen new o))) same (at r h) where
-      at : (r : Option (List Span)) → MatchOption r (ShortEach st s (list_wants items start) × (new ≡ st)) (λ ps. (more : List Span) × (ps ≡ [] ++ more) × GrantsEach st s (list_wants items start) more new)
-          → MatchOption r (ListShort (seen st o) t number (list_wants items start) × (new ≡ st) × (d ≡ d)) (λ ps. ListGrant (seen st o) t number (list_wants items start) ps (seen new o))
-      at None g = (each_short st o t number s (list_wants items start) is e g.0, g.1, refl)
-      at (Some ps) g = subst (λ l. ListGrant (seen st o) t number (list_wants items start) l (seen new o)) (sym g.1) (each_granted st new o t number s (list_wants items start) g.0 is now e g.2)
+  each_short : (st : Storage) (o : Owners) (t : Name) (number s : ℕ) (wants : List WantValue) → Agree roots st → entry o t number ≡ Some s → ShortEach st s wants → ListShort (machine_state roots st o) t number wants
+  each_short st o t number s [] agree e h = h
+  each_short st o t number s (want ∷ wants) agree e (inl none) = inl (s, its_subpool o t number s e, no_place_seen st o (pools_of roots st) s want agree.parts.storage none)
+  each_short st o t number s (want ∷ wants) agree e (inr h) = inr (
+    h.0,
+    machine_state roots h.1 o,
+    granted roots st h.1 o o t number s want h.0 agree h.2 (its_subpool o t number s e) (stays_entered o t number s e) h.3,
+    each_short h.1 o t number s wants (grant_agrees roots st h.1 s want h.0 agree h.2 h.3).0 e h.4,
+  )
 
--- areas of a subpool that the task now gets
-pub new_areas : (st new : Storage) (o after : Owners) (t : Name) (number s start : ℕ) (items lengths : List ℕ) (ps : List Span) → IsStorage st → IsStorage new → items ≡ lengths → 1 ≤ length items → entry o t number ≡ None → IsSpare o s → Binds o t number s after
-    → (more : List Span) × (ps ≡ [] ++ more) × GrantsEach st s (list_wants items start) more new → ListGrant (seen st o) t number (list_wants lengths start) ps (seen new after)
-new_areas st new o after t number s start items lengths ps is now same some e spare b h =
-    subst (λ l. ListGrant (seen st o) t number (list_wants l start) ps (seen new after)) same
-    (subst (λ l. ListGrant (seen st o) t number (list_wants items start) l (seen new after)) (sym h.1)
-    (areas_of_new st new o after t number s (list_wants items start) h.0 is now (at items some) e spare b h.2)) where
-      at : (xs : List ℕ) → 1 ≤ length xs → 1 ≤ length (list_wants xs start)
-      at [] l = absurd (omega arith)
-      at (x ∷ xs) l = omega arith
+  -- grants of a subpool that the task has from the first one on
+  areas_of_new : (st new : Storage) (o after : Owners) (t : Name) (number s : ℕ) (wants : List WantValue) (ps : List PlaceValue) → Agree roots st → 1 ≤ length wants → entry o t number ≡ None → IsSpare o s → Binds o t number s after
+      → GrantsEach st s wants ps new → ListGrant (machine_state roots st o) t number wants ps (machine_state roots new after)
+  areas_of_new st new o after t number s [] ps agree some e spare b h = absurd (omega arith)
+  areas_of_new st new o after t number s (want ∷ wants) [] agree some e spare b h = h
+  areas_of_new st new o after t number s (want ∷ wants) (p ∷ ps) agree some e spare b h = (
+    machine_state roots h.0 after,
+    granted roots st h.0 o after t number s want p agree h.1 (new_subpool o t number s e spare) (now_entered o t number s after e b) h.2,
+    each_granted h.0 new after t number s wants ps (grant_agrees roots st h.0 s want p agree h.1 h.2).0 (bound_entry o after t number s b) h.3,
+  )
 
--- shortage in a subpool that the task would get
-pub new_short : (st : Storage) (o : Owners) (t : Name) (number s start : ℕ) (items lengths : List ℕ) → IsStorage st → items ≡ lengths → entry o t number ≡ None → IsSpare o s → ShortEach st s (list_wants items start) → ListShort (seen st o) t number (list_wants lengths start)
-new_short st o t number s start items lengths is same e spare h =
-    subst (λ l. ListShort (seen st o) t number (list_wants l start)) same (areas_short_of_new st o t number s (list_wants items start) is e spare h)
+  areas_short_of_new : (st : Storage) (o : Owners) (t : Name) (number s : ℕ) (wants : List WantValue) → Agree roots st → entry o t number ≡ None → IsSpare o s → ShortEach st s wants → ListShort (machine_state roots st o) t number wants
+  areas_short_of_new st o t number s [] agree e spare h = h
+  areas_short_of_new st o t number s (want ∷ wants) agree e spare (inl none) = inl (s, new_subpool o t number s e spare, no_place_seen st o (pools_of roots st) s want agree.parts.storage none)
+  areas_short_of_new st o t number s (want ∷ wants) agree e spare (inr h) =
+      let b = bound_some o t number s e in inr (
+        h.0,
+        machine_state roots h.1 b.0,
+        granted roots st h.1 o b.0 t number s want h.0 agree h.2 (new_subpool o t number s e spare) (now_entered o t number s b.0 e b.1) h.3,
+        each_short h.1 b.0 t number s wants (grant_agrees roots st h.1 s want h.0 agree h.2 h.3).0 (bound_entry o b.0 t number s b.1) h.4,
+      )
+
+  -- areas of a subpool that the task has
+  pub areas_of : (st new : Storage) (o : Owners) (t : Name) (number s start : ℕ) (items lengths : List ℕ) (r : Option (List PlaceValue)) → Agree roots st → items ≡ lengths → entry o t number ≡ Some s
+      → MatchOption r (ShortEach st s (list_wants items start) × (new ≡ st)) (λ ps. (more : List PlaceValue) × (ps ≡ [] ++ more) × GrantsEach st s (list_wants items start) more new)
+      → MatchOption r (ListShort (machine_state roots st o) t number (list_wants lengths start) × (machine_state roots new o ≡ machine_state roots st o)) (λ ps. ListGrant (machine_state roots st o) t number (list_wants lengths start) ps (machine_state roots new o))
+  areas_of st new o t number s start items lengths r agree same e h =
+      subst (λ l. MatchOption r (ListShort (machine_state roots st o) t number (list_wants l start) × (machine_state roots new o ≡ machine_state roots st o)) (λ ps. ListGrant (machine_state roots st o) t number (list_wants l start) ps (machine_state roots new o))) same (at r h) where
+        at : (r : Option (List PlaceValue)) → MatchOption r (ShortEach st s (list_wants items start) × (new ≡ st)) (λ ps. (more : List PlaceValue) × (ps ≡ [] ++ more) × GrantsEach st s (list_wants items start) more new)
+            → MatchOption r (ListShort (machine_state roots st o) t number (list_wants items start) × (machine_state roots new o ≡ machine_state roots st o)) (λ ps. ListGrant (machine_state roots st o) t number (list_wants items start) ps (machine_state roots new o))
+        at None g = (each_short st o t number s (list_wants items start) agree e g.0, ap (λ x. machine_state roots x o) g.1)
+        at (Some ps) g = subst (λ l. ListGrant (machine_state roots st o) t number (list_wants items start) l (machine_state roots new o)) (sym g.1) (each_granted st new o t number s (list_wants items start) g.0 agree e g.2)
+
+  -- then the pools are as they were
+  pub areas_agree : (st new : Storage) (s start : ℕ) (items : List ℕ) (r : Option (List PlaceValue)) → Agree roots st
+      → MatchOption r (ShortEach st s (list_wants items start) × (new ≡ st)) (λ ps. (more : List PlaceValue) × (ps ≡ [] ++ more) × GrantsEach st s (list_wants items start) more new) → Agree roots new
+  areas_agree st new s start items None agree h = subst (Agree roots) (sym h.1) agree
+  areas_agree st new s start items (Some ps) agree h = grants_agree roots st new s (list_wants items start) h.0 agree h.2
+
+  -- areas of a subpool that the task would have
+  pub new_areas : (st new : Storage) (o after : Owners) (t : Name) (number s start : ℕ) (items lengths : List ℕ) (ps : List PlaceValue) → Agree roots st → items ≡ lengths → 1 ≤ length items → entry o t number ≡ None → IsSpare o s → Binds o t number s after
+      → (more : List PlaceValue) × (ps ≡ [] ++ more) × GrantsEach st s (list_wants items start) more new → ListGrant (machine_state roots st o) t number (list_wants lengths start) ps (machine_state roots new after)
+  new_areas st new o after t number s start items lengths ps agree same some e spare b h =
+      subst (λ l. ListGrant (machine_state roots st o) t number (list_wants l start) ps (machine_state roots new after)) same
+      (subst (λ l. ListGrant (machine_state roots st o) t number (list_wants items start) l (machine_state roots new after)) (sym h.1)
+      (areas_of_new st new o after t number s (list_wants items start) h.0 agree (at items some) e spare b h.2)) where
+        at : (xs : List ℕ) → 1 ≤ length xs → 1 ≤ length (list_wants xs start)
+        at [] l = absurd (omega arith)
+        at (x ∷ xs) l = omega arith
+
+  -- shortage in a subpool that the task would get
+  pub new_short : (st : Storage) (o : Owners) (t : Name) (number s start : ℕ) (items lengths : List ℕ) → Agree roots st → items ≡ lengths → entry o t number ≡ None → IsSpare o s → ShortEach st s (list_wants items start) → ListShort (machine_state roots st o) t number (list_wants lengths start)
+  new_short st o t number s start items lengths agree same e spare h =
+      subst (λ l. ListShort (machine_state roots st o) t number (list_wants l start)) same (areas_short_of_new st o t number s (list_wants items start) agree e spare h)
 
 -- the answers of a list
-module _ (old : State) (t : Name) (form : Form) (number : ℕ) (wants : List Wanted) where
+module _ (old : State) (t : Name) (form : Form) (number : ℕ) (wants : List WantValue) where
   pub invalid_list : (number < 128 → ⊥) → Answers (ObtainListStep old t form number wants) old t (Err (bad_subpool (family form) true)) old
   invalid_list h = (refl, λ reply ended a. yes_match _ (is_invalid number) (not_valid number h) a)
 

@@ -6,19 +6,24 @@ use Rattle.std.proofs.lemmas.Bool.Decides.{nat_tests}
 use Rattle.mvs_model.specs.declared.name.Name.{Name}
 use Rattle.mvs_model.specs.declared.code.Form.{Form}
 use Rattle.mvs_model.specs.declared.request.Reply.TheVariants.{Rc0, Rc4}
-use Rattle.mvs_model.specs.Span.{Span}
+use Rattle.mvs_model.specs.Place.{PlaceValue}
 use Rattle.mvs_model.specs.Storage.{Storage, IsStorage, ReleaseAll}
 use Rattle.mvs_model.specs.Owners.{Owners, entry}
 use Rattle.mvs_model.specs.State.{State}
-use Rattle.mvs_model.specs.View.{seen}
+use Rattle.std.specs.FinMap.{FinMap, get}
+use Rattle.mvs_model.specs.Name.{name_cmp}
+use Rattle.mvs_model.specs.Finite.{Keeps}
+use Rattle.cell_pool.specs.Agree.{Agree}
+use Rattle.cell_pool.specs.Roots.{Root}
+use Rattle.request_forms.specs.Machine.{machine_state}
 use Rattle.mvs_model.specs.Codes.{family, is_conditional, bad_subpool, bad_address, not_held}
 use Rattle.mvs_model.specs.Steps.{Fails, is_invalid, whole, on_doubleword, MayRelease, ReleaseStep, EmptiesEntry, ReleaseWholeStep}
-use Rattle.mvs_model.proofs.SeenRelease.{release_all_seen}
+use Rattle.request_forms.proofs.Pooling.{emptied}
 use Rattle.request_forms.specs.Answers.{Answers}
 use Rattle.request_forms.proofs.Cases.{not_valid, is_valid, yes_match, no_match}
 
 -- the answers of a release, in the order of the causes
-module _ (old : State) (t : Name) (form : Form) (number : ℕ) (ps : List Span) where
+module _ (old : State) (t : Name) (form : Form) (number : ℕ) (ps : List PlaceValue) where
   pub invalid_release : (number < 128 → ⊥) → Answers (ReleaseStep old t form number ps) old t (Err (bad_subpool (family form) false)) old
   invalid_release h = (refl, λ reply ended a. yes_match _ (is_invalid number) (not_valid number h) a)
 
@@ -48,9 +53,10 @@ module _ (old : State) (t : Name) (form : Form) (number : ℕ) where
       → Answers (ReleaseWholeStep old t form number) old t (Ok Rc0) new
   done_whole new s l e is empties = no_match _ (is_invalid number) (is_valid number l) (no_match _ (number == 0) e (refl, subst (λ v. EmptiesEntry old v new) is empties))
 
--- what the task's subpool held is released
-pub emptied_entry : (st new : Storage) (o : Owners) (s : ℕ) (v : Option ℕ) → IsStorage st → IsStorage new → v ≡ Some s → ReleaseAll st s new → EmptiesEntry (seen st o) v (seen new o)
-emptied_entry st new o s v is now e r = subst (λ w. EmptiesEntry (seen st o) w (seen new o)) (sym e) (release_all_seen st new o s is now r)
+-- what the task's subpool held is released, with its pools
+pub emptied_entry : (roots fewer : FinMap name_cmp Root) (st new : Storage) (o : Owners) (s : ℕ) (v : Option ℕ) → Agree roots st → IsStorage new → v ≡ Some s → Keeps (get roots) (λ _ r. not (r.subpool == s)) (get fewer) → ReleaseAll st s new
+    → EmptiesEntry (machine_state roots st o) v (machine_state fewer new o)
+emptied_entry roots fewer st new o s v agree now e gone r = subst (λ w. EmptiesEntry (machine_state roots st o) w (machine_state fewer new o)) (sym e) (emptied roots fewer st new s agree now gone r o)
 
-pub no_entry : (st : Storage) (o : Owners) (v : Option ℕ) → v ≡ None → EmptiesEntry (seen st o) v (seen st o)
-no_entry st o v e = subst (λ w. EmptiesEntry (seen st o) w (seen st o)) (sym e) refl
+pub no_entry : (roots : FinMap name_cmp Root) (st : Storage) (o : Owners) (v : Option ℕ) → v ≡ None → EmptiesEntry (machine_state roots st o) v (machine_state roots st o)
+no_entry roots st o v e = subst (λ w. EmptiesEntry (machine_state roots st o) w (machine_state roots st o)) (sym e) refl

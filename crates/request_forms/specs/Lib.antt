@@ -1,2 +1,5 @@
+pub mod Access
 pub mod Answers
 pub mod Lists
+pub mod Machine
+pub mod Reports

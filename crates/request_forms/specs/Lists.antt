@@ -1,41 +1,41 @@
 -- What a list request obtains from a store and releases.
 use Rattle.std.specs.Prelude.{◌≡◌, ◌⊎◌, ℕ, List, [], ◌∷◌, map, Option, Some, None}
 use Rattle.mvs_model.specs.declared.want.Side.TheVariants.{Below}
-use Rattle.mvs_model.specs.Span.{Span}
-use Rattle.mvs_model.specs.Wanted.{Wanted, fixed_want}
+use Rattle.mvs_model.specs.Place.{PlaceValue}
+use Rattle.mvs_model.specs.Want.{WantValue, fixed_want}
 use Rattle.mvs_model.specs.Changes.{Disjoint}
 use Rattle.std.specs.List.{AllByRecursion}
 use Rattle.mvs_model.specs.Storage.{Storage, IsStorage, holder, HeldBy, NoPlace, Grant, Release}
 
 -- what is wanted for each length of a list: forms that obtain a list are served below. (Assembler Services Reference,
 -- GETMAIN)
-abbrev pub list_wants : List ℕ → ℕ → List Wanted
+abbrev pub list_wants : List ℕ → ℕ → List WantValue
 list_wants lengths start = map (λ n. fixed_want n start Below) lengths
 
 -- Grants to a subpool one after another, a place for each thing wanted.
-abbrev pub GrantsEach : Storage → ℕ → List Wanted → List Span → Storage → Type 0
+abbrev pub GrantsEach : Storage → ℕ → List WantValue → List PlaceValue → Storage → Type 0
 GrantsEach old s [] [] new = new ≡ old
 GrantsEach old s [] (p ∷ ps) new = ⊥
 GrantsEach old s (want ∷ wants) [] new = ⊥
 GrantsEach old s (want ∷ wants) (p ∷ ps) new = (mid : Storage) × IsStorage mid × Grant old s want p mid × GrantsEach mid s wants ps new
 
 -- After grants for some of the front there is no place for the next.
-abbrev pub ShortEach : Storage → ℕ → List Wanted → Type 0
+abbrev pub ShortEach : Storage → ℕ → List WantValue → Type 0
 ShortEach old s [] = ⊥
 ShortEach old s (want ∷ wants) =
     NoPlace old.regions (holder old) s want
-    ⊎ ((p : Span) × (mid : Storage) × IsStorage mid × Grant old s want p mid × ShortEach mid s wants)
+    ⊎ ((p : PlaceValue) × (mid : Storage) × IsStorage mid × Grant old s want p mid × ShortEach mid s wants)
 
 -- the places that are granted so far
-abbrev pub so_far : Option (List Span) → List Span
+abbrev pub so_far : Option (List PlaceValue) → List PlaceValue
 so_far None = []
 so_far (Some ps) = ps
 
 -- The subpool holds each of the places, and no two of them overlap.
-abbrev pub HoldsApart : Storage → ℕ → List Span → Type 0
+abbrev pub HoldsApart : Storage → ℕ → List PlaceValue → Type 0
 HoldsApart st s ps = AllByRecursion (HeldBy st s) ps × Disjoint ps
 
 -- Releases of a subpool one after another.
-abbrev pub ReleasesEach : Storage → ℕ → List Span → Storage → Type 0
+abbrev pub ReleasesEach : Storage → ℕ → List PlaceValue → Storage → Type 0
 ReleasesEach old s [] new = new ≡ old
 ReleasesEach old s (p ∷ ps) new = (mid : Storage) × IsStorage mid × Release old s p mid × ReleasesEach mid s ps new

@@ -14,7 +14,7 @@ pub fn family(form: Form) -> Family
         Form::R => Family::R,
         Form::Ec | Form::Eu | Form::Vc | Form::Vu | Form::Lc | Form::Lu => Family::E,
         Form::Rc | Form::Ru | Form::Vrc | Form::Vru | Form::Storage | Form::StorageConditional =>
-            Family::X,
+            Family::Located,
     }
 }
 
@@ -34,7 +34,7 @@ pub fn form_side(form: Form, side: Side) -> Side
 {
     match family(form) {
         Family::E | Family::R => Side::Below,
-        Family::X => side,
+        Family::Located => side,
     }
 }
 
@@ -45,7 +45,7 @@ pub fn short(form: Form) -> Code
     match family(form) {
         Family::E => Code::System(0x804),
         Family::R => Code::System(0x80A),
-        Family::X => Code::System(0x878),
+        Family::Located => Code::System(0x878),
     }
 }
 
@@ -57,7 +57,7 @@ pub fn bad_subpool(form: Form, obtaining: bool) -> Code
         (Family::E, true) => Code::System(0xB04),
         (Family::E, false) => Code::System(0xB05),
         (Family::R, _) => Code::System(0xB0A),
-        (Family::X, _) => Code::System(0xB78),
+        (Family::Located, _) => Code::System(0xB78),
     }
 }
 
@@ -68,7 +68,7 @@ pub fn bad_address(form: Form) -> Code
     match family(form) {
         Family::E => Code::System(0x905),
         Family::R => Code::System(0x90A),
-        Family::X => Code::System(0x978),
+        Family::Located => Code::System(0x978),
     }
 }
 
@@ -79,6 +79,6 @@ pub fn not_held(form: Form) -> Code
     match family(form) {
         Family::E => Code::System(0xA05),
         Family::R => Code::System(0xA0A),
-        Family::X => Code::System(0xA78),
+        Family::Located => Code::System(0xA78),
     }
 }

@@ -1,28 +1,27 @@
 //! Requests that obtain a list of areas.
 
-ghost use Rattle.std.specs.Prelude.{◌≡◌, ◌⊎◌, ◌+◌, ◌≤◌, ◌<◌, ℕ, false, IfOk, MatchOption, Ok, None, List, [], ◌∷◌, ◌++◌, length};
-ghost use Rattle.mvs_model.specs.declared.request.Reply.TheVariants.{Listed};
+ghost use Rattle.std.specs.Prelude.{◌≡◌, true, ◌+◌, ◌≤◌, ◌<◌, false, IfOk, MatchOption, None, List, [], ◌∷◌, ◌++◌, length};
 ghost use Rattle.mvs_model.specs.Changes.{ListGrant, ListShort};
-ghost use Rattle.mvs_model.specs.Runs.{is_abend};
-ghost use Rattle.mvs_model.specs.Span.{Span};
+ghost use Rattle.mvs_model.specs.Owners.{is_active};
+ghost use Rattle.mvs_model.specs.Replies.{is_abend};
+ghost use Rattle.mvs_model.specs.Place.{PlaceValue};
 ghost use Rattle.mvs_model.specs.Steps.{ObtainListStep};
 ghost use Rattle.mvs_model.specs.Storage.{IsStorage};
-ghost use Rattle.mvs_model.specs.View.{seen};
 ghost use Rattle.request_forms.specs.Answers.{Answers};
 ghost use Rattle.request_forms.specs.Lists.{GrantsEach, ShortEach, list_wants, so_far};
-ghost use Rattle.task_owner.specs.Directory.{IsTask, name_at, name_of};
 
 use crate::codes::{bad_subpool, short};
+use crate::machine::Machine;
 use crate::obtain::refused;
 use crate::release::take_back;
 use mvs_model::bounded::{Exponent, Length};
 use mvs_model::code::{Code, Form};
+use mvs_model::name::Name;
 use mvs_model::place::Place;
 use mvs_model::request::{Lengths, Places, Reply};
 use mvs_model::subpool::{SubNo, SubpoolId};
 use mvs_model::want::{Side, Want};
 use subpool_store::Store;
-use task_owner::{TaskId, Tasks};
 
 // Puts a place behind those that are granted so far.
 fn with_place(granted: Option<Places>, place: Place) -> Places
@@ -52,8 +51,9 @@ fn grant_each(
     requires storage { IsStorage store.old }
     ensures places { MatchOption result
         (ShortEach store.old subpool (list_wants lengths.now start) × (store.new ≡ store.old))
-        (λ ps. (more : List Span) × (ps ≡ so_far granted ++ more) × GrantsEach store.old subpool (list_wants lengths.now start) more store.new) }
+        (λ ps. (more : List PlaceValue) × (ps ≡ so_far granted ++ more) × GrantsEach store.old subpool (list_wants lengths.now start) more store.new) }
     ensures storage { IsStorage store.new }
+    ensures regions { store.new.regions ≡ store.old.regions }
 {
     let [length, rest @ ..] = lengths else {
         return granted;
@@ -76,61 +76,59 @@ fn grant_each(
     }
 }
 
-// Obtains areas under a number of the task: its subpool is made where there was none, and only where all areas are granted.
-fn obtain_areas(
-    store: &mut Store,
-    tasks: &mut Tasks,
-    t: TaskId,
-    number: SubNo,
-    lengths: &Lengths,
-    start: Exponent,
-) -> Option<Places>
-    requires task { IsTask tasks.old t }
-    requires storage { IsStorage store.old }
-    ensures areas { MatchOption result
-        (ListShort (seen store.old tasks.old.owners) (name_of tasks.old t) number (list_wants lengths.now start) × (store.new ≡ store.old) × (tasks.new ≡ tasks.old))
-        (λ ps. ListGrant (seen store.old tasks.old.owners) (name_of tasks.old t) number (list_wants lengths.now start) ps (seen store.new tasks.new.owners)) }
-    ensures storage { IsStorage store.new }
-    ensures names { (id : ℕ) → name_at tasks.new id ≡ name_at tasks.old id }
-{
-    match tasks.subpool(t, number) {
-        Some(subpool) => grant_each(store, subpool, lengths.as_slice(), start, None),
-        None => {
-            let subpool = tasks.spare(t, number);
-            let Some(places) = grant_each(store, subpool, lengths.as_slice(), start, None) else {
-                return None;
-            };
-            tasks.bind(t, number, subpool);
-            Some(places)
+impl Machine {
+    // Obtains areas under a number of the task: its subpool is made where there was none, and only where all areas are granted.
+    fn obtain_areas(
+        &mut self,
+        name: Name,
+        number: SubNo,
+        lengths: &Lengths,
+        start: Exponent,
+    ) -> Option<Places>
+        requires { is_active self.old.owners name ≡ true }
+        ensures { MatchOption result
+            (ListShort self.old name number (list_wants lengths.now start) × (self.new ≡ self.old))
+            (λ ps. ListGrant self.old name number (list_wants lengths.now start) ps self.new) }
+    {
+        match self.tasks.subpool_of(name, number) {
+            Some(subpool) => grant_each(&mut self.store, subpool, lengths.as_slice(), start, None),
+            None => {
+                let subpool = self.tasks.spare_for(name, number);
+                let Some(places) = grant_each(
+                    &mut self.store,
+                    subpool,
+                    lengths.as_slice(),
+                    start,
+                    None,
+                ) else {
+                    return None;
+                };
+                self.tasks.bind_to(name, number, subpool);
+                Some(places)
+            }
         }
     }
-}
 
-/// GETMAIN for a list of areas, all of which are granted or none (Assembler Services Reference, GETMAIN; all or none
-/// is this project's choice). `start` is the power of two of the boundary that each begins on.
-pub fn obtain_list(
-    store: &mut Store,
-    tasks: &mut Tasks,
-    t: TaskId,
-    form: Form,
-    number: u8,
-    lengths: &Lengths,
-    start: Exponent,
-) -> Result<Reply, Code>
-    requires task { IsTask tasks.old t }
-    requires storage { IsStorage store.old }
-    ensures answer { let old = seen store.old tasks.old.owners in let name = name_of tasks.old t in
-        Answers (ObtainListStep old name form number (list_wants lengths.now start)) old name result (seen store.new tasks.new.owners) }
-    ensures no_abend { IfOk result (λ reply. is_abend reply ≡ false) }
-    ensures unchanged { ((ps : List Span) × (result ≡ Ok (Listed ps))) ⊎ ((store.new ≡ store.old) × (tasks.new ≡ tasks.old)) }
-    ensures storage { IsStorage store.new }
-    ensures names { (id : ℕ) → name_at tasks.new id ≡ name_at tasks.old id }
-{
-    let Some(number) = SubNo::new(number) else {
-        return Err(bad_subpool(form, true));
-    };
-    match obtain_areas(store, tasks, t, number, lengths, start) {
-        Some(places) => Ok(Reply::Listed(places)),
-        None => refused(form, short(form)),
+    /// GETMAIN for a list of areas, all of which are granted or none (Assembler Services Reference, GETMAIN; all or none
+    /// is this project's choice). `start` is the power of two of the boundary that each begins on.
+    pub fn obtain_list(
+        &mut self,
+        name: Name,
+        form: Form,
+        number: u8,
+        lengths: &Lengths,
+        start: Exponent,
+    ) -> Result<Reply, Code>
+        requires { is_active self.old.owners name ≡ true }
+        ensures answer { Answers (ObtainListStep self.old name form number (list_wants lengths.now start)) self.old name result self.new }
+        ensures no_abend { IfOk result (λ reply. is_abend reply ≡ false) }
+    {
+        let Some(number) = SubNo::new(number) else {
+            return Err(bad_subpool(form, true));
+        };
+        match self.obtain_areas(name, number, lengths, start) {
+            Some(places) => Ok(Reply::Listed(places)),
+            None => refused(form, short(form)),
+        }
     }
 }

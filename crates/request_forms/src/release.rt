@@ -1,29 +1,30 @@
 //! Requests that release.
 
-ghost use Rattle.std.specs.Prelude.{◌≡◌, ◌⊎◌, ◌↔◌, ◌+◌, ◌/◌, ◌≤◌, true, false, IsTrue, IfOk, MatchResult, map, Ok, [], ◌∷◌};
+ghost use Rattle.std.specs.Prelude.{◌≡◌, ◌↔◌, ◌+◌, ◌/◌, ◌≤◌, true, false, IsTrue, IfOk, MatchResult, map, [], ◌∷◌};
 ghost use Rattle.std.specs.List.{AllByRecursion, list_all};
-ghost use Rattle.mvs_model.specs.declared.request.Reply.TheVariants.{Rc0};
+ghost use Rattle.mvs_model.specs.Changes.{Disjoint, Frees, HeldPlain, Misses};
 ghost use Rattle.mvs_model.specs.Owners.{Owners};
-ghost use Rattle.mvs_model.specs.Changes.{Disjoint, Frees, Misses};
-ghost use Rattle.mvs_model.specs.Span.{round8};
-ghost use Rattle.mvs_model.specs.Runs.{is_abend};
+ghost use Rattle.mvs_model.specs.Place.{round8};
+ghost use Rattle.mvs_model.specs.Replies.{is_abend};
 ghost use Rattle.mvs_model.specs.Steps as step;
 ghost use Rattle.mvs_model.specs.Steps.{MayRelease, ReleaseStep, ReleaseWholeStep};
 ghost use Rattle.mvs_model.specs.Storage.{HeldBy, IsStorage, IsWhole, Release};
-ghost use Rattle.mvs_model.specs.View.{seen};
 ghost use Rattle.request_forms.specs.Answers.{Answers};
+ghost use Rattle.cell_pool.specs.Agree.{Agree};
 ghost use Rattle.request_forms.specs.Lists.{HoldsApart, ReleasesEach};
-ghost use Rattle.task_owner.specs.Directory.{IsTask, name_of};
+ghost use Rattle.request_forms.specs.Machine.{machine_state};
 
 use crate::codes::{bad_address, bad_subpool, not_held};
+use crate::machine::Machine;
 use crate::obtain::refused;
+use cell_pool::Pools;
 use mvs_model::code::{Code, Form};
+use mvs_model::name::Name;
 use mvs_model::place::Place;
 use mvs_model::request::{Places, Reply};
 use mvs_model::subpool::{SubNo, SubpoolId};
 use std::ops::Range;
 use subpool_store::{NotHeld, Store};
-use task_owner::{TaskId, Tasks};
 
 // The place with its length rounded up to doublewords.
 fn whole(place: Place) -> Place
@@ -58,18 +59,31 @@ fn are_on_doublewords(places: &[Place]) -> bool
     places.iter().all(|place| is_on_doubleword(*place))
 }
 
-// Whether the subpool holds each place, its length rounded up to doublewords.
-fn holds_each(store: &Store, subpool: SubpoolId, places: &[Place]) -> bool
-    requires { list_all step.on_doubleword places.now ≡ true }
-    ensures { IsTrue result ↔ AllByRecursion (HeldBy store.now subpool) (map step.whole places.now) }
+// Whether the subpool holds a place outside of cell pools.
+fn holds_plain(store: &Store, pools: &Pools, subpool: SubpoolId, place: Place) -> bool
+    requires agree { Agree pools.now store.now }
+    requires whole { IsWhole place }
+    ensures { (o : Owners) → IsTrue result ↔ HeldPlain (machine_state pools.now store.now o) subpool place }
+{
+    if !store.holds(subpool, place) {
+        return false;
+    }
+    !pools.touches(store, subpool, place)
+}
+
+// Whether the subpool holds each place outside of cell pools, its length rounded up to doublewords.
+fn holds_each(store: &Store, pools: &Pools, subpool: SubpoolId, places: &[Place]) -> bool
+    requires agree { Agree pools.now store.now }
+    requires on_doublewords { list_all step.on_doubleword places.now ≡ true }
+    ensures { (o : Owners) → IsTrue result ↔ AllByRecursion (HeldPlain (machine_state pools.now store.now o) subpool) (map step.whole places.now) }
 {
     let [place, rest @ ..] = places else {
         return true;
     };
-    if !store.holds(subpool, whole(*place)) {
+    if !holds_plain(store, pools, subpool, whole(*place)) {
         return false;
     }
-    holds_each(store, subpool, rest)
+    holds_each(store, pools, subpool, rest)
 }
 
 // The doublewords that a place has a byte of, its length rounded up.
@@ -132,110 +146,85 @@ fn take_back_each(store: &mut Store, subpool: SubpoolId, places: &[Place])
     take_back_each(store, subpool, rest);
 }
 
-// Releases places of the subpool that a task has under a number: all of them, or none.
-fn release_areas(
-    store: &mut Store,
-    subpool: Option<SubpoolId>,
-    places: &[Place],
-) -> Result<(), NotHeld>
-    requires placed { list_all step.on_doubleword places.now ≡ true }
-    requires storage { IsStorage store.old }
-    ensures areas { (owners : Owners) → MatchResult result
-        (λ _. MayRelease (seen store.old owners) subpool (map step.whole places.now) × Frees (seen store.old owners) (map step.whole places.now) (seen store.new owners))
-        (λ _. (MayRelease (seen store.old owners) subpool (map step.whole places.now) → ⊥) × (store.new ≡ store.old)) }
-    ensures storage { IsStorage store.new }
-{
-    let Some(subpool) = subpool else {
-        return Err(NotHeld);
-    };
-    if !holds_each(store, subpool, places) {
-        return Err(NotHeld);
+impl Machine {
+    // Releases places of the subpool that a task has under a number: all of them, or none.
+    fn release_areas(&mut self, subpool: Option<SubpoolId>, places: &[Place]) -> Result<(), NotHeld>
+        requires { list_all step.on_doubleword places.now ≡ true }
+        ensures { MatchResult result
+            (λ _. MayRelease self.old subpool (map step.whole places.now) × Frees self.old (map step.whole places.now) self.new)
+            (λ _. (MayRelease self.old subpool (map step.whole places.now) → ⊥) × (self.new ≡ self.old)) }
+    {
+        let Some(subpool) = subpool else {
+            return Err(NotHeld);
+        };
+        if !holds_each(&self.store, &self.pools, subpool, places) {
+            return Err(NotHeld);
+        }
+        if !are_disjoint(places) {
+            return Err(NotHeld);
+        }
+        take_back_each(&mut self.store, subpool, places);
+        Ok(())
     }
-    if !are_disjoint(places) {
-        return Err(NotHeld);
-    }
-    take_back_each(store, subpool, places);
-    Ok(())
-}
 
-/// FREEMAIN for a list of places, all of which are released or none; the length of each is rounded up to doublewords
-/// (Assembler Services Reference, FREEMAIN). All or none, that members which overlap count as not held, and the order
-/// of the refusals are this project's choice.
-pub fn release_list(
-    store: &mut Store,
-    tasks: &Tasks,
-    t: TaskId,
-    form: Form,
-    number: u8,
-    places: &Places,
-) -> Result<Reply, Code>
-    requires task { IsTask tasks.now t }
-    requires storage { IsStorage store.old }
-    ensures answer { let old = seen store.old tasks.now.owners in let name = name_of tasks.now t in
-        Answers (ReleaseStep old name form number places.now) old name result (seen store.new tasks.now.owners) }
-    ensures no_abend { IfOk result (λ reply. is_abend reply ≡ false) }
-    ensures unchanged { (result ≡ Ok Rc0) ⊎ (store.new ≡ store.old) }
-    ensures storage { IsStorage store.new }
-{
-    let Some(number) = SubNo::new(number) else {
-        return Err(bad_subpool(form, false));
-    };
-    let places = places.as_slice();
-    if !are_on_doublewords(places) {
-        return Err(bad_address(form));
+    /// FREEMAIN for a list of places, all of which are released or none; the length of each is rounded up to doublewords
+    /// (Assembler Services Reference, FREEMAIN). All or none, that members which overlap count as not held, and the order
+    /// of the refusals are this project's choice.
+    pub fn release_list(
+        &mut self,
+        name: Name,
+        form: Form,
+        number: u8,
+        places: &Places,
+    ) -> Result<Reply, Code>
+        ensures answer { Answers (ReleaseStep self.old name form number places.now) self.old name result self.new }
+        ensures no_abend { IfOk result (λ reply. is_abend reply ≡ false) }
+    {
+        let Some(number) = SubNo::new(number) else {
+            return Err(bad_subpool(form, false));
+        };
+        let places = places.as_slice();
+        if !are_on_doublewords(places) {
+            return Err(bad_address(form));
+        }
+        let subpool = self.tasks.subpool_of(name, number);
+        match self.release_areas(subpool, places) {
+            Ok(()) => Ok(Reply::Rc0),
+            Err(NotHeld) => refused(form, not_held(form)),
+        }
     }
-    match release_areas(store, tasks.subpool(t, number), places) {
-        Ok(()) => Ok(Reply::Rc0),
-        Err(NotHeld) => refused(form, not_held(form)),
-    }
-}
 
-/// FREEMAIN and STORAGE RELEASE of one place, whose length is rounded up to doublewords (Assembler Services
-/// Reference).
-pub fn release(
-    store: &mut Store,
-    tasks: &Tasks,
-    t: TaskId,
-    form: Form,
-    number: u8,
-    place: Place,
-) -> Result<Reply, Code>
-    requires task { IsTask tasks.now t }
-    requires storage { IsStorage store.old }
-    ensures answer { let old = seen store.old tasks.now.owners in let name = name_of tasks.now t in
-        Answers (ReleaseStep old name form number (place ∷ [])) old name result (seen store.new tasks.now.owners) }
-    ensures no_abend { IfOk result (λ reply. is_abend reply ≡ false) }
-    ensures unchanged { (result ≡ Ok Rc0) ⊎ (store.new ≡ store.old) }
-    ensures storage { IsStorage store.new }
-{
-    release_list(store, tasks, t, form, number, &Places::one(place))
-}
+    /// FREEMAIN and STORAGE RELEASE of one place, whose length is rounded up to doublewords (Assembler Services
+    /// Reference).
+    pub fn release(
+        &mut self,
+        name: Name,
+        form: Form,
+        number: u8,
+        place: Place,
+    ) -> Result<Reply, Code>
+        ensures answer { Answers (ReleaseStep self.old name form number (place ∷ [])) self.old name result self.new }
+        ensures no_abend { IfOk result (λ reply. is_abend reply ≡ false) }
+    {
+        self.release_list(name, form, number, &Places::one(place))
+    }
 
-/// FREEMAIN and STORAGE RELEASE of all that a subpool holds (Assembler Services Reference, subpool release). A
-/// number that the task does not have releases nothing.
-pub fn release_whole(
-    store: &mut Store,
-    tasks: &Tasks,
-    t: TaskId,
-    form: Form,
-    number: u8,
-) -> Result<Reply, Code>
-    requires task { IsTask tasks.now t }
-    requires storage { IsStorage store.old }
-    ensures answer { let old = seen store.old tasks.now.owners in let name = name_of tasks.now t in
-        Answers (ReleaseWholeStep old name form number) old name result (seen store.new tasks.now.owners) }
-    ensures no_abend { IfOk result (λ reply. is_abend reply ≡ false) }
-    ensures unchanged { (result ≡ Ok Rc0) ⊎ (store.new ≡ store.old) }
-    ensures storage { IsStorage store.new }
-{
-    let Some(number) = SubNo::new(number) else {
-        return Err(bad_subpool(form, false));
-    };
-    if number.get() == 0 {
-        return Err(Code::User(4006));
+    /// FREEMAIN and STORAGE RELEASE of all that a subpool holds, its cell pools included (Assembler Services Reference, subpool release). A
+    /// number that the task does not have releases nothing.
+    pub fn release_whole(&mut self, name: Name, form: Form, number: u8) -> Result<Reply, Code>
+        ensures answer { Answers (ReleaseWholeStep self.old name form number) self.old name result self.new }
+        ensures no_abend { IfOk result (λ reply. is_abend reply ≡ false) }
+    {
+        let Some(number) = SubNo::new(number) else {
+            return Err(bad_subpool(form, false));
+        };
+        if number.get() == 0 {
+            return Err(Code::WHOLE_OF_ZERO);
+        }
+        if let Some(subpool) = self.tasks.subpool_of(name, number) {
+            self.pools.drop_subpool(subpool);
+            self.store.release_all(subpool);
+        }
+        Ok(Reply::Rc0)
     }
-    if let Some(subpool) = tasks.subpool(t, number) {
-        store.release_all(subpool);
-    }
-    Ok(Reply::Rc0)
 }

@@ -5,7 +5,7 @@ use Rattle.std.proofs.lemmas.Bool.Decides.{nat_tests}
 use Rattle.std.specs.Ordering.{nat_cmp}
 use Rattle.std.specs.FinMap.{FinMap, get, empty, get-empty}
 use Rattle.mvs_model.specs.Finite.{Changes, kept, has}
-use Rattle.mvs_model.specs.Span.{Span, span}
+use Rattle.mvs_model.specs.Place.{PlaceValue, place_at}
 use Rattle.mvs_model.specs.Storage.{covers, has_address, InRegion, IsStorage, ReleaseAll, holder}
 use Rattle.mvs_model.proofs.Tables.{get-table, table_changes, table_some, same_maps}
 use Rattle.subpool_store.specs.Half.{HalfState, IsSound, ChangedIn, DroppedIn}
@@ -92,7 +92,7 @@ module _ (b a : HalfState) (fill : ℕ) where
         let high_e : 2097152 ≤ e = omega arith in
         both.sound_above.rule d e s t same (sym (high_holder d high (holder_small d s at_d)) ∙ at_d) (sym (high_holder e high_e (holder_small e t at_e)) ∙ at_e)
 
-    inside : (d s : ℕ) → holder (store_of b a fill) d ≡ Some s → (d < 2097152) ⊎ (2097152 ≤ d) → InRegion (regions_of b a fill) (span (8 * d) 8)
+    inside : (d s : ℕ) → holder (store_of b a fill) d ≡ Some s → (d < 2097152) ⊎ (2097152 ≤ d) → InRegion (regions_of b a fill) (place_at (8 * d) 8)
     inside d s held (inl low) =
         let in_half = both.sound_below.bounded d s (sym (low_holder d low) ∙ held) in
         let first : b.first ≡ 3072 = both.first_below in
@@ -112,7 +112,7 @@ module _ (b a : HalfState) (fill : ℕ) where
     bytes k (inr high) (inr past) = ap is_some (past_byte k past) ∙ sym (ap is_some (past_holder (k / 8) (omega arith)))
 
   -- a change inside the region below, or above
-  pub below_changes : (b' : HalfState) (p : Span) (v w : Option ℕ) → p.addr + p.len ≤ 0x1000000 → ChangedIn b p v w b' → Taken (store_of b a fill) p v w (store_of b' a fill)
+  pub below_changes : (b' : HalfState) (p : PlaceValue) (v w : Option ℕ) → p.addr + p.len ≤ 0x1000000 → ChangedIn b p v w b' → Taken (store_of b a fill) p v w (store_of b' a fill)
   below_changes b' p v w inside change = record {
     regions = ap (λ n. record { below = n; above = a.pages; fill = fill }) change.pages;
     held = low_changes 268435456 2097152 b.held a.held b'.held (covers p) v (omega arith) (λ k hit. covered_low k hit) change.held;
@@ -124,7 +124,7 @@ module _ (b a : HalfState) (fill : ℕ) where
     address_low : (k : ℕ) → has_address p k ≡ true → k < 16777216
     address_low k hit = grind (arith, nat_tests)
 
-  pub above_changes : (a' : HalfState) (p : Span) (v w : Option ℕ) → 0x1000000 ≤ p.addr → p.addr + p.len ≤ 2 ^ 31 → ChangedIn a p v w a' → Taken (store_of b a fill) p v w (store_of b a' fill)
+  pub above_changes : (a' : HalfState) (p : PlaceValue) (v w : Option ℕ) → 0x1000000 ≤ p.addr → p.addr + p.len ≤ 2 ^ 31 → ChangedIn a p v w a' → Taken (store_of b a fill) p v w (store_of b a' fill)
   above_changes a' p v w inside small change = record {
     regions = ap (λ n. record { below = b.pages; above = n; fill = fill }) change.pages;
     held = high_changes 268435456 2097152 b.held a.held a'.held (covers p) v (λ k hit. (covered_high k hit, covered_low k hit)) change.held;

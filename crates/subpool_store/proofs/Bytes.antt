@@ -4,7 +4,7 @@ use Rattle.std.proofs.lemmas.Bool.{cases_Bool, cases_lt, cond-true, cond-false}
 use Rattle.std.proofs.lemmas.List.{get_or_past}
 use Rattle.std.specs.FinMap.{get}
 use Rattle.mvs_model.specs.Finite.{Changes, Keeps, kept, has}
-use Rattle.mvs_model.specs.Span.{Span}
+use Rattle.mvs_model.specs.Place.{PlaceValue}
 use Rattle.mvs_model.specs.Storage.{covers, has_address}
 use Rattle.mvs_model.proofs.Tables.{get-table_all}
 use Rattle.subpool_store.specs.Bits.{in_range}
@@ -22,7 +22,7 @@ get-bytes_of first bits pages bytes a = get-table_all (8 * (first + length bits)
   past k high = cond-false _ _ _ (ap is_some (past_end first bits pages (k / 8) (omega arith)))
 
 -- a change of the cells from the first index on is that change of who holds the doublewords
-pub cells_change : (first start end : ℕ) (p : Span) (f g : ℕ → Option ℕ) (v : Option ℕ) →
+pub cells_change : (first start end : ℕ) (p : PlaceValue) (f g : ℕ → Option ℕ) (v : Option ℕ) →
     p.addr ≡ 8 * (first + start) → p.len ≡ 8 * (end - start) → start < end →
     ((i : ℕ) → g i ≡ cond (in_range start end i) v (f i)) → (k : ℕ) → shifted first g k ≡ cond (covers p k) v (shifted first f k)
 cells_change first start end p f g v addr_is len_is some change k =
@@ -39,12 +39,12 @@ cells_change first start end p f g v addr_is len_is some change k =
 
 module _ (first : ℕ) (bits bits' : List Bool) (pages pages' : List (Option ℕ)) where
   -- what the function says of the holders is what the maps say
-  pub holders_change : (p : Span) (v : Option ℕ) → ((k : ℕ) → shifted first (cell bits' pages') k ≡ cond (covers p k) v (shifted first (cell bits pages) k)) →
+  pub holders_change : (p : PlaceValue) (v : Option ℕ) → ((k : ℕ) → shifted first (cell bits' pages') k ≡ cond (covers p k) v (shifted first (cell bits pages) k)) →
       Changes (get (held_of first bits pages)) (covers p) v (get (held_of first bits' pages'))
   holders_change p v change k = holder_at first bits' pages' k ∙ change k ∙ sym (ap (cond (covers p k) v) (holder_at first bits pages k))
 
   -- the bytes of a place that is taken are the fill byte
-  pub taken_bytes : (start end s fill : ℕ) (p : Span) (bytes bytes' : List ℕ) → p.addr ≡ 8 * (first + start) → p.len ≡ 8 * (end - start) → start < end →
+  pub taken_bytes : (start end s fill : ℕ) (p : PlaceValue) (bytes bytes' : List ℕ) → p.addr ≡ 8 * (first + start) → p.len ≡ 8 * (end - start) → start < end →
       ((k : ℕ) → shifted first (cell bits' pages') k ≡ cond (covers p k) (Some s) (shifted first (cell bits pages) k)) →
       ((k : ℕ) → get_or bytes' k 0 ≡ cond (in_range (8 * start) (8 * end) k) fill (get_or bytes k 0)) →
       Changes (get (bytes_of first bits pages bytes)) (has_address p) (Some fill) (get (bytes_of first bits' pages' bytes'))
@@ -81,7 +81,7 @@ module _ (first : ℕ) (bits bits' : List Bool) (pages pages' : List (Option ℕ
         other a out (inr high) = ap (λ x. cond (is_some (shifted first (cell bits pages) (a / 8))) (Some x) None) (filled (a - 8 * first) ∙ cond-false _ _ _ (sym (has_address_range first start end a p addr_is len_is some high) ∙ out))
 
   -- where doublewords are given back their bytes are gone
-  pub given_bytes : (p : Span) (bytes : List ℕ) → p.addr % 8 ≡ 0 → p.len % 8 ≡ 0 →
+  pub given_bytes : (p : PlaceValue) (bytes : List ℕ) → p.addr % 8 ≡ 0 → p.len % 8 ≡ 0 →
       ((k : ℕ) → shifted first (cell bits' pages') k ≡ cond (covers p k) None (shifted first (cell bits pages) k)) →
       Changes (get (bytes_of first bits pages bytes)) (has_address p) None (get (bytes_of first bits' pages' bytes))
   given_bytes p bytes on whole holders a =

@@ -4,9 +4,9 @@ use Rattle.std.proofs.lemmas.Bool.{cases_lt, false≢true}
 use Rattle.std.proofs.lemmas.Option.{slice_get-get_or}
 use Rattle.std.specs.List.{slice_get}
 use Rattle.std.specs.FinMap.{get}
-use Rattle.mvs_model.specs.Span.{Span, span}
+use Rattle.mvs_model.specs.Place.{PlaceValue, place_at}
 use Rattle.mvs_model.specs.Storage.{AllHeld, Chosen, Covers, HeldBy, IsLength, IsPageOwner, LiesIn, MayTake, Meets, NoPlace, Open, Places, Storage, holder}
-use Rattle.mvs_model.specs.Wanted.{Wanted, IsWanted}
+use Rattle.mvs_model.specs.Want.{WantValue, IsWant}
 use Rattle.subpool_store.specs.Half.{AllHeldIn, BestIn, ChangedIn, HalfState, HeldIn, IsBest, OpenIn, OwnsPage}
 use Rattle.subpool_store.specs.Joined.{BestAbove, IsStore, Taken, regions_of, store_of}
 use Rattle.subpool_store.specs.Search.{Beats, IsShorter}
@@ -20,7 +20,7 @@ same_may f g s d same may = record {
 }
 
 module _ (b a : HalfState) (fill s : ℕ) (both : IsStore b a) where
-  pub open_below : (p : Span) → OpenIn b s p → Open (regions_of b a fill) (holder (store_of b a fill)) s p
+  pub open_below : (p : PlaceValue) → OpenIn b s p → Open (regions_of b a fill) (holder (store_of b a fill)) s p
   open_below p is_open =
       let first : b.first ≡ 3072 = both.first_below in
       let few : b.pages ≤ 2048 = both.few_below in
@@ -30,7 +30,7 @@ module _ (b a : HalfState) (fill s : ℕ) (both : IsStore b a) where
         each = λ d covered. same_may _ _ s d (λ e on. sym (low_holder b a fill e (omega arith))) (is_open.each d covered);
       }
 
-  pub open_above : (p : Span) → OpenIn a s p → Open (regions_of b a fill) (holder (store_of b a fill)) s p
+  pub open_above : (p : PlaceValue) → OpenIn a s p → Open (regions_of b a fill) (holder (store_of b a fill)) s p
   open_above p is_open =
       let first : a.first ≡ 2097152 = both.first_above in
       let few : a.pages ≤ 8192 = both.few_above in
@@ -40,7 +40,7 @@ module _ (b a : HalfState) (fill s : ℕ) (both : IsStore b a) where
         each = λ d covered. same_may _ _ s d (λ e on. sym (high_holder b a fill e (omega arith) (omega arith))) (is_open.each d covered);
       }
 
-  pub open_split : (p : Span) → 8 ≤ p.len → Open (regions_of b a fill) (holder (store_of b a fill)) s p → (OpenIn b s p × (p.addr < 0x1000000)) ⊎ (OpenIn a s p × (0x1000000 ≤ p.addr))
+  pub open_split : (p : PlaceValue) → 8 ≤ p.len → Open (regions_of b a fill) (holder (store_of b a fill)) s p → (OpenIn b s p × (p.addr < 0x1000000)) ⊎ (OpenIn a s p × (0x1000000 ≤ p.addr))
   open_split p some is_open =
       let first_b : b.first ≡ 3072 = both.first_below in
       let few_b : b.pages ≤ 2048 = both.few_below in
@@ -58,16 +58,16 @@ module _ (b a : HalfState) (fill s : ℕ) (both : IsStore b a) where
       ]
 
 -- no place above is longer than the best one
-above_beaten : (a : HalfState) (s : ℕ) (want : Wanted) (r : Option Span) → BestAbove a s want r → (q : Span) → IsLength want q.len → OpenIn a s q → Meets want q → 0x1000000 ≤ q.addr → Beats r q.len
+above_beaten : (a : HalfState) (s : ℕ) (want : WantValue) (r : Option PlaceValue) → BestAbove a s want r → (q : PlaceValue) → IsLength want q.len → OpenIn a s q → Meets want q → 0x1000000 ≤ q.addr → Beats r q.len
 above_beaten a s want None (inl none) q len is_open meets high = none q len is_open meets
 above_beaten a s want (Some p) (inl best) q len is_open meets high = best.longest q len is_open meets
 above_beaten a s want r (inr side) q len is_open meets high = absurd (let low : q.addr < 0x1000000 = meets.side side.0 in omega arith)
 
-below_beaten : (b : HalfState) (s : ℕ) (want : Wanted) (r : Option Span) → BestIn b s want r → (q : Span) → IsLength want q.len → OpenIn b s q → Meets want q → Beats r q.len
+below_beaten : (b : HalfState) (s : ℕ) (want : WantValue) (r : Option PlaceValue) → BestIn b s want r → (q : PlaceValue) → IsLength want q.len → OpenIn b s q → Meets want q → Beats r q.len
 below_beaten b s want None none q len is_open meets = none q len is_open meets
 below_beaten b s want (Some p) best q len is_open meets = best.longest q len is_open meets
 
-module _ (b a : HalfState) (fill : ℕ) (st : Storage) (both : IsStore b a) (is : store_of b a fill ≡ st) (s : ℕ) (want : Wanted) (ok : IsWanted want) where
+module _ (b a : HalfState) (fill : ℕ) (st : Storage) (both : IsStore b a) (is : store_of b a fill ≡ st) (s : ℕ) (want : WantValue) (ok : IsWant want) where
   there : (n at : ℕ) → Places st.regions (holder st) s want n at → Places (regions_of b a fill) (holder (store_of b a fill)) s want n at
   there n at place = subst (λ t. Places t.regions (holder t) s want n at) (sym is) place
 
@@ -75,46 +75,46 @@ module _ (b a : HalfState) (fill : ℕ) (st : Storage) (both : IsStore b a) (is 
   long n len = let some : 8 ≤ want.least = ok.some in let least : want.least ≤ n = len.least in omega arith
 
   -- where each length that is wanted is beaten, and the place is the best one above or below, it is the one to choose
-  chosen : (ra r : Option Span) → BestAbove a s want ra →
-      ((q : Span) → IsLength want q.len → Open (regions_of b a fill) (holder (store_of b a fill)) s q → Meets want q → Beats r q.len) →
+  chosen : (ra r : Option PlaceValue) → BestAbove a s want ra →
+      ((q : PlaceValue) → IsLength want q.len → Open (regions_of b a fill) (holder (store_of b a fill)) s q → Meets want q → Beats r q.len) →
       (r ≡ ra) ⊎ (BestIn b s want r × IsShorter ra r) → MatchOption r (NoPlace st.regions (holder st) s want) (Chosen st.regions (holder st) s want)
   chosen ra None above beats from = λ at place.
       let p = there want.least at place in
-      beats (span at want.least) (record { least = omega arith; most = ok.ordered; whole = ok.least_whole }) p.0 p.1
+      beats (place_at at want.least) (record { least = omega arith; most = ok.ordered; whole = ok.least_whole }) p.0 p.1
   chosen ra (Some p) above beats from = subst (λ t. Chosen t.regions (holder t) s want p) is (record {
     length = (placed ra above from).0;
     placed = ((placed ra above from).1, (placed ra above from).2);
-    greatest = λ n at longer len place. let h : n ≤ p.len = beats (span at n) len place.0 place.1 in omega arith;
+    greatest = λ n at longer len place. let h : n ≤ p.len = beats (place_at at n) len place.0 place.1 in omega arith;
     above = λ at place high. side ra above from at place high;
   }) where
     first_a : a.first ≡ 2097152
     first_a = both.first_above
 
-    placed : (ra : Option Span) → BestAbove a s want ra → (Some p ≡ ra) ⊎ (BestIn b s want (Some p) × IsShorter ra (Some p)) →
+    placed : (ra : Option PlaceValue) → BestAbove a s want ra → (Some p ≡ ra) ⊎ (BestIn b s want (Some p) × IsShorter ra (Some p)) →
         IsLength want p.len × Open (regions_of b a fill) (holder (store_of b a fill)) s p × Meets want p
     placed ra (inl best) (inl e) = let at : IsBest a s want p = subst (BestIn a s want) (sym e) best in (at.length, open_above b a fill s both p at.is_open, at.meets)
-    placed ra (inr side) (inl e) = absurd (let n : ◌≡◌ {A = Option Span} (Some p) None = e ∙ side.1 in cc)
+    placed ra (inr side) (inl e) = absurd (let n : ◌≡◌ {A = Option PlaceValue} (Some p) None = e ∙ side.1 in cc)
     placed ra above (inr low) = (low.0.length, open_below b a fill s both p low.0.is_open, low.0.meets)
 
-    side : (ra : Option Span) → BestAbove a s want ra → (Some p ≡ ra) ⊎ (BestIn b s want (Some p) × IsShorter ra (Some p)) →
+    side : (ra : Option PlaceValue) → BestAbove a s want ra → (Some p ≡ ra) ⊎ (BestIn b s want (Some p) × IsShorter ra (Some p)) →
         (at : ℕ) → Places (regions_of b a fill) (holder (store_of b a fill)) s want p.len at → 0x1000000 ≤ at → 0x1000000 ≤ p.addr
     side ra (inl best) (inl e) at place high = let here : IsBest a s want p = subst (BestIn a s want) (sym e) best in let inside : 8 * a.first ≤ p.addr = here.is_open.inside.0 in let first : a.first ≡ 2097152 = first_a in omega arith
-    side ra (inr none) (inl e) at place high = absurd (let n : ◌≡◌ {A = Option Span} (Some p) None = e ∙ none.1 in cc)
+    side ra (inr none) (inl e) at place high = absurd (let n : ◌≡◌ {A = Option PlaceValue} (Some p) None = e ∙ none.1 in cc)
     side ra above (inr low) at place high =
-        elim (open_split b a fill s both (span at p.len) (long p.len low.0.length) place.0) [
+        elim (open_split b a fill s both (place_at at p.len) (long p.len low.0.length) place.0) [
           | inl down ↦ absurd (omega (arith, down.1))
-          | inr up ↦ absurd (shorter ra low.1 (above_beaten a s want ra above (span at p.len) low.0.length up.0 place.1 high))
+          | inr up ↦ absurd (shorter ra low.1 (above_beaten a s want ra above (place_at at p.len) low.0.length up.0 place.1 high))
         ] where
-          shorter : (ra : Option Span) → IsShorter ra (Some p) → Beats ra p.len → ⊥
+          shorter : (ra : Option PlaceValue) → IsShorter ra (Some p) → Beats ra p.len → ⊥
           shorter None h beaten = beaten
           shorter (Some q) h beaten = omega arith
 
   -- the best place above, where no length that is wanted is greater
-  pub chosen_longest : (ra : Option Span) → BestAbove a s want ra → ((n : ℕ) → IsLength want n → Beats ra n) → MatchOption ra (NoPlace st.regions (holder st) s want) (Chosen st.regions (holder st) s want)
+  pub chosen_longest : (ra : Option PlaceValue) → BestAbove a s want ra → ((n : ℕ) → IsLength want n → Beats ra n) → MatchOption ra (NoPlace st.regions (holder st) s want) (Chosen st.regions (holder st) s want)
   chosen_longest ra above beats = chosen ra ra above (λ q len is_open meets. beats q.len len) (inl refl)
 
   -- the longer one of the best places above and below
-  pub chosen_longer : (ra rb r : Option Span) → BestAbove a s want ra → BestIn b s want rb → (r ≡ ra) ⊎ ((r ≡ rb) × IsShorter ra rb) → ((n : ℕ) → Beats ra n → Beats r n) → ((n : ℕ) → Beats rb n → Beats r n) →
+  pub chosen_longer : (ra rb r : Option PlaceValue) → BestAbove a s want ra → BestIn b s want rb → (r ≡ ra) ⊎ ((r ≡ rb) × IsShorter ra rb) → ((n : ℕ) → Beats ra n → Beats r n) → ((n : ℕ) → Beats rb n → Beats r n) →
       MatchOption r (NoPlace st.regions (holder st) s want) (Chosen st.regions (holder st) s want)
   chosen_longer ra rb r above below either one other = chosen ra r above
       (λ q len is_open meets. elim (open_split b a fill s both q (long q.len len) is_open) [
@@ -126,7 +126,7 @@ module _ (b a : HalfState) (fill : ℕ) (st : Storage) (both : IsStore b a) (is 
         from (inl e) = inl e
         from (inr e) = inr (subst (BestIn b s want) (sym e.0) below, subst (IsShorter ra) (sym e.0) e.1)
 
-module _ (b a : HalfState) (fill : ℕ) (st : Storage) (both : IsStore b a) (is : store_of b a fill ≡ st) (s : ℕ) (p : Span) (some : 8 ≤ p.len) where
+module _ (b a : HalfState) (fill : ℕ) (st : Storage) (both : IsStore b a) (is : store_of b a fill ≡ st) (s : ℕ) (p : PlaceValue) (some : 8 ≤ p.len) where
   pub open_in_below : p.addr < 0x1000000 → Open st.regions (holder st) s p → OpenIn b s p
   open_in_below low is_open = elim (open_split b a fill s both p some (subst (λ t. Open t.regions (holder t) s p) (sym is) is_open)) [
     | inl below ↦ below.0
@@ -179,7 +179,7 @@ module _ (b a : HalfState) (fill : ℕ) (st : Storage) (both : IsStore b a) (is 
   pub high_is : (d : ℕ) → 2097152 ≤ d → d < 268435456 → get a.held d ≡ holder st d
   high_is d high small = sym (high_holder b a fill d high small) ∙ ap (λ t. holder t d) is
 
-  module _ (p : Span) (some : 1 ≤ p.len) where
+  module _ (p : PlaceValue) (some : 1 ≤ p.len) where
     -- a place that is held from below 16 megabytes on ends there
     pub below_ends : p.addr < 0x1000000 → ((d : ℕ) → Covers p d → IsSome (holder st d)) → p.addr + p.len ≤ 0x1000000
     below_ends low held = elim (cases_lt 0x1000000 (p.addr + p.len)) [
@@ -222,7 +222,7 @@ module _ (b a : HalfState) (fill : ℕ) (st : Storage) (both : IsStore b a) (is 
           by None e none = absurd (false≢true none)
           by (Some t) e _ = held_small ((p.addr + k) / 8) t e
 
-  module _ (s : ℕ) (p : Span) (some : 1 ≤ p.len) where
+  module _ (s : ℕ) (p : PlaceValue) (some : 1 ≤ p.len) where
     pub some_held : HeldBy st s p → (d : ℕ) → Covers p d → IsSome (holder st d)
     some_held held d covered = ap is_some (held d covered)
 

@@ -5,7 +5,7 @@ use Rattle.std.proofs.lemmas.Bool.Decides.{nat_tests}
 use Rattle.std.proofs.lemmas.List.{get_or_default, get_or_past}
 use Rattle.std.proofs.lemmas.Option.{none-some}
 use Rattle.std.specs.FinMap.{get}
-use Rattle.mvs_model.specs.Span.{Span}
+use Rattle.mvs_model.specs.Place.{PlaceValue}
 use Rattle.mvs_model.specs.Storage.{MayTake}
 use Rattle.mvs_model.proofs.Tables.{get-table_all}
 use Rattle.page_map.specs.Owners.{owner_of, is_usable}
@@ -95,7 +95,7 @@ may_of first bits pages bytes s i half within may =
     held_cannot set (Some t) e = none-some t (sym may.free ∙ holder_index first bits pages i ∙ cell_at bits pages i set ∙ e)
 
 -- the places whose doublewords pass are the open ones
-pub open_from : (first : ℕ) (bits : List Bool) (pages : List (Option ℕ)) (bytes : List ℕ) (s : ℕ) (q : Span) → IsHalf first bits pages bytes → 8 ≤ q.len → AllPass (may_take bits pages s) first q → OpenIn (half_of first bits pages bytes) s q
+pub open_from : (first : ℕ) (bits : List Bool) (pages : List (Option ℕ)) (bytes : List ℕ) (s : ℕ) (q : PlaceValue) → IsHalf first bits pages bytes → 8 ≤ q.len → AllPass (may_take bits pages s) first q → OpenIn (half_of first bits pages bytes) s q
 open_from first bits pages bytes s q half some all = record {
   inside =
       let begin = all (q.addr / 8) (omega arith, omega arith) in
@@ -112,7 +112,7 @@ open_from first bits pages bytes s q half some all = record {
       subst (MayTake (get (held_of first bits pages)) s) is (may_from first bits pages bytes s (d - first) half here.1).1;
 }
 
-pub open_of : (first : ℕ) (bits : List Bool) (pages : List (Option ℕ)) (bytes : List ℕ) (s : ℕ) (q : Span) → IsHalf first bits pages bytes → OpenIn (half_of first bits pages bytes) s q → AllPass (may_take bits pages s) first q
+pub open_of : (first : ℕ) (bits : List Bool) (pages : List (Option ℕ)) (bytes : List ℕ) (s : ℕ) (q : PlaceValue) → IsHalf first bits pages bytes → OpenIn (half_of first bits pages bytes) s q → AllPass (may_take bits pages s) first q
 open_of first bits pages bytes s q half is_open d covered =
     let sizes : length bits ≡ 512 * length pages = half.exact.sizes in
     let inside : (8 * first ≤ q.addr) × (q.addr + q.len ≤ 8 * first + 4096 * length pages) = is_open.inside in

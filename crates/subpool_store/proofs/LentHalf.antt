@@ -6,7 +6,7 @@ use Rattle.std.proofs.lemmas.List.{get_or_past}
 use Rattle.std.proofs.lemmas.List.FromFn.{get_or-map-range_with_len, length-map-range_with_len}
 use Rattle.std.specs.Ordering.{nat_cmp}
 use Rattle.std.specs.FinMap.{FinMap, get}
-use Rattle.mvs_model.specs.Span.{Span}
+use Rattle.mvs_model.specs.Place.{PlaceValue}
 use Rattle.mvs_model.specs.Storage.{AllHeld, IsStorage, Storage, has_address}
 use Rattle.mvs_model.proofs.Tables.{get-table_all, same_maps}
 use Rattle.subpool_store.specs.Bits.{in_range}
@@ -136,7 +136,7 @@ module _ (b a : HalfState) (fill : ℕ) (st : Storage) (both : IsStore b a) (is 
   pub kept_above : IsStore b (half_written a at w)
   kept_above = new_above b a (half_written a at w) both refl refl (sound_written a both.sound_above small_a at w)
 
-  pub lends_below : at < 16777216 → (p : Span) → p.addr ≡ at → store_of (half_written b at w) a fill ≡ written st p w
+  pub lends_below : at < 16777216 → (p : PlaceValue) → p.addr ≡ at → store_of (half_written b at w) a fill ≡ written st p w
   lends_below low p addr_is =
       (λ i. record { regions = regions_of b a fill; held = (store_of b a fill).held; bytes = same_maps _ _ pointwise i })
       ∙ (λ i. record { regions = (is i).regions; held = (is i).held; bytes = overwritten (is i).bytes at (min (at + length w) (side i)) w })
@@ -163,7 +163,7 @@ module _ (b a : HalfState) (fill : ℕ) (st : Storage) (both : IsStore b a) (is 
         pointwise : (k : ℕ) → get (store_of (half_written b at w) a fill).bytes k ≡ get (overwritten (store_of b a fill).bytes at (min (at + length w) 16777216) w) k
         pointwise k = by k (cases_lt k 16777216) (cases_lt k 2147483648) ∙ sym (new k)
 
-  pub lends_above : 16777216 ≤ at → (p : Span) → p.addr ≡ at → store_of b (half_written a at w) fill ≡ written st p w
+  pub lends_above : 16777216 ≤ at → (p : PlaceValue) → p.addr ≡ at → store_of b (half_written a at w) fill ≡ written st p w
   lends_above high p addr_is =
       (λ i. record { regions = regions_of b a fill; held = (store_of b a fill).held; bytes = same_maps _ _ pointwise i })
       ∙ (λ i. record { regions = (is i).regions; held = (is i).held; bytes = overwritten (is i).bytes at (min (at + length w) (side i)) w })
@@ -191,7 +191,7 @@ module _ (b a : HalfState) (fill : ℕ) (st : Storage) (both : IsStore b a) (is 
         pointwise k = by k (cases_lt k 16777216) (cases_lt k 2147483648) ∙ sym (new k)
 
 -- bytes written over those of a place that is held, as many as it has, stand there
-pub puts : (st : Storage) (p : Span) (w : List ℕ) → IsStorage st → AllHeld st p → ((k : ℕ) → 2147483648 ≤ k → get st.bytes k ≡ None) → p.addr + p.len ≤ side_end p.addr → length w ≡ p.len →
+pub puts : (st : Storage) (p : PlaceValue) (w : List ℕ) → IsStorage st → AllHeld st p → ((k : ℕ) → 2147483648 ≤ k → get st.bytes k ≡ None) → p.addr + p.len ≤ side_end p.addr → length w ≡ p.len →
     IsStorage (written st p w) → Puts st p w (written st p w)
 puts st p w storage held none one_side size new = record { regions = refl; held = refl; bytes = at; storage = new } where
   side : p.addr + length w ≤ side_end p.addr
@@ -217,7 +217,7 @@ puts st p w storage held none one_side size new = record { regions = refl; held 
   at : (k : ℕ) → get (written st p w).bytes k ≡ cond (has_address p k) (Some (get_or w (k - p.addr) 0)) (get st.bytes k)
   at k = get-overwritten st.bytes p.addr (min (p.addr + length w) (side_end p.addr)) w none k ∙ by k (has_address p k) refl
 
-module _ (b a : HalfState) (fill : ℕ) (st : Storage) (both : IsStore b a) (is : store_of b a fill ≡ st) (p : Span) (held : AllHeld st p) (w : List ℕ) (size : length w ≡ p.len) where
+module _ (b a : HalfState) (fill : ℕ) (st : Storage) (both : IsStore b a) (is : store_of b a fill ≡ st) (p : PlaceValue) (held : AllHeld st p) (w : List ℕ) (size : length w ≡ p.len) where
   storage : IsStorage st
   storage = subst IsStorage is (storage_of b a fill both)
 

@@ -5,9 +5,9 @@ use Rattle.std.proofs.lemmas.List.{get_or_past, get_or-replicate, length-replica
 use Rattle.std.proofs.lemmas.Option.{none-some, same_Some}
 use Rattle.std.specs.Ordering.{nat_cmp}
 use Rattle.std.specs.FinMap.{get, empty, get-empty}
-use Rattle.mvs_model.specs.Span.{Span}
+use Rattle.mvs_model.specs.Place.{PlaceValue}
 use Rattle.mvs_model.specs.Storage.{Covers, IsWhole, LiesIn}
-use Rattle.mvs_model.specs.Wanted.{Wanted, IsWanted}
+use Rattle.mvs_model.specs.Want.{WantValue, IsWant}
 use Rattle.mvs_model.proofs.Tables.{same_maps}
 use Rattle.page_map.specs.Owners.{owner_of, is_usable}
 use Rattle.subpool_store.specs.Edits.{IsClear, IsMarked, IsAssigned, IsGivenUp, IsDropped, IsFilled}
@@ -76,8 +76,8 @@ half_sound first bits pages bytes half = record {
 
 module _ (first : ℕ) (bits : List Bool) (pages : List (Option ℕ)) (bytes : List ℕ) (h : HalfState) (half : IsHalf first bits pages bytes) (is : half_of first bits pages bytes ≡ h) (s : ℕ) where
   -- the search finds the open places
-  pub finds_best : (want : Wanted) (r : Option Span) → IsWanted want → IfSome r (IsCandidate (may_take bits pages s) first want) →
-      ((q : Span) → IsCandidate (may_take bits pages s) first want q → Beats r q.len) → BestIn h s want r
+  pub finds_best : (want : WantValue) (r : Option PlaceValue) → IsWant want → IfSome r (IsCandidate (may_take bits pages s) first want) →
+      ((q : PlaceValue) → IsCandidate (may_take bits pages s) first want q → Beats r q.len) → BestIn h s want r
   finds_best want None ok found longest = λ q len is_open meets. longest q (record { length = len; meets = meets; pass = open_of first bits pages bytes s q half (subst (λ g. OpenIn g s q) (sym is) is_open) })
   finds_best want (Some p) ok found longest =
       let low : 8 ≤ want.least = ok.some in
@@ -88,7 +88,7 @@ module _ (first : ℕ) (bits : List Bool) (pages : List (Option ℕ)) (bytes : L
         longest = λ q len is_open meets. longest q (record { length = len; meets = meets; pass = open_of first bits pages bytes s q half (subst (λ g. OpenIn g s q) (sym is) is_open) });
       }
 
-  module _ (p : Span) (start end : ℕ) (whole : IsWhole p) (some : 8 ≤ p.len) (start_is : start ≡ p.addr / 8 - first) (end_is : end ≡ start + p.len / 8) where
+  module _ (p : PlaceValue) (start end : ℕ) (whole : IsWhole p) (some : 8 ≤ p.len) (start_is : start ≡ p.addr / 8 - first) (end_is : end ≡ start + p.len / 8) where
     on : p.addr % 8 ≡ 0
     on = whole.0
 
@@ -229,7 +229,7 @@ module _ (first : ℕ) (bits : List Bool) (pages : List (Option ℕ)) (bytes : L
       ∙ cond-true _ _ _ (ap is_some (sym (holder_at first bits pages (a / 8)) ∙ ap (λ g. get g.held (a / 8)) is) ∙ held)
 
   -- a place that is held by some subpools lies in the region
-  pub all_inside : (p : Span) → 1 ≤ p.len → AllHeldIn h p → LiesIn (8 * first) (8 * first + 8 * length bits) p
+  pub all_inside : (p : PlaceValue) → 1 ≤ p.len → AllHeldIn h p → LiesIn (8 * first) (8 * first + 8 * length bits) p
   all_inside p some held =
       let begin = at (p.addr / 8) (held (p.addr / 8) (omega arith, omega arith)) in
       let last = at ((p.addr + p.len - 1) / 8) (held ((p.addr + p.len - 1) / 8) (omega arith, omega arith)) in
@@ -244,7 +244,7 @@ module _ (first : ℕ) (bits : List Bool) (pages : List (Option ℕ)) (bytes : L
           by (Some t) e _ = let there = holder_some first bits pages d t (ap (λ g. get g.held d) is ∙ e) in (there.0, set_within bits (d - first) there.1)
 
   -- the bytes of a place are read off the part of the bytes that is its own
-  pub part_bytes : (p : Span) (part : List ℕ) → 1 ≤ p.len → AllHeldIn h p → ((k : ℕ) → k < p.len → get_or part k 0 ≡ get_or bytes (p.addr - 8 * first + k) 0) →
+  pub part_bytes : (p : PlaceValue) (part : List ℕ) → 1 ≤ p.len → AllHeldIn h p → ((k : ℕ) → k < p.len → get_or part k 0 ≡ get_or bytes (p.addr - 8 * first + k) 0) →
       (k : ℕ) → k < p.len → get h.bytes (p.addr + k) ≡ Some (get_or part k 0)
   part_bytes p part some held each k low =
       let inside : 8 * first ≤ p.addr = (all_inside p some held).0 in

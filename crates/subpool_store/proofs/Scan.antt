@@ -1,17 +1,17 @@
 -- One pass over the runs finds each place.
 use Rattle.std.proofs.Common.{◌≡◌, ℕ, ◌+◌, ◌-◌, ◌*◌, ◌/◌, ◌%◌, ◌<◌, ◌≤◌, Bool, true, false, Option, None, Some, MatchOption, IfSome, ◌⊎◌, sym, ap, ◌∙◌, subst, inl, inr, arith}
 use Rattle.std.proofs.lemmas.Bool.{both_ways, cases_lt}
-use Rattle.mvs_model.specs.Span.{Span}
+use Rattle.mvs_model.specs.Place.{PlaceValue}
 use Rattle.mvs_model.specs.Storage.{IsLength, IsRun, InRun, Meets}
-use Rattle.mvs_model.specs.Wanted.{Wanted, IsWanted}
+use Rattle.mvs_model.specs.Want.{WantValue, IsWant}
 use Rattle.subpool_store.specs.Search.{AllPass, Beats, BehindBest, IsCandidate, IsNextRun, IsShorter, LongestIn}
 
 -- the first doubleword of such a place passes
-pub first_passes : (test : ℕ → Bool) (first : ℕ) (q : Span) → 8 ≤ q.len → q.addr % 8 ≡ 0 → AllPass test first q → (first ≤ q.addr / 8) × (test (q.addr / 8 - first) ≡ true)
+pub first_passes : (test : ℕ → Bool) (first : ℕ) (q : PlaceValue) → 8 ≤ q.len → q.addr % 8 ≡ 0 → AllPass test first q → (first ≤ q.addr / 8) × (test (q.addr / 8 - first) ≡ true)
 first_passes test first q some on all = all (q.addr / 8) (omega arith, omega arith)
 
 -- a place in a run has doublewords that pass
-pub run_passes : (test : ℕ → Bool) (first from start end next : ℕ) (p q : Span) → IsNextRun test from start end next →
+pub run_passes : (test : ℕ → Bool) (first from start end next : ℕ) (p q : PlaceValue) → IsNextRun test from start end next →
     p.addr ≡ 8 * (first + start) → p.len ≡ 8 * (end - start) → InRun p q → AllPass test first q
 run_passes test first from start end next p q run addr_is len_is inside d covered =
     let some : start < end = run.some in
@@ -19,7 +19,7 @@ run_passes test first from start end next p q run addr_is len_is inside d covere
     (low, run.passes (d - first) (omega arith) (omega arith))
 
 -- the scan keeps the longest place so far
-pub best_behind : (test : ℕ → Bool) (first : ℕ) (want : Wanted) (from start end next : ℕ) (p : Span) (best best' r : Option Span) → IsNextRun test from start end next → 8 ≤ want.least →
+pub best_behind : (test : ℕ → Bool) (first : ℕ) (want : WantValue) (from start end next : ℕ) (p : PlaceValue) (best best' r : Option PlaceValue) → IsNextRun test from start end next → 8 ≤ want.least →
     p.addr ≡ 8 * (first + start) → p.len ≡ 8 * (end - start) → LongestIn p want r →
     ((n : ℕ) → Beats best n → Beats best' n) → ((n : ℕ) → Beats r n → Beats best' n) →
     BehindBest test first want best from → BehindBest test first want best' next
@@ -48,12 +48,12 @@ best_behind test first want from start end next p best best' r run some addr_is 
                 ]
           ]
     ] where
-      beaten : (r : Option Span) → LongestIn p want r → InRun p q → Beats r q.len
+      beaten : (r : Option PlaceValue) → LongestIn p want r → InRun p q → Beats r q.len
       beaten None none inside = none q cand.length inside cand.meets
       beaten (Some b) found inside = found.longest q cand.length inside cand.meets
 
 -- nothing is before the start
-pub best_anywhere : (test : ℕ → Bool) (first : ℕ) (want : Wanted) → 8 ≤ want.least → BehindBest test first want None 0
+pub best_anywhere : (test : ℕ → Bool) (first : ℕ) (want : WantValue) → 8 ≤ want.least → BehindBest test first want None 0
 best_anywhere test first want some q cand =
     let least : want.least ≤ q.len = cand.length.least in
     let long : 8 ≤ q.len = omega arith in
@@ -61,8 +61,8 @@ best_anywhere test first want some q cand =
     inl (omega arith)
 
 -- where nothing passes from an index on, best is the longest of all
-pub best_of_all : (test : ℕ → Bool) (first : ℕ) (want : Wanted) (best : Option Span) (from : ℕ) → 8 ≤ want.least → ((i : ℕ) → from ≤ i → test i ≡ false) → BehindBest test first want best from →
-    (q : Span) → IsCandidate test first want q → Beats best q.len
+pub best_of_all : (test : ℕ → Bool) (first : ℕ) (want : WantValue) (best : Option PlaceValue) (from : ℕ) → 8 ≤ want.least → ((i : ℕ) → from ≤ i → test i ≡ false) → BehindBest test first want best from →
+    (q : PlaceValue) → IsCandidate test first want q → Beats best q.len
 best_of_all test first want best from some none before q cand = elim (before q cand) [
   | inr beaten ↦ beaten
   | inl begun ↦
@@ -74,17 +74,17 @@ best_of_all test first want best from some none before q cand = elim (before q c
 ]
 
 -- the longest place of a run is a candidate
-pub best_found : (test : ℕ → Bool) (first : ℕ) (want : Wanted) (from start end next : ℕ) (p : Span) (best best' r : Option Span) → IsNextRun test from start end next →
+pub best_found : (test : ℕ → Bool) (first : ℕ) (want : WantValue) (from start end next : ℕ) (p : PlaceValue) (best best' r : Option PlaceValue) → IsNextRun test from start end next →
     p.addr ≡ 8 * (first + start) → p.len ≡ 8 * (end - start) → LongestIn p want r →
     (best' ≡ best) ⊎ ((best' ≡ r) × IsShorter best r) → IfSome best (IsCandidate test first want) → IfSome best' (IsCandidate test first want)
 best_found test first want from start end next p best best' r run addr_is len_is answer (inl e) old = subst (λ o. IfSome o (IsCandidate test first want)) (sym e) old
 best_found test first want from start end next p best best' r run addr_is len_is answer (inr e) old = subst (λ o. IfSome o (IsCandidate test first want)) (sym e.0) (new r answer) where
-  new : (r : Option Span) → LongestIn p want r → IfSome r (IsCandidate test first want)
+  new : (r : Option PlaceValue) → LongestIn p want r → IfSome r (IsCandidate test first want)
   new None none = tt
   new (Some b) found = record { length = found.length; meets = found.meets; pass = run_passes test first from start end next p b run addr_is len_is found.inside }
 
 -- the bytes of a run are a run
-pub run_is : (first start end n : ℕ) (p : Span) → start < end → end ≤ n → 8 * (first + n) ≤ 2147483648 → (first < 2097152 → first + n ≤ 2097152) →
+pub run_is : (first start end n : ℕ) (p : PlaceValue) → start < end → end ≤ n → 8 * (first + n) ≤ 2147483648 → (first < 2097152 → first + n ≤ 2097152) →
     p.addr ≡ 8 * (first + start) → p.len ≡ 8 * (end - start) → IsRun p
 run_is first start end n p some within high one_side addr_is len_is = record {
   whole = (omega arith, omega arith);
@@ -94,9 +94,9 @@ run_is first start end n p some within high one_side addr_is len_is = record {
 }
 
 -- where one length alone is wanted, a place of that length is a longest one
-pub one_length : (run : Span) (want : Wanted) (n : ℕ) (r : Option Span) → IsWanted want → n ≡ want.least → want.least ≡ want.most →
-    MatchOption r ((q : Span) → q.len ≡ n → InRun run q → Meets want q → ⊥)
-    (λ p. (p.len ≡ n) × InRun run p × Meets want p × ((q : Span) → q.len ≡ n → InRun run q → Meets want q → p.addr ≤ q.addr)) →
+pub one_length : (run : PlaceValue) (want : WantValue) (n : ℕ) (r : Option PlaceValue) → IsWant want → n ≡ want.least → want.least ≡ want.most →
+    MatchOption r ((q : PlaceValue) → q.len ≡ n → InRun run q → Meets want q → ⊥)
+    (λ p. (p.len ≡ n) × InRun run p × Meets want p × ((q : PlaceValue) → q.len ≡ n → InRun run q → Meets want q → p.addr ≤ q.addr)) →
     LongestIn run want r
 one_length run want n None ok is same none = λ q len inside meets.
     let low : want.least ≤ q.len = len.least in
@@ -110,9 +110,9 @@ one_length run want n (Some p) ok is same found = record {
 }
 
 -- what the longest place of a run says, as one record
-pub longest_of : (run : Span) (want : Wanted) (r : Option Span) →
-    MatchOption r ((q : Span) → IsLength want q.len → InRun run q → Meets want q → ⊥)
-    (λ p. IsLength want p.len × InRun run p × Meets want p × ((q : Span) → IsLength want q.len → InRun run q → Meets want q → q.len ≤ p.len)) →
+pub longest_of : (run : PlaceValue) (want : WantValue) (r : Option PlaceValue) →
+    MatchOption r ((q : PlaceValue) → IsLength want q.len → InRun run q → Meets want q → ⊥)
+    (λ p. IsLength want p.len × InRun run p × Meets want p × ((q : PlaceValue) → IsLength want q.len → InRun run q → Meets want q → q.len ≤ p.len)) →
     LongestIn run want r
 longest_of run want None none = none
 longest_of run want (Some p) found = record { length = found.0; inside = found.1; meets = found.2; longest = found.3 }

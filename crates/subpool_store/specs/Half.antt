@@ -4,10 +4,10 @@ use Rattle.std.specs.Ordering.{nat_cmp}
 use Rattle.std.specs.FinMap.{FinMap, get, code}
 use Rattle.std.specs.Coded.{Coded, code_by, coded×, coded_ℕ}
 use Rattle.mvs_model.specs.Finite.{Changes, Keeps, has}
-use Rattle.mvs_model.specs.Span.{Span}
+use Rattle.mvs_model.specs.Place.{PlaceValue}
 use Rattle.mvs_model.specs.Storage.{Covers, IsLength, LiesIn, MayTake, Meets, PageRule, covers, has_address}
 use Rattle.mvs_model.specs.Table.{table}
-use Rattle.mvs_model.specs.Wanted.{Wanted}
+use Rattle.mvs_model.specs.Want.{WantValue}
 use Rattle.page_map.specs.Owners.{owner_of}
 use Rattle.subpool_store.specs.Search.{IsExact}
 
@@ -65,16 +65,16 @@ pub record IsSound (h : HalfState) : Type 0 where
   pub bytes : (a : ℕ) → is_some (get h.bytes a) ≡ is_some (get h.held (a / 8))
 
 -- All of the place lies in the region, and s may take each of its doublewords.
-pub record OpenIn (h : HalfState) (s : ℕ) (p : Span) : Type 0 where
+pub record OpenIn (h : HalfState) (s : ℕ) (p : PlaceValue) : Type 0 where
   pub inside : LiesIn (8 * h.first) (8 * h.first + 4096 * h.pages) p
   pub each : (d : ℕ) → Covers p d → MayTake (get h.held) s d
 
 -- each doubleword of the place is held by s in the region
-abbrev pub HeldIn : HalfState → ℕ → Span → Type 0
+abbrev pub HeldIn : HalfState → ℕ → PlaceValue → Type 0
 HeldIn h s p = (d : ℕ) → Covers p d → get h.held d ≡ Some s
 
 -- each doubleword of the place is held in the region
-abbrev pub AllHeldIn : HalfState → Span → Type 0
+abbrev pub AllHeldIn : HalfState → PlaceValue → Type 0
 AllHeldIn h p = (d : ℕ) → Covers p d → IsSome (get h.held d)
 
 -- the subpool is the one that holds a doubleword of the page; there is none where nothing of the page is held
@@ -84,18 +84,18 @@ OwnsPage h p owner = MatchOption owner
     (λ s. (d : ℕ) × (d / 512 ≡ p) × (get h.held d ≡ Some s))
 
 -- A place of a length that is wanted is open in the region and meets what is wanted; none of them is longer.
-pub record IsBest (h : HalfState) (s : ℕ) (want : Wanted) (p : Span) : Type 0 where
+pub record IsBest (h : HalfState) (s : ℕ) (want : WantValue) (p : PlaceValue) : Type 0 where
   pub length : IsLength want p.len
   pub is_open : OpenIn h s p
   pub meets : Meets want p
-  pub longest : (q : Span) → IsLength want q.len → OpenIn h s q → Meets want q → q.len ≤ p.len
+  pub longest : (q : PlaceValue) → IsLength want q.len → OpenIn h s q → Meets want q → q.len ≤ p.len
 
 -- the region has a best place, or none that serves
-abbrev pub BestIn : HalfState → ℕ → Wanted → Option Span → Type 0
-BestIn h s want r = MatchOption r ((q : Span) → IsLength want q.len → OpenIn h s q → Meets want q → ⊥) (IsBest h s want)
+abbrev pub BestIn : HalfState → ℕ → WantValue → Option PlaceValue → Type 0
+BestIn h s want r = MatchOption r ((q : PlaceValue) → IsLength want q.len → OpenIn h s q → Meets want q → ⊥) (IsBest h s want)
 
 -- v is at the doublewords of the place and b at its addresses, and all else is as before.
-pub record ChangedIn (old : HalfState) (p : Span) (v b : Option ℕ) (new : HalfState) : Type 0 where
+pub record ChangedIn (old : HalfState) (p : PlaceValue) (v b : Option ℕ) (new : HalfState) : Type 0 where
   pub first : new.first ≡ old.first
   pub pages : new.pages ≡ old.pages
   pub held : Changes (get old.held) (covers p) v (get new.held)

@@ -3,10 +3,10 @@ use Rattle.std.specs.Prelude.{◌≡◌, ℕ, ◌≤◌, ◌⊎◌, Option, None
 use Rattle.std.specs.Ordering.{nat_cmp}
 use Rattle.std.specs.FinMap.{FinMap, get}
 use Rattle.mvs_model.specs.Finite.{Changes}
-use Rattle.mvs_model.specs.Span.{Span}
+use Rattle.mvs_model.specs.Place.{PlaceValue}
 use Rattle.mvs_model.specs.Storage.{Storage, Regions, covers, has_address}
 use Rattle.mvs_model.specs.Table.{table}
-use Rattle.mvs_model.specs.Wanted.{Wanted}
+use Rattle.mvs_model.specs.Want.{WantValue}
 use Rattle.mvs_model.specs.declared.want.Side.TheVariants.{Below}
 use Rattle.subpool_store.specs.Half.{HalfState, IsSound, BestIn}
 
@@ -36,11 +36,11 @@ pub record IsStore (b a : HalfState) : Type 0 where
   pub sound_above : IsSound a
 
 -- v is at the doublewords of the place and b at its addresses, and all else is as before.
-pub record Taken (old : Storage) (p : Span) (v b : Option ℕ) (new : Storage) : Type 0 where
+pub record Taken (old : Storage) (p : PlaceValue) (v b : Option ℕ) (new : Storage) : Type 0 where
   pub regions : new.regions ≡ old.regions
   pub held : Changes (get old.held) (covers p) v (get new.held)
   pub bytes : Changes (get old.bytes) (has_address p) b (get new.bytes)
 
 -- the best place above, where a place above is wanted
-abbrev pub BestAbove : HalfState → ℕ → Wanted → Option Span → Type 0
+abbrev pub BestAbove : HalfState → ℕ → WantValue → Option PlaceValue → Type 0
 BestAbove a s want r = BestIn a s want r ⊎ ((want.side ≡ Below) × (r ≡ None))

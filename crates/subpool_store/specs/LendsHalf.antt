@@ -1,11 +1,11 @@
 -- What a region is once a loan of some of its bytes is over.
 use Rattle.std.specs.Prelude.{ℕ, List}
 use Rattle.std.specs.Borrow.{Lends, MutBor, Fml, Array, u8}
-use Rattle.mvs_model.specs.Span.{Span}
+use Rattle.mvs_model.specs.Place.{PlaceValue}
 use Rattle.subpool_store.specs.Written.{half_written}
 use Rattle.subpool_store.specs.declared.half.Half.{Half}
 use Rattle.subpool_store.specs.contracts.half.Half.{the_row}
 
 -- the region ends with what was last written at the place
-abbrev pub LendsHalf : MutBor Half → Span → MutBor (List ℕ) → Fml
+abbrev pub LendsHalf : MutBor Half → PlaceValue → MutBor (List ℕ) → Fml
 LendsHalf h p r = Lends the_row (Array u8 0) h r (half_written h.now p.addr)

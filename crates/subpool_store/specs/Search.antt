@@ -1,8 +1,8 @@
 -- What a search over the doublewords of a region looks for, and what it knows on its way.
 use Rattle.std.specs.Prelude.{◌≡◌, ℕ, ◌+◌, ◌-◌, ◌*◌, ◌/◌, ◌<◌, ◌≤◌, ◌&&◌, ◌⊎◌, Bool, true, false, not, Option, Some, None, MatchOption, List, length, slice_index_or}
-use Rattle.mvs_model.specs.Span.{Span}
+use Rattle.mvs_model.specs.Place.{PlaceValue}
 use Rattle.mvs_model.specs.Storage.{Covers, InRun, IsLength, Meets}
-use Rattle.mvs_model.specs.Wanted.{Wanted}
+use Rattle.mvs_model.specs.Want.{WantValue}
 use Rattle.page_map.specs.Owners.{owner_of, is_usable}
 
 -- whether s may take the doubleword at an index
@@ -28,41 +28,41 @@ pub record IsNextRun (test : ℕ → Bool) (from start end next : ℕ) : Type 0 
   pub rest : (i : ℕ) → end ≤ i → i < next → test i ≡ false
 
 -- each doubleword of the place passes the test, at its index
-abbrev pub AllPass : (ℕ → Bool) → ℕ → Span → Type 0
+abbrev pub AllPass : (ℕ → Bool) → ℕ → PlaceValue → Type 0
 AllPass test first q = (d : ℕ) → Covers q d → (first ≤ d) × (test (d - first) ≡ true)
 
 -- best is a place at least as long
-abbrev pub Beats : Option Span → ℕ → Type 0
+abbrev pub Beats : Option PlaceValue → ℕ → Type 0
 Beats None n = ⊥
 Beats (Some p) n = n ≤ p.len
 
 -- where there is a first place, there is another, which is longer
-abbrev pub IsShorter : Option Span → Option Span → Type 0
+abbrev pub IsShorter : Option PlaceValue → Option PlaceValue → Type 0
 IsShorter None other = Unit {0}
 IsShorter (Some p) None = ⊥
 IsShorter (Some p) (Some q) = p.len < q.len
 
 -- a place of a length that is wanted, that meets what is wanted, and whose doublewords pass
-pub record IsCandidate (test : ℕ → Bool) (first : ℕ) (want : Wanted) (q : Span) : Type 0 where
+pub record IsCandidate (test : ℕ → Bool) (first : ℕ) (want : WantValue) (q : PlaceValue) : Type 0 where
   pub length : IsLength want q.len
   pub meets : Meets want q
   pub pass : AllPass test first q
 
 -- each candidate begins at this index or after it, or is no longer than best
-abbrev pub BehindBest : (ℕ → Bool) → ℕ → Wanted → Option Span → ℕ → Type 0
-BehindBest test first want best from = (q : Span) → IsCandidate test first want q → (8 * (first + from) ≤ q.addr) ⊎ Beats best q.len
+abbrev pub BehindBest : (ℕ → Bool) → ℕ → WantValue → Option PlaceValue → ℕ → Type 0
+BehindBest test first want best from = (q : PlaceValue) → IsCandidate test first want q → (8 * (first + from) ≤ q.addr) ⊎ Beats best q.len
 
 -- A place of a length that is wanted lies in the run and meets what is wanted; none of them is longer.
-pub record IsLongestIn (run : Span) (want : Wanted) (p : Span) : Type 0 where
+pub record IsLongestIn (run : PlaceValue) (want : WantValue) (p : PlaceValue) : Type 0 where
   pub length : IsLength want p.len
   pub inside : InRun run p
   pub meets : Meets want p
-  pub longest : (q : Span) → IsLength want q.len → InRun run q → Meets want q → q.len ≤ p.len
+  pub longest : (q : PlaceValue) → IsLength want q.len → InRun run q → Meets want q → q.len ≤ p.len
 
 -- the run has a longest place, or none
-abbrev pub LongestIn : Span → Wanted → Option Span → Type 0
-LongestIn run want r = MatchOption r ((q : Span) → IsLength want q.len → InRun run q → Meets want q → ⊥) (IsLongestIn run want)
+abbrev pub LongestIn : PlaceValue → WantValue → Option PlaceValue → Type 0
+LongestIn run want r = MatchOption r ((q : PlaceValue) → IsLength want q.len → InRun run q → Meets want q → ⊥) (IsLongestIn run want)
 
 -- no other length is wanted
-abbrev pub IsOnlyLength : Wanted → ℕ → Type 0
+abbrev pub IsOnlyLength : WantValue → ℕ → Type 0
 IsOnlyLength want n = (n ≡ want.least) × (want.least ≡ want.most)

@@ -3,7 +3,7 @@ use Rattle.std.specs.Prelude.{◌≡◌, ℕ, ◌+◌, ◌-◌, ◌&&◌, min, L
 use Rattle.std.specs.List.{range_with_len}
 use Rattle.std.specs.Ordering.{nat_cmp}
 use Rattle.std.specs.FinMap.{FinMap, get}
-use Rattle.mvs_model.specs.Span.{Span}
+use Rattle.mvs_model.specs.Place.{PlaceValue}
 use Rattle.mvs_model.specs.Storage.{IsStorage, Storage, has_address}
 use Rattle.mvs_model.specs.Table.{table}
 use Rattle.subpool_store.specs.Bits.{in_range}
@@ -30,11 +30,11 @@ abbrev pub half_written : HalfState → ℕ → List ℕ → HalfState
 half_written h a w = record { first = h.first; pages = h.pages; held = h.held; bytes = overwritten h.bytes a (a + length w) w }
 
 -- Storage with the bytes written over those of a place, on its side of 16 megabytes.
-abbrev pub written : Storage → Span → List ℕ → Storage
+abbrev pub written : Storage → PlaceValue → List ℕ → Storage
 written st p w = record { regions = st.regions; held = st.held; bytes = overwritten st.bytes p.addr (min (p.addr + length w) (side_end p.addr)) w }
 
 -- The bytes stand at the place now, one after another, and all else is as before.
-pub record Puts (old : Storage) (p : Span) (w : List ℕ) (new : Storage) : Type 0 where
+pub record Puts (old : Storage) (p : PlaceValue) (w : List ℕ) (new : Storage) : Type 0 where
   pub regions : new.regions ≡ old.regions
   pub held : new.held ≡ old.held
   pub bytes : (k : ℕ) → get new.bytes k ≡ (if has_address p k then Some (slice_index w (k - p.addr)) else get old.bytes k)

@@ -5,7 +5,7 @@ ghost use Rattle.std.specs.Borrow.{sem};
 ghost use Rattle.std.specs.FinMap.{get, empty};
 ghost use Rattle.mvs_model.specs.Finite.{count_below, has};
 ghost use Rattle.mvs_model.specs.Storage.{IsWhole};
-ghost use Rattle.mvs_model.specs.Wanted.{IsWanted};
+ghost use Rattle.mvs_model.specs.Want.{IsWant};
 ghost use Rattle.page_map.specs.Owners.{owner_of, is_usable};
 ghost use Rattle.subpool_store.specs.Edits.{IsAssigned, IsGivenUp, IsDropped};
 ghost use Rattle.subpool_store.specs.Half.{
@@ -205,7 +205,7 @@ impl Half {
     // A longest open place that meets what is wanted.
     pub fn find(&self, subpool: SubpoolId, want: &Want) -> Found
         ensures best { BestIn self.now subpool want.now result.place }
-        ensures wanted { IsWanted want.now }
+        ensures wanted { IsWant want.now }
     {
         find(self.first, &self.held, &self.pages, subpool, want)
     }

@@ -1,9 +1,9 @@
 //! The search for a place in one region.
 
 ghost use Rattle.std.specs.Prelude.{◌≡◌, ◌<◌, ◌≤◌, ◌+◌, ◌-◌, ◌*◌, ◌^◌, ◌⊎◌, ◌↔◌, ℕ, IfSome, IsTrue, length};
-ghost use Rattle.mvs_model.specs.Span.{Span};
+ghost use Rattle.mvs_model.specs.Place.{PlaceValue};
 ghost use Rattle.mvs_model.specs.Storage.{IsLength, IsRun};
-ghost use Rattle.mvs_model.specs.Wanted.{IsWanted};
+ghost use Rattle.mvs_model.specs.Want.{IsWant};
 ghost use Rattle.subpool_store.specs.Search.{
   may_take,
   Beats,
@@ -54,7 +54,7 @@ fn run_place(first: u32, run: Run) -> Place
 // The length that is wanted, where it is one alone.
 fn only_length(want: &Want) -> Option<u32>
     ensures only { IfSome result (IsOnlyLength want.now) }
-    ensures wanted { IsWanted want.now }
+    ensures wanted { IsWant want.now }
 {
     if want.least() == want.most() {
         Some(want.least())
@@ -66,7 +66,7 @@ fn only_length(want: &Want) -> Option<u32>
 // A longest place of a run: the lowest one, where one length alone is wanted.
 fn best_in(run: Place, want: &Want, only: Option<u32>) -> Option<Place>
     requires run { IsRun run }
-    requires wanted { IsWanted want.now }
+    requires wanted { IsWant want.now }
     requires only { IfSome only (IsOnlyLength want.now) }
     ensures { LongestIn run want.now result }
 {
@@ -92,7 +92,7 @@ pub fn longer(one: Option<Place>, other: Option<Place>) -> Option<Place>
 // Whether no length that is wanted is greater than that of the place.
 pub fn is_longest(place: &Option<Place>, want: &Want) -> bool
     ensures longest { IsTrue result → (n : ℕ) → IsLength want.now n → Beats place.now n }
-    ensures wanted { IsWanted want.now }
+    ensures wanted { IsWant want.now }
 {
     let most = want.most();
     match place {
@@ -108,8 +108,8 @@ pub fn find(first: u32, held: &HeldMap, pages: &PageMap, subpool: SubpoolId, wan
     requires end { 8 * (first + length held.now) ≤ 2 ^ 31 }
     requires one_side { first < 2097152 → first + length held.now ≤ 2097152 }
     ensures found { IfSome result.place (IsCandidate (may_take held.now pages.now subpool) first want.now) }
-    ensures longest { (q : Span) → IsCandidate (may_take held.now pages.now subpool) first want.now q → Beats result.place q.len }
-    ensures wanted { IsWanted want.now }
+    ensures longest { (q : PlaceValue) → IsCandidate (may_take held.now pages.now subpool) first want.now q → Beats result.place q.len }
+    ensures wanted { IsWant want.now }
 {
     let only = only_length(want);
     let mut walk = Walk::new();

@@ -5,9 +5,9 @@ use Rattle.std.specs.FinMap.{get}
 use Rattle.slab.specs.Slab.{Slab, get as slot}
 use Rattle.mvs_model.specs.declared.name.Name.{Name}
 use Rattle.mvs_model.specs.declared.want.Residence.{Residence}
-use Rattle.mvs_model.specs.Presents.{Presents, gives}
+use Rattle.mvs_model.specs.Gifts.{GiftsValue, gives}
 use Rattle.mvs_model.specs.Owners.{is_active, gives_shared}
-use Rattle.task_owner.specs.Directory.{Directory, name_at, IsTask, name_of}
+use Rattle.task_owner.specs.Tasks.{TasksValue, name_at, IsTask, name_of}
 use Rattle.task_owner.specs.Seats.{item_at, number_of, entry_of, owner_name, directory, IsSound}
 use Rattle.task_owner.specs.Handing.{Leaves, Admits, taken, passed_on}
 use Rattle.task_owner.specs.declared.seat.Seat.{Seat}
@@ -17,15 +17,15 @@ use Rattle.task_owner.proofs.Entering.{owns_given}
 use Rattle.task_owner.proofs.Admitting.{admitted_sound, admits, named_here, nobody_before, others_named}
 
 -- what the callers are told, and that the fields are sound
-pub record AdmitsAt (d : Directory) (t name : Name) (gifts : Presents) (residence : Residence) (key : ℕ) (next : List (Option Seat)) (left : List (Option Owned)) : Type 0 where
+pub record AdmitsAt (d : TasksValue) (t name : Name) (gifts : GiftsValue) (residence : Residence) (key : ℕ) (next : List (Option Seat)) (left : List (Option Owned)) : Type 0 where
   pub sound : IsSound next left
   pub admits : Admits d.owners t name gifts residence (directory next left).owners
   pub named : name_at (directory next left) key ≡ Some name
   pub fresh : name_at d key ≡ None
   pub others : (k : ℕ) → k ≢ key → name_at (directory next left) k ≡ name_at d k
 
-module _ (old now next : Slab Seat) (owned left : List (Option Owned)) (d : Directory) (m id : ℕ) (e : directory old.slots owned ≡ d) (f : m ≡ id) (sound : IsSound old.slots owned) (active : IsTask d id)
-    (name : Name) (gifts : Presents) (residence : Residence) (numbers : List (Option ℕ)) (key : ℕ) (inactive : is_active d.owners name ≡ false) (owns : gives_shared d.owners (name_of d id) gifts ≡ false)
+module _ (old now next : Slab Seat) (owned left : List (Option Owned)) (d : TasksValue) (m id : ℕ) (e : directory old.slots owned ≡ d) (f : m ≡ id) (sound : IsSound old.slots owned) (active : IsTask d id)
+    (name : Name) (gifts : GiftsValue) (residence : Residence) (numbers : List (Option ℕ)) (key : ℕ) (inactive : is_active d.owners name ≡ false) (owns : gives_shared d.owners (name_of d id) gifts ≡ false)
     (takes : (x : Seat) → slot old m ≡ Some x → (n : ℕ) → n < 128 → item_at numbers n ≡ taken gifts x.numbers n)
     (left_here : (x : Seat) → slot old m ≡ Some x → (y : Seat) × (slot now m ≡ Some y) × Leaves gifts x y)
     (others : (k : ℕ) → k ≢ m → slot now k ≡ slot old k) (vacant : slot now key ≡ None)
@@ -41,7 +41,7 @@ module _ (old now next : Slab Seat) (owned left : List (Option Owned)) (d : Dire
   new k y h q = let g : true ≡ false = sym (ap is_some (a_task old.slots owned d k y e sound h)) ∙ ap (λ t. is_some (get d.owners.tasks t)) q ∙ inactive in cc
 
   given : gives_shared (directory old.slots owned).owners x.0.name gifts ≡ false
-  given = ap (λ (v : Directory). gives_shared v.owners x.0.name gifts) e ∙ ap (λ t. gives_shared d.owners t gifts) named ∙ owns
+  given = ap (λ (v : TasksValue). gives_shared v.owners x.0.name gifts) e ∙ ap (λ t. gives_shared d.owners t gifts) named ∙ owns
 
   own : (n r : ℕ) (o : Owned) → gives gifts n ≡ true → number_of x.0 n ≡ Some r → item_at owned r ≡ Some o → o.owner ≡ m
   own n r o g h q =
@@ -62,4 +62,4 @@ module _ (old now next : Slab Seat) (owned left : List (Option Owned)) (d : Dire
   }
 
   pub admitted : AdmitsAt d (name_of d id) name gifts residence key next.slots left
-  admitted = subst (λ t. AdmitsAt d t name gifts residence key next.slots left) named (subst (λ (v : Directory). AdmitsAt v x.0.name name gifts residence key next.slots left) e at_view)
+  admitted = subst (λ t. AdmitsAt d t name gifts residence key next.slots left) named (subst (λ (v : TasksValue). AdmitsAt v x.0.name name gifts residence key next.slots left) e at_view)

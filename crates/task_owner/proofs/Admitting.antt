@@ -6,11 +6,11 @@ use Rattle.std.specs.Option.{option_map}
 use Rattle.mvs_model.specs.declared.name.Name.{Name}
 use Rattle.mvs_model.specs.declared.want.Residence.{Residence}
 use Rattle.mvs_model.specs.Name.{same_name}
-use Rattle.mvs_model.specs.Presents.{Presents, gives, shares}
+use Rattle.mvs_model.specs.Gifts.{GiftsValue, gives, shares}
 use Rattle.mvs_model.specs.Finite.{has}
 use Rattle.mvs_model.specs.Owners.{entry, is_given}
 use Rattle.mvs_model.proofs.Orders.{same_name_is, same_name_self}
-use Rattle.task_owner.specs.Directory.{name_at}
+use Rattle.task_owner.specs.Tasks.{name_at}
 use Rattle.task_owner.specs.Seats.{item_at, name_of_seat, number_of, seat_named, mother_of, task_of, entry_of, owner_name, directory, IsSound}
 use Rattle.task_owner.specs.Handing.{Leaves, Admits, taken, is_handed, passed_on}
 use Rattle.task_owner.specs.declared.seat.Seat.{Seat}
@@ -21,13 +21,13 @@ use Rattle.task_owner.proofs.Bools.{same_test, both_true}
 use Rattle.task_owner.proofs.AnyBelow.{found_below, passing_below}
 
 -- a task that stays: it has lost what the mother at the key gives
-record Stays (gifts : Presents) (m k : ℕ) (old now : Seat) : Type 0 where
+record Stays (gifts : GiftsValue) (m k : ℕ) (old now : Seat) : Type 0 where
   name : now.name ≡ old.name
   mother : now.mother ≡ old.mother
   residence : now.residence ≡ old.residence
   numbers : (n : ℕ) → number_of now n ≡ cond (eqb k m && gives gifts n) None (number_of old n)
 
-module _ (seats mid next : List (Option Seat)) (owned left : List (Option Owned)) (m key : ℕ) (x : Seat) (name : Name) (residence : Residence) (numbers : List (Option ℕ)) (gifts : Presents)
+module _ (seats mid next : List (Option Seat)) (owned left : List (Option Owned)) (m key : ℕ) (x : Seat) (name : Name) (residence : Residence) (numbers : List (Option ℕ)) (gifts : GiftsValue)
     (sound : IsSound seats owned) (at : item_at seats m ≡ Some x) (left_here : (y : Seat) × (item_at mid m ≡ Some y) × Leaves gifts x y) (others : (k : ℕ) → k ≢ m → item_at mid k ≡ item_at seats k)
     (vacant : item_at mid key ≡ None) (here : item_at next key ≡ Some (record { name = name; mother = Some m; residence = residence; numbers = numbers })) (rest : (k : ℕ) → k ≢ key → item_at next k ≡ item_at mid k)
     (takes : (n : ℕ) → n < 128 → item_at numbers n ≡ taken gifts x.numbers n) (passed : (s : ℕ) → item_at left s ≡ passed_on gifts m key (item_at owned s))

@@ -5,15 +5,15 @@ use Rattle.mvs_model.specs.declared.name.Name.{Name}
 use Rattle.mvs_model.specs.declared.want.Residence.{Residence}
 use Rattle.mvs_model.specs.declared.code.Code.{Code}
 use Rattle.mvs_model.specs.Name.{same_name}
-use Rattle.mvs_model.specs.Presents.{Presents, shares}
+use Rattle.mvs_model.specs.Gifts.{GiftsValue, shares}
 use Rattle.mvs_model.specs.Finite.{Changes}
 use Rattle.mvs_model.specs.Owners.{Owners, is_active, gives_shared, attach_refusal, Attach}
-use Rattle.task_owner.specs.Directory.{Directory, name_of}
+use Rattle.task_owner.specs.Tasks.{TasksValue, name_of}
 use Rattle.task_owner.specs.Handing.{SharesBelow, Admits}
 use Rattle.task_owner.proofs.Refusing.{allowed, not_refused}
 use Rattle.task_owner.proofs.Entering.{same_tasks, still_owned}
 
-module _ (old now : Directory) (mother : ℕ) (name : Name) (gifts : Presents) (made : SharesBelow old mother gifts 128 now) where
+module _ (old now : TasksValue) (mother : ℕ) (name : Name) (gifts : GiftsValue) (made : SharesBelow old mother gifts 128 now) where
   same_mother : name_of now mother ≡ name_of old mother
   same_mother = ap (λ o. unwrap_or o []) (made.names mother)
 

@@ -6,7 +6,7 @@ use Rattle.mvs_model.specs.declared.name.Name.{Name}
 use Rattle.mvs_model.specs.Name.{same_name}
 use Rattle.mvs_model.specs.Owners.{Binds}
 use Rattle.mvs_model.proofs.Orders.{name_cmp_total, name_cmp-IsAntisymmetric}
-use Rattle.task_owner.specs.Directory.{Directory, name_at, name_of}
+use Rattle.task_owner.specs.Tasks.{TasksValue, name_at, name_of}
 use Rattle.task_owner.specs.Seats.{item_at, name_of_seat, number_of, seat_named, mother_of, task_of, entry_of, owner_name, directory, IsSound, Distinct}
 use Rattle.task_owner.specs.declared.seat.Seat.{Seat}
 use Rattle.task_owner.specs.declared.seat.Owned.{Owned}
@@ -186,8 +186,8 @@ module _ (seats next : List (Option Seat)) (owned : List (Option Owned)) (key n 
     names_at id = view-name next owners_next id ∙ names_kept id ∙ sym (view-name seats owned id)
 
     -- the same for the value of `Tasks`, an identifier, a number and a subpool
-    pub binds_at : (d : Directory) (id num : ℕ) → directory seats owned ≡ d → key ≡ id → n ≡ num → Binds d.owners (name_of d id) num s (directory next owners_next).owners
+    pub binds_at : (d : TasksValue) (id num : ℕ) → directory seats owned ≡ d → key ≡ id → n ≡ num → Binds d.owners (name_of d id) num s (directory next owners_next).owners
     binds_at d id num e f g =
         subst (λ t. Binds d.owners t num s (directory next owners_next).owners) (sym (name_is seats owned d key id e f sound x at))
-        (subst (λ (v : Directory). Binds v.owners x.name num s (directory next owners_next).owners) e
+        (subst (λ (v : TasksValue). Binds v.owners x.name num s (directory next owners_next).owners) e
         (subst (λ m. Binds (directory seats owned).owners x.name m s (directory next owners_next).owners) g binds))

@@ -4,7 +4,7 @@ use Rattle.std.specs.FinMap.{get}
 use Rattle.slab.specs.Slab.{Slab, get as slot}
 use Rattle.mvs_model.specs.declared.name.Name.{Name}
 use Rattle.mvs_model.specs.Owners.{entry, Binds}
-use Rattle.task_owner.specs.Directory.{Directory, name_at, IsTask, name_of}
+use Rattle.task_owner.specs.Tasks.{TasksValue, name_at, IsTask, name_of}
 use Rattle.task_owner.specs.Seats.{item_at, number_of, directory, IsSound}
 use Rattle.task_owner.specs.declared.seat.Seat.{Seat}
 use Rattle.task_owner.specs.declared.seat.Owned.{Owned}
@@ -13,12 +13,12 @@ use Rattle.task_owner.proofs.Labels.{unowned}
 use Rattle.task_owner.proofs.Binding.{bound_sound, binds_at, names_at}
 
 -- what the callers are told, and that the fields are sound
-pub record BindsAt (d : Directory) (t : Name) (number s : ℕ) (next : List (Option Seat)) (left : List (Option Owned)) : Type 0 where
+pub record BindsAt (d : TasksValue) (t : Name) (number s : ℕ) (next : List (Option Seat)) (left : List (Option Owned)) : Type 0 where
   pub sound : IsSound next left
   pub binds : Binds d.owners t number s (directory next left).owners
   pub names : (k : ℕ) → name_at (directory next left) k ≡ name_at d k
 
-module _ (old now : Slab Seat) (owned : List (Option Owned)) (d : Directory) (key id : ℕ) (e : directory old.slots owned ≡ d) (f : key ≡ id) (sound : IsSound old.slots owned) (active : IsTask d id)
+module _ (old now : Slab Seat) (owned : List (Option Owned)) (d : TasksValue) (key id : ℕ) (e : directory old.slots owned ≡ d) (f : key ≡ id) (sound : IsSound old.slots owned) (active : IsTask d id)
     (n number i s : ℕ) (same : n ≡ number) (low : n < 128) (here : i ≡ s) (in_range : i < length owned)
     (none : entry d.owners (name_of d id) number ≡ None) (spare : get d.owners.owner s ≡ None)
     (entered : (x : Seat) → slot old key ≡ Some x → slot now key ≡ Some (record x { numbers = slice_set x.numbers n (Some s) }))

@@ -11,7 +11,7 @@ use Rattle.mvs_model.specs.declared.name.Name.{Name}
 use Rattle.mvs_model.specs.Name.{name_cmp}
 use Rattle.mvs_model.specs.Finite.{Keeps, kept, has}
 use Rattle.mvs_model.specs.Owners.{goes, ends_with, Ends, IsFallen}
-use Rattle.task_owner.specs.Directory.{Directory, name_at, IsTask, name_of}
+use Rattle.task_owner.specs.Tasks.{TasksValue, name_at, IsTask, name_of}
 use Rattle.task_owner.specs.Seats.{item_at, directory, IsSound, MothersActive}
 use Rattle.task_owner.specs.Family.{Falls, FreedBelow, IsTrimmed, is_owner_active, falls_free}
 use Rattle.task_owner.specs.declared.seat.Seat.{Seat}
@@ -22,7 +22,7 @@ use Rattle.task_owner.proofs.Fallen.{goes_sorted, fallen_is}
 use Rattle.task_owner.proofs.Ending.{ended_sound, ends, names_end, freed_test}
 
 -- what the callers are told, and that the fields are sound
-pub record EndsAt (d : Directory) (t : Name) (names : List Name) (subpools : List ℕ) (next : List (Option Seat)) (left : List (Option Owned)) : Type 0 where
+pub record EndsAt (d : TasksValue) (t : Name) (names : List Name) (subpools : List ℕ) (next : List (Option Seat)) (left : List (Option Owned)) : Type 0 where
   pub sound : IsSound next left
   pub fallen : IsFallen d.owners t names
   pub ends : Ends d.owners t names (directory next left).owners
@@ -32,7 +32,7 @@ pub record EndsAt (d : Directory) (t : Name) (names : List Name) (subpools : Lis
 within : (s n : ℕ) (b : Bool) → (n ≤ s → b ≡ false) → cond (ltb s n) b false ≡ b
 within s n b h = grind (arith, nat_tests)
 
-module _ (old now next : Slab Seat) (owned left : List (Option Owned)) (d : Directory) (key id : ℕ) (e : directory old.slots owned ≡ d) (f : key ≡ id) (sound : IsSound old.slots owned) (active : IsTask d id)
+module _ (old now next : Slab Seat) (owned left : List (Option Owned)) (d : TasksValue) (key id : ℕ) (e : directory old.slots owned ≡ d) (f : key ≡ id) (sound : IsSound old.slots owned) (active : IsTask d id)
     (names fallen : List Name) (freed : List ℕ) (falls : (x : Seat) → get old key ≡ Some x → Falls old key x.name names now) (closed : MothersActive now.slots)
     (sorted : IsSorted name_cmp fallen) (same : IsPermutation names fallen) (listed : FreedBelow now owned (length owned) freed)
     (owner : Keeps (item_at owned) (λ _ o. is_owner_active now o) (item_at left)) (each : (k : ℕ) → IsTrimmed left (get now k) (get next k)) where
@@ -61,4 +61,4 @@ module _ (old now next : Slab Seat) (owned left : List (Option Owned)) (d : Dire
   }
 
   pub ended : EndsAt d (name_of d id) fallen freed next.slots left
-  ended = subst (λ t. EndsAt d t fallen freed next.slots left) named (subst (λ (v : Directory). EndsAt v y.0.name fallen freed next.slots left) e at_view)
+  ended = subst (λ t. EndsAt d t fallen freed next.slots left) named (subst (λ (v : TasksValue). EndsAt v y.0.name fallen freed next.slots left) e at_view)

@@ -5,7 +5,7 @@ use Rattle.std.specs.FinMap.{get}
 use Rattle.mvs_model.specs.declared.name.Name.{Name}
 use Rattle.mvs_model.specs.Finite.{Keeps, kept, has}
 use Rattle.mvs_model.specs.Owners.{goes, Ends}
-use Rattle.task_owner.specs.Directory.{name_at}
+use Rattle.task_owner.specs.Tasks.{name_at}
 use Rattle.task_owner.specs.Seats.{item_at, name_of_seat, number_of, seat_named, mother_of, task_of, entry_of, owner_name, directory, IsSound, MothersActive}
 use Rattle.task_owner.specs.Family.{has_owner, Trims, IsTrimmed}
 use Rattle.task_owner.specs.declared.seat.Seat.{Seat}

@@ -4,25 +4,25 @@ use Rattle.std.specs.FinMap.{get}
 use Rattle.std.specs.Option.{MatchOption}
 use Rattle.mvs_model.specs.declared.name.Name.{Name}
 use Rattle.mvs_model.specs.Name.{same_name}
-use Rattle.mvs_model.specs.Presents.{Presents, gives, shares}
+use Rattle.mvs_model.specs.Gifts.{GiftsValue, gives, shares}
 use Rattle.mvs_model.specs.Finite.{has}
 use Rattle.mvs_model.specs.Owners.{Owners, entry, owns, Binds, Enters, EntersBelow, none, passed, entered, gives_shared}
 use Rattle.mvs_model.proofs.Orders.{same_name_is, same_name_self}
-use Rattle.task_owner.specs.Directory.{Directory, name_at, name_of}
+use Rattle.task_owner.specs.Tasks.{TasksValue, name_at, name_of}
 use Rattle.task_owner.specs.Handing.{GetsEntry, SharesBelow}
 use Rattle.task_owner.proofs.Places.{number_cases}
 use Rattle.task_owner.proofs.AnyBelow.{passing_below, fails_below}
 
-pub none_yet : (old : Directory) (t : ℕ) (gifts : Presents) → SharesBelow old t gifts 0 old
+pub none_yet : (old : TasksValue) (t : ℕ) (gifts : GiftsValue) → SharesBelow old t gifts 0 old
 none_yet old t gifts = record { made = none; names = λ id. refl }
 
-pub one_passed : (old now next : Directory) (t n : ℕ) (gifts : Presents) → SharesBelow old t gifts n now → shares gifts n ≡ false → next ≡ now → SharesBelow old t gifts (n + 1) next
+pub one_passed : (old now next : TasksValue) (t n : ℕ) (gifts : GiftsValue) → SharesBelow old t gifts n now → shares gifts n ≡ false → next ≡ now → SharesBelow old t gifts (n + 1) next
 one_passed old now next t n gifts r h same = subst (λ v. SharesBelow old t gifts (n + 1) v) (sym same) (record {
   made = (let e : suc n ≡ n + 1 = omega arith in subst (λ m. EntersBelow old.owners (name_of old t) (shares gifts) m now.owners) e (passed r.made h));
   names = r.names;
 })
 
-pub one_entered : (old now next : Directory) (t n : ℕ) (gifts : Presents) → SharesBelow old t gifts n now → shares gifts n ≡ true → GetsEntry now.owners (name_of now t) n next.owners → ((id : ℕ) → name_at next id ≡ name_at now id)
+pub one_entered : (old now next : TasksValue) (t n : ℕ) (gifts : GiftsValue) → SharesBelow old t gifts n now → shares gifts n ≡ true → GetsEntry now.owners (name_of now t) n next.owners → ((id : ℕ) → name_at next id ≡ name_at now id)
     → SharesBelow old t gifts (n + 1) next
 one_entered old now next t n gifts r h g names = record {
   made =
@@ -46,7 +46,7 @@ module _ (t : Name) (wanted : ℕ → Bool) where
   same_tasks old now _ (passed {number = n} r h) = same_tasks old now n r
   same_tasks old _ _ (entered s {number = n} {now = mid} {new = new} r h c e) = one_task mid new n s e ∙ same_tasks old mid n r
 
-module _ (t : Name) (gifts : Presents) where
+module _ (t : Name) (gifts : GiftsValue) where
   is_owner : (o : Option Name) → has (same_name t) o ≡ true → o ≡ Some t
   is_owner None h = absurd (let e : false ≡ true = h in cc)
   is_owner (Some q) h = ap Some (sym (same_name_is t q h))

@@ -5,7 +5,7 @@ use Rattle.std.specs.Option.{option_map}
 use Rattle.std.specs.FinMap.{get}
 use Rattle.mvs_model.specs.declared.name.Name.{Name}
 use Rattle.mvs_model.specs.Owners.{Task, is_active, entry, IsMother, Descends, subtask, further}
-use Rattle.task_owner.specs.Directory.{Directory}
+use Rattle.task_owner.specs.Tasks.{TasksValue}
 use Rattle.mvs_model.specs.Kept.{IsFirst, OwnersKept}
 use Rattle.task_owner.specs.Seats.{item_at, number_of, seat_named, mother_of, task_of, entry_of, owner_name, directory, IsSound}
 use Rattle.task_owner.specs.declared.seat.Seat.{Seat}
@@ -130,5 +130,5 @@ module _ (seats : List (Option Seat)) (owned : List (Option Owned)) (sound : IsS
       by (inr l) = absurd (let f : None ≡ Some t = sym (ap (owner_name seats) (past_end owned s (omega (arith, long, l)))) ∙ h in cc)
 
 -- the same of the value of `Tasks`
-pub kept_at : (seats : List (Option Seat)) (owned : List (Option Owned)) (d : Directory) → directory seats owned ≡ d → IsSound seats owned → length owned ≡ 4096 → count_by is_some seats ≤ 32 → OwnersKept d.owners
-kept_at seats owned d e sound long few = subst (λ (v : Directory). OwnersKept v.owners) e (keeps seats owned sound long few)
+pub kept_at : (seats : List (Option Seat)) (owned : List (Option Owned)) (d : TasksValue) → directory seats owned ≡ d → IsSound seats owned → length owned ≡ 4096 → count_by is_some seats ≤ 32 → OwnersKept d.owners
+kept_at seats owned d e sound long few = subst (λ (v : TasksValue). OwnersKept v.owners) e (keeps seats owned sound long few)

@@ -7,7 +7,7 @@ use Rattle.mvs_model.specs.Name.{same_name}
 use Rattle.mvs_model.specs.Finite.{has}
 use Rattle.mvs_model.specs.Owners.{entry, owns, IsSpare}
 use Rattle.mvs_model.proofs.Orders.{same_name_is, same_name_self}
-use Rattle.task_owner.specs.Directory.{Directory, IsTask, name_of}
+use Rattle.task_owner.specs.Tasks.{TasksValue, IsTask, name_of}
 use Rattle.task_owner.specs.Seats.{item_at, number_of, entry_of, owner_name, directory, IsSound}
 use Rattle.task_owner.specs.declared.seat.Seat.{Seat}
 use Rattle.task_owner.specs.declared.seat.Owned.{Owned}
@@ -15,9 +15,9 @@ use Rattle.task_owner.proofs.Places.{of_some}
 use Rattle.task_owner.proofs.Reading.{found, view-entry, view-owner, the_seat, name_is}
 use Rattle.task_owner.proofs.Bools.{same_test}
 
-module _ (seats : List (Option Seat)) (owned : List (Option Owned)) (d : Directory) (s : ℕ) (e : directory seats owned ≡ d) where
+module _ (seats : List (Option Seat)) (owned : List (Option Owned)) (d : TasksValue) (s : ℕ) (e : directory seats owned ≡ d) where
   owner_is : get d.owners.owner s ≡ owner_name seats (item_at owned s)
-  owner_is = ap (λ (v : Directory). get v.owners.owner s) (sym e) ∙ view-owner seats owned s
+  owner_is = ap (λ (v : TasksValue). get v.owners.owner s) (sym e) ∙ view-owner seats owned s
 
   pub unlabelled : item_at owned s ≡ None → get d.owners.owner s ≡ None
   unlabelled h = owner_is ∙ ap (owner_name seats) h
@@ -26,7 +26,7 @@ module _ (seats : List (Option Seat)) (owned : List (Option Owned)) (d : Directo
     pub labelled : (o : Owned) (x : Seat) → item_at owned s ≡ Some o → item_at seats o.owner ≡ Some x → (get d.owners.owner s ≡ Some x.name) × (entry d.owners x.name o.number ≡ Some s)
     labelled o x h at = (
       owner_is ∙ ap (owner_name seats) h ∙ ap (option_map (λ y. y.name)) at,
-      subst (λ (v : Directory). entry v.owners x.name o.number ≡ Some s) e
+      subst (λ (v : TasksValue). entry v.owners x.name o.number ≡ Some s) e
           (view-entry seats owned x.name o.number ∙ ap (λ y. entry_of y o.number) (found seats o.owner x sound.distinct at) ∙ ap (λ z. number_of z o.number) same ∙ r.2),
     )
       where
@@ -71,4 +71,4 @@ module _ (seats : List (Option Seat)) (owned : List (Option Owned)) (d : Directo
     lower r p =
         let o = of_some (item_at owned r) (below r p) in
         let x = sound.owners r o.0 o.1 in
-        ap is_some (ap (λ (v : Directory). get v.owners.owner r) (sym e) ∙ view-owner seats owned r ∙ ap (owner_name seats) o.1 ∙ ap (option_map (λ y. y.name)) x.1)
+        ap is_some (ap (λ (v : TasksValue). get v.owners.owner r) (sym e) ∙ view-owner seats owned r ∙ ap (owner_name seats) o.1 ∙ ap (option_map (λ y. y.name)) x.1)

@@ -11,7 +11,7 @@ use Rattle.mvs_model.specs.Keyed.{pairs_below}
 use Rattle.mvs_model.proofs.Keyed.{get-keyed_all, any-pairs_below}
 use Rattle.mvs_model.proofs.Orders.{name_cmp_total, entry_cmp_total, name_cmp-IsAntisymmetric, entry_cmp-IsAntisymmetric, same_name_is, same_name_self}
 use Rattle.mvs_model.proofs.Tables.{get-table_all}
-use Rattle.task_owner.specs.Directory.{Directory, name_at, IsTask, name_of, residence_of}
+use Rattle.task_owner.specs.Tasks.{TasksValue, name_at, IsTask, name_of, residence_of}
 use Rattle.task_owner.specs.Seats.{item_at, name_of_seat, number_of, seat_named, names, task_of, entry_of, owner_name, directory, IsSound, Distinct}
 use Rattle.task_owner.specs.declared.seat.Seat.{Seat}
 use Rattle.task_owner.specs.declared.seat.Owned.{Owned}
@@ -88,10 +88,10 @@ not_found seats t h = by (seat_named seats t) refl where
   by (Some x) e = let r = found_at seats t x e in absurd (h r.0 x r.1 r.2)
 
 -- the value of `Tasks` and an identifier, in place of the fields that they are views of
-along : (seats : List (Option Seat)) (owned : List (Option Owned)) (d : Directory) (key id : ℕ) (P : Directory → ℕ → Type 0) → directory seats owned ≡ d → key ≡ id → P (directory seats owned) key → P d id
-along seats owned d key id P e f h = subst (λ (v : Directory). P v id) e (subst (λ (k : ℕ). P (directory seats owned) k) f h)
+along : (seats : List (Option Seat)) (owned : List (Option Owned)) (d : TasksValue) (key id : ℕ) (P : TasksValue → ℕ → Type 0) → directory seats owned ≡ d → key ≡ id → P (directory seats owned) key → P d id
+along seats owned d key id P e f h = subst (λ (v : TasksValue). P v id) e (subst (λ (k : ℕ). P (directory seats owned) k) f h)
 
-module _ (seats : List (Option Seat)) (owned : List (Option Owned)) (d : Directory) (key id : ℕ) (e : directory seats owned ≡ d) (f : key ≡ id) where
+module _ (seats : List (Option Seat)) (owned : List (Option Owned)) (d : TasksValue) (key id : ℕ) (e : directory seats owned ≡ d) (f : key ≡ id) where
   pub at_id : name_at d id ≡ name_of_seat seats key
   at_id = along seats owned d key id (λ v k. name_at v k ≡ name_of_seat seats key) e f (view-name seats owned key)
 
@@ -112,7 +112,7 @@ module _ (seats : List (Option Seat)) (owned : List (Option Owned)) (d : Directo
     pub task_is : get d.owners.tasks (name_of d id) ≡ Some (task_of seats x)
     task_is =
         ap (get d.owners.tasks) name_is
-        ∙ subst (λ (v : Directory). get v.owners.tasks x.name ≡ Some (task_of seats x)) e
+        ∙ subst (λ (v : TasksValue). get v.owners.tasks x.name ≡ Some (task_of seats x)) e
         (view-task seats owned x.name ∙ ap (option_map (task_of seats)) (found seats key x sound.distinct h))
 
     pub residence_is : residence_of d.owners (name_of d id) ≡ Some x.residence
@@ -121,7 +121,7 @@ module _ (seats : List (Option Seat)) (owned : List (Option Owned)) (d : Directo
     pub entry_is : (n : ℕ) → entry d.owners (name_of d id) n ≡ number_of x n
     entry_is n =
         ap (λ t. entry d.owners t n) name_is
-        ∙ subst (λ (v : Directory). entry v.owners x.name n ≡ number_of x n) e
+        ∙ subst (λ (v : TasksValue). entry v.owners x.name n ≡ number_of x n) e
         (view-entry seats owned x.name n ∙ ap (λ o. entry_of o n) (found seats key x sound.distinct h))
 
 -- below 128 the number is what the array has
@@ -140,11 +140,11 @@ number_low x n s e = by (ltb n 128) refl e where
   by false t e = absurd (let f : ◌≡◌ {A = Option ℕ} None (Some s) = e in cc)
 
 -- an identifier's name where its key has a task
-pub name_at_is : (seats : List (Option Seat)) (owned : List (Option Owned)) (d : Directory) (key : ℕ) (x : Seat) → directory seats owned ≡ d → item_at seats key ≡ Some x → name_at d key ≡ Some x.name
+pub name_at_is : (seats : List (Option Seat)) (owned : List (Option Owned)) (d : TasksValue) (key : ℕ) (x : Seat) → directory seats owned ≡ d → item_at seats key ≡ Some x → name_at d key ≡ Some x.name
 name_at_is seats owned d key x e h = at_id seats owned d key key e refl ∙ ap (option_map (λ x. x.name)) h
 
-pub no_task : (seats : List (Option Seat)) (owned : List (Option Owned)) (d : Directory) (t : Name) → directory seats owned ≡ d → ((k : ℕ) (x : Seat) → item_at seats k ≡ Some x → x.name ≢ t) → get d.owners.tasks t ≡ None
-no_task seats owned d t e h = subst (λ (v : Directory). get v.owners.tasks t ≡ None) e (view-task seats owned t ∙ ap (option_map (task_of seats)) (not_found seats t h))
+pub no_task : (seats : List (Option Seat)) (owned : List (Option Owned)) (d : TasksValue) (t : Name) → directory seats owned ≡ d → ((k : ℕ) (x : Seat) → item_at seats k ≡ Some x → x.name ≢ t) → get d.owners.tasks t ≡ None
+no_task seats owned d t e h = subst (λ (v : TasksValue). get v.owners.tasks t ≡ None) e (view-task seats owned t ∙ ap (option_map (task_of seats)) (not_found seats t h))
 
-pub a_task : (seats : List (Option Seat)) (owned : List (Option Owned)) (d : Directory) (k : ℕ) (x : Seat) → directory seats owned ≡ d → IsSound seats owned → item_at seats k ≡ Some x → get d.owners.tasks x.name ≡ Some (task_of seats x)
-a_task seats owned d k x e sound h = subst (λ (v : Directory). get v.owners.tasks x.name ≡ Some (task_of seats x)) e (view-task seats owned x.name ∙ ap (option_map (task_of seats)) (found seats k x sound.distinct h))
+pub a_task : (seats : List (Option Seat)) (owned : List (Option Owned)) (d : TasksValue) (k : ℕ) (x : Seat) → directory seats owned ≡ d → IsSound seats owned → item_at seats k ≡ Some x → get d.owners.tasks x.name ≡ Some (task_of seats x)
+a_task seats owned d k x e sound h = subst (λ (v : TasksValue). get v.owners.tasks x.name ≡ Some (task_of seats x)) e (view-task seats owned x.name ∙ ap (option_map (task_of seats)) (found seats k x sound.distinct h))

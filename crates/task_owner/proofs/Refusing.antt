@@ -5,10 +5,10 @@ use Rattle.std.specs.FinMap.{len}
 use Rattle.mvs_model.specs.declared.name.Name.{Name}
 use Rattle.mvs_model.specs.declared.code.Code.{Code}
 use Rattle.mvs_model.specs.declared.code.Code.TheVariants.{User}
-use Rattle.mvs_model.specs.Presents.{Presents, gives}
+use Rattle.mvs_model.specs.Gifts.{GiftsValue, gives}
 use Rattle.mvs_model.specs.Finite.{has}
 use Rattle.mvs_model.specs.Owners.{Owners, entry, owns, is_active, gives_shared, attach_refusal}
-use Rattle.task_owner.specs.Directory.{Directory}
+use Rattle.task_owner.specs.Tasks.{TasksValue}
 use Rattle.task_owner.specs.Seats.{directory, IsSound}
 use Rattle.task_owner.specs.Handing.{is_shared_gift}
 use Rattle.task_owner.specs.declared.seat.Seat.{Seat}
@@ -16,11 +16,11 @@ use Rattle.task_owner.specs.declared.seat.Owned.{Owned}
 use Rattle.task_owner.proofs.Count.{tasks_len}
 
 -- what the two calls say of a number
-pub shared_gift : (o : Owners) (t : Name) (gifts : Presents) (n m : ℕ) (a b : Bool) → a ≡ gives gifts n → m ≡ n → b ≡ has (λ s. not (owns o t s)) (entry o t m) → (a && b) ≡ is_shared_gift o t gifts n
+pub shared_gift : (o : Owners) (t : Name) (gifts : GiftsValue) (n m : ℕ) (a b : Bool) → a ≡ gives gifts n → m ≡ n → b ≡ has (λ s. not (owns o t s)) (entry o t m) → (a && b) ≡ is_shared_gift o t gifts n
 shared_gift o t gifts n m a b f g h = λ i. f i && (h ∙ ap (λ k. has (λ s. not (owns o t s)) (entry o t k)) g) i
 
 -- the refusal by what its tests answer
-pub refusal_by : (o : Owners) (mother name : Name) (gifts : Presents) (a b c : Bool) → a ≡ is_active o name → b ≡ nat_le 32 (len o.tasks) → c ≡ gives_shared o mother gifts
+pub refusal_by : (o : Owners) (mother name : Name) (gifts : GiftsValue) (a b c : Bool) → a ≡ is_active o name → b ≡ nat_le 32 (len o.tasks) → c ≡ gives_shared o mother gifts
     → cond a (Some (User 4009)) (cond b (Some (User 4005)) (cond c (Some (User 4003)) None)) ≡ attach_refusal o mother name gifts
 refusal_by o mother name gifts a b c e f g = λ i. cond (e i) (Some (User 4009)) (cond (f i) (Some (User 4005)) (cond (g i) (Some (User 4003)) None))
 
@@ -33,9 +33,9 @@ tested_false m n h = grind (arith, nat_tests)
 below_test : (m n : ℕ) → nat_le m n ≡ false → n < m
 below_test m n h = grind (arith, nat_tests)
 
-module _ (seats : List (Option Seat)) (owned : List (Option Owned)) (d : Directory) (e : directory seats owned ≡ d) (sound : IsSound seats owned) where
+module _ (seats : List (Option Seat)) (owned : List (Option Owned)) (d : TasksValue) (e : directory seats owned ≡ d) (sound : IsSound seats owned) where
   pub len_is : len d.owners.tasks ≡ count_by is_some seats
-  len_is = ap (λ (v : Directory). len v.owners.tasks) (sym e) ∙ tasks_len seats owned sound
+  len_is = ap (λ (v : TasksValue). len v.owners.tasks) (sym e) ∙ tasks_len seats owned sound
 
   -- whether 32 tasks are active
   pub full : 32 ≤ count_by is_some seats → true ≡ nat_le 32 (len d.owners.tasks)
@@ -45,7 +45,7 @@ module _ (seats : List (Option Seat)) (owned : List (Option Owned)) (d : Directo
   not_full h = tested_false 32 (count_by is_some seats) h ∙ ap (nat_le 32) (sym len_is)
 
 -- what holds where an attach is not refused
-module _ (o : Owners) (mother name : Name) (gifts : Presents) where
+module _ (o : Owners) (mother name : Name) (gifts : GiftsValue) where
   pub allowed : attach_refusal o mother name gifts ≡ None → (is_active o name ≡ false) × (len o.tasks < 32) × (gives_shared o mother gifts ≡ false)
   allowed h = by (is_active o name) refl (nat_le 32 (len o.tasks)) refl (gives_shared o mother gifts) refl (refusal_by o mother name gifts _ _ _ refl refl refl ∙ h) where
     by : (a : Bool) → is_active o name ≡ a → (b : Bool) → nat_le 32 (len o.tasks) ≡ b → (c : Bool) → gives_shared o mother gifts ≡ c

@@ -10,7 +10,7 @@ use Rattle.mvs_model.specs.Name.{name_cmp, same_name}
 use Rattle.mvs_model.specs.Finite.{has}
 use Rattle.mvs_model.specs.Owners.{Task, has_subtask}
 use Rattle.mvs_model.proofs.Orders.{same_name_is, same_name_self}
-use Rattle.task_owner.specs.Directory.{Directory, IsTask, name_of}
+use Rattle.task_owner.specs.Tasks.{TasksValue, IsTask, name_of}
 use Rattle.task_owner.specs.Seats.{item_at, seat_named, mother_of, task_of, directory, IsSound, Distinct}
 use Rattle.task_owner.specs.declared.seat.Seat.{Seat}
 use Rattle.task_owner.specs.declared.seat.Owned.{Owned}
@@ -44,7 +44,7 @@ abbrev attached_by : Name → Task → Bool
 attached_by t task = has (same_name t) task.mother
 
 -- the test of the map is that of the keys
-pub subtask_test : (seats : List (Option Seat)) (owned : List (Option Owned)) (d : Directory) (key id : ℕ) (e : directory seats owned ≡ d) (f : key ≡ id) (sound : IsSound seats owned) (active : IsTask d id)
+pub subtask_test : (seats : List (Option Seat)) (owned : List (Option Owned)) (d : TasksValue) (key id : ℕ) (e : directory seats owned ≡ d) (f : key ≡ id) (sound : IsSound seats owned) (active : IsTask d id)
     → (r : Bool) → (IsTrue r → (k : ℕ) × (x : Seat) × (item_at seats k ≡ Some x) × (x.mother ≡ Some key)) → ((k : ℕ) × (x : Seat) × (item_at seats k ≡ Some x) × (x.mother ≡ Some key) → IsTrue r)
     → r ≡ has_subtask d.owners (name_of d id)
 subtask_test seats owned d key id e f sound active r there back = same_test r (has_subtask d.owners (name_of d id)) yes known where
@@ -63,6 +63,6 @@ subtask_test seats owned d key id e f sound active r there back = same_test r (h
   known : has_subtask d.owners (name_of d id) ≡ true → r ≡ true
   known t =
       let q = passing_key d.owners.tasks (attached_by (name_of d id)) t in
-      let y = of_mapped (task_of seats) (seat_named seats q.0) q.1 (sym (view-task seats owned q.0) ∙ ap (λ (v : Directory). get v.owners.tasks q.0) e ∙ q.2) in
+      let y = of_mapped (task_of seats) (seat_named seats q.0) q.1 (sym (view-task seats owned q.0) ∙ ap (λ (v : TasksValue). get v.owners.tasks q.0) e ∙ q.2) in
       let at = found_at seats q.0 y.0 y.1 in
       back (at.0, y.0, at.1, mother_key seats sound.distinct y.0.mother key mother.0 mother.1 (ap (λ n. has (same_name n) (mother_of seats y.0.mother)) (sym named) ∙ ap (λ (t : Task). has (same_name (name_of d id)) t.mother) y.2 ∙ q.3))

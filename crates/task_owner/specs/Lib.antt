@@ -1,4 +1,4 @@
-pub mod Directory
+pub mod Tasks
 pub mod Seats
 pub mod Family
 pub mod Handing

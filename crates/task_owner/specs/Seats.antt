@@ -6,9 +6,10 @@ use Rattle.mvs_model.specs.Name.{name_cmp, same_name}
 use Rattle.mvs_model.specs.Owners.{entry_cmp, Task}
 use Rattle.mvs_model.specs.Keyed.{keyed, pairs_below}
 use Rattle.mvs_model.specs.Table.{table}
-use Rattle.task_owner.specs.Directory.{Directory}
+use Rattle.task_owner.specs.Tasks.{TasksValue}
 use Rattle.task_owner.specs.declared.seat.Seat.{Seat}
 use Rattle.task_owner.specs.declared.seat.Owned.{Owned}
+use Rattle.mvs_model.specs.Numbers.{subpool_numbers}
 
 -- what the list has at a place, and nothing past its end
 abbrev pub item_at : {X : Type 0} → List (Option X) → ℕ → Option X
@@ -20,7 +21,7 @@ name_of_seat seats key = option_map (λ x. x.name) (item_at seats key)
 
 -- the subpool that a task has under a number
 abbrev pub number_of : Seat → ℕ → Option ℕ
-number_of x n = if nat_lt n 128 then item_at x.numbers n else None
+number_of x n = if nat_lt n subpool_numbers then item_at x.numbers n else None
 
 -- the first task of this name
 abbrev pub seat_named : List (Option Seat) → Name → Option Seat
@@ -54,11 +55,11 @@ owner_name seats None = None
 owner_name seats (Some o) = name_of_seat seats o.owner
 
 -- the tasks and their subpools
-unfoldable pub directory : List (Option Seat) → List (Option Owned) → Directory
+unfoldable pub directory : List (Option Seat) → List (Option Owned) → TasksValue
 directory seats owned = record {
   owners = record {
     tasks = keyed name_cmp (names seats) (λ t. option_map (task_of seats) (seat_named seats t));
-    table = keyed entry_cmp (pairs_below (names seats) 128) (λ e. entry_of (seat_named seats e.0) e.1);
+    table = keyed entry_cmp (pairs_below (names seats) subpool_numbers) (λ e. entry_of (seat_named seats e.0) e.1);
     owner = table (length owned) (λ s. owner_name seats (item_at owned s));
   };
   names = map (option_map (λ x. x.name)) seats;

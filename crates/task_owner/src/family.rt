@@ -3,14 +3,14 @@
 ghost use Rattle.std.specs.Prelude.{◌≡◌, ◌≢◌, ◌<◌, ◌≤◌, ℕ, length, IsSome, MatchOption, Some, None};
 ghost use Rattle.slab.specs.Slab.{get, slab_len};
 ghost use Rattle.mvs_model.specs.Finite.{Keeps};
+ghost use Rattle.mvs_model.specs.Numbers.{most_subpools, most_tasks};
 ghost use Rattle.task_owner.specs.Seats.{item_at, Distinct, MothersActive};
 ghost use Rattle.task_owner.specs.Family.{Falls, is_owner_active, has_owner, FreedBelow, IsTrimmed};
 ghost use Rattle.task_owner.specs.declared.seat.Seat.{Seat};
 ghost use Rattle.task_owner.specs.declared.seat.Owned.{Owned};
 
-use crate::seat::{Owned, Seat};
+use crate::seat::{Owned, Seat, Subpools};
 use mvs_model::request::TaskNames;
-use mvs_model::short_list::ShortList;
 use mvs_model::subpool::SubpoolId;
 use slab::Slab;
 
@@ -35,7 +35,7 @@ pub(crate) fn remove_family(active: &mut Slab<Seat>, t: usize) -> TaskNames
     requires there { IsSome (get active.old t) }
     requires distinct { Distinct active.old.slots }
     requires mothers { MothersActive active.old.slots }
-    requires few { slab_len active.old ≤ 32 }
+    requires few { slab_len active.old ≤ most_tasks }
     ensures falls { (x : Seat) → get active.old t ≡ Some x → Falls active.old t x.name result active.new }
     ensures closed { MothersActive active.new.slots }
 {
@@ -48,11 +48,11 @@ pub(crate) fn remove_family(active: &mut Slab<Seat>, t: usize) -> TaskNames
 }
 
 // The subpools whose owner is not active.
-fn ownerless(active: &Slab<Seat>, owned: &[Option<Owned>]) -> ShortList<SubpoolId, 0, 4096>
-    requires { length owned.now ≡ 4096 }
-    ensures { FreedBelow active.now owned.now 4096 result }
+fn ownerless(active: &Slab<Seat>, owned: &[Option<Owned>]) -> Subpools
+    requires { length owned.now ≡ most_subpools }
+    ensures { FreedBelow active.now owned.now most_subpools result }
 {
-    let mut freed = ShortList::empty(SubpoolId::new(0));
+    let mut freed = Subpools::empty(SubpoolId::new(0));
     for s in 0..owned.len() {
         if let Some(o) = owned[s] {
             if !active.contains(o.owner) {
@@ -77,14 +77,11 @@ fn free_each(active: &Slab<Seat>, owned: &mut [Option<Owned>])
 }
 
 // Takes the owner from each subpool whose owner is not active; these subpools.
-pub(crate) fn free_subpools(
-    active: &Slab<Seat>,
-    owned: &mut Vec<Option<Owned>>,
-) -> ShortList<SubpoolId, 0, 4096>
-    requires { length owned.old.items ≡ 4096 }
-    ensures freed { FreedBelow active.now owned.old.items 4096 result }
+pub(crate) fn free_subpools(active: &Slab<Seat>, owned: &mut Vec<Option<Owned>>) -> Subpools
+    requires { length owned.old.items ≡ most_subpools }
+    ensures freed { FreedBelow active.now owned.old.items most_subpools result }
     ensures kept { Keeps (item_at owned.old.items) (λ _ o. is_owner_active active.now o) (item_at owned.new.items) }
-    ensures len { length owned.new.items ≡ 4096 }
+    ensures len { length owned.new.items ≡ most_subpools }
 {
     let freed = ownerless(active, owned.as_slice());
     free_each(active, owned.as_mut_slice());
@@ -93,7 +90,7 @@ pub(crate) fn free_subpools(
 
 // Drops each entry of a subpool without an owner.
 fn drop_numbers(numbers: &mut [Option<SubpoolId>], owned: &[Option<Owned>])
-    requires { length owned.now ≡ 4096 }
+    requires { length owned.now ≡ most_subpools }
     ensures { Keeps (item_at numbers.old) (λ _ s. has_owner owned.now s) (item_at numbers.new) }
 {
     for n in 0..numbers.len() {
@@ -108,7 +105,7 @@ fn drop_numbers(numbers: &mut [Option<SubpoolId>], owned: &[Option<Owned>])
 // Drops the entries of the task at the key.
 fn trim(active: &mut Slab<Seat>, key: usize, owned: &[Option<Owned>])
     requires there { IsSome (get active.old key) }
-    requires long { length owned.now ≡ 4096 }
+    requires long { length owned.now ≡ most_subpools }
     ensures trimmed { IsTrimmed owned.now (get active.old key) (get active.new key) }
     ensures others { (k : ℕ) → k ≢ key → get active.new k ≡ get active.old k }
     ensures len { slab_len active.new ≡ slab_len active.old }
@@ -122,7 +119,7 @@ fn trim(active: &mut Slab<Seat>, key: usize, owned: &[Option<Owned>])
 
 // Drops each task's entries of subpools without an owner.
 pub(crate) fn drop_entries(active: &mut Slab<Seat>, owned: &[Option<Owned>])
-    requires { length owned.now ≡ 4096 }
+    requires { length owned.now ≡ most_subpools }
     ensures each { (k : ℕ) → IsTrimmed owned.now (get active.old k) (get active.new k) }
     ensures len { slab_len active.new ≡ slab_len active.old }
     ensures capacity { active.new.capacity ≡ active.old.capacity }

@@ -1,6 +1,7 @@
 //! Active tasks, the subpools that they have under their numbers, and the owners of the subpools.
 #![tactic(auto)]
 
+mod by_name;
 mod family;
 mod handing;
 mod seat;
@@ -8,4 +9,5 @@ mod tasks;
 #[cfg(test)]
 mod tests;
 
+pub use seat::Subpools;
 pub use tasks::{Gone, TaskId, Tasks};

@@ -2,15 +2,27 @@
 
 ghost use Rattle.std.specs.Prelude.{◌≡◌, ◌≢◌, ◌<◌, ◌↔◌, ℕ, length, replicate, IsTrue, IsSome, IfOk, MatchOption, Some, None, slice_set};
 ghost use Rattle.slab.specs.Slab.{get, slab_len};
+ghost use Rattle.mvs_model.specs.Numbers.{most_subpools, subpool_numbers};
 ghost use Rattle.task_owner.specs.Seats.{item_at};
 ghost use Rattle.task_owner.specs.declared.seat.Seat.{Seat};
 ghost use Rattle.task_owner.specs.declared.seat.Owned.{Owned};
 
 use mvs_model::name::Name;
+use mvs_model::numbers::{MOST_SUBPOOLS, SUBPOOL_NUMBERS};
+use mvs_model::short_list::ShortList;
 use mvs_model::subpool::{SubNo, SubpoolId};
 use mvs_model::want::Residence;
 use slab::Slab;
 use std::alloc::{AllocError, Global};
+
+// How many numbers a task has.
+pub(crate) const SLOTS: usize = SUBPOOL_NUMBERS as usize;
+
+// The subpools under the numbers of a task.
+pub(crate) type Numbers = [Option<SubpoolId>; SLOTS];
+
+/// Subpools, in rising order.
+pub type Subpools = ShortList<SubpoolId, 0, MOST_SUBPOOLS>;
 
 // A task, its mother by her key, and the subpools under its numbers.
 #[derive(Drop)]
@@ -18,7 +30,7 @@ pub(crate) struct Seat {
     pub(crate) name: Name,
     pub(crate) mother: Option<usize>,
     pub(crate) residence: Residence,
-    pub(crate) numbers: [Option<SubpoolId>; 128],
+    pub(crate) numbers: Numbers,
 }
 
 // Who owns a subpool, by his key, and under which number it stands.
@@ -30,7 +42,7 @@ pub(crate) struct Owned {
 
 // The subpool number of a value that is one.
 pub(crate) fn number_at(value: u8) -> SubNo
-    requires { value < 128 }
+    requires { value < subpool_numbers }
     ensures { result ≡ value }
 {
     match SubNo::new(value) {
@@ -53,7 +65,7 @@ pub(crate) fn seat_at(active: &Slab<Seat>, key: usize) -> &Seat
 // Enters a subpool under a number of the task at a key.
 pub(crate) fn enter(active: &mut Slab<Seat>, key: usize, number: usize, subpool: SubpoolId)
     requires there { IsSome (get active.old key) }
-    requires low { number < 128 }
+    requires low { number < subpool_numbers }
     ensures entered { (x : Seat) → get active.old key ≡ Some x → get active.new key ≡ Some (record x { numbers = slice_set x.numbers number (Some subpool) }) }
     ensures fits { (x : Seat) → get active.old key ≡ Some x → number < length x.numbers }
     ensures others { (k : ℕ) → k ≢ key → get active.new k ≡ get active.old k }
@@ -111,9 +123,9 @@ pub(crate) fn first_spare(owned: &[Option<Owned>]) -> usize
 
 // 4,096 subpools without an owner.
 pub(crate) fn no_owners(alloc: Global) -> Result<Vec<Option<Owned>>, AllocError>
-    ensures { IfOk result (λ v. v.items ≡ replicate 4096 None) }
+    ensures { IfOk result (λ v. v.items ≡ replicate most_subpools None) }
 {
-    match vec![in alloc; None; 4096] {
+    match vec![in alloc; None; MOST_SUBPOOLS] {
         Ok(owned) => Ok(owned),
         Err(error) => Err(error),
     }

@@ -7,22 +7,24 @@ ghost use Rattle.std.specs.Ordering.{nat_cmp};
 ghost use Rattle.std.specs.FinMap.{get, len};
 ghost use Rattle.mvs_model.specs.Finite.{has, kept};
 ghost use Rattle.mvs_model.specs.Kept.{OwnersKept};
+ghost use Rattle.mvs_model.specs.Numbers.{most_subpools, most_tasks, subpool_numbers};
 ghost use Rattle.mvs_model.specs.Owners.{entry, is_active, has_subtask, owns, IsSpare, Binds, IsFallen, goes, ends_with, Ends, Attach, attach_refusal, gives_shared};
 ghost use Rattle.mvs_model.specs.Start.{first_owners};
 ghost use Rattle.task_owner.specs.Handing.{GetsEntry, SharesBelow, Admits};
-ghost use Rattle.task_owner.specs.Directory.{name_at, IsTask, name_of, residence_of};
+ghost use Rattle.task_owner.specs.Tasks.{name_at, IsTask, name_of, residence_of};
 
 use crate::family::{drop_entries, free_subpools, remove_family};
 use crate::handing::{hand_over, pass_on};
 use crate::seat::{
-    Owned, Seat, enter, find_key, first_spare, has_child, no_owners, number_at, seat_at,
+    Owned, SLOTS, Seat, Subpools, enter, find_key, first_spare, has_child, no_owners, number_at,
+    seat_at,
 };
 use mvs_model::code::Code;
 use mvs_model::error::OutOfMemory;
 use mvs_model::gifts::Gifts;
 use mvs_model::name::Name;
+use mvs_model::numbers::{MOST_TASKS, SUBPOOL_NUMBERS};
 use mvs_model::request::Fallen;
-use mvs_model::short_list::ShortList;
 use mvs_model::subpool::{SubNo, SubpoolId};
 use mvs_model::want::Residence;
 use slab::Slab;
@@ -54,18 +56,19 @@ pub struct Tasks {
 
 impl Model for Tasks {
     ghost use Rattle.std.specs.Prelude.{◌≡◌, ◌≤◌, length};
+    ghost use Rattle.mvs_model.specs.Numbers.{most_subpools, most_tasks};
     ghost use Rattle.slab.specs.Slab.{slab_len};
-    ghost use Rattle.task_owner.specs.Directory.{Directory, directory_code};
+    ghost use Rattle.task_owner.specs.Tasks.{TasksValue, tasks_code};
 
-    ghost Value = { Directory };
+    ghost Value = { TasksValue };
 
-    ghost coded = { directory_code };
+    ghost coded = { tasks_code };
 
     ghost use Rattle.task_owner.specs.Seats.{directory, IsSound};
 
     ghost view = { λ t. directory t.active.slots t.owned.items };
 
-    ghost invariant = { λ t. IsSound t.active.slots t.owned.items × (length t.owned.items ≡ 4096) × (slab_len t.active ≤ 32) × (32 ≤ t.active.capacity) };
+    ghost invariant = { λ t. IsSound t.active.slots t.owned.items × (length t.owned.items ≡ most_subpools) × (slab_len t.active ≤ most_tasks) × (most_tasks ≤ t.active.capacity) };
 }
 
 /// What goes with a task that ends.
@@ -74,7 +77,7 @@ pub struct Gone {
     /// Its descendants, in byte order of their names (the order is this project's choice).
     pub fallen: Fallen,
     /// The subpools that it and its descendants owned, in rising order.
-    pub freed: ShortList<SubpoolId, 0, 4096>,
+    pub freed: Subpools,
 }
 
 impl Tasks {
@@ -83,7 +86,7 @@ impl Tasks {
     pub fn new(alloc: Global, name: Name, residence: Residence) -> Result<Tasks, OutOfMemory>
         ensures { IfOk result (λ d. d.owners ≡ first_owners name residence) }
     {
-        let Ok(mut active) = Slab::with_capacity(alloc, 32) else {
+        let Ok(mut active) = Slab::with_capacity(alloc, MOST_TASKS) else {
             return Err(OutOfMemory);
         };
         let Ok(owned) = no_owners(alloc) else {
@@ -93,7 +96,7 @@ impl Tasks {
             name,
             mother: None,
             residence,
-            numbers: [None; 128],
+            numbers: [None; SLOTS],
         });
         Ok(Tasks { active, owned })
     }
@@ -219,13 +222,13 @@ impl Tasks {
         ensures { result ≡ attach_refusal self.now.owners (name_of self.now mother) name.now gifts.now }
     {
         if self.find(name).is_some() {
-            return Some(Code::User(4009));
+            return Some(Code::TASK_IN_USE);
         }
-        if self.active.len() >= 32 {
-            return Some(Code::User(4005));
+        if self.active.len() >= MOST_TASKS {
+            return Some(Code::TOO_MANY_TASKS);
         }
         if self.gives_shared(mother, gifts) {
-            return Some(Code::User(4003));
+            return Some(Code::NOT_OWNED);
         }
         None
     }
@@ -235,7 +238,7 @@ impl Tasks {
         requires { IsTask self.now mother }
         ensures { result ≡ gives_shared self.now.owners (name_of self.now mother) gifts.now }
     {
-        for n in 0..128u8 {
+        for n in 0..SUBPOOL_NUMBERS {
             if gifts.gives(n) && self.is_shared(mother, number_at(n)) {
                 return true;
             }
@@ -272,9 +275,9 @@ impl Tasks {
     // Gives the mother a subpool under each number that she shares and does not have, in rising order.
     fn enter_shared(&mut self, mother: TaskId, gifts: &Gifts)
         requires { IsTask self.old mother }
-        ensures { SharesBelow self.old mother gifts.now 128 self.new }
+        ensures { SharesBelow self.old mother gifts.now subpool_numbers self.new }
     {
-        for n in 0..128u8 {
+        for n in 0..SUBPOOL_NUMBERS {
             if gifts.shares(n) {
                 self.enter_one(mother, number_at(n));
             }
@@ -285,7 +288,7 @@ impl Tasks {
     fn admit(&mut self, mother: TaskId, name: &Name, gifts: &Gifts, residence: Residence) -> TaskId
         requires active { IsTask self.old mother }
         requires new { is_active self.old.owners name.now ≡ false }
-        requires room { len self.old.owners.tasks < 32 }
+        requires room { len self.old.owners.tasks < most_tasks }
         requires owned { gives_shared self.old.owners (name_of self.old mother) gifts.now ≡ false }
         ensures admits { Admits self.old.owners (name_of self.old mother) name.now gifts.now residence self.new.owners }
         ensures named { name_at self.new result ≡ Some name.now }

@@ -1,6 +1,6 @@
 //! Calls with ample memory, and what no clause says.
 
-ghost use Rattle.task_owner.specs.Directory.{IsTask};
+ghost use Rattle.task_owner.specs.Tasks.{IsTask};
 
 use crate::tasks::{TaskId, Tasks};
 use mvs_model::code::Code;

@@ -1,5 +1,5 @@
 use Rattle.std.proofs.Common.{◌≤◌, ◌+◌, subst, sym, ap, ◌∙◌, arith}
-use Rattle.mvs_model.specs.Span.{span}
+use Rattle.mvs_model.specs.Place.{place_at}
 use Rattle.boundary_loc.proofs.Deciding.{IsLowest, lowest_at_first, lowest_at_next}
 use Rattle.boundary_loc.proofs.first_in.Goals as goal
 
@@ -16,10 +16,10 @@ place-requires-then-len-starts-2-clause-most c =
 
 pub returns-then-len-starts : goal.returns-then-len-starts
 returns-then-len-starts c =
-    subst (IsLowest c.args.run c.args.want.now c.args.len) (sym (c.place.ensures ∙ ap (span c.in_ok-starts.starts.first) c.from-len.ensures))
+    subst (IsLowest c.args.run c.args.want.now c.args.len) (sym (c.place.ensures ∙ ap (place_at c.in_ok-starts.starts.first) c.from-len.ensures))
     (lowest_at_first c.args.run c.args.want.now c.in_ok-starts.starts c.args.len c.in_ok-starts.ensures c.requires.some (omega arith))
 
 pub returns-then-len-starts-2 : goal.returns-then-len-starts-2
 returns-then-len-starts-2 c =
-    subst (IsLowest c.args.run c.args.want.now c.args.len) (sym (c.place-then-len-starts-2.ensures ∙ ap (span c.in_ok-starts.starts.next) c.from-len.ensures))
+    subst (IsLowest c.args.run c.args.want.now c.args.len) (sym (c.place-then-len-starts-2.ensures ∙ ap (place_at c.in_ok-starts.starts.next) c.from-len.ensures))
     (lowest_at_next c.args.run c.args.want.now c.in_ok-starts.starts c.args.len c.in_ok-starts.ensures c.requires.some (omega arith) (omega arith))

@@ -1,7 +1,5 @@
 //! Reading and writing bytes.
 
-ghost use Rattle.job_step.specs.Progress.{IsBuilt};
-
 use super::asked::{
     Said, ask, attach, copy, holds, is_barred, name, new_step, obtain, put, release, show, system,
 };
@@ -51,9 +49,7 @@ fn overlap(rt: HostRuntime) -> Result<(), Fail> {
 }
 
 // A request of a new subtask is abend 0C4, and the bytes are as before.
-fn stays(rt: &impl Abort, step: &mut Step, request: Request)
-    requires { IsBuilt request }
-{
+fn stays(rt: &impl Abort, step: &mut Step, request: Request) {
     let job = name(rt, b"JOB");
     let sub = name(rt, b"SUB");
     says!(rt, *step, job, attach(rt, sub, 0, 0, true) => Said::Attached);

@@ -1,7 +1,6 @@
 //! Requests, and what a reply says of them.
 
 ghost use Rattle.std.specs.Prelude.{◌<◌, ◌≤◌, ◌^◌, length};
-ghost use Rattle.job_step.specs.Progress.{IsBuilt};
 
 use crate::Step;
 use mvs_model::bounded::{Exponent, Length, MoveLength, ShowLength, UserCode};
@@ -51,9 +50,7 @@ pub fn meaning(reply: &Reply) -> Said {
 }
 
 /// Makes a request and tells what it was answered.
-pub fn ask(step: &mut Step, name: &Name, request: Request) -> Said
-    requires { IsBuilt request }
-{
+pub fn ask(step: &mut Step, name: &Name, request: Request) -> Said {
     meaning(&step.request(name, &request))
 }
 
@@ -83,7 +80,6 @@ pub fn place(at: u32, len: u32) -> Place
 pub fn obtain(form: Form, number: u8, len: u32) -> Request
     requires some { 1 ≤ len }
     requires most { len < 2 ^ 31 }
-    ensures { IsBuilt result }
 {
     Request::Obtain {
         form,
@@ -98,7 +94,6 @@ pub fn obtain_two(form: Form, number: u8, first: u32, second: u32) -> Request
     requires first_most { first < 2 ^ 31 }
     requires second_some { 1 ≤ second }
     requires second_most { second < 2 ^ 31 }
-    ensures { IsBuilt result }
 {
     let mut lengths = Lengths::one(Length::new(first));
     lengths.push(Length::new(second));
@@ -114,7 +109,6 @@ pub fn release(form: Form, number: u8, at: u32, len: u32) -> Request
     requires at { at < 2 ^ 31 }
     requires some { 1 ≤ len }
     requires most { len ≤ 2 ^ 31 }
-    ensures { IsBuilt result }
 {
     Request::Release {
         form,
@@ -124,9 +118,7 @@ pub fn release(form: Form, number: u8, at: u32, len: u32) -> Request
 }
 
 /// A list of two places.
-pub fn release_two(form: Form, number: u8, first: Place, second: Place) -> Request
-    ensures { IsBuilt result }
-{
+pub fn release_two(form: Form, number: u8, first: Place, second: Place) -> Request {
     let mut places = Places::one(first);
     places.push(second);
     Request::ReleaseList {
@@ -136,9 +128,7 @@ pub fn release_two(form: Form, number: u8, first: Place, second: Place) -> Reque
     }
 }
 
-pub fn release_whole(form: Form, number: u8) -> Request
-    ensures { IsBuilt result }
-{
+pub fn release_whole(form: Form, number: u8) -> Request {
     Request::ReleaseWhole { form, number }
 }
 
@@ -146,7 +136,6 @@ pub fn show(at: u32, len: u32) -> Request
     requires at { at < 2 ^ 31 }
     requires some { 1 ≤ len }
     requires most { len ≤ 4096 }
-    ensures { IsBuilt result }
 {
     Request::Show {
         from: Addr::new(at),
@@ -157,7 +146,6 @@ pub fn show(at: u32, len: u32) -> Request
 /// Puts two bytes.
 pub fn put(at: u32, first: u8, second: u8) -> Request
     requires { at < 2 ^ 31 }
-    ensures { IsBuilt result }
 {
     let mut bytes = Bytes::one(first);
     bytes.push(second);
@@ -172,7 +160,6 @@ pub fn copy(to: u32, from: u32, len: u32) -> Request
     requires from { from < 2 ^ 31 }
     requires some { 1 ≤ len }
     requires most { len ≤ 65536 }
-    ensures { IsBuilt result }
 {
     Request::Move {
         to: Addr::new(to),
@@ -182,9 +169,7 @@ pub fn copy(to: u32, from: u32, len: u32) -> Request
 }
 
 /// Attaches a subtask that resides below, with the numbers whose bits are set given and shared.
-pub fn attach(rt: &impl Abort, name: Name, given: u128, shared: u128, zero: bool) -> Request
-    ensures { IsBuilt result }
-{
+pub fn attach(rt: &impl Abort, name: Name, given: u128, shared: u128, zero: bool) -> Request {
     Request::Attach {
         name,
         gifts: Gifts::new(given, shared, zero).expect(rt, "gifts"),
@@ -194,7 +179,6 @@ pub fn attach(rt: &impl Abort, name: Name, given: u128, shared: u128, zero: bool
 
 pub fn abend(code: u32) -> Request
     requires { code ≤ 4095 }
-    ensures { IsBuilt result }
 {
     Request::Abend(UserCode::new(code))
 }

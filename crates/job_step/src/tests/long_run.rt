@@ -3,7 +3,6 @@
 //! free; and whatever is held keeps its bytes.
 
 ghost use Rattle.std.specs.Prelude.{◌≡◌, ◌<◌, IfSome, vec_len};
-ghost use Rattle.job_step.specs.Progress.{IsBuilt};
 
 use super::asked::{
     Said, ask, attach, name, new_step, obtain, obtain_two, release_two, release_whole,
@@ -117,9 +116,7 @@ fn may_be_above(form: Form) -> bool {
     form != Form::Ec && form != Form::Lc
 }
 
-fn release(form: Form, number: u8, place: Place) -> Request
-    ensures { IsBuilt result }
-{
+fn release(form: Form, number: u8, place: Place) -> Request {
     Request::Release {
         form,
         number,
@@ -128,9 +125,7 @@ fn release(form: Form, number: u8, place: Place) -> Request
 }
 
 // Puts a byte and its complement.
-fn put(to: Addr, first: u8) -> Request
-    ensures { IsBuilt result }
-{
+fn put(to: Addr, first: u8) -> Request {
     let mut bytes = Bytes::one(first);
     bytes.push(!first);
     Request::Put { to, bytes }

@@ -1,7 +1,5 @@
 //! Obtaining and releasing.
 
-ghost use Rattle.job_step.specs.Progress.{IsBuilt};
-
 use super::asked::{
     Said, ask, attach, copy, holds, is_barred, name, new_step, obtain, obtain_two, place, put,
     release, release_two, release_whole, system,
@@ -30,9 +28,7 @@ fn shortage_ends_the_job_step_task(rt: HostRuntime) -> Result<(), Fail> {
 
 // A request of the job step task while subpool 0 has eight bytes of the only page. What is held stays held, and no more;
 // or the task that abends gives up all.
-fn check(rt: &impl Abort, alloc: Global, request: Request, expected: Said)
-    requires { IsBuilt request }
-{
+fn check(rt: &impl Abort, alloc: Global, request: Request, expected: Said) {
     let job = name(rt, b"JOB");
     let mut step = new_step(rt, alloc, 1, 0, 0);
     says!(rt, step, job, obtain(Form::Ru, 0, 8) => Said::At(0x6000, 8));

@@ -2,6 +2,7 @@ mod codes;
 mod examples;
 mod lists;
 mod places;
+mod pools;
 mod reports;
 mod storage;
 mod tasks;

@@ -1,5 +1,5 @@
 use Rattle.std.proofs.Common.{◌≡◌, ◌≤◌, ◌+◌, length}
-use Rattle.mvs_model.specs.Runs.{lines_of}
+use Rattle.mvs_model.specs.Lines.{lines_of}
 use Rattle.mvsjob.specs.Serving.{stage_of}
 use Rattle.mvsjob.proofs.Running.{Progress}
 use Rattle.mvsjob.proofs.job.run_script.Given as goal

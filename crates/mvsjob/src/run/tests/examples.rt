@@ -272,3 +272,96 @@ fn lists(rt: HostRuntime) -> Result<(), Fail> {
     assert!(rt; prints(&rt, &lines, "STEP ENDED RC 8")?);
     Ok(())
 }
+
+// Two cells, a part more, and a cell that is given back twice.
+#[test]
+fn pools(rt: HostRuntime) -> Result<(), Fail> {
+    let lines = [
+        (
+            "* A cell pool: cells of one size, in parts that the pool obtains from a subpool.",
+            "",
+        ),
+        ("JOB REGION BELOW=1", "JOB REGION BELOW 1 ABOVE 0"),
+        (
+            "* The first part has two cells of 12 bytes. With what stands before its cells it takes 48 bytes.",
+            "",
+        ),
+        ("JOB CPOOL BUILD,CPID=P,CSIZE=12,PCELLCT=2", "JOB RC 0"),
+        ("JOB CPOOL GET,COND,CPID=P,CELL=A", "JOB CELL"),
+        ("JOB CPOOL GET,COND,CPID=P,CELL=B", "JOB CELL"),
+        (
+            "* Both cells are taken. A conditional request gets none, and another one a cell of a part more.",
+            "",
+        ),
+        ("JOB CPOOL GET,COND,CPID=P,CELL=C", "JOB NO CELL"),
+        ("JOB CPOOL GET,CPID=P,CELL=C", "JOB CELL"),
+        (
+            "* POOL counts the parts, taken cells or not: two parts of 48 bytes.",
+            "",
+        ),
+        ("JOB REPORT SP", "JOB SP 0 OWNED PLAIN 0 POOL 96"),
+        (
+            "* A cell is given back once. The second time its address is that of no taken cell.",
+            "",
+        ),
+        ("JOB CPOOL FREE,CPID=P,CELL=A", "JOB RC 0"),
+        ("JOB CPOOL FREE,CPID=P,CELL=A", "JOB ABEND U4001"),
+    ];
+    assert!(rt; prints(&rt, &lines, "STEP ENDED RC 8")?);
+    Ok(())
+}
+
+// A cell that is given back can no longer be used.
+#[test]
+fn cells(rt: HostRuntime) -> Result<(), Fail> {
+    let lines = [
+        ("* A cell that is given back can no longer be used.", ""),
+        ("JOB REGION BELOW=1", "JOB REGION BELOW 1 ABOVE 0"),
+        ("JOB CPOOL BUILD,CPID=P,CSIZE=16,PCELLCT=4", "JOB RC 0"),
+        ("JOB CPOOL GET,CPID=P,CELL=A", "JOB CELL"),
+        ("JOB CPOOL GET,CPID=P,CELL=B", "JOB CELL"),
+        ("JOB PUT A,X'01020304'", "JOB OK"),
+        (
+            "JOB SHOW A,16",
+            "JOB DATA +0000 01020304000000000000000000000000",
+        ),
+        ("JOB CPOOL FREE,CPID=P,CELL=A", "JOB RC 0"),
+        ("* The other cell stays as it was.", ""),
+        ("JOB SHOW B,4", "JOB DATA +0000 00000000"),
+        (
+            "* A goes on naming the place, but its bytes are gone: they lie in a part of the pool and in no taken cell.",
+            "",
+        ),
+        ("JOB PUT A,X'FF'", "JOB ABEND S0C4"),
+    ];
+    assert!(rt; prints(&rt, &lines, "STEP ENDED RC 8")?);
+    Ok(())
+}
+
+// A pool goes with the task that owns its subpool.
+#[test]
+fn pool_end(rt: HostRuntime) -> Result<(), Fail> {
+    let lines = [
+        ("* A pool goes with the task that owns its subpool.", ""),
+        ("JOB REGION BELOW=2", "JOB REGION BELOW 2 ABOVE 0"),
+        (
+            "* SUB does not share subpool 0: what it obtains there is its own, the parts of its pools too.",
+            "",
+        ),
+        ("JOB ATTACH TASK=SUB,SZERO=NO", "JOB ATTACHED"),
+        ("SUB CPOOL BUILD,CPID=Q,CSIZE=8,PCELLCT=2", "SUB RC 0"),
+        ("SUB CPOOL GET,CPID=Q,CELL=A", "SUB CELL"),
+        ("SUB PUT A,X'C1C2'", "SUB OK"),
+        (
+            "* All tasks of the step know the pool and may use its cells.",
+            "",
+        ),
+        ("JOB SHOW A,8", "JOB DATA +0000 C1C2000000000000"),
+        ("JOB CPOOL GET,CPID=Q,CELL=B", "JOB CELL"),
+        ("SUB RETURN", "SUB ENDED"),
+        ("* With SUB its subpool has gone, and the pool with it.", ""),
+        ("JOB CPOOL GET,COND,CPID=Q,CELL=C", "JOB ABEND U4002"),
+    ];
+    assert!(rt; prints(&rt, &lines, "STEP ENDED RC 8")?);
+    Ok(())
+}

@@ -1,5 +1,5 @@
 use Rattle.std.proofs.Common.{List, ◌≡◌, ◌++◌, subst}
-use Rattle.mvs_model.specs.Span.{Span}
+use Rattle.mvs_model.specs.Place.{PlaceValue}
 use Rattle.mvs_model.specs.Storage.{Grant, Release}
 use Rattle.request_forms.specs.Lists.{GrantsEach, list_wants}
 use Rattle.request_forms.proofs.Listing.{first_granted, first_taken_back}
@@ -11,7 +11,7 @@ returns-in-Some-grant_each-clause-places t c =
     first_granted c.args.store.now c.obtain.new.self c.grant_each.new.store c.args.subpool c.args.start c.length-item.result (others c.args.lengths.now) c.args.lengths.now c.in-Some.place _ c.in-Some-grant_each.places
     (first_and_others c.args.lengths.now c.length-item.result c.in-len1-up.len_at_least c.length-item.is) c.obtain.ensures.storage
     (subst (λ w. Grant c.args.store.now c.args.subpool w c.in-Some.place c.obtain.new.self) c.fixed.ensures c.in-Some.ensures.grant)
-    (subst (λ before. (more : List Span) × (c.in-Some-grant_each.places ≡ before ++ more) × GrantsEach c.obtain.new.self c.args.subpool (list_wants (others c.args.lengths.now) c.args.start) more c.grant_each.new.store) c.with_place.ensures c.in-Some-grant_each.ensures.places)
+    (subst (λ before. (more : List PlaceValue) × (c.in-Some-grant_each.places ≡ before ++ more) × GrantsEach c.obtain.new.self c.args.subpool (list_wants (others c.args.lengths.now) c.args.start) more c.grant_each.new.store) c.with_place.ensures c.in-Some-grant_each.ensures.places)
 
 pub returns-in-None-clause-places : goal.returns-in-None-clause-places
 returns-in-None-clause-places t c =

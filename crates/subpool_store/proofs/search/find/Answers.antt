@@ -1,6 +1,6 @@
 use Rattle.std.proofs.Common.{None, refl, ap, sym, subst, arith}
 use Rattle.std.proofs.lemmas.Bool.{false≢true}
-use Rattle.mvs_model.specs.Span.{Span}
+use Rattle.mvs_model.specs.Place.{PlaceValue}
 use Rattle.subpool_store.specs.Walk.{IsWalk}
 use Rattle.subpool_store.specs.Search.{may_take, BehindBest, Beats, IsCandidate}
 use Rattle.subpool_store.proofs.Scan.{best_anywhere, best_behind, best_found, best_of_all}
@@ -33,5 +33,5 @@ runs-preserved c =
 pub returns-clause-longest : goal.returns-clause-longest
 returns-clause-longest c =
     let test = may_take c.args.held.now c.args.pages.now c.args.subpool in
-    subst (λ b. (q : Span) → IsCandidate test c.args.first c.args.want.now q → Beats b q.len) (sym c.new-2.ensures)
+    subst (λ b. (q : PlaceValue) → IsCandidate test c.args.first c.args.want.now q → Beats b q.len) (sym c.new-2.ensures)
     (best_of_all test c.args.first c.args.want.now c.runs.best _ c.only_length-only.ensures.wanted.some c.in_default.ensures.run c.runs.invariant.behind)

@@ -1,7 +1,7 @@
 use Rattle.std.proofs.Common.{not, ◌&&◌, ap, sym, ◌∙◌}
 use Rattle.mvs_model.specs.Finite.{has}
 use Rattle.mvs_model.specs.Owners.{entry, owns}
-use Rattle.task_owner.specs.Directory.{name_of}
+use Rattle.task_owner.specs.Tasks.{name_of}
 use Rattle.task_owner.specs.Handing.{is_shared_gift}
 use Rattle.task_owner.proofs.tasks.Tasks.gives_shared.Goals as goal
 use Rattle.task_owner.proofs.tasks.Tasks.gives_shared.Goals.{else-gives-via-then-gives+else-is_shared, else-gives-via-else-gives}

@@ -1,6 +1,6 @@
 use Rattle.std.proofs.Common.{◌<◌, refl, subst, ap, sym, ◌∙◌, length}
 use Rattle.mvs_model.specs.Owners.{IsSpare, entry}
-use Rattle.task_owner.specs.Directory.{name_of}
+use Rattle.task_owner.specs.Tasks.{name_of}
 use Rattle.task_owner.specs.Seats.{item_at}
 use Rattle.task_owner.proofs.tasks.Tasks.spare.Goals as goal
 use Rattle.task_owner.proofs.Reading.{the_seat, entry_is}

@@ -1,6 +1,6 @@
 use Rattle.std.proofs.Common.{◌<◌, length, sym, ap, ◌∙◌, arith}
 use Rattle.mvs_model.specs.Owners.{entry}
-use Rattle.task_owner.specs.Directory.{name_of}
+use Rattle.task_owner.specs.Tasks.{name_of}
 use Rattle.task_owner.proofs.tasks.Tasks.subpool.Goals as goal
 use Rattle.task_owner.proofs.Reading.{is_seat, entry_is, number_is}
 

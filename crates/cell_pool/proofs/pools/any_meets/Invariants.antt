@@ -1,0 +1,8 @@
+use Rattle.std.proofs.Common.{◌≡◌, ℕ, ◌<◌, Some}
+use Rattle.slab.specs.Slab.{get}
+use Rattle.cell_pool.specs.Walk.{Meets}
+use Rattle.cell_pool.specs.declared.entry.Entry.{Entry}
+use Rattle.cell_pool.proofs.pools.any_meets.Given as goal
+
+abbrev pub invariant-loop-key : goal.invariant-loop-key
+invariant-loop-key l = (k : ℕ) → k < l.key → (x : Entry) → get l.entries k ≡ Some x → x.root.subpool ≡ l.subpool → Meets l.store x.root l.place → ⊥

@@ -1,0 +1,27 @@
+-- Taken cells, by their places.
+use Rattle.std.specs.Prelude.{◌≡◌, ◌≢◌, ℕ, true, Some}
+use Rattle.std.specs.FinMap.{FinMap, get}
+use Rattle.std.specs.FinSet as set
+use Rattle.mvs_model.specs.declared.name.Name.{Name}
+use Rattle.mvs_model.specs.Name.{name_cmp}
+use Rattle.mvs_model.specs.Place.{PlaceValue}
+use Rattle.mvs_model.specs.Storage.{Storage, Covers}
+use Rattle.mvs_model.specs.Pools.{Pool, cell_at}
+use Rattle.mvs_model.specs.State.{pooled}
+use Rattle.mvs_model.specs.View.{holding}
+
+-- The place is that of a taken cell of one of the pools.
+pub record IsTakenCell (pools : FinMap name_cmp Pool) (p : PlaceValue) : Type 0 where
+  pub name : Name
+  pub pool : Pool
+  pub is_pool : get pools name ≡ Some pool
+  pub taken : set.contains pool.taken p.addr ≡ true
+  pub place : p ≡ cell_at pool p.addr
+
+-- A doubleword of the place is held by the subpool as a part of a pool.
+abbrev pub Touches : Storage → FinMap name_cmp Pool → ℕ → PlaceValue → Type 0
+Touches st pools s p = (d : ℕ) × Covers p d × (holding st pools d ≡ Some (pooled s))
+
+-- No doubleword of the place is.
+abbrev pub TouchesNone : Storage → FinMap name_cmp Pool → ℕ → PlaceValue → Type 0
+TouchesNone st pools s p = (d : ℕ) → Covers p d → holding st pools d ≢ Some (pooled s)

@@ -1,0 +1,14 @@
+pub mod Layout
+pub mod Roots
+pub mod Agree
+pub mod Marks
+pub mod Walk
+pub mod Entries
+pub mod Answered
+pub mod Extended
+pub mod Laying
+pub mod Building
+pub mod Laws
+pub mod Release
+pub mod Report
+pub mod Cells

@@ -1,0 +1,97 @@
+//! What is kept of the pools, by their names.
+
+ghost use Rattle.std.specs.Prelude.{◌≡◌, ◌≢◌, ◌<◌, ◌≤◌, ◌==◌, ℕ, not, Some, None, IsSome, MatchOption};
+ghost use Rattle.std.specs.FinMap.{get};
+ghost use Rattle.slab.specs.Slab.{get as slab_get, slab_len, Updates};
+ghost use Rattle.mvs_model.specs.Finite.{has, kept};
+ghost use Rattle.cell_pool.specs.declared.entry.Entry.{Entry};
+
+use crate::root::Root;
+use mvs_model::name::Name;
+use mvs_model::subpool::SubpoolId;
+use slab::Slab;
+
+// What is kept of a pool, with its name.
+#[derive(Clone, Copy)]
+pub(crate) struct Entry {
+    pub(crate) name: Name,
+    pub(crate) root: Root,
+}
+
+// The key of the pool of this name.
+pub(crate) fn find_key(entries: &Slab<Entry>, name: Name) -> Option<usize>
+    ensures { MatchOption result
+        ((k : ℕ) (x : Entry) → slab_get entries.now k ≡ Some x → x.name ≢ name)
+        (λ k. (x : Entry) × (slab_get entries.now k ≡ Some x) × (x.name ≡ name)) }
+{
+    for key in 0..entries.capacity() {
+        if let Some(entry) = entries.get(key) {
+            if entry.name == name {
+                return Some(key);
+            }
+        }
+    }
+    None
+}
+
+// What is kept of the pool of this name.
+pub(crate) fn find(entries: &Slab<Entry>, name: Name) -> Option<Root>
+    ensures { MatchOption result
+        ((k : ℕ) (x : Entry) → slab_get entries.now k ≡ Some x → x.name ≢ name)
+        (λ r. (k : ℕ) × (x : Entry) × (slab_get entries.now k ≡ Some x) × (x.name ≡ name) × (x.root ≡ r)) }
+{
+    for key in 0..entries.capacity() {
+        if let Some(entry) = entries.get(key) {
+            if entry.name == name {
+                return Some(entry.root);
+            }
+        }
+    }
+    None
+}
+
+// Keeps something else of the pool at a key.
+pub(crate) fn set_root(entries: &mut Slab<Entry>, key: usize, root: Root)
+    requires there { IsSome (slab_get entries.old key) }
+    ensures changed { (x : Entry) → slab_get entries.old key ≡ Some x → slab_get entries.new key ≡ Some (record x { root = root }) }
+    ensures others { (k : ℕ) → k ≢ key → slab_get entries.new k ≡ slab_get entries.old k }
+    ensures len { slab_len entries.new ≡ slab_len entries.old }
+    ensures capacity { entries.new.capacity ≡ entries.old.capacity }
+{
+    match entries.get_mut(key) {
+        Some(entry) => entry.root = root,
+        None => unreachable!(),
+    }
+}
+
+// Removes the entry at a key.
+pub(crate) fn remove(entries: &mut Slab<Entry>, key: usize)
+    ensures removed { Updates entries.old entries.new key None }
+    ensures len { slab_len entries.new ≤ slab_len entries.old }
+    ensures capacity { entries.new.capacity ≡ entries.old.capacity }
+{
+    let _ = entries.try_remove(key);
+}
+
+// Whether the pool at a key is of the subpool.
+pub(crate) fn is_of(entries: &Slab<Entry>, key: usize, subpool: SubpoolId) -> bool
+    ensures { result ≡ has (λ (x : Entry). x.root.subpool == subpool) (slab_get entries.now key) }
+{
+    match entries.get(key) {
+        Some(entry) => entry.root.is_of(subpool),
+        None => false,
+    }
+}
+
+// Removes the entries of the subpool's pools.
+pub(crate) fn remove_each(entries: &mut Slab<Entry>, subpool: SubpoolId)
+    ensures kept { (k : ℕ) → slab_get entries.new k ≡ kept (λ (x : Entry). not (x.root.subpool == subpool)) (slab_get entries.old k) }
+    ensures len { slab_len entries.new ≤ slab_len entries.old }
+    ensures capacity { entries.new.capacity ≡ entries.old.capacity }
+{
+    for key in 0..entries.capacity() {
+        if is_of(entries, key, subpool) {
+            remove(entries, key);
+        }
+    }
+}

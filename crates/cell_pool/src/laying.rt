@@ -1,0 +1,75 @@
+//! Laying out a part.
+
+ghost use Rattle.std.specs.Prelude.{◌≡◌, ◌+◌, ◌<◌, ◌≤◌, ◌^◌, MatchOption};
+ghost use Rattle.mvs_model.specs.Place.{place_at};
+ghost use Rattle.mvs_model.specs.Storage.{AllHeld, Grant, IsStorage, NoPlace, holder};
+ghost use Rattle.mvs_model.specs.Pools.{part_length, part_want};
+ghost use Rattle.mvs_model.specs.View.{IsBounded};
+ghost use Rattle.cell_pool.specs.Layout.{head_length};
+ghost use Rattle.cell_pool.specs.Laying.{LaysOut, PutsWord};
+
+use crate::words::{fill, put};
+use mvs_model::bounded::{CellCount, CellSize, Exponent, Length};
+use mvs_model::place::{Addr, Place};
+use mvs_model::subpool::SubpoolId;
+use mvs_model::want::{Side, Want};
+use subpool_store::Store;
+
+// How long a part is.
+fn part_bytes(size: u32, count: u32) -> u64
+    requires size { size ≤ 65536 }
+    requires count { count ≤ 65536 }
+    ensures { result ≡ part_length size count }
+{
+    let cells = u64::from(count) * u64::from(size);
+    16 + 8 * u64::from((count + 63) / 64) + (cells + 7) / 8 * 8
+}
+
+// Obtains storage for a part of so many cells of a size.
+pub(crate) fn obtain_part(
+    store: &mut Store,
+    subpool: SubpoolId,
+    size: CellSize,
+    count: CellCount,
+    side: Side,
+) -> Option<Place>
+    requires { IsBounded store.old.regions }
+    ensures obtained { MatchOption result
+        (NoPlace store.old.regions (holder store.old) subpool (part_want size count side) × (store.new ≡ store.old))
+        (λ p. Grant store.old subpool (part_want size count side) p store.new × IsStorage store.new) }
+{
+    let bytes = part_bytes(size.get(), count.get());
+    if bytes > 0x7FFF_FFFF {
+        return None;
+    }
+    let want = Want::fixed(Length::new(bytes as u32), Exponent::new(3), side);
+    store.obtain(subpool, &want)
+}
+
+// Writes a word.
+pub(crate) fn put_word(store: &mut Store, addr: u32, word: u32)
+    requires low { addr < 2 ^ 31 }
+    requires held { AllHeld store.old (place_at addr 4) }
+    ensures { PutsWord store.old addr word store.new }
+{
+    put(store, addr, &word.to_be_bytes());
+}
+
+// Lays out a last part of so many cells of a size, none of them taken.
+pub(crate) fn lay_out(store: &mut Store, part: u32, count: u32, size: u32)
+    requires low { part + head_length count ≤ 2 ^ 31 }
+    requires few { count ≤ 65536 }
+    requires some { 1 ≤ count }
+    requires held { AllHeld store.old (place_at part (head_length count)) }
+    ensures { LaysOut store.old part count size store.new }
+{
+    put_word(store, part, 0);
+    put_word(store, part + 4, count);
+    put_word(store, part + 8, 0);
+    put_word(store, part + 12, size);
+    fill(
+        store,
+        Place::new(Addr::new(part + 16), 8 * ((count + 63) / 64)),
+        0,
+    );
+}

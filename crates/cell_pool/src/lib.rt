@@ -1,0 +1,18 @@
+//! Cell pools in the storage of a subpool.
+#![tactic(auto)]
+
+mod entry;
+pub mod laws;
+mod laying;
+mod open;
+mod pools;
+mod release;
+mod report;
+mod root;
+mod take;
+#[cfg(test)]
+mod tests;
+mod walk;
+mod words;
+
+pub use pools::Pools;

@@ -1,0 +1,448 @@
+//! The cell pools of a step.
+
+ghost use Rattle.std.specs.Prelude.{◌≡◌, ◌≢◌, ◌<◌, ◌≤◌, ◌+◌, ◌-◌, ◌*◌, ◌^◌, ◌==◌, ℕ, not, Some, None, IsSome, true, false, IfOk, IfErr, OnOk, OnErr, MatchOption, MatchBool, if◌then◌else◌};
+ghost use Rattle.slab.specs.Slab.{get as slab_get};
+ghost use Rattle.mvs_model.specs.Pools.{in_taken};
+ghost use Rattle.mvs_model.specs.Place.{place_at};
+ghost use Rattle.cell_pool.specs.Layout.{byte_of, count_at, head_length};
+ghost use Rattle.cell_pool.specs.Marks.{Marks};
+ghost use Rattle.cell_pool.specs.Walk.{Fills, IsChain, IsFreeAt, IsTakenAt, Meets};
+ghost use Rattle.cell_pool.specs.declared.entry.Entry.{Entry as TheEntry};
+ghost use Rattle.std.specs.FinMap.{get, empty, len};
+ghost use Rattle.mvs_model.specs.Name.{same_name};
+ghost use Rattle.mvs_model.specs.Finite.{Keeps};
+ghost use Rattle.cell_pool.specs.Roots.{Root as TheRoot};
+ghost use Rattle.cell_pool.specs.Building.{Builds, IsRefusal};
+ghost use Rattle.mvs_model.specs.declared.name.Name.{Name as TheName};
+ghost use Rattle.mvs_model.specs.declared.request.Reply.TheVariants.{Rc0};
+ghost use Rattle.mvs_model.specs.Owners.{Owners};
+ghost use Rattle.mvs_model.specs.Reports.{bytes_held};
+ghost use Rattle.mvs_model.specs.View.{state_of};
+ghost use Rattle.mvs_model.specs.Storage.{Storage, has_address};
+ghost use Rattle.cell_pool.specs.Cells.{IsTakenCell, Touches, TouchesNone};
+ghost use Rattle.std.specs.FinSet as set;
+ghost use Rattle.mvs_model.specs.State.{in_cell};
+ghost use Rattle.mvs_model.specs.Steps.{DeleteStep, FreeStep, GetStep};
+ghost use Rattle.cell_pool.specs.Roots.{extended, pool_of, pools_of, taken_of};
+ghost use Rattle.cell_pool.specs.Agree.{Agree};
+ghost use Rattle.cell_pool.specs.Answered.{Answered, cell_reply};
+ghost use Rattle.cell_pool.specs.Extended.{Extended, NoRoom};
+
+use crate::entry::{Entry, find, find_key, remove, remove_each, set_root};
+use crate::laying::{lay_out, obtain_part, put_word};
+use crate::open::find_free;
+use crate::release::release_parts;
+use crate::report::bytes_in;
+use crate::root::Root;
+use crate::take::take;
+use crate::walk::{Spot, Taken, cell_round, find_taken, meets};
+use crate::words::{byte, mark};
+use mvs_model::bounded::{CellCount, CellSize};
+use mvs_model::code::Code;
+use mvs_model::error::OutOfMemory;
+use mvs_model::name::Name;
+use mvs_model::place::{Addr, Place};
+use mvs_model::subpool::SubpoolId;
+use mvs_model::want::Side;
+use slab::Slab;
+use std::alloc::Global;
+use std::marker::Model;
+use subpool_store::Store;
+
+/// The cell pools of a step, at most 64. Their parts, and which cells are taken, stand in storage.
+#[derive(Drop)]
+pub struct Pools {
+    entries: Slab<Entry>,
+}
+
+impl Model for Pools {
+    ghost use Rattle.std.specs.Prelude.{◌≤◌};
+    ghost use Rattle.std.specs.FinMap.{FinMap, code};
+    ghost use Rattle.slab.specs.Slab.{slab_len};
+    ghost use Rattle.mvs_model.specs.Name.{name_cmp, name_code};
+    ghost use Rattle.cell_pool.specs.Roots.{Root, root_code};
+    ghost use Rattle.cell_pool.specs.Entries.{roots_of, IsDistinct};
+
+    ghost Value = { FinMap name_cmp Root };
+
+    ghost coded = { code name_code root_code };
+
+    ghost view = { λ p. roots_of p.entries.slots };
+
+    ghost invariant = { λ p. IsDistinct p.entries.slots × (slab_len p.entries ≤ 64) × (64 ≤ p.entries.capacity) };
+}
+
+// The taken cell of one of the subpool's pools that has the address.
+fn cell_in(entries: &Slab<Entry>, store: &Store, subpool: SubpoolId, addr: u32) -> Option<Place>
+    requires { (k : ℕ) (x : TheEntry) → slab_get entries.now k ≡ Some x → IsChain store.now x.root }
+    ensures { MatchOption result
+        ((k : ℕ) (x : TheEntry) → slab_get entries.now k ≡ Some x → x.root.subpool ≡ subpool → in_taken (pool_of (byte_of store.now) x.root) addr ≡ false)
+        (λ p. (k : ℕ) × (x : TheEntry) × (slab_get entries.now k ≡ Some x) × (set.contains (taken_of (byte_of store.now) x.root) p.addr ≡ true) × (p.len ≡ x.root.cell_size) × (has_address p addr ≡ true)) }
+{
+    for key in 0..entries.capacity() {
+        let cell = cell_of(entries, store, key, subpool, addr);
+        if cell.is_some() {
+            return cell;
+        }
+    }
+    None
+}
+
+// The taken cell of the pool at a key that has the address, where the pool is one of the subpool.
+fn cell_of(
+    entries: &Slab<Entry>,
+    store: &Store,
+    key: usize,
+    subpool: SubpoolId,
+    addr: u32,
+) -> Option<Place>
+    requires { (k : ℕ) (x : TheEntry) → slab_get entries.now k ≡ Some x → IsChain store.now x.root }
+    ensures { MatchOption result
+        ((x : TheEntry) → slab_get entries.now key ≡ Some x → x.root.subpool ≡ subpool → in_taken (pool_of (byte_of store.now) x.root) addr ≡ false)
+        (λ p. (x : TheEntry) × (slab_get entries.now key ≡ Some x) × (set.contains (taken_of (byte_of store.now) x.root) p.addr ≡ true) × (p.len ≡ x.root.cell_size) × (has_address p addr ≡ true)) }
+{
+    let Some(entry) = entries.get(key) else {
+        return None;
+    };
+    if !entry.root.is_of(subpool) {
+        return None;
+    }
+    cell_round(store, &entry.root, addr)
+}
+
+// Whether a part of the pool at a key, where it is one of the subpool, has a doubleword of the place.
+fn entry_meets(
+    entries: &Slab<Entry>,
+    store: &Store,
+    key: usize,
+    subpool: SubpoolId,
+    place: Place,
+) -> bool
+    requires { (k : ℕ) (x : TheEntry) → slab_get entries.now k ≡ Some x → IsChain store.now x.root }
+    ensures { MatchBool result
+        ((x : TheEntry) × (slab_get entries.now key ≡ Some x) × (x.root.subpool ≡ subpool) × Meets store.now x.root place)
+        ((x : TheEntry) → slab_get entries.now key ≡ Some x → x.root.subpool ≡ subpool → Meets store.now x.root place → ⊥) }
+{
+    let Some(entry) = entries.get(key) else {
+        return false;
+    };
+    if !entry.root.is_of(subpool) {
+        return false;
+    }
+    meets(store, &entry.root, place)
+}
+
+// Whether a part of one of the subpool's pools has a doubleword of the place.
+fn any_meets(entries: &Slab<Entry>, store: &Store, subpool: SubpoolId, place: Place) -> bool
+    requires { (k : ℕ) (x : TheEntry) → slab_get entries.now k ≡ Some x → IsChain store.now x.root }
+    ensures { MatchBool result
+        ((k : ℕ) × (x : TheEntry) × (slab_get entries.now k ≡ Some x) × (x.root.subpool ≡ subpool) × Meets store.now x.root place)
+        ((k : ℕ) (x : TheEntry) → slab_get entries.now k ≡ Some x → x.root.subpool ≡ subpool → Meets store.now x.root place → ⊥) }
+{
+    for key in 0..entries.capacity() {
+        if entry_meets(entries, store, key, subpool, place) {
+            return true;
+        }
+    }
+    false
+}
+
+// The part before which all parts are full once the cell is given back.
+fn open_after(root: &Root, spot: &Taken) -> Addr
+    requires { spot.now.part < 2 ^ 31 }
+    ensures { result ≡ (if spot.now.past then root.now.open_part else spot.now.part) }
+{
+    if spot.past {
+        root.open_part
+    } else {
+        Addr::new(spot.part)
+    }
+}
+
+impl Pools {
+    /// No pool, with room for 64 (that many are this project's choice). No later call takes memory.
+    pub fn new(alloc: Global) -> Result<Pools, OutOfMemory>
+        ensures { IfOk result (λ p. p ≡ empty) }
+    {
+        match Slab::with_capacity(alloc, 64) {
+            Ok(entries) => Ok(Pools { entries }),
+            Err(_) => Err(OutOfMemory),
+        }
+    }
+
+    // What is kept of the pool of this name.
+    fn find(&self, name: &Name) -> Option<Root>
+        ensures { result ≡ get self.now name.now }
+    {
+        find(&self.entries, *name)
+    }
+
+    /// Gives back the taken cell of the pool that begins at the address (Assembler Services Reference, CPOOL FREE). Refused
+    /// are a name that no pool has (user 4002) and an address at which no taken cell of the pool begins (user 4001); the codes
+    /// are this project's choice.
+    pub fn free(&mut self, store: &mut Store, name: &Name, cell: Addr) -> Result<(), Code>
+        requires { Agree self.old store.old }
+        ensures answer { (o : Owners) (t : TheName) → let old = state_of store.old o (pools_of self.old store.old) in
+            Answered (λ _. Rc0) (λ reply new. FreeStep old t name.now cell (get old.pools name.now) reply new) old t result (state_of store.new o (pools_of self.new store.new)) }
+        ensures agree { Agree self.new store.new }
+        ensures unchanged { OnErr result (store.new ≡ store.old) }
+        ensures pools_unchanged { OnErr result (self.new ≡ self.old) }
+    {
+        let Some(root) = self.find(name) else {
+            return Err(Code::User(4002));
+        };
+        let Some(spot) = find_taken(store, &root, cell.get()) else {
+            return Err(Code::User(4001));
+        };
+        self.give_cell(store, name, &root, spot);
+        Ok(())
+    }
+
+    // Gives back a taken cell of the pool.
+    fn give_cell(&mut self, store: &mut Store, name: &Name, root: &Root, spot: Taken)
+        requires agree { Agree self.old store.old }
+        requires root { get self.old name.now ≡ Some root.now }
+        requires taken { (c : ℕ) × IsTakenAt store.old root.now spot.part spot.cell spot.taken spot.past c }
+        ensures marked { Marks store.old spot.part spot.cell false (spot.taken - 1) store.new }
+        ensures pools { pools_of self.new store.new ≡ pools_of self.old store.new }
+        ensures agree { Agree self.new store.new }
+    {
+        mark(store, spot.part, spot.cell, false, spot.taken - 1);
+        let open = open_after(root, &spot);
+        self.replace(name, root.with_freed(open));
+    }
+
+    /// Makes a pool with a first part of `primary` cells, in the subpool and on the side that are named; a further part will
+    /// have `secondary` cells (Assembler Services Reference, CPOOL BUILD). Refused are, in this order, a name that a pool has
+    /// (user 4008), a pool beyond 64 (user 4007), and want of a place for the part (878); the codes are this project's choice.
+    pub fn build(
+        &mut self,
+        store: &mut Store,
+        name: &Name,
+        subpool: SubpoolId,
+        cell_size: CellSize,
+        primary: CellCount,
+        secondary: CellCount,
+        side: Side,
+    ) -> Result<(), Code>
+        requires { Agree self.old store.old }
+        ensures built { OnOk result (Builds self.old store.old name.now subpool (record { cell_size = cell_size; primary = primary; secondary = secondary; side = side }) self.new store.new) }
+        ensures refused { IfErr result (IsRefusal self.old store.old name.now subpool (record { cell_size = cell_size; primary = primary; secondary = secondary; side = side })) }
+        ensures agree { Agree self.new store.new }
+        ensures unchanged { OnErr result (store.new ≡ store.old) }
+        ensures pools_unchanged { OnErr result (self.new ≡ self.old) }
+    {
+        if self.find(name).is_some() {
+            return Err(Code::User(4008));
+        }
+        if self.len() >= 64 {
+            return Err(Code::User(4007));
+        }
+        let Some(place) = obtain_part(store, subpool, cell_size, primary, side) else {
+            return Err(Code::System(0x878));
+        };
+        let first = place.addr();
+        let fill = byte(store, first.get());
+        lay_out(store, first.get(), primary.get(), cell_size.get());
+        self.insert(
+            name,
+            Root {
+                subpool,
+                cell_size,
+                primary,
+                secondary,
+                side,
+                fill,
+                count: 1,
+                first,
+                last: first,
+                free: u64::from(primary.get()),
+                open_part: first,
+            },
+        );
+        Ok(())
+    }
+
+    // Enters what is kept of a new pool.
+    fn insert(&mut self, name: &Name, root: Root)
+        requires fresh { get self.old name.now ≡ None }
+        requires room { len self.old < 64 }
+        ensures { (n : TheName) → get self.new n ≡ (if same_name n name.now then Some root else get self.old n) }
+    {
+        self.entries.insert_reserved(Entry { name: *name, root });
+    }
+
+    // How many pools there are.
+    fn len(&self) -> usize
+        ensures { result ≡ len self.now }
+    {
+        self.entries.len()
+    }
+
+    // Puts a further part to the pool, whose parts are full, where there is a place for it.
+    fn extend(&mut self, store: &mut Store, name: &Name, root: &Root) -> Option<Root>
+        requires agree { Agree self.old store.old }
+        requires root { get self.old name.now ≡ Some root.now }
+        requires full { root.now.free ≡ 0 }
+        ensures extended { MatchOption result
+            (NoRoom store.old root.now × (store.new ≡ store.old) × (self.new ≡ self.old))
+            (λ r. (a : ℕ) × (r ≡ extended root.now a) × Extended self.old store.old name.now root.now a self.new store.new) }
+        ensures agree { Agree self.new store.new }
+    {
+        let Some(place) = obtain_part(
+            store,
+            root.subpool,
+            root.cell_size,
+            root.secondary,
+            root.side,
+        ) else {
+            return None;
+        };
+        let part = place.addr();
+        lay_out(store, part.get(), root.secondary.get(), root.cell_size());
+        put_word(store, root.last(), part.get());
+        let extended = root.with_part(part);
+        self.replace(name, extended);
+        Some(extended)
+    }
+
+    // Keeps something else of a pool that there is.
+    fn replace(&mut self, name: &Name, root: Root)
+        requires { IsSome (get self.old name.now) }
+        ensures { (n : TheName) → get self.new n ≡ (if same_name n name.now then Some root else get self.old n) }
+    {
+        match find_key(&self.entries, *name) {
+            Some(key) => set_root(&mut self.entries, key, root),
+            None => unreachable!(),
+        }
+    }
+
+    /// Gives up the pool with all its parts (Assembler Services Reference, CPOOL DELETE). Refused is a name that no pool has
+    /// (user 4002; the code is this project's choice).
+    pub fn delete(&mut self, store: &mut Store, name: &Name) -> Result<(), Code>
+        requires { Agree self.old store.old }
+        ensures answer { (o : Owners) (t : TheName) → let old = state_of store.old o (pools_of self.old store.old) in
+            Answered (λ _. Rc0) (λ reply new. DeleteStep old t name.now (get old.pools name.now) reply new) old t result (state_of store.new o (pools_of self.new store.new)) }
+        ensures agree { Agree self.new store.new }
+        ensures unchanged { OnErr result (store.new ≡ store.old) }
+        ensures pools_unchanged { OnErr result (self.new ≡ self.old) }
+    {
+        let Some(root) = self.find(name) else {
+            return Err(Code::User(4002));
+        };
+        release_parts(store, &root);
+        self.forget(name);
+        Ok(())
+    }
+
+    // Forgets a pool that there is.
+    fn forget(&mut self, name: &Name)
+        requires { IsSome (get self.old name.now) }
+        ensures { (n : TheName) → get self.new n ≡ (if same_name n name.now then None else get self.old n) }
+    {
+        match find_key(&self.entries, *name) {
+            Some(key) => remove(&mut self.entries, key),
+            None => unreachable!(),
+        }
+    }
+
+    /// Forgets the pools of a subpool, before all of its storage is released; the storage is left as it is.
+    pub fn drop_subpool(&mut self, subpool: SubpoolId)
+        ensures { Keeps (get self.old) (λ _ r. not (r.subpool == subpool)) (get self.new) }
+    {
+        remove_each(&mut self.entries, subpool);
+    }
+
+    /// Takes a free cell of the pool: the lowest one of the earliest part that has one (Assembler Services Reference, CPOOL
+    /// GET; which one is this project's choice). Where no cell is free, a conditional request gets none, and another one a
+    /// cell of a further part. Refused are a name that no pool has (user 4002) and want of a place for the further part (878);
+    /// the codes are this project's choice.
+    pub fn get(
+        &mut self,
+        store: &mut Store,
+        name: &Name,
+        conditional: bool,
+    ) -> Result<Option<Place>, Code>
+        requires { Agree self.old store.old }
+        ensures answer { (o : Owners) (t : TheName) → let old = state_of store.old o (pools_of self.old store.old) in
+            Answered cell_reply (λ reply new. GetStep old t name.now conditional (get old.pools name.now) reply new) old t result (state_of store.new o (pools_of self.new store.new)) }
+        ensures agree { Agree self.new store.new }
+        ensures unchanged { OnErr result (store.new ≡ store.old) }
+        ensures pools_unchanged { OnErr result (self.new ≡ self.old) }
+    {
+        let Some(root) = self.find(name) else {
+            return Err(Code::User(4002));
+        };
+        if root.has_free() {
+            let spot = find_free(store, &root);
+            return Ok(Some(self.take_cell(store, name, &root, spot)));
+        }
+        if conditional {
+            return Ok(None);
+        }
+        let Some(extended) = self.extend(store, name, &root) else {
+            return Err(Code::System(0x878));
+        };
+        let spot = Spot {
+            part: extended.last(),
+            cell: 0,
+            taken: 0,
+        };
+        Ok(Some(self.take_cell(store, name, &extended, spot)))
+    }
+
+    // Takes a free cell of the pool.
+    fn take_cell(&mut self, store: &mut Store, name: &Name, root: &Root, spot: Spot) -> Place
+        requires agree { Agree self.old store.old }
+        requires root { get self.old name.now ≡ Some root.now }
+        requires free { IsFreeAt store.old root.now spot.part spot.cell spot.taken }
+        ensures place { result ≡ place_at (spot.part + head_length (count_at (byte_of store.old) spot.part) + spot.cell * root.now.cell_size) root.now.cell_size }
+        ensures taken { (mid : Storage) × Marks store.old spot.part spot.cell true (spot.taken + 1) mid × Fills mid result root.now.fill store.new }
+        ensures pools { pools_of self.new store.new ≡ pools_of self.old store.new }
+        ensures agree { Agree self.new store.new }
+    {
+        let place = take(store, root, spot);
+        self.replace(name, root.with_taken(Addr::new(spot.part)));
+        place
+    }
+
+    /// The taken cell that the byte at an address lies in, of whichever pool.
+    pub fn cell_at(&self, store: &Store, addr: Addr) -> Option<Place>
+        requires { Agree self.now store.now }
+        ensures { MatchOption result
+            ((o : Owners) → in_cell (state_of store.now o (pools_of self.now store.now)) addr ≡ false)
+            (λ p. IsTakenCell (pools_of self.now store.now) p × (has_address p addr ≡ true)) }
+    {
+        let Some(subpool) = store.held(addr) else {
+            return None;
+        };
+        cell_in(&self.entries, store, subpool, addr.get())
+    }
+
+    /// Whether the byte at an address lies in a taken cell of some pool.
+    pub fn taken_cell(&self, store: &Store, addr: Addr) -> bool
+        requires { Agree self.now store.now }
+        ensures { (o : Owners) → result ≡ in_cell (state_of store.now o (pools_of self.now store.now)) addr }
+    {
+        self.cell_at(store, addr).is_some()
+    }
+
+    /// Whether the subpool holds some doubleword of a place as a part of a pool. Parts in other subpools do not count, so this
+    /// is asked of a place that the subpool holds.
+    pub fn touches(&self, store: &Store, subpool: SubpoolId, place: Place) -> bool
+        requires { Agree self.now store.now }
+        ensures { MatchBool result
+            (Touches store.now (pools_of self.now store.now) subpool place)
+            (TouchesNone store.now (pools_of self.now store.now) subpool place) }
+    {
+        any_meets(&self.entries, store, subpool, place)
+    }
+
+    /// How many bytes the subpool holds in parts of pools.
+    pub fn pool_bytes(&self, store: &Store, subpool: SubpoolId) -> u32
+        requires { Agree self.now store.now }
+        ensures { (o : Owners) → result ≡ bytes_held (state_of store.now o (pools_of self.now store.now)) subpool true }
+    {
+        bytes_in(&self.entries, store, subpool)
+    }
+}

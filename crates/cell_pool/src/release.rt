@@ -1,0 +1,42 @@
+//! Giving back the parts of a pool.
+
+ghost use Rattle.std.specs.Prelude.{◌≡◌};
+ghost use Rattle.mvs_model.specs.Storage.{IsStorage, Release};
+ghost use Rattle.cell_pool.specs.Layout.{byte_of, next_at};
+ghost use Rattle.cell_pool.specs.Release.{DropsParts, StandsAt};
+ghost use Rattle.cell_pool.specs.Roots.{part_at};
+ghost use Rattle.cell_pool.specs.Walk.{IsChain};
+
+use crate::root::Root;
+use crate::walk::length_of;
+use crate::words::read_header;
+use mvs_model::place::{Addr, Place};
+use subpool_store::Store;
+
+// Gives back the part at an address, and says where the next one is.
+fn release_part(store: &mut Store, root: &Root, part: u32) -> u32
+    requires { StandsAt store.old root.now part }
+    ensures released { Release store.old root.now.subpool (part_at (byte_of store.old) root.now.cell_size part).place store.new }
+    ensures storage { IsStorage store.new }
+    ensures next { result ≡ next_at (byte_of store.old) part }
+{
+    let header = read_header(store, part);
+    let length = length_of(root.cell_size(), header.count);
+    let place = Place::new(Addr::new(part), length);
+    let Ok(()) = store.release(root.subpool, place) else {
+        unreachable!();
+    };
+    header.next
+}
+
+// Gives back all parts of a pool.
+pub(crate) fn release_parts(store: &mut Store, root: &Root)
+    requires storage { IsStorage store.old }
+    requires chain { IsChain store.old root.now }
+    ensures { DropsParts store.old root.now root.now.count store.new }
+{
+    let mut part = root.first();
+    'walk: for number in 0..root.count() {
+        part = release_part(store, root, part);
+    }
+}

@@ -1,0 +1,210 @@
+//! Walks along the parts of a pool.
+
+ghost use Rattle.std.specs.Prelude.{◌≡◌, ◌<◌, ◌≤◌, ◌+◌, ◌*◌, ◌^◌, ◌==◌, ◌||◌, ℕ, true, false, MatchOption, MatchBool};
+ghost use Rattle.std.specs.FinSet as set;
+ghost use Rattle.mvs_model.specs.Storage.{AllHeld, has_address};
+ghost use Rattle.mvs_model.specs.Place.{place_at};
+ghost use Rattle.mvs_model.specs.Pools.{in_taken, part_length};
+ghost use Rattle.cell_pool.specs.Layout.{byte_of, flag, head_length};
+ghost use Rattle.cell_pool.specs.Roots.{is_taken, part_addr, part_of, pool_of, taken_of};
+ghost use Rattle.cell_pool.specs.Walk.{IsChain, IsPartAt, IsTakenAt, Meets};
+
+use crate::root::Root;
+use crate::words::{flag, read_header};
+use mvs_model::place::{Addr, Place};
+use subpool_store::Store;
+
+// A part of a pool: its address, how many cells it has, how many of them are taken, and whether the open part is this one
+// or one before it.
+#[derive(Clone, Copy)]
+struct Found {
+    part: u32,
+    count: u32,
+    taken: u32,
+    past: bool,
+}
+
+// A taken cell: its part's address, its number, how many cells of the part are taken, and whether the open part is this part
+// or one before it.
+#[derive(Clone, Copy)]
+pub(crate) struct Taken {
+    pub(crate) part: u32,
+    pub(crate) cell: u32,
+    pub(crate) taken: u32,
+    pub(crate) past: bool,
+}
+
+// A free cell: its part's address, its number, and how many cells of the part are taken.
+#[derive(Clone, Copy)]
+pub(crate) struct Spot {
+    pub(crate) part: u32,
+    pub(crate) cell: u32,
+    pub(crate) taken: u32,
+}
+
+// How many bytes stand before the cells of a part.
+pub(crate) fn bytes_before(count: u32) -> u32
+    requires { count ≤ 65536 }
+    ensures { result ≡ head_length count }
+{
+    16 + 8 * ((count + 63) / 64)
+}
+
+// How long a part is.
+pub(crate) fn length_of(size: u32, count: u32) -> u32
+    requires few { count ≤ 65536 }
+    requires short { part_length size count ≤ 0x3000000 }
+    ensures { result ≡ part_length size count }
+{
+    bytes_before(count) + (count * size + 7) / 8 * 8
+}
+
+// Whether so many bytes from an address on have another one.
+fn is_in(from: u32, len: u32, addr: u32) -> bool
+    ensures { result ≡ has_address (place_at from len) addr }
+{
+    from <= addr && addr - from < len
+}
+
+// Whether the open part is the one at the address, or was met before.
+fn is_past(past: bool, part: u32, root: &Root) -> bool
+    ensures { result ≡ ((part == root.now.open_part) || past) }
+{
+    part == root.open_part() || past
+}
+
+// The part of the pool that has the address.
+fn find_part(store: &Store, root: &Root, addr: u32) -> Option<Found>
+    requires { IsChain store.now root.now }
+    ensures { MatchOption result
+        ((j : ℕ) → j < root.now.count → has_address (part_of (byte_of store.now) root.now j).place addr ≡ false)
+        (λ f. IsPartAt store.now root.now f.part f.count f.taken f.past × (has_address (place_at f.part (part_length root.now.cell_size f.count)) addr ≡ true)) }
+{
+    let mut part = root.first();
+    let mut past = false;
+    'walk: for number in 0..root.count() {
+        let header = read_header(store, part);
+        past = is_past(past, part, root);
+        if is_in(part, length_of(root.cell_size(), header.count), addr) {
+            return Some(Found {
+                part,
+                count: header.count,
+                taken: header.taken,
+                past,
+            });
+        }
+        part = header.next;
+    }
+    None
+}
+
+// The number of the cell of a part that begins at the address.
+fn cell_number(first: u32, size: u32, count: u32, addr: u32) -> Option<u32>
+    requires some { 1 ≤ size }
+    ensures { MatchOption result
+        ((i : ℕ) → i < count → addr ≡ first + i * size → ⊥)
+        (λ i. (i < count) × (addr ≡ first + i * size)) }
+{
+    if addr < first {
+        return None;
+    }
+    let cell = (addr - first) / size;
+    if cell >= count {
+        return None;
+    }
+    if (addr - first) % size != 0 {
+        return None;
+    }
+    Some(cell)
+}
+
+// The taken cell of the pool that begins at the address.
+pub(crate) fn find_taken(store: &Store, root: &Root, addr: u32) -> Option<Taken>
+    requires { IsChain store.now root.now }
+    ensures { MatchOption result
+        (is_taken (byte_of store.now) root.now addr ≡ false)
+        (λ s. IsTakenAt store.now root.now s.part s.cell s.taken s.past addr) }
+{
+    let Some(found) = find_part(store, root, addr) else {
+        return None;
+    };
+    let first = found.part + bytes_before(found.count);
+    let Some(cell) = cell_number(first, root.cell_size(), found.count, addr) else {
+        return None;
+    };
+    if !flag(store, found.part, cell) {
+        return None;
+    }
+    Some(Taken {
+        part: found.part,
+        cell,
+        taken: found.taken,
+        past: found.past,
+    })
+}
+
+// The number of the cell that has the address, if the part has so many.
+fn cell_with(first: u32, size: u32, count: u32, addr: u32) -> Option<u32>
+    requires some { 1 ≤ size }
+    ensures { MatchOption result
+        ((i : ℕ) → i < count → first + i * size ≤ addr → addr < first + i * size + size → ⊥)
+        (λ i. (i < count) × (first + i * size ≤ addr) × (addr < first + i * size + size)) }
+{
+    if addr < first {
+        return None;
+    }
+    let cell = (addr - first) / size;
+    if cell >= count {
+        return None;
+    }
+    Some(cell)
+}
+
+// The taken cell of the pool that has the address.
+pub(crate) fn cell_round(store: &Store, root: &Root, addr: u32) -> Option<Place>
+    requires { IsChain store.now root.now }
+    ensures { MatchOption result
+        (in_taken (pool_of (byte_of store.now) root.now) addr ≡ false)
+        (λ p. (set.contains (taken_of (byte_of store.now) root.now) p.addr ≡ true) × (p.len ≡ root.now.cell_size) × (has_address p addr ≡ true)) }
+{
+    let Some(found) = find_part(store, root, addr) else {
+        return None;
+    };
+    let first = found.part + bytes_before(found.count);
+    let size = root.cell_size();
+    let Some(cell) = cell_with(first, size, found.count, addr) else {
+        return None;
+    };
+    if !flag(store, found.part, cell) {
+        return None;
+    }
+    Some(Place::new(Addr::new(first + cell * size), size))
+}
+
+// Whether so many bytes from an address on and so many from another one have a byte in common.
+fn overlaps(from: u32, len: u32, other: u32, other_len: u32) -> bool
+    requires one { from + len < 2 ^ 32 }
+    requires two { other + other_len < 2 ^ 32 }
+    ensures { MatchBool result
+        ((from < other + other_len) × (other < from + len))
+        ((from < other + other_len) → (other < from + len) → ⊥) }
+{
+    from < other + other_len && other < from + len
+}
+
+// Whether a part of the pool has a doubleword of the place.
+pub(crate) fn meets(store: &Store, root: &Root, place: Place) -> bool
+    requires { IsChain store.now root.now }
+    ensures { MatchBool result (Meets store.now root.now place) (Meets store.now root.now place → ⊥) }
+{
+    let mut part = root.first();
+    'walk: for number in 0..root.count() {
+        let header = read_header(store, part);
+        let len = length_of(root.cell_size(), header.count);
+        if overlaps(part, len, place.addr().get(), place.len()) {
+            return true;
+        }
+        part = header.next;
+    }
+    false
+}

@@ -1,0 +1,93 @@
+-- Texts, parted at the first byte that passes a test.
+use Rattle.std.proofs.Common.{◌≡◌, ℕ, suc, ◌+◌, ◌≤◌, ◌<◌, List, [], ◌∷◌, length, take, drop, arith, refl, sym, ap, subst, ◌∙◌, true, false, Bool, cond, Some, None}
+use Rattle.std.specs.Prelude.{nat_lt, not, position, ◌==◌, ◌||◌, filter, unwrap_or, slice_get}
+use Rattle.std.specs.List.{list_any, position_or_len, before_first, after_first, slice_split, onto_first}
+use Rattle.std.proofs.lemmas.List.{take_all, drop_all}
+use Rattle.std.proofs.lemmas.List.Splits.{slice_split_first}
+use Rattle.std.proofs.lemmas.Bool.Decides.{nat_tests}
+use Rattle.mvs_model.specs.Reading.{words, is_empty}
+use Rattle.job_script.specs.Parted.{starts_word}
+
+-- where there is no place before the end, no byte passes
+none_passes : (p : ℕ → Bool) (xs : List ℕ) → length xs ≤ position_or_len p xs → list_any p xs ≡ false
+none_passes p [] h = refl
+none_passes p (x ∷ xs) h = elim (p x) as (λ b. suc (length xs) ≤ cond (not b) (1 + position_or_len p xs) 0 → (b || list_any p xs) ≡ false) [
+  | true ↦ λ h. absurd (omega arith)
+  | false ↦ λ h. none_passes p xs (omega arith)
+] h
+
+some_passes : (p : ℕ → Bool) (xs : List ℕ) → position_or_len p xs < length xs → list_any p xs ≡ true
+some_passes p [] h = absurd (omega arith)
+some_passes p (x ∷ xs) h = elim (p x) as (λ b. cond (not b) (1 + position_or_len p xs) 0 < suc (length xs) → (b || list_any p xs) ≡ true) [
+  | true ↦ λ h. refl
+  | false ↦ λ h. some_passes p xs (omega arith)
+] h
+
+-- then there is one part
+one_part : (p : ℕ → Bool) (xs : List ℕ) → list_any p xs ≡ false → slice_split p xs ≡ xs ∷ []
+one_part p [] h = refl
+one_part p (x ∷ xs) h = elim (p x) as (λ b. (b || list_any p xs) ≡ false → cond b ([] ∷ slice_split p xs) (onto_first x (slice_split p xs)) ≡ (x ∷ xs) ∷ []) [
+  | true ↦ λ h. absurd (let e : true ≡ false = h in cc)
+  | false ↦ λ h. ap (onto_first x) (one_part p xs h)
+] h
+
+-- what a search that finds nothing says
+pub record NoCut (p : ℕ → Bool) (xs : List ℕ) : Type 0 where
+  pub before : before_first p xs ≡ xs
+  pub none : list_any p xs ≡ false
+  pub after : after_first p xs ≡ []
+  pub parts : slice_split p xs ≡ xs ∷ []
+
+pub no_cut : (p : ℕ → Bool) (xs : List ℕ) → position p xs ≡ None → NoCut p xs
+no_cut p xs e = at (nat_lt (position_or_len p xs) (length xs)) refl e where
+  at : (b : Bool) → nat_lt (position_or_len p xs) (length xs) ≡ b → cond b (Some (position_or_len p xs)) None ≡ None → NoCut p xs
+  at true t e = absurd (let f : Some (position_or_len p xs) ≡ None = e in cc)
+  at false t e =
+      let h : length xs ≤ position_or_len p xs = grind (arith, nat_tests) in
+      let none = none_passes p xs h in
+      record { before = take_all (position_or_len p xs) xs h; none = none; after = drop_all (position_or_len p xs + 1) xs (omega arith); parts = one_part p xs none }
+
+-- what one that finds a place says
+pub record Cut (p : ℕ → Bool) (xs : List ℕ) (i : ℕ) : Type 0 where
+  pub place : i ≡ position_or_len p xs
+  pub within : i < length xs
+  pub some : list_any p xs ≡ true
+  pub parts : slice_split p xs ≡ before_first p xs ∷ slice_split p (after_first p xs)
+
+pub cut_at : (p : ℕ → Bool) (xs : List ℕ) (i : ℕ) → position p xs ≡ Some i → Cut p xs i
+cut_at p xs i e = at (nat_lt (position_or_len p xs) (length xs)) refl e where
+  at : (b : Bool) → nat_lt (position_or_len p xs) (length xs) ≡ b → cond b (Some (position_or_len p xs)) None ≡ Some i → Cut p xs i
+  at true t e =
+      let is : i ≡ position_or_len p xs = (let f : Some (position_or_len p xs) ≡ Some i = e in cc) in
+      let h : position_or_len p xs < length xs = grind (arith, nat_tests) in
+      record { place = is; within = subst (λ n. n < length xs) (sym is) h; some = some_passes p xs h; parts = slice_split_first p xs 0 h }
+  at false t e = absurd (let f : None ≡ Some i = e in cc)
+
+-- ---- words
+
+-- a blank in front is no word
+pub blank_first : (bs : List ℕ) → words (32 ∷ bs) ≡ words bs
+blank_first bs = refl
+
+-- what a text that starts with a word has before its first blank is not empty
+before_some : (b : ℕ) (bs : List ℕ) → (b == 32) ≡ false → is_empty (before_first (λ b. b == 32) (b ∷ bs)) ≡ false
+before_some b bs e = rw e (at (position_or_len (λ b. b == 32) bs)) where
+  at : (n : ℕ) → is_empty (take (1 + n) (b ∷ bs)) ≡ false
+  at n = let s : 1 + n ≡ suc n = omega arith in rw s refl
+
+first_kept : (word : List ℕ) (rest : List (List ℕ)) → is_empty word ≡ false → filter (λ word. not (is_empty word)) (word ∷ rest) ≡ word ∷ filter (λ word. not (is_empty word)) rest
+first_kept word rest e = rw e refl
+
+-- the first word of a text that starts with it, and those behind it
+pub first_word : (text word : List ℕ) (behind : List (List ℕ)) → starts_word text ≡ true → word ≡ before_first (λ b. b == 32) text → slice_split (λ b. b == 32) text ≡ word ∷ behind
+    → (word ≡ unwrap_or (slice_get (words text) 0) []) × (filter (λ word. not (is_empty word)) behind ≡ drop 1 (words text))
+first_word [] word behind s w e =
+    let none : behind ≡ [] = (let f : [] ∷ [] ≡ word ∷ behind = e in cc) in
+    (w, ap (filter (λ word. not (is_empty word))) none)
+first_word (b ∷ bs) word behind s w e =
+    let some : is_empty word ≡ false = ap is_empty w ∙ before_some b bs (not_true (b == 32) s) in
+    let all : words (b ∷ bs) ≡ word ∷ filter (λ word. not (is_empty word)) behind = ap (filter (λ word. not (is_empty word))) e ∙ first_kept word behind some in
+    (ap (λ ws. unwrap_or (slice_get ws 0) []) (sym all), ap (drop 1) (sym all)) where
+      not_true : (b : Bool) → not b ≡ true → b ≡ false
+      not_true true e = absurd (let f : false ≡ true = e in cc)
+      not_true false e = refl

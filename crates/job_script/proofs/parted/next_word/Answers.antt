@@ -1,0 +1,22 @@
+use Rattle.std.proofs.Common.{[], drop, ap, ◌∙◌}
+use Rattle.std.specs.Prelude.{unwrap_or, slice_get}
+use Rattle.job_script.proofs.Cut.{first_word}
+use Rattle.job_script.proofs.parted.next_word.Goals as goal
+
+pub returns-in-None : goal.returns-in-None
+returns-in-None c =
+    let parts = rw c.in-None.is at c.parted.ensures.parts in
+    let first = first_word c.behind_blanks.result.now c.parted.result.0.now [] c.behind_blanks.ensures.start c.parted.ensures.before parts in
+    record {
+      word = first.0 ∙ ap (λ ws. unwrap_or (slice_get ws 0) []) c.behind_blanks.ensures.words;
+      rest = first.1 ∙ ap (drop 1) c.behind_blanks.ensures.words;
+    }
+
+pub returns-in-Some : goal.returns-in-Some
+returns-in-Some c =
+    let parts = rw c.in-Some.is at c.parted.ensures.parts in
+    let first = first_word c.behind_blanks.result.now c.parted.result.0.now _ c.behind_blanks.ensures.start c.parted.ensures.before parts in
+    record {
+      word = first.0 ∙ ap (λ ws. unwrap_or (slice_get ws 0) []) c.behind_blanks.ensures.words;
+      rest = first.1 ∙ ap (drop 1) c.behind_blanks.ensures.words;
+    }

@@ -1,0 +1,20 @@
+-- Texts, parted at bytes.
+use Rattle.std.specs.Prelude.{ℕ, suc, ◌+◌, ◌-◌, List, [], ◌∷◌, ◌==◌, ◌&&◌, not, Bool, true, if◌then◌else◌}
+
+-- whether no blank comes first
+abbrev pub starts_word : List ℕ → Bool
+starts_word [] = true
+starts_word (b ∷ bs) = not (b == 32)
+
+-- how many parentheses are open behind a byte; one that closes nothing counts for nothing
+abbrev pub opened_after : ℕ → ℕ → ℕ
+opened_after opened b = if b == 40 then opened + 1 else (if b == 41 then opened - 1 else opened)
+
+-- whether the byte is a comma outside parentheses
+abbrev pub splits_at : ℕ → ℕ → Bool
+splits_at opened b = (b == 44) && (opened == 0)
+
+-- where the first operand ends, in a text in which so many parentheses are open
+abbrev pub end_from : ℕ → List ℕ → ℕ
+end_from opened [] = 0
+end_from opened (b ∷ bs) = if splits_at opened b then 0 else suc (end_from (opened_after opened b) bs)

@@ -1,0 +1,24 @@
+-- What a statement is read as.
+use Rattle.std.specs.Prelude.{◌≡◌, ℕ, List, [], Bool, not, if◌then◌else◌, Some, None, Result, Ok, Err, bytes_eq, codes, slice_get, unwrap_or}
+use Rattle.mvs_model.specs.declared.line.Fault.{Fault}
+use Rattle.mvs_model.specs.declared.line.Line.{Line}
+use Rattle.mvs_model.specs.Name.{padded}
+use Rattle.mvs_model.specs.Reading.{first_of, statement_checks, task_in, operation_in, operands_of, words}
+use Rattle.job_script.specs.declared.operations.Operation.{Operation}
+use Rattle.job_script.specs.declared.operations.Operation.TheVariants as operation
+use Rattle.job_script.specs.Rowed.{said_by}
+
+-- whether an operation may stand where it stands
+abbrev pub is_in_place : Bool → List ℕ → Bool
+is_in_place first word = not (if first then not (bytes_eq word (codes "REGION")) else bytes_eq word (codes "REGION"))
+
+-- the field behind an operation, where it has one: the first word there
+abbrev pub field_of : Operation → List ℕ → List ℕ
+field_of operation.Return rest = []
+field_of _ rest = unwrap_or (slice_get (words rest) 0) []
+
+-- The line, which says something, is read as a statement, or the first fault is answered.
+abbrev pub StatementReading : Bool → List ℕ → Result Line Fault → Type 0
+StatementReading first bytes (Ok l) =
+    (first_of (statement_checks first (task_in bytes) (operation_in bytes) (operands_of bytes)) ≡ None) × (said_by (operation_in bytes) (padded (task_in bytes)) (operands_of bytes) ≡ Some l)
+StatementReading first bytes (Err fault) = first_of (statement_checks first (task_in bytes) (operation_in bytes) (operands_of bytes)) ≡ Some fault

@@ -1,0 +1,172 @@
+//! The operands of a statement, read by its row of the table.
+
+ghost use Rattle.std.specs.Prelude.{◌≡◌, ◌<◌, [], ℕ, List, length, true, false, position, bytes_eq, flat_map, None, Some, MatchOption, MatchResult, IfSome};
+ghost use Rattle.mvs_model.specs.Reading.{parts_within, operands_in, has_key, key_of, text_of, first_of, operand_checks, with_left};
+ghost use Rattle.job_script.specs.Kinds.{as_kind};
+ghost use Rattle.job_script.specs.Rows.{key_text, row_at};
+ghost use Rattle.job_script.specs.Places.{place_in, HasKeyword};
+
+use crate::keys::Key;
+use crate::kinds::{Kind, check};
+use crate::parted::{next_operand, parted};
+use crate::rows::{Keyword, Row};
+use mvs_model::line::Fault;
+
+/// The operands of a statement: the texts of those that were read so far, in the places that the row has for them.
+#[derive(Drop)]
+pub struct Given<'a> {
+    /// What the statement takes.
+    pub row: Row,
+    /// Whether a keyword was read, behind which no positional operand may stand.
+    pub keyed: bool,
+    /// How many positional operands were read.
+    pub count: usize,
+    pub places: [Option<&'a [u8]>; 3],
+    pub texts: [Option<&'a [u8]>; 8],
+}
+
+// Where a keyword stands in its table, by the text before the equals sign.
+fn place(keywords: &[Keyword], text: &[u8]) -> Option<usize>
+    ensures place { result ≡ position (λ k. bytes_eq (key_text k.key) text.now) keywords.now }
+    ensures within { IfSome result (λ i. i < length keywords.now) }
+{
+    keywords.iter().position(|keyword| keyword.key.is(text))
+}
+
+// Where a keyword of a row stands, by the text before the equals sign, and its kind.
+fn keyword_at(row: Row, key: &[u8]) -> Option<(usize, Kind)>
+    ensures { MatchOption result (place_in (row_at row) key.now ≡ None) (λ r. HasKeyword (row_at row) key.now r.0 (as_kind r.1)) }
+{
+    let keywords = row.keywords();
+    match place(keywords, key) {
+        None => None,
+        Some(place) => Some((place, keywords[place].kind)),
+    }
+}
+
+// Where a keyword stands in its table.
+fn place_of(keywords: &[Keyword], key: Key) -> Option<usize>
+    ensures place { result ≡ position (λ k. bytes_eq (key_text k.key) (key_text key)) keywords.now }
+    ensures within { IfSome result (λ i. i < length keywords.now) }
+{
+    keywords.iter().position(|keyword| keyword.key == key)
+}
+
+impl<'a> Given<'a> {
+    ghost use Rattle.job_script.specs.Given.{IsGiven, IsRead, IsPlaced, Takes, by_place, option_now};
+    ghost use Rattle.mvs_model.specs.ReadingLaws.{IsTaken};
+
+    /// No operand.
+    pub fn none(row: Row) -> Given<'a>
+        ensures given { IsGiven result [] }
+        ensures row { result.row ≡ row }
+    {
+        Given {
+            row,
+            keyed: false,
+            count: 0,
+            places: [None; 3],
+            texts: [None; 8],
+        }
+    }
+
+    // Takes a positional operand.
+    fn take_positional(&mut self, operand: &'a [u8]) -> Result<(), Fault>
+        requires { has_key operand.now ≡ false }
+        ensures { Takes self.old self.new operand.now result }
+    {
+        if self.keyed {
+            return Err(Fault::InvalidOperand);
+        }
+        let Some(positional) = self.row.positional().get(self.count) else {
+            return Err(Fault::InvalidOperand);
+        };
+        check(positional.kind, operand, false)?;
+        self.places[self.count] = Some(operand);
+        self.count += 1;
+        Ok(())
+    }
+
+    // Takes an operand with a key.
+    fn take_keyword(&mut self, key: &[u8], text: &'a [u8]) -> Result<(), Fault>
+        ensures { (operand : List ℕ) → has_key operand ≡ true → key_of operand ≡ key.now → text_of operand ≡ text.now → Takes self.old self.new operand result }
+    {
+        let Some((place, kind)) = keyword_at(self.row, key) else {
+            return Err(Fault::InvalidOperand);
+        };
+        if let Err(fault) = check(kind, text, self.texts[place].is_some()) {
+            return Err(fault);
+        }
+        self.texts[place] = Some(text);
+        self.keyed = true;
+        Ok(())
+    }
+
+    // Takes an operand, or answers what is wrong with it.
+    fn take(&mut self, operand: &'a [u8]) -> Result<(), Fault>
+        ensures { Takes self.old self.new operand.now result }
+    {
+        let (key, text) = parted(operand, b'=');
+        match text {
+            None => self.take_positional(operand),
+            Some(text) => self.take_keyword(key, text),
+        }
+    }
+
+    /// Takes the operands of a field from left to right, or answers what is wrong with the first that is not taken.
+    pub fn take_all(&mut self, field: &'a [u8]) -> Result<(), Fault>
+        requires { IsGiven self.old [] }
+        ensures { MatchResult result
+            (λ _. IsGiven self.new (parts_within 0 field.now) × (self.new.row ≡ self.old.row))
+            (λ fault. first_of (flat_map (operand_checks (row_at self.old.row)) (with_left (parts_within 0 field.now))) ≡ Some fault) }
+    {
+        let mut rest = field;
+        'operands: loop {
+            let (operand, more) = next_operand(rest);
+            if let Err(fault) = self.take(operand) {
+                return Err(fault);
+            }
+            match more {
+                None => return Ok(()),
+                Some(next) => rest = next,
+            }
+        }
+    }
+
+    /// The same of a field, where there is one.
+    pub fn take_field(&mut self, field: Option<&'a [u8]>) -> Result<(), Fault>
+        requires { IsGiven self.old [] }
+        ensures { MatchResult result
+            (λ _. IsGiven self.new (operands_in (option_now field.entry)) × (self.new.row ≡ self.old.row))
+            (λ fault. first_of (flat_map (operand_checks (row_at self.old.row)) (with_left (operands_in (option_now field.entry)))) ≡ Some fault) }
+    {
+        match field {
+            None => Ok(()),
+            Some(field) => self.take_all(field),
+        }
+    }
+
+    /// The text under a key.
+    pub fn text(&self, key: Key) -> Option<&'a [u8]>
+        requires { IsRead self.now }
+        ensures text { option_now result ≡ (by_place self.now).under (key_text key) }
+        ensures said { MatchOption result ((by_place self.now).under (key_text key) ≡ None) (λ text. (by_place self.now).under (key_text key) ≡ Some text.now) }
+        ensures taken { IfSome result (λ text. IsTaken (row_at self.now.row) (key_text key) text.now) }
+    {
+        match place_of(self.row.keywords(), key) {
+            None => None,
+            Some(place) => self.texts[place],
+        }
+    }
+
+    /// The positional operand at a place, counted from 0.
+    pub fn positional(&self, place: usize) -> Option<&'a [u8]>
+        requires read { IsRead self.now }
+        requires place { place < 3 }
+        ensures text { option_now result ≡ (by_place self.now).at place }
+        ensures said { MatchOption result ((by_place self.now).at place ≡ None) (λ text. (by_place self.now).at place ≡ Some text.now) }
+        ensures taken { IfSome result (λ text. IsPlaced (row_at self.now.row) place text.now) }
+    {
+        self.places[place]
+    }
+}

@@ -1,0 +1,264 @@
+//! What an operand may be.
+
+ghost use Rattle.std.specs.Prelude.{◌≡◌, true};
+ghost use Rattle.mvs_model.specs.Grammar as grammar;
+ghost use Rattle.mvs_model.specs.Reading.{is_number, is_one_of, is_bytes, is_pair, is_pair_in_range, is_of, repeats, is_within, first_of};
+ghost use Rattle.job_script.specs.Items.{is_list_of, has_twice, has_items_in_range, has_items};
+ghost use Rattle.job_script.specs.Kinds.{as_words, as_kind, fault_in, checks_of};
+
+use crate::addresses::{is_address, is_address_in_range, is_name};
+use crate::digits::{are_hex_digits, is_in_range, is_number, number, quoted};
+use crate::items::{Item, are_in_range, are_items, count, inside, is_twice, two};
+use mvs_model::line::Fault;
+
+/// Words of which an operand takes one.
+#[derive(Clone, Copy, Debug, PartialEq, Eq)]
+pub enum Words {
+    /// DBLWD or PAGE.
+    Boundary,
+    /// BELOW, 24, ANY, 31 or RES.
+    Location,
+    /// YES or NO.
+    YesNo,
+    /// BELOW or ABOVE.
+    Residence,
+    /// COND, C, UNCOND or U.
+    Conditional,
+}
+
+/// What the text of an operand has to be.
+#[derive(Clone, Copy, Debug, PartialEq, Eq)]
+pub enum Kind {
+    /// A number from the first to the second.
+    Number(u32, u32),
+    /// The number of a subpool.
+    Subpool,
+    /// Two hexadecimal digits.
+    HexByte,
+    /// One of these words.
+    Word(Words),
+    Name,
+    Address,
+    /// One to so many bytes, in X'..'.
+    Bytes(usize),
+    /// A largest and a smallest number from the first to the second, in parentheses.
+    Pair(u32, u32),
+    /// A number, or a largest and a smallest one, from the first to the second.
+    NumberOrPair(u32, u32),
+    /// A list of at most so many numbers from the first to the second.
+    Numbers(usize, u32, u32),
+    /// A list of numbers from the first to the second, of which none stands twice.
+    DistinctNumbers(u32, u32),
+    /// A list of at most so many names, of which none stands twice.
+    DistinctNames(usize),
+    /// A list of at most so many addresses.
+    Addresses(usize),
+}
+
+// Whether the text is one of the words.
+fn is_word(words: Words, text: &[u8]) -> bool
+    ensures { result ≡ is_one_of (as_words words) text.now }
+{
+    match words {
+        Words::Boundary => text == b"DBLWD".as_slice() || text == b"PAGE".as_slice(),
+        Words::Location => {
+            text == b"BELOW".as_slice()
+                || text == b"24".as_slice()
+                || text == b"ANY".as_slice()
+                || text == b"31".as_slice()
+                || text == b"RES".as_slice()
+        }
+        Words::YesNo => text == b"YES".as_slice() || text == b"NO".as_slice(),
+        Words::Residence => text == b"BELOW".as_slice() || text == b"ABOVE".as_slice(),
+        Words::Conditional => {
+            text == b"COND".as_slice()
+                || text == b"C".as_slice()
+                || text == b"UNCOND".as_slice()
+                || text == b"U".as_slice()
+        }
+    }
+}
+
+// Whether the text is two hexadecimal digits.
+fn is_hex_byte(text: &[u8]) -> bool
+    ensures { result ≡ is_of grammar.HexByte text.now }
+{
+    text.len() == 2 && are_hex_digits(text)
+}
+
+// Whether the text is an even number of hexadecimal digits between quotes.
+fn is_bytes(text: &[u8]) -> bool
+    ensures { result ≡ is_bytes text.now }
+{
+    match quoted(text) {
+        None => false,
+        Some([]) => false,
+        Some(digits) => digits.len() % 2 == 0 && are_hex_digits(digits),
+    }
+}
+
+// Whether there are at most so many pairs of digits between the quotes.
+fn has_at_most(most: usize, text: &[u8]) -> bool
+    requires { is_bytes text.now ≡ true }
+    ensures { result ≡ is_within (grammar.Bytes most) text.now }
+{
+    match quoted(text) {
+        None => true,
+        Some(digits) => digits.len() / 2 <= most,
+    }
+}
+
+// Whether the text is a list of such items.
+fn is_list_of(item: Item, text: &[u8]) -> bool
+    ensures { result ≡ is_list_of item text.now }
+{
+    match inside(text) {
+        None => false,
+        Some(inner) => are_items(item, inner),
+    }
+}
+
+// Whether the text is two numbers in parentheses.
+fn is_pair(least: u32, most: u32, text: &[u8]) -> bool
+    ensures { result ≡ is_pair text.now }
+{
+    match inside(text) {
+        None => false,
+        Some(inner) => count(inner) == 2 && are_items(Item::Number(least, most), inner),
+    }
+}
+
+/// Whether a text is of a kind.
+pub fn is_of(kind: Kind, text: &[u8]) -> bool
+    ensures { result ≡ is_of (as_kind kind) text.now }
+{
+    match kind {
+        Kind::Number(_, _) | Kind::Subpool => is_number(text),
+        Kind::HexByte => is_hex_byte(text),
+        Kind::Word(words) => is_word(words, text),
+        Kind::Name => is_name(text),
+        Kind::Address => is_address(text),
+        Kind::Bytes(_) => is_bytes(text),
+        Kind::Pair(least, most) => is_pair(least, most, text),
+        Kind::NumberOrPair(least, most) => is_number(text) || is_pair(least, most, text),
+        Kind::Numbers(_, least, most) | Kind::DistinctNumbers(least, most) => {
+            is_list_of(Item::Number(least, most), text)
+        }
+        Kind::DistinctNames(_) => is_list_of(Item::Name, text),
+        Kind::Addresses(_) => is_list_of(Item::Address, text),
+    }
+}
+
+// Whether an item of a list stands twice.
+fn has_twice(item: Item, text: &[u8]) -> bool
+    requires { is_list_of item text.now ≡ true }
+    ensures { result ≡ has_twice item text.now }
+{
+    match inside(text) {
+        None => false,
+        Some(inner) => is_twice(item, inner),
+    }
+}
+
+/// Whether something stands twice in a text of a kind.
+pub fn repeats(kind: Kind, text: &[u8]) -> bool
+    requires { is_of (as_kind kind) text.now ≡ true }
+    ensures { result ≡ repeats (as_kind kind) text.now }
+{
+    match kind {
+        Kind::DistinctNumbers(least, most) => has_twice(Item::Number(least, most), text),
+        Kind::DistinctNames(_) => has_twice(Item::Name, text),
+        _ => false,
+    }
+}
+
+// Whether the number is that of a subpool. 131 and 132 are not built.
+fn is_subpool(text: &[u8]) -> bool
+    requires { is_number text.now ≡ true }
+    ensures { result ≡ is_within grammar.Subpool text.now }
+{
+    is_in_range(0, 255, text) && number(text) != 131 && number(text) != 132
+}
+
+// Whether two numbers are in their range, and the second is not above the first.
+fn is_pair_in_range(least: u32, most: u32, text: &[u8]) -> bool
+    requires { is_pair text.now ≡ true }
+    ensures { result ≡ is_pair_in_range least most text.now }
+{
+    let Some(inner) = inside(text) else {
+        return false;
+    };
+    let (largest, smallest) = two(inner);
+    is_in_range(least, most, largest)
+        && is_in_range(least, most, smallest)
+        && number(smallest) <= number(largest)
+}
+
+// Whether the items of a list are in their range.
+fn has_items_in_range(item: Item, text: &[u8]) -> bool
+    requires { is_list_of item text.now ≡ true }
+    ensures { result ≡ has_items_in_range item text.now }
+{
+    match inside(text) {
+        None => false,
+        Some(inner) => are_in_range(item, inner),
+    }
+}
+
+// Whether a list has at most so many items.
+fn has_items(item: Item, most: usize, text: &[u8]) -> bool
+    requires { is_list_of item text.now ≡ true }
+    ensures { result ≡ has_items most text.now }
+{
+    match inside(text) {
+        None => false,
+        Some(inner) => count(inner) <= most,
+    }
+}
+
+/// Whether a text of a kind is in its range.
+pub fn is_within(kind: Kind, text: &[u8]) -> bool
+    requires { is_of (as_kind kind) text.now ≡ true }
+    ensures { result ≡ is_within (as_kind kind) text.now }
+{
+    match kind {
+        Kind::Number(least, most) => is_in_range(least, most, text),
+        Kind::Subpool => is_subpool(text),
+        Kind::HexByte | Kind::Word(_) | Kind::Name => true,
+        Kind::Address => is_address_in_range(text),
+        Kind::Bytes(most) => has_at_most(most, text),
+        Kind::Pair(least, most) => is_pair_in_range(least, most, text),
+        Kind::NumberOrPair(least, most) => {
+            if inside(text).is_some() {
+                is_pair_in_range(least, most, text)
+            } else {
+                is_in_range(least, most, text)
+            }
+        }
+        Kind::Numbers(count, least, most) => {
+            let item = Item::Number(least, most);
+            has_items(item, count, text) && has_items_in_range(item, text)
+        }
+        Kind::DistinctNumbers(least, most) => has_items_in_range(Item::Number(least, most), text),
+        Kind::DistinctNames(count) => has_items(Item::Name, count, text),
+        Kind::Addresses(count) => {
+            has_items(Item::Address, count, text) && has_items_in_range(Item::Address, text)
+        }
+    }
+}
+
+/// What is wrong with the text of an operand of a kind; `again` says whether its key stands on the left too.
+pub fn check(kind: Kind, text: &[u8], again: bool) -> Result<(), Fault>
+    ensures { fault_in result ≡ first_of (checks_of (as_kind kind) again text.now) }
+{
+    if !is_of(kind, text) {
+        return Err(Fault::InvalidOperand);
+    }
+    if again || repeats(kind, text) {
+        return Err(Fault::Repeated);
+    }
+    if !is_within(kind, text) {
+        return Err(Fault::OutOfRange);
+    }
+    Ok(())
+}

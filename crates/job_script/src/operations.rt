@@ -1,0 +1,198 @@
+//! Operations and their forms.
+
+ghost use Rattle.std.specs.Prelude.{◌≡◌, [], option_map, bytes_eq, find, not, false, IfSome, MatchOption};
+ghost use Rattle.mvs_model.specs.Reading.{is_empty, rows_of, takes_form};
+ghost use Rattle.job_script.specs.Rows.{row_at};
+ghost use Rattle.job_script.specs.Operations.{operation_text, row_with};
+
+use crate::rows::Row;
+
+/// The operation of a statement.
+#[derive(Clone, Copy, Debug, PartialEq, Eq)]
+pub enum Operation {
+    Region,
+    Getmain,
+    Freemain,
+    Storage,
+    Cpool,
+    Attach,
+    Return,
+    Abend,
+    Put,
+    Show,
+    Move,
+    Where,
+    Report,
+}
+
+const OPERATIONS: [Operation; 13] = [
+    Operation::Getmain,
+    Operation::Freemain,
+    Operation::Storage,
+    Operation::Cpool,
+    Operation::Region,
+    Operation::Attach,
+    Operation::Return,
+    Operation::Abend,
+    Operation::Put,
+    Operation::Show,
+    Operation::Move,
+    Operation::Where,
+    Operation::Report,
+];
+
+// The operation that a word names, among all.
+fn find_operation(word: &[u8]) -> Option<Operation>
+    ensures { result ≡ find (λ operation. bytes_eq (operation_text operation) word.now) OPERATIONS }
+{
+    OPERATIONS
+        .iter()
+        .copied()
+        .find(|operation| operation.is(word))
+}
+
+/// The operation that a word names.
+pub fn read_operation(word: &[u8]) -> Option<Operation>
+    ensures { MatchOption result (rows_of word.now ≡ []) (λ operation. word.now ≡ operation_text operation) }
+{
+    find_operation(word)
+}
+
+// The row of GETMAIN with a form.
+fn getmain(form: &[u8]) -> Option<Row>
+    ensures row { row_with Operation.Getmain form.now ≡ option_map row_at result }
+    ensures formed { IfSome result (λ row. is_empty (row_at row).forms ≡ false) }
+{
+    match form {
+        b"R" | b"EC" | b"EU" => Some(Row::GetmainFixed),
+        b"RC" | b"RU" => Some(Row::GetmainFixedPlaced),
+        b"VC" | b"VU" => Some(Row::GetmainVariable),
+        b"VRC" | b"VRU" => Some(Row::GetmainVariablePlaced),
+        b"LC" | b"LU" => Some(Row::GetmainList),
+        _ => None,
+    }
+}
+
+// The row of FREEMAIN with a form.
+fn freemain(form: &[u8]) -> Option<Row>
+    ensures row { row_with Operation.Freemain form.now ≡ option_map row_at result }
+    ensures formed { IfSome result (λ row. is_empty (row_at row).forms ≡ false) }
+{
+    match form {
+        b"R" | b"RC" | b"RU" => Some(Row::FreemainOrWhole),
+        b"EC" | b"EU" => Some(Row::FreemainPlace),
+        b"VC" | b"VU" => Some(Row::FreemainArea),
+        b"LC" | b"LU" => Some(Row::FreemainList),
+        _ => None,
+    }
+}
+
+// The row of STORAGE with a form.
+fn storage(form: &[u8]) -> Option<Row>
+    ensures row { row_with Operation.Storage form.now ≡ option_map row_at result }
+    ensures formed { IfSome result (λ row. is_empty (row_at row).forms ≡ false) }
+{
+    if form == b"OBTAIN".as_slice() {
+        Some(Row::StorageObtain)
+    } else if form == b"RELEASE".as_slice() {
+        Some(Row::StorageRelease)
+    } else {
+        None
+    }
+}
+
+// The row of CPOOL with a form.
+fn cpool(form: &[u8]) -> Option<Row>
+    ensures row { row_with Operation.Cpool form.now ≡ option_map row_at result }
+    ensures formed { IfSome result (λ row. is_empty (row_at row).forms ≡ false) }
+{
+    if form == b"BUILD".as_slice() {
+        Some(Row::CpoolBuild)
+    } else if form == b"GET".as_slice() {
+        Some(Row::CpoolGet)
+    } else if form == b"FREE".as_slice() {
+        Some(Row::CpoolFree)
+    } else if form == b"DELETE".as_slice() {
+        Some(Row::CpoolDelete)
+    } else {
+        None
+    }
+}
+
+// The row of REPORT with a form.
+fn report(form: &[u8]) -> Option<Row>
+    ensures row { row_with Operation.Report form.now ≡ option_map row_at result }
+    ensures formed { IfSome result (λ row. is_empty (row_at row).forms ≡ false) }
+{
+    if form == b"SP".as_slice() || form == b"MAP".as_slice() {
+        Some(Row::Report)
+    } else {
+        None
+    }
+}
+
+impl Operation {
+    // The operation as a script writes it.
+    fn text(self) -> &'static [u8]
+        ensures { result.now ≡ operation_text self }
+    {
+        match self {
+            Operation::Region => b"REGION",
+            Operation::Getmain => b"GETMAIN",
+            Operation::Freemain => b"FREEMAIN",
+            Operation::Storage => b"STORAGE",
+            Operation::Cpool => b"CPOOL",
+            Operation::Attach => b"ATTACH",
+            Operation::Return => b"RETURN",
+            Operation::Abend => b"ABEND",
+            Operation::Put => b"PUT",
+            Operation::Show => b"SHOW",
+            Operation::Move => b"MOVE",
+            Operation::Where => b"WHERE",
+            Operation::Report => b"REPORT",
+        }
+    }
+
+    // Whether a word names the operation.
+    fn is(self, word: &[u8]) -> bool
+        ensures { result ≡ bytes_eq (operation_text self) word.now }
+    {
+        self.text() == word
+    }
+
+    /// Whether the operation takes a form, which is its first operand.
+    pub fn takes_form(self) -> bool
+        ensures { result ≡ takes_form (operation_text self) }
+    {
+        matches!(
+            self,
+            Operation::Getmain
+                | Operation::Freemain
+                | Operation::Storage
+                | Operation::Cpool
+                | Operation::Report
+        )
+    }
+
+    /// The row of the operation with a form, which says nothing where the operation takes none.
+    pub fn row(self, form: &[u8]) -> Option<Row>
+        ensures row { row_with self form.now ≡ option_map row_at result }
+        ensures formed { IfSome result (λ row. is_empty (row_at row).forms ≡ not (takes_form (operation_text self))) }
+    {
+        match self {
+            Operation::Region => Some(Row::Region),
+            Operation::Getmain => getmain(form),
+            Operation::Freemain => freemain(form),
+            Operation::Storage => storage(form),
+            Operation::Cpool => cpool(form),
+            Operation::Attach => Some(Row::Attach),
+            Operation::Return => Some(Row::Return),
+            Operation::Abend => Some(Row::Abend),
+            Operation::Put => Some(Row::Put),
+            Operation::Show => Some(Row::Show),
+            Operation::Move => Some(Row::Move),
+            Operation::Where => Some(Row::Where),
+            Operation::Report => report(form),
+        }
+    }
+}

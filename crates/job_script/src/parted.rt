@@ -1,0 +1,103 @@
+//! Texts, parted at bytes.
+
+ghost use Rattle.std.specs.Prelude.{◌≡◌, ◌≤◌, ◌<◌, ◌+◌, ◌^◌, ◌==◌, ◌∷◌, [], true, false, length, drop, position, slice_get, unwrap_or, MatchOption};
+ghost use Rattle.std.specs.List.{before_first, after_first, list_any, slice_split};
+ghost use Rattle.mvs_model.specs.Reading.{words, parts_within};
+ghost use Rattle.job_script.specs.Parted.{starts_word, splits_at, opened_after, end_from};
+
+// Where the first of these bytes stands.
+fn place(text: &[u8], byte: u8) -> Option<usize>
+    ensures { result ≡ position (λ b. b == byte) text.now }
+{
+    text.iter().position(|other| *other == byte)
+}
+
+/// What stands before the first of these bytes, and what behind it, where there is one.
+pub fn parted(text: &[u8], byte: u8) -> (&[u8], Option<&[u8]>)
+    ensures before { result.0.now ≡ before_first (λ b. b == byte) text.now }
+    ensures after { MatchOption result.1 ((list_any (λ b. b == byte) text.now ≡ false) × (after_first (λ b. b == byte) text.now ≡ []))
+        (λ rest. (list_any (λ b. b == byte) text.now ≡ true) × (rest.now ≡ after_first (λ b. b == byte) text.now)) }
+    ensures parts { MatchOption result.1 (slice_split (λ b. b == byte) text.now ≡ result.0.now ∷ [])
+        (λ rest. slice_split (λ b. b == byte) text.now ≡ result.0.now ∷ slice_split (λ b. b == byte) rest.now) }
+    ensures less { MatchOption result.1 (Unit {0}) (λ rest. length rest.now < length text.now) }
+{
+    match place(text, byte) {
+        None => (text, None),
+        Some(end) => (&text[..end], Some(&text[end + 1..])),
+    }
+}
+
+// The text from its first byte on that is no blank.
+fn behind_blanks(text: &[u8]) -> &[u8]
+    ensures words { words result.now ≡ words text.now }
+    ensures start { starts_word result.now ≡ true }
+{
+    for (i, byte) in text.iter().enumerate() {
+        if *byte != b' ' {
+            return &text[i..];
+        }
+    }
+    &[]
+}
+
+/// The first word of a text, which is empty where there is none, and the text behind it.
+pub fn next_word(text: &[u8]) -> (&[u8], &[u8])
+    ensures word { result.0.now ≡ unwrap_or (slice_get (words text.now) 0) [] }
+    ensures rest { words result.1.now ≡ drop 1 (words text.now) }
+{
+    let (word, rest) = parted(behind_blanks(text), b' ');
+    match rest {
+        None => (word, &[]),
+        Some(rest) => (word, rest),
+    }
+}
+
+// Whether a byte, where so many parentheses are open, parts two operands.
+fn splits(opened: usize, byte: u8) -> bool
+    ensures { result ≡ splits_at opened byte }
+{
+    byte == b',' && opened == 0
+}
+
+// How many parentheses are open behind a byte. One that closes nothing counts for nothing.
+fn next_opened(opened: usize, byte: u8) -> usize
+    requires { opened + 1 < 2 ^ 64 }
+    ensures value { result ≡ opened_after opened byte }
+    ensures small { result ≤ opened + 1 }
+{
+    match byte {
+        b'(' => opened + 1,
+        b')' => opened.saturating_sub(1),
+        _ => opened,
+    }
+}
+
+// Where the first operand ends: at a comma outside parentheses, or at the end.
+#[tactic(auto, using(crate::proofs::Parts::end_more, crate::proofs::Parts::end_here))]
+fn operand_end(text: &[u8]) -> usize
+    ensures end { result ≡ end_from 0 text.now }
+    ensures within { result ≤ length text.now }
+{
+    let mut opened = 0usize;
+    for (i, byte) in text.iter().enumerate() {
+        if splits(opened, *byte) {
+            return i;
+        }
+        opened = next_opened(opened, *byte);
+    }
+    text.len()
+}
+
+/// The first operand of a field, and the text behind its comma, where there is one.
+pub fn next_operand(text: &[u8]) -> (&[u8], Option<&[u8]>)
+    ensures parts { MatchOption result.1 (parts_within 0 text.now ≡ result.0.now ∷ [])
+        (λ rest. (parts_within 0 text.now ≡ result.0.now ∷ parts_within 0 rest.now)) }
+    ensures less { MatchOption result.1 (Unit {0}) (λ rest. length rest.now < length text.now) }
+{
+    let end = operand_end(text);
+    if end < text.len() {
+        (&text[..end], Some(&text[end + 1..]))
+    } else {
+        (text, None)
+    }
+}

@@ -1,0 +1,120 @@
+//! The statements on cell pools (Assembler Services Reference, CPOOL).
+
+ghost use Rattle.std.specs.Prelude.{◌≡◌, [], codes};
+ghost use Rattle.mvs_model.specs.Grammar.{BuildsPool, GetsCell, FreesCell, DeletesPool};
+ghost use Rattle.mvs_model.specs.Reading.{is_conditional, statement_of};
+ghost use Rattle.job_script.specs.Given.{IsRead, by_place};
+ghost use Rattle.job_script.specs.Said.{said_line, Holds, IsRanged, IsNamed, IsLocated};
+
+use crate::addresses::{location, name};
+use crate::digits::bounded;
+use crate::given::Given;
+use crate::keys::Key;
+use mvs_model::bounded::CellCount;
+use mvs_model::line::{Fault, Line, Statement, Written};
+use mvs_model::name::Name;
+
+impl Given<'_> {
+    // The word behind CPOOL GET makes it conditional.
+    fn is_conditional(&self) -> bool
+        requires { IsRead self.now }
+        ensures { result ≡ is_conditional ((by_place self.now).at 0) }
+    {
+        match self.positional(0) {
+            None => false,
+            Some(word) => word == b"COND".as_slice() || word == b"C".as_slice(),
+        }
+    }
+
+    /// CPOOL BUILD.
+    pub fn build(&self, task: Name) -> Result<Line, Fault>
+        requires read { IsRead self.now }
+        requires pool { Holds (IsNamed) ((by_place self.now).under (codes "CPID")) }
+        requires size { Holds (IsRanged 4 65536) ((by_place self.now).under (codes "CSIZE")) }
+        requires count { Holds (IsRanged 1 65536) ((by_place self.now).under (codes "PCELLCT")) }
+        requires more { Holds (IsRanged 1 65536) ((by_place self.now).under (codes "SCELLCT")) }
+        ensures { result ≡ said_line task (statement_of BuildsPool [] (by_place self.now)) }
+    {
+        let Some(pool) = self.text(Key::Cpid) else {
+            return Err(Fault::MissingOperand);
+        };
+        let Some(size) = self.text(Key::Csize) else {
+            return Err(Fault::MissingOperand);
+        };
+        let Some(count) = self.text(Key::Pcellct) else {
+            return Err(Fault::MissingOperand);
+        };
+        let primary: CellCount = bounded(count);
+        Ok(Line::Statement(
+            task,
+            Statement::Request(Written::Build {
+                pool: name(pool),
+                number: self.subpool(),
+                size: bounded(size),
+                primary,
+                secondary: self.number_or(Key::Scellct, primary),
+                loc: self.loc(),
+            }),
+        ))
+    }
+
+    /// CPOOL GET.
+    pub fn get(&self, task: Name) -> Result<Line, Fault>
+        requires read { IsRead self.now }
+        requires pool { Holds (IsNamed) ((by_place self.now).under (codes "CPID")) }
+        requires cell { Holds (IsNamed) ((by_place self.now).under (codes "CELL")) }
+        ensures { result ≡ said_line task (statement_of GetsCell [] (by_place self.now)) }
+    {
+        let Some(pool) = self.text(Key::Cpid) else {
+            return Err(Fault::MissingOperand);
+        };
+        let Some(cell) = self.text(Key::Cell) else {
+            return Err(Fault::MissingOperand);
+        };
+        Ok(Line::Statement(
+            task,
+            Statement::Request(Written::Get {
+                pool: name(pool),
+                conditional: self.is_conditional(),
+                cell: name(cell),
+            }),
+        ))
+    }
+
+    /// CPOOL FREE.
+    pub fn free(&self, task: Name) -> Result<Line, Fault>
+        requires read { IsRead self.now }
+        requires pool { Holds (IsNamed) ((by_place self.now).under (codes "CPID")) }
+        requires cell { Holds (IsLocated) ((by_place self.now).under (codes "CELL")) }
+        ensures { result ≡ said_line task (statement_of FreesCell [] (by_place self.now)) }
+    {
+        let Some(pool) = self.text(Key::Cpid) else {
+            return Err(Fault::MissingOperand);
+        };
+        let Some(cell) = self.text(Key::Cell) else {
+            return Err(Fault::MissingOperand);
+        };
+        Ok(Line::Statement(
+            task,
+            Statement::Request(Written::Free {
+                pool: name(pool),
+                cell: location(cell),
+            }),
+        ))
+    }
+
+    /// CPOOL DELETE.
+    pub fn delete(&self, task: Name) -> Result<Line, Fault>
+        requires read { IsRead self.now }
+        requires pool { Holds (IsNamed) ((by_place self.now).under (codes "CPID")) }
+        ensures { result ≡ said_line task (statement_of DeletesPool [] (by_place self.now)) }
+    {
+        let Some(pool) = self.text(Key::Cpid) else {
+            return Err(Fault::MissingOperand);
+        };
+        Ok(Line::Statement(
+            task,
+            Statement::Request(Written::Delete { pool: name(pool) }),
+        ))
+    }
+}

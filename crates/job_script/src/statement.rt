@@ -1,0 +1,131 @@
+//! A statement, by its operation and its operands.
+
+ghost use Rattle.std.specs.Prelude.{◌≡◌, true, false};
+ghost use Rattle.std.specs.List.{list_any};
+ghost use Rattle.mvs_model.specs.Reading.{has_key, is_conflict, operands_in, statement_of, takes_form};
+ghost use Rattle.job_script.specs.Given.{IsRead, by_place, option_now};
+ghost use Rattle.job_script.specs.Operations.{operation_text};
+ghost use Rattle.job_script.specs.Rowed.{RowReading, FormReading, as_field};
+ghost use Rattle.job_script.specs.Rows.{row_at};
+ghost use Rattle.job_script.specs.Said.{said_line};
+
+use crate::given::Given;
+use crate::keys::Key;
+use crate::operations::Operation;
+use crate::parted::next_operand;
+use crate::rows::Row;
+use mvs_model::line::{Fault, Line, Statement, Written};
+use mvs_model::name::Name;
+
+impl Given<'_> {
+    // The line that operands say which were all taken, and of which none excludes another.
+    fn line(&self, task: Name, form: &[u8]) -> Result<Line, Fault>
+        requires read { IsRead self.now }
+        requires apart { list_any (is_conflict (by_place self.now)) (row_at self.now.row).rules ≡ false }
+        ensures { result ≡ said_line task (statement_of (row_at self.now.row).meaning form.now (by_place self.now)) }
+    {
+        match self.row {
+            Row::Region => self.region(task),
+            Row::GetmainFixed => self.obtain(task, form, Key::Lv, Key::A),
+            Row::GetmainFixedPlaced => self.obtain(task, form, Key::Lv, Key::A),
+            Row::GetmainVariable => self.obtain(task, form, Key::Lv, Key::A),
+            Row::GetmainVariablePlaced => self.obtain(task, form, Key::Lv, Key::A),
+            Row::GetmainList => self.obtain_list(task, form),
+            Row::StorageObtain => self.obtain(task, form, Key::Length, Key::Addr),
+            Row::FreemainOrWhole => self.release(task, form, Key::Lv, Key::A),
+            Row::FreemainPlace => self.release(task, form, Key::Lv, Key::A),
+            Row::FreemainArea => self.release_area(task, form),
+            Row::FreemainList => self.release_list(task, form),
+            Row::StorageRelease => self.release(task, form, Key::Length, Key::Addr),
+            Row::CpoolBuild => self.build(task),
+            Row::CpoolGet => self.get(task),
+            Row::CpoolFree => self.free(task),
+            Row::CpoolDelete => self.delete(task),
+            Row::Attach => self.attach(task),
+            Row::Return => Ok(Line::Statement(task, Statement::Request(Written::Return))),
+            Row::Abend => self.abend(task),
+            Row::Put => self.put(task),
+            Row::Show => self.show(task),
+            Row::Move => self.move_bytes(task),
+            Row::Where => self.ask_where(task),
+            Row::Report => {
+                if form == b"MAP".as_slice() {
+                    Ok(Line::Statement(task, Statement::ReportMap))
+                } else {
+                    Ok(Line::Statement(task, Statement::ReportSubpools))
+                }
+            }
+        }
+    }
+}
+
+// Reads the operands behind a form by a row of the table.
+fn read_row(task: Name, row: Row, form: &[u8], field: Option<&[u8]>) -> Result<Line, Fault>
+    ensures { RowReading (row_at row) task form.now (operands_in (option_now field.entry)) result }
+{
+    let mut given = Given::none(row);
+    if let Err(fault) = given.take_field(field) {
+        return Err(fault);
+    }
+    if let Err(fault) = given.check() {
+        return Err(fault);
+    }
+    given.line(task, form)
+}
+
+// Whether an operand has a key.
+fn has_key(operand: &[u8]) -> bool
+    ensures { result ≡ has_key operand.now }
+{
+    operand.iter().any(|byte| *byte == b'=')
+}
+
+// Reads the form of an operation and the operands behind it.
+fn read_with_form(task: Name, operation: Operation, field: &[u8]) -> Result<Line, Fault>
+    requires { takes_form (operation_text operation) ≡ true }
+    ensures { FormReading (operation_text operation) task (operands_in (as_field field.now)) result }
+{
+    if field.is_empty() {
+        return Err(Fault::MissingOperand);
+    }
+    let (form, rest) = next_operand(field);
+    if has_key(form) {
+        return Err(Fault::MissingOperand);
+    }
+    let Some(row) = operation.row(form) else {
+        return Err(Fault::UnknownOperation);
+    };
+    read_row(task, row, form, rest)
+}
+
+// A field, which has no operands where it is empty.
+fn as_field(field: &[u8]) -> Option<&[u8]>
+    ensures { option_now result ≡ as_field field.now }
+{
+    match field {
+        [] => None,
+        _ => Some(field),
+    }
+}
+
+// Reads the operands of an operation that takes no form.
+fn read_without_form(task: Name, operation: Operation, field: &[u8]) -> Result<Line, Fault>
+    requires { takes_form (operation_text operation) ≡ false }
+    ensures { FormReading (operation_text operation) task (operands_in (as_field field.now)) result }
+{
+    let Some(row) = operation.row(&[]) else {
+        return Err(Fault::UnknownOperation);
+    };
+    read_row(task, row, &[], as_field(field))
+}
+
+/// Reads what an operation says with the operands of a field, which has none where it is empty.
+pub fn read_operands(task: Name, operation: Operation, field: &[u8]) -> Result<Line, Fault>
+    ensures { FormReading (operation_text operation) task (operands_in (as_field field.now)) result }
+{
+    if operation.takes_form() {
+        read_with_form(task, operation, field)
+    } else {
+        read_without_form(task, operation, field)
+    }
+}

@@ -1,0 +1,307 @@
+//! The statements that operands make.
+
+ghost use Rattle.std.specs.Prelude.{◌≡◌, [], codes, if◌then◌else◌};
+ghost use Rattle.mvs_model.specs.Grammar.{IsRegion, Obtains, ObtainsList, Releases, ReleasesArea, ReleasesList};
+ghost use Rattle.mvs_model.specs.Reading.{number_or, is_word, subpool, start_of, loc_of, residence_of, asking, form_of, statement_of};
+ghost use Rattle.job_script.specs.Rows.{key_text};
+ghost use Rattle.job_script.specs.Given.{IsRead, by_place};
+ghost use Rattle.job_script.specs.Taken.{IsExtent, IsNumbers, IsNames, IsLocations};
+ghost use Rattle.job_script.specs.Said.{said_line, loc_named, Holds, IsRanged, IsNamed, IsLocated, IsByte};
+
+use crate::addresses::{location, name};
+use crate::digits::bounded;
+use crate::given::Given;
+use crate::items::inside;
+use crate::keys::Key;
+use crate::taken::{byte, extent, lengths, locations, names};
+use mvs_model::bounded::{Bounded, Exponent, PagesAbove};
+use mvs_model::code::Form;
+use mvs_model::line::{Fault, Line, Statement, Written};
+use mvs_model::name::Name;
+use mvs_model::want::{Ask, Loc, Residence};
+
+// The location that a word names (Assembler Services Reference, GETMAIN, LOC).
+fn loc_named(text: &[u8]) -> Loc
+    ensures { result ≡ loc_named text.now }
+{
+    if text == b"BELOW".as_slice() || text == b"24".as_slice() {
+        Loc::Below
+    } else if text == b"ANY".as_slice() || text == b"31".as_slice() {
+        Loc::Any
+    } else {
+        Loc::Res
+    }
+}
+
+impl Given<'_> {
+    // The number under a key, or another.
+    pub fn number_or<const LEAST: u32, const MOST: u32>(
+        &self,
+        key: Key,
+        other: Bounded<LEAST, MOST>,
+    ) -> Bounded<LEAST, MOST>
+        requires read { IsRead self.now }
+        requires ranged { Holds (IsRanged LEAST MOST) ((by_place self.now).under (key_text key)) }
+        ensures { result ≡ number_or other.entry (key_text key) (by_place self.now) }
+    {
+        match self.text(key) {
+            None => other,
+            Some(text) => bounded(text),
+        }
+    }
+
+    // Whether a key has this word.
+    pub fn is_word(&self, key: Key, word: &[u8]) -> bool
+        requires { IsRead self.now }
+        ensures { result ≡ is_word (key_text key) word.now (by_place self.now) }
+    {
+        match self.text(key) {
+            None => false,
+            Some(text) => text == word,
+        }
+    }
+
+    // The number of the subpool, or 0 (Assembler Services Reference, GETMAIN, SP).
+    pub fn subpool(&self) -> u8
+        requires { IsRead self.now }
+        ensures { result ≡ subpool (by_place self.now) }
+    {
+        match self.text(Key::Sp) {
+            None => 0,
+            Some(text) => bounded::<0, 255>(text).get() as u8,
+        }
+    }
+
+    // The power of two of the boundary that BNDRY says, or that of a doubleword (Assembler Services Reference, GETMAIN).
+    fn boundary(&self) -> Exponent
+        requires { IsRead self.now }
+        ensures { result ≡ (if is_word (codes "BNDRY") (codes "PAGE") (by_place self.now) then 12 else 3) }
+    {
+        if self.is_word(Key::Bndry, b"PAGE") {
+            Exponent::new(12)
+        } else {
+            Exponent::new(3)
+        }
+    }
+
+    // The power of two of the boundary that an area begins on: STARTBDY, or that of BNDRY (Assembler Services Reference, GETMAIN).
+    fn start(&self) -> Exponent
+        requires { IsRead self.now }
+        ensures { result ≡ start_of (by_place self.now) }
+    {
+        match self.text(Key::Startbdy) {
+            None => self.boundary(),
+            Some(text) => bounded(text),
+        }
+    }
+
+    // Where an area lies.
+    pub fn loc(&self) -> Loc
+        requires { IsRead self.now }
+        ensures { result ≡ loc_of (by_place self.now) }
+    {
+        match self.text(Key::Loc) {
+            None => Loc::Res,
+            Some(text) => loc_named(text),
+        }
+    }
+
+    // Where the program of a task resides.
+    pub fn residence(&self) -> Residence
+        requires { IsRead self.now }
+        ensures { result ≡ residence_of (by_place self.now) }
+    {
+        if self.is_word(Key::Res, b"ABOVE") {
+            Residence::Above
+        } else {
+            Residence::Below
+        }
+    }
+
+    // The form that a word names, or that of STORAGE by COND (Assembler Services Reference, GETMAIN, FREEMAIN and STORAGE).
+    fn form(&self, word: &[u8]) -> Form
+        requires { IsRead self.now }
+        ensures { result ≡ form_of word.now (by_place self.now) }
+    {
+        match word {
+            b"R" => Form::R,
+            b"RC" => Form::Rc,
+            b"RU" => Form::Ru,
+            b"VRC" => Form::Vrc,
+            b"VRU" => Form::Vru,
+            b"EC" => Form::Ec,
+            b"EU" => Form::Eu,
+            b"VC" => Form::Vc,
+            b"VU" => Form::Vu,
+            b"LC" => Form::Lc,
+            b"LU" => Form::Lu,
+            _ => {
+                if self.is_word(Key::Cond, b"YES") {
+                    Form::StorageConditional
+                } else {
+                    Form::Storage
+                }
+            }
+        }
+    }
+
+    // What is asked for with these lengths.
+    fn ask(&self, lengths: &[u8]) -> Ask
+        requires read { IsRead self.now }
+        requires extent { IsExtent lengths.now }
+        ensures { result ≡ asking lengths.now (by_place self.now) }
+    {
+        let (largest, smallest) = extent(lengths);
+        let ask = Ask::fixed(largest, self.start(), self.loc()).at_least(smallest);
+        match self.text(Key::Contbdy) {
+            None => ask,
+            Some(within) => ask.within(bounded(within)),
+        }
+    }
+
+    // REGION.
+    pub fn region(&self, task: Name) -> Result<Line, Fault>
+        requires read { IsRead self.now }
+        requires below { Holds (IsRanged 1 2048) ((by_place self.now).under (codes "BELOW")) }
+        requires above { Holds (IsRanged 0 8192) ((by_place self.now).under (codes "ABOVE")) }
+        requires fill { Holds (IsByte) ((by_place self.now).under (codes "FILL")) }
+        ensures { result ≡ said_line task (statement_of IsRegion [] (by_place self.now)) }
+    {
+        let Some(below) = self.text(Key::Below) else {
+            return Err(Fault::MissingOperand);
+        };
+        let fill = match self.text(Key::Fill) {
+            None => 0,
+            Some(digits) => byte(digits),
+        };
+        Ok(Line::Statement(
+            task,
+            Statement::Region {
+                below: bounded(below),
+                above: self.number_or(Key::Above, PagesAbove::new(0)),
+                fill,
+                residence: self.residence(),
+            },
+        ))
+    }
+
+    // A request for an area, its lengths under one key and its name under another.
+    pub fn obtain(&self, task: Name, form: &[u8], lengths: Key, area: Key) -> Result<Line, Fault>
+        requires read { IsRead self.now }
+        requires lengths { Holds IsExtent ((by_place self.now).under (key_text lengths)) }
+        requires area { Holds IsNamed ((by_place self.now).under (key_text area)) }
+        ensures { result ≡ said_line task (statement_of (Obtains (key_text lengths) (key_text area)) form.now (by_place self.now)) }
+    {
+        let Some(lengths) = self.text(lengths) else {
+            return Err(Fault::MissingOperand);
+        };
+        let Some(area) = self.text(area) else {
+            return Err(Fault::MissingOperand);
+        };
+        Ok(Line::Statement(
+            task,
+            Statement::Request(Written::Obtain {
+                form: self.form(form),
+                number: self.subpool(),
+                ask: self.ask(lengths),
+                variable: inside(lengths).is_some(),
+                area: name(area),
+            }),
+        ))
+    }
+
+    // A request for a list of areas.
+    pub fn obtain_list(&self, task: Name, form: &[u8]) -> Result<Line, Fault>
+        requires read { IsRead self.now }
+        requires lengths { Holds (IsNumbers) ((by_place self.now).under (codes "LA")) }
+        requires areas { Holds (IsNames) ((by_place self.now).under (codes "A")) }
+        ensures { result ≡ said_line task (statement_of ObtainsList form.now (by_place self.now)) }
+    {
+        let Some(list) = self.text(Key::La) else {
+            return Err(Fault::MissingOperand);
+        };
+        let Some(areas) = self.text(Key::A) else {
+            return Err(Fault::MissingOperand);
+        };
+        Ok(Line::Statement(
+            task,
+            Statement::Request(Written::ObtainList {
+                form: self.form(form),
+                number: self.subpool(),
+                lengths: lengths(list),
+                start: self.start(),
+                areas: names(areas),
+            }),
+        ))
+    }
+
+    // A release of the place under two keys, or of the whole subpool where neither is there.
+    pub fn release(&self, task: Name, form: &[u8], len: Key, address: Key) -> Result<Line, Fault>
+        requires read { IsRead self.now }
+        requires len { Holds (IsRanged 1 2147483647) ((by_place self.now).under (key_text len)) }
+        requires address { Holds IsLocated ((by_place self.now).under (key_text address)) }
+        ensures { result ≡ said_line task (statement_of (Releases (key_text len) (key_text address)) form.now (by_place self.now)) }
+    {
+        let number = self.subpool();
+        let form = self.form(form);
+        match (self.text(len), self.text(address)) {
+            (Some(len), Some(address)) => Ok(Line::Statement(
+                task,
+                Statement::Request(Written::Release {
+                    form,
+                    number,
+                    location: location(address),
+                    len: bounded(len),
+                }),
+            )),
+            (None, None) => Ok(Line::Statement(
+                task,
+                Statement::Request(Written::ReleaseWhole { form, number }),
+            )),
+            _ => Err(Fault::MissingOperand),
+        }
+    }
+
+    // A release of the place of an area.
+    pub fn release_area(&self, task: Name, form: &[u8]) -> Result<Line, Fault>
+        requires read { IsRead self.now }
+        requires area { Holds (IsNamed) ((by_place self.now).under (codes "A")) }
+        ensures { result ≡ said_line task (statement_of ReleasesArea form.now (by_place self.now)) }
+    {
+        let Some(area) = self.text(Key::A) else {
+            return Err(Fault::MissingOperand);
+        };
+        Ok(Line::Statement(
+            task,
+            Statement::Request(Written::ReleaseArea {
+                form: self.form(form),
+                number: self.subpool(),
+                area: name(area),
+            }),
+        ))
+    }
+
+    // A release of a list of places.
+    pub fn release_list(&self, task: Name, form: &[u8]) -> Result<Line, Fault>
+        requires read { IsRead self.now }
+        requires lengths { Holds (IsNumbers) ((by_place self.now).under (codes "LA")) }
+        requires addresses { Holds (IsLocations) ((by_place self.now).under (codes "A")) }
+        ensures { result ≡ said_line task (statement_of ReleasesList form.now (by_place self.now)) }
+    {
+        let Some(list) = self.text(Key::La) else {
+            return Err(Fault::MissingOperand);
+        };
+        let Some(addresses) = self.text(Key::A) else {
+            return Err(Fault::MissingOperand);
+        };
+        Ok(Line::Statement(
+            task,
+            Statement::Request(Written::ReleaseList {
+                form: self.form(form),
+                number: self.subpool(),
+                locations: locations(addresses),
+                lengths: lengths(list),
+            }),
+        ))
+    }
+}

@@ -1,6 +1,0 @@
-use Rattle.std.proofs.Common.{arith}
-use Rattle.job_step.proofs.Reporting.{page_owned}
-use Rattle.job_step.proofs.report.page_owner.Goals as goal
-
-pub returns : goal.returns
-returns c = page_owned c.args.store.now c.new.result c.args.page c.page_owner.result c.requires.storage (omega (arith, c.new.ensures)) c.page_owner.ensures

@@ -1,6 +1,0 @@
-use Rattle.std.proofs.Common.{◌≡◌, ℕ, ◌<◌, ◌≤◌}
-use Rattle.job_step.specs.Reports.{page_holder}
-use Rattle.job_step.proofs.report.run_end.Given as goal
-
-abbrev pub invariant-loop-next : goal.invariant-loop-next
-invariant-loop-next l = (p : ℕ) → l.page ≤ p → p < l.next → page_holder l.store p ≡ page_holder l.store l.page

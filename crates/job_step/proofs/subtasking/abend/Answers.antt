@@ -1,6 +1,0 @@
-use Rattle.std.proofs.Common.{ap}
-use Rattle.mvs_model.specs.declared.request.Reply.TheVariants.{Abended}
-use Rattle.job_step.proofs.subtasking.abend.Goals as goal
-
-pub returns-clause-abends : goal.returns-clause-abends
-returns-clause-abends c = (c.end.ensures.ends.0, ap (Abended c.args.code) c.end.ensures.ends.1)

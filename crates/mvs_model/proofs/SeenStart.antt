@@ -1,0 +1,59 @@
+-- What storage is as a state at the start of a step, where there are no pools.
+use Rattle.std.proofs.Common.{◌≡◌, ℕ, ◌/◌, ◌≤◌, inl, inr, Bool, true, false, cond, List, [], get_or, Option, Some, None, refl, sym, ap, ◌∙◌, subst, arith}
+use Rattle.std.specs.Prelude.{is_some, ◌||◌}
+use Rattle.std.specs.List.{list_any}
+use Rattle.std.specs.Option.{option_map}
+use Rattle.std.proofs.lemmas.List.Folds.{list_any_none}
+use Rattle.std.proofs.lemmas.List.Elements.{All-from_get_or}
+use Rattle.std.specs.FinMap.{get, empty, keys, get-empty, nat_cmp-IsAntisymmetric}
+use Rattle.std.specs.Ordering.{nat_cmp}
+use Rattle.mvs_model.specs.declared.name.Name.{Name}
+use Rattle.mvs_model.specs.Place.{PlaceValue}
+use Rattle.mvs_model.specs.Want.{WantValue}
+use Rattle.mvs_model.specs.Name.{name_cmp}
+use Rattle.mvs_model.specs.Finite.{has}
+use Rattle.mvs_model.specs.Storage.{Storage, Regions, holder as held_by, IsStorage, Chosen, NoPlace, covers, has_address, Grant}
+use Rattle.mvs_model.specs.Owners.{Owners, SubpoolOf, Enters}
+use Rattle.mvs_model.specs.Pools.{Pool, in_parts, in_taken}
+use Rattle.mvs_model.specs.State.{plain, subpool_in, holder, is_plain, in_cell, granted}
+use Rattle.mvs_model.specs.Card.{CardValue}
+use Rattle.mvs_model.specs.Start.{regions_of, first_owners, start}
+use Rattle.mvs_model.specs.View.{in_pools, behind, holding, without_bytes, seen}
+use Rattle.mvs_model.specs.Changes.{GrantTo}
+use Rattle.mvs_model.proofs.Tables.{get-table_all, same_maps}
+use Rattle.mvs_model.proofs.Made.{get-retained}
+
+-- without pools no doubleword lies in a part, and no address in a cell
+pub all_names : (p : Name → Bool) (names : List Name) → ((name : Name) → p name ≡ false) → list_any p names ≡ false
+all_names p names h = list_any_none p names (All-from_get_or (λ name. p name ≡ false) names [] (λ i l. h (get_or names i [])))
+
+no_parts : (d : ℕ) → in_pools empty d ≡ false
+no_parts d = all_names _ (keys (empty {X = Pool} {R = name_cmp})) (λ name. ap (has (λ pool. in_parts pool d)) (get-empty name_cmp name))
+
+no_cells : (st : Storage) (o : Owners) (a : ℕ) → in_cell (without_bytes st o empty) a ≡ false
+no_cells st o a = all_names _ (keys (empty {X = Pool} {R = name_cmp})) (λ name. ap (has (λ pool. in_taken pool a)) (get-empty name_cmp name))
+
+-- storage at the start of a step, and the state that it is
+bare : Regions → Storage
+bare r = record { regions = r; held = empty; bytes = empty }
+
+none_bare : (r : Regions) (d : ℕ) → holding (bare r) empty d ≡ None
+unfolding bare
+none_bare r d = ap (option_map (λ s. record { subpool = s; pooled = in_pools empty d })) (get-empty nat_cmp d)
+
+held_bare : (r : Regions) (o : Owners) → (seen (bare r) o).held ≡ empty
+unfolding bare
+held_bare r o = same_maps _ _ (λ d. get-table_all (behind r) (holding (bare r) empty) (λ k l. none_bare r k) d ∙ none_bare r d ∙ sym (get-empty nat_cmp d))
+
+bytes_bare : (r : Regions) (o : Owners) → (seen (bare r) o).bytes ≡ empty
+unfolding bare
+bytes_bare r o = same_maps _ _ (λ a. get-retained nat_cmp-IsAntisymmetric empty (granted (without_bytes (bare r) o empty)) a ∙ at (granted (without_bytes (bare r) o empty) a) (get-empty nat_cmp a) ∙ sym (get-empty nat_cmp a)) where
+  at : {v : Option ℕ} (b : Bool) → v ≡ None → cond b v None ≡ None
+  at true e = e
+  at false e = refl
+
+pub start_seen : (card : CardValue) → seen (record { regions = regions_of card; held = empty; bytes = empty }) (first_owners card.name card.residence) ≡ start card
+unfolding bare
+start_seen card =
+    let o = first_owners card.name card.residence in
+    λ i. record { regions = regions_of card; held = held_bare (regions_of card) o i; bytes = bytes_bare (regions_of card) o i; owners = o; pools = empty }

@@ -1,0 +1,76 @@
+-- The places of a label and their addresses.
+use Rattle.std.proofs.Common.{◌≡◌, ℕ, zero, suc, ◌+◌, ◌-◌, ◌*◌, ◌/◌, ◌%◌, ◌<◌, ◌≤◌, Bool, true, false, cond, List, [], ◌∷◌, map, Option, Some, None, ltb, leb, eqb, arith, refl, sym, ap, ◌∙◌, subst}
+use Rattle.std.specs.Prelude.{IsSome, is_some, ◌==◌, ◌&&◌, ◌||◌, nat_lt, nat_le}
+use Rattle.std.specs.List.{list_any, list_all}
+use Rattle.std.proofs.lemmas.Bool.Decides.{nat_tests}
+use Rattle.std.specs.FinMap.{get}
+use Rattle.mvs_model.specs.Place.{PlaceValue, place_at}
+use Rattle.mvs_model.specs.Finite.{all_below}
+use Rattle.mvs_model.specs.Storage.{Covers, covers, has_address, IsWhole}
+use Rattle.mvs_model.specs.Job.{JobValue}
+use Rattle.mvs_model.specs.Labels.{Labels, Spot, has_offset, is_there}
+use Rattle.mvs_model.specs.Tidy.{Link}
+use Rattle.mvs_model.proofs.SeenAccess.{below_each}
+use Rattle.mvs_model.proofs.LinkLess.{some_there, there_some}
+
+pub same_test : (a b : Bool) → (a ≡ true → b ≡ true) → (b ≡ true → a ≡ true) → a ≡ b
+same_test true b f g = sym (f refl)
+same_test false true f g = g refl
+same_test false false f g = refl
+
+pub both : (a b : Bool) → a ≡ true → b ≡ true → (a && b) ≡ true
+both true b e f = f
+both false b e f = absurd (let g : false ≡ true = e in cc)
+
+pub first : (a b : Bool) → (a && b) ≡ true → a ≡ true
+first true b e = refl
+first false b e = e
+
+pub second : (a b : Bool) → (a && b) ≡ true → b ≡ true
+second true b e = e
+second false b e = absurd (let f : false ≡ true = e in cc)
+
+pub offset_is : (q : Spot) (l i : ℕ) → has_offset q l i ≡ true → (l ≡ q.label) × (q.place.addr ≤ i) × (i < q.place.addr + q.place.len)
+offset_is q l i e =
+    let f = first (l == q.label) (has_address q.place i) e in
+    let g = second (l == q.label) (has_address q.place i) e in
+    (let x : l ≡ q.label = grind (arith, nat_tests) in x, let y : q.place.addr ≤ i = grind (arith, nat_tests) in y, let z : i < q.place.addr + q.place.len = grind (arith, nat_tests) in z)
+
+pub offset_yes : (q : Spot) (l i : ℕ) → l ≡ q.label → q.place.addr ≤ i → i < q.place.addr + q.place.len → has_offset q l i ≡ true
+offset_yes q l i e low high = both (l == q.label) (has_address q.place i) (let x : (l == q.label) ≡ true = grind (arith, nat_tests) in x) (let y : has_address q.place i ≡ true = grind (arith, nat_tests) in y)
+
+pub address_is : (p : PlaceValue) (a : ℕ) → has_address p a ≡ true → (p.addr ≤ a) × (a < p.addr + p.len)
+address_is p a e = (let y : p.addr ≤ a = grind (arith, nat_tests) in y, let z : a < p.addr + p.len = grind (arith, nat_tests) in z)
+
+pub address_yes : (p : PlaceValue) (a : ℕ) → p.addr ≤ a → a < p.addr + p.len → has_address p a ≡ true
+address_yes p a low high = grind (arith, nat_tests)
+
+-- an offset of a place that is there has a byte
+pub there_at : (m : Labels) (q : Spot) → is_there m q ≡ true → (i : ℕ) → q.place.addr ≤ i → i < q.place.addr + q.place.len → (b : ℕ) × (m.byte q.label i ≡ Some b)
+there_at m q h i low high =
+    let e = below_each (λ j. is_some (m.byte q.label (q.place.addr + j))) q.place.len h (i - q.place.addr) (omega (arith, low, high)) in
+    some_there (m.byte q.label i) (subst (λ j. is_some (m.byte q.label j) ≡ true) (let z : q.place.addr + (i - q.place.addr) ≡ i = omega (arith, low) in z) e)
+
+module _ (job : JobValue) (m : Labels) (k : Link job m) where
+  -- the place in the storage of a place in an area
+  abbrev pub span_of : Spot → PlaceValue
+  span_of q = place_at (k.base q.label + q.place.addr) q.place.len
+
+  pub has_same : (q : Spot) → is_there m q ≡ true → (l i b : ℕ) → m.byte l i ≡ Some b → has_offset q l i ≡ has_address (span_of q) (k.base l + i)
+  has_same q h l i b e = same_test (has_offset q l i) (has_address (span_of q) (k.base l + i)) there back where
+    there : has_offset q l i ≡ true → has_address (span_of q) (k.base l + i) ≡ true
+    there t =
+        let o = offset_is q l i t in
+        let s : k.base l ≡ k.base q.label = ap k.base o.0 in
+        let low : q.place.addr ≤ i = o.1 in
+        let high : i < q.place.addr + q.place.len = o.2 in
+        address_yes (span_of q) (k.base l + i) (omega (arith, s, low)) (omega (arith, s, high))
+
+    back : has_address (span_of q) (k.base l + i) ≡ true → has_offset q l i ≡ true
+    back t =
+        let low : k.base q.label + q.place.addr ≤ k.base l + i = (address_is (span_of q) (k.base l + i) t).0 in
+        let high : k.base l + i < k.base q.label + q.place.addr + q.place.len = (address_is (span_of q) (k.base l + i) t).1 in
+        let w = there_at m q h (k.base l + i - k.base q.label) (omega (arith, low)) (omega (arith, low, high)) in
+        let same = k.apart l q.label i (k.base l + i - k.base q.label) b w.0 e w.1 (omega (arith, low)) in
+        let at : i ≡ k.base l + i - k.base q.label = same.1 in
+        offset_yes q l i same.0 (omega (arith, at, low)) (omega (arith, at, low, high))

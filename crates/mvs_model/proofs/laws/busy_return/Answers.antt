@@ -1,0 +1,5 @@
+use Rattle.mvs_model.proofs.RowBusy as lemmas
+use Rattle.mvs_model.proofs.laws.busy_return.Goals as goal
+
+pub returns : goal.returns
+returns c = lemmas.busy_return

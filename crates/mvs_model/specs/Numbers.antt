@@ -1,0 +1,65 @@
+-- The numbers of the machine, each of which stands here alone.
+use Rattle.std.specs.Prelude.{ℕ}
+
+-- the bytes of a page, and its doublewords. (Assembler Services Guide, virtual storage management)
+abbrev pub page_bytes : ℕ
+page_bytes = 4096
+
+abbrev pub page_doublewords : ℕ
+page_doublewords = 512
+
+-- where the region below begins. (this project's choice)
+abbrev pub below_begins : ℕ
+below_begins = 0x6000
+
+-- its first page, and its first doubleword
+abbrev pub first_page_below : ℕ
+first_page_below = 6
+
+abbrev pub first_doubleword_below : ℕ
+first_doubleword_below = 0xC00
+
+-- 16 megabytes, where the region above begins. (Assembler Services Guide, 31-bit addressing; that the region begins there is this
+-- project's choice)
+abbrev pub above_begins : ℕ
+above_begins = 0x1000000
+
+-- its first page, and its first doubleword
+abbrev pub first_page_above : ℕ
+first_page_above = 4096
+
+abbrev pub first_doubleword_above : ℕ
+first_doubleword_above = 0x200000
+
+-- the most pages of the two regions. (this project's choice)
+abbrev pub most_pages_below : ℕ
+most_pages_below = 2048
+
+abbrev pub most_pages_above : ℕ
+most_pages_above = 8192
+
+-- how many subpool numbers a program may name, from 0 on. (Assembler Services Guide, virtual storage management)
+abbrev pub subpool_numbers : ℕ
+subpool_numbers = 128
+
+-- how many subpools there are at a time: as many as the tasks' numbers. (this project's choice)
+abbrev pub most_subpools : ℕ
+most_subpools = 4096
+
+-- how many tasks are active at a time, and how many cell pools. (this project's choice)
+abbrev pub most_tasks : ℕ
+most_tasks = 32
+
+abbrev pub most_pools : ℕ
+most_pools = 64
+
+-- the most bytes that SHOW prints, and how many stand in a line. (this project's choice)
+abbrev pub most_shown : ℕ
+most_shown = 4096
+
+abbrev pub line_bytes : ℕ
+line_bytes = 32
+
+-- the most bytes of a script. (this project's choice)
+abbrev pub most_script_bytes : ℕ
+most_script_bytes = 16777215

@@ -1,0 +1,66 @@
+-- What a line asks for once its names are looked up, and the names that it sets.
+use Rattle.std.specs.Prelude.{ℕ, ◌+◌, List, [], ◌∷◌, Option, Some}
+use Rattle.std.specs.Option.{option_map, option_and_then}
+use Rattle.std.specs.FinMap.{FinMap, get, insert}
+use Rattle.mvs_model.specs.declared.name.Name.{Name}
+use Rattle.mvs_model.specs.declared.line.Location.{Location}
+use Rattle.mvs_model.specs.declared.line.Location.TheVariants.{Absolute, Named}
+use Rattle.mvs_model.specs.declared.line.Written.{Written}
+use Rattle.mvs_model.specs.declared.line.Written.TheVariants as written
+use Rattle.mvs_model.specs.declared.request.Request.{Request}
+use Rattle.mvs_model.specs.declared.request.Request.TheVariants as request
+use Rattle.mvs_model.specs.declared.request.Reply.{Reply}
+use Rattle.mvs_model.specs.declared.request.Reply.TheVariants.{Granted, Listed, Cell}
+use Rattle.mvs_model.specs.Place.{PlaceValue, place_at}
+use Rattle.mvs_model.specs.Name.{name_cmp}
+
+-- the address that is written, where its name is set
+abbrev pub address_of : FinMap name_cmp PlaceValue → Location → Option ℕ
+address_of names (Absolute a) = Some a
+address_of names (Named name n) = option_map (λ p. p.addr + n) (get names name)
+
+-- the places with these addresses and lengths, where the names are set
+abbrev pub places_of : FinMap name_cmp PlaceValue → List Location → List ℕ → Option (List PlaceValue)
+places_of names [] lengths = Some []
+places_of names (location ∷ locations) [] = Some []
+places_of names (location ∷ locations) (n ∷ lengths) =
+    option_and_then (λ a. option_map (λ ps. place_at a n ∷ ps) (places_of names locations lengths)) (address_of names location)
+
+-- the request that is asked for, where each name that it looks up is set
+abbrev pub resolved : FinMap name_cmp PlaceValue → Written → Option Request
+resolved names (written.Obtain form number ask variable area) = Some (request.Obtain form number ask)
+resolved names (written.ObtainList form number lengths start areas) = Some (request.ObtainList form number lengths start)
+resolved names (written.Release form number location n) = option_map (λ a. request.Release form number (place_at a n)) (address_of names location)
+resolved names (written.ReleaseArea form number area) = option_map (λ p. request.Release form number p) (get names area)
+resolved names (written.ReleaseList form number locations lengths) = option_map (λ ps. request.ReleaseList form number ps) (places_of names locations lengths)
+resolved names (written.ReleaseWhole form number) = Some (request.ReleaseWhole form number)
+resolved names (written.Build pool number size primary secondary loc) = Some (request.Build pool number size primary secondary loc)
+resolved names (written.Get pool conditional cell) = Some (request.Get pool conditional)
+resolved names (written.Free pool cell) = option_map (λ a. request.Free pool a) (address_of names cell)
+resolved names (written.Delete pool) = Some (request.Delete pool)
+resolved names (written.Attach name gifts residence) = Some (request.Attach name gifts residence)
+resolved names written.Return = Some request.Return
+resolved names (written.Abend n) = Some (request.Abend n)
+resolved names (written.Show location n) = option_map (λ a. request.Show a n) (address_of names location)
+resolved names (written.Put location bytes) = option_map (λ a. request.Put a bytes) (address_of names location)
+resolved names (written.Move to from n) = option_and_then (λ a. option_map (λ b. request.Move a b n) (address_of names from)) (address_of names to)
+
+-- the names that a request sets
+abbrev pub names_set : Written → List Name
+names_set (written.Obtain form number ask variable area) = area ∷ []
+names_set (written.ObtainList form number lengths start areas) = areas
+names_set (written.Get pool conditional cell) = cell ∷ []
+names_set _ = []
+
+-- the places that a reply gives to the names
+abbrev pub places_in : Reply → List PlaceValue
+places_in (Granted p) = p ∷ []
+places_in (Listed ps) = ps
+places_in (Cell p) = p ∷ []
+places_in _ = []
+
+-- the names with the places that they are given, from the left
+abbrev pub all_set : FinMap name_cmp PlaceValue → List Name → List PlaceValue → FinMap name_cmp PlaceValue
+all_set names [] ps = names
+all_set names (name ∷ more) [] = names
+all_set names (name ∷ more) (p ∷ ps) = all_set (insert names name p) more ps

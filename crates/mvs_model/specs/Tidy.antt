@@ -1,0 +1,180 @@
+-- Tidy scripts, runs that are granted in full, and how a state and the labels are linked.
+use Rattle.std.specs.Prelude.{◌≡◌, ◌≢◌, ◌⊎◌, ℕ, ◌+◌, ◌*◌, ◌/◌, ◌%◌, ◌<◌, Bool, true, false, not, ◌&&◌, ◌||◌, List, [], ◌∷◌, ◌++◌, length, map, Option, Some, None, Result, Ok, Err, is_some, IsSome, codes}
+use Rattle.std.specs.Bool.{MatchBool}
+use Rattle.std.specs.List.{list_all, zip}
+use Rattle.std.specs.Option.{option_map, unwrap_or}
+use Rattle.std.specs.FinMap.{get, empty}
+use Rattle.mvs_model.specs.declared.name.Name.{Name}
+use Rattle.mvs_model.specs.declared.code.Code.{Code}
+use Rattle.mvs_model.specs.declared.code.Family.{Family}
+use Rattle.mvs_model.specs.declared.line.Line.{Line}
+use Rattle.mvs_model.specs.declared.line.Line.TheVariants as line
+use Rattle.mvs_model.specs.declared.line.Statement.{Statement}
+use Rattle.mvs_model.specs.declared.line.Statement.TheVariants as says
+use Rattle.mvs_model.specs.declared.line.Location.{Location}
+use Rattle.mvs_model.specs.declared.line.Location.TheVariants.{Absolute, Named}
+use Rattle.mvs_model.specs.declared.line.Written.{Written}
+use Rattle.mvs_model.specs.declared.line.Written.TheVariants as written
+use Rattle.mvs_model.specs.declared.line.Fault.{Fault}
+use Rattle.mvs_model.specs.declared.outcome.Outcome.{Outcome}
+use Rattle.mvs_model.specs.declared.outcome.Outcome.TheVariants.{ScriptFault}
+use Rattle.mvs_model.specs.declared.request.Request.{Request}
+use Rattle.mvs_model.specs.declared.request.Request.TheVariants as request
+use Rattle.mvs_model.specs.declared.request.Reply.{Reply}
+use Rattle.mvs_model.specs.declared.request.Reply.TheVariants.{Rc4, Granted, Abended}
+use Rattle.mvs_model.specs.Place.{PlaceValue, place_at, round8}
+use Rattle.mvs_model.specs.Finite.{has}
+use Rattle.mvs_model.specs.Owners.{is_active}
+use Rattle.mvs_model.specs.State.{Holding, plain}
+use Rattle.mvs_model.specs.Codes.{short}
+use Rattle.mvs_model.specs.Job.{JobValue}
+use Rattle.mvs_model.specs.Lines.{Reader, lines_of, IsReader}
+use Rattle.mvs_model.specs.Resolving.{resolved}
+use Rattle.mvs_model.specs.Runs.{Stage, Before, In, is_before, Makes, Tells, Says, Does, Serves, ServesRead, Faults, Closes, Prints}
+use Rattle.mvs_model.specs.Laws.{IsRunning}
+use Rattle.mvs_model.specs.Labels as labels
+use Rattle.mvs_model.specs.Labels.{Labels, spot, is_there, IsLabelText}
+
+-- the addresses that a request uses, with the lengths of their places, a release's rounded
+abbrev pub places_used : Labels → Written → List (Location × ℕ)
+places_used m (written.Release form n location len) = (location, round8 len) ∷ []
+places_used m (written.ReleaseArea form n area) = (Named area 0, unwrap_or (option_map (λ l. round8 (m.len l)) (get m.names area)) 0) ∷ []
+places_used m (written.ReleaseList form n locations lengths) = zip locations (map round8 lengths)
+places_used m (written.Show location n) = (location, n) ∷ []
+places_used m (written.Put location bytes) = (location, length bytes) ∷ []
+places_used m (written.Move to from n) = (to, n) ∷ (from, n) ∷ []
+places_used m _ = []
+
+-- whether an address has no name that is not set
+abbrev pub is_set : Labels → Location → Bool
+is_set m (Absolute a) = true
+is_set m (Named name k) = is_some (get m.names name)
+
+-- whether a place is named, lies inside its name's area, and has no offset that is gone
+abbrev pub is_good : Labels → Location → ℕ → Bool
+is_good m (Absolute a) n = false
+is_good m (Named name k) n = has (λ l. is_there m (spot l k n)) (get m.names name)
+
+-- whether a request uses no cell pool, and where its names are all set, only good places
+abbrev pub tidy_written : Labels → Written → Bool
+tidy_written m (written.Build pool n size primary secondary loc) = false
+tidy_written m (written.Get pool conditional cell) = false
+tidy_written m (written.Free pool cell) = false
+tidy_written m (written.Delete pool) = false
+tidy_written m a = not (list_all (λ p. is_set m p.0) (places_used m a)) || list_all (λ p. is_good m p.0 p.1) (places_used m a)
+
+-- whether a statement is tidy: nor does it tell an address
+abbrev pub tidy_statement : Labels → Statement → Bool
+tidy_statement m (says.Region below above fill residence) = true
+tidy_statement m (says.Request a) = tidy_written m a
+tidy_statement m (says.Where name) = not (is_some (get m.names name))
+tidy_statement m says.ReportSubpools = true
+tidy_statement m says.ReportMap = false
+
+-- A line is tidy, where its task is active.
+abbrev pub TidyLine : Option Labels → Result Line Fault → Type 0
+TidyLine (Some m) (Ok (line.Statement t s)) = is_active m.owners t ≡ true → tidy_statement m s ≡ true
+TidyLine _ _ = Unit {0}
+
+-- Each of the lines is tidy where the label machine comes to it.
+abbrev pub TidyLines : Reader → ℕ → Option Labels → List (List ℕ) → Type 0
+TidyLines read number old [] = Unit {0}
+TidyLines read number old (l ∷ lines) =
+    TidyLine old (read l (not (is_some old)))
+    × ((text : List ℕ) (new : Option Labels) → labels.ServesRead number old (read l (not (is_some old))) text new → TidyLines read (number + 1) new lines)
+
+-- A script that uses no cell pools, no addresses, and of its areas only what is there.
+abbrev pub Tidy : Reader → List ℕ → Type 0
+Tidy read script = TidyLines read 1 None (lines_of script)
+
+-- whether a request obtains areas
+abbrev pub is_obtain : Request → Bool
+is_obtain (request.Obtain form n ask) = true
+is_obtain (request.ObtainList form n lengths start) = true
+is_obtain _ = false
+
+-- A variable request has its largest length.
+abbrev pub HasLargest : Request → Reply → Type 0
+HasLargest (request.Obtain form n ask) reply = (p : PlaceValue) → reply ≡ Granted p → p.len ≡ round8 ask.most
+HasLargest _ reply = Unit {0}
+
+-- The request was not refused for want of a place, and has its largest length.
+pub record InFull (r : Request) (reply : Reply) : Type 0 where
+  pub answered : is_obtain r ≡ true → reply ≢ Rc4
+  pub no_abend : (f : Family) (fallen : List Name) → reply ≢ Abended (short f) fallen
+  pub largest : HasLargest r reply
+
+-- what a request may print and which job it leaves, granted in full
+abbrev pub AsksInFull : ℕ → JobValue → Name → Written → Option Request → List ℕ → JobValue → Type 0
+AsksInFull number old t a None text new = Tells number old t (codes "NO NAME") text new
+AsksInFull number old t a (Some r) text new = (made : Makes number old t a r text new) × InFull r made.reply
+
+-- the same of a statement
+abbrev pub SaysInFull : ℕ → JobValue → Name → Statement → List ℕ → JobValue → Type 0
+SaysInFull number old t (says.Request a) text new = AsksInFull number old t a (resolved old.names a) text new
+SaysInFull number old t s text new = Says number old t s text new
+
+abbrev pub DoesInFull : ℕ → JobValue → Name → Statement → List ℕ → JobValue → Type 0
+DoesInFull number old t s text new = MatchBool (not (is_active old.state.owners t)) (Tells number old t (codes "NOT RUN") text new) (SaysInFull number old t s text new)
+
+-- the same of a line
+abbrev pub ServesInFull : ℕ → Stage → Result Line Fault → List ℕ → Stage → Type 0
+ServesInFull number (In job) (Ok (line.Statement t s)) text new = (later : JobValue) × (new ≡ In later) × DoesInFull number job t s text later
+ServesInFull number old read text new = ServesRead number old read text new
+
+-- The lines from this number on may print this text, each request granted in full.
+abbrev pub PrintsInFull : Reader → ℕ → Stage → List (List ℕ) → List ℕ → Outcome → Type 0
+PrintsInFull read number old [] text outcome = Closes number old text outcome
+PrintsInFull read number old (l ∷ lines) text outcome =
+    (Faults number (read l (is_before old)) text × (outcome ≡ ScriptFault))
+    ⊎ ((mid : Stage) × (first : List ℕ) × (rest : List ℕ) × ServesInFull number old (read l (is_before old)) first mid × (text ≡ first ++ rest) × PrintsInFull read (number + 1) mid lines rest outcome)
+
+-- The text is the printing of a run of the script that was granted in full.
+abbrev pub IsPrintingInFull : Reader → List ℕ → List ℕ → Outcome → Type 0
+IsPrintingInFull read script text outcome = PrintsInFull read 1 Before (lines_of script) text outcome
+
+-- Areas have whole doublewords; there are bytes only inside of areas, and names only of areas.
+pub record IsLabels (m : Labels) : Type 0 where
+  pub whole : (l : ℕ) → m.len l % 8 ≡ 0
+  pub inside : (l i b : ℕ) → m.byte l i ≡ Some b → (l < m.count) × (i < m.len l)
+  pub named : (name : Name) (l : ℕ) → get m.names name ≡ Some l → l < m.count
+
+-- The state and the labels are linked: there are no pools, and the tasks with what they own are the same. Each label has a
+-- base address on a doubleword, so that no two offsets that are there fall on one address; what is held and the bytes are
+-- just these offsets, with their labels' subpools and bytes; and the place of a name is its label's.
+pub record Link (job : JobValue) (m : Labels) : Type 0 where
+  pub base : ℕ → ℕ
+  pub on_doubleword : (l : ℕ) → base l % 8 ≡ 0
+  pub apart : (k l i j b c : ℕ) → m.byte k i ≡ Some b → m.byte l j ≡ Some c → base k + i ≡ base l + j → (k ≡ l) × (i ≡ j)
+  pub held : (l i b : ℕ) → m.byte l i ≡ Some b → get job.state.held ((base l + i) / 8) ≡ Some (plain (m.subpool l))
+  pub all_held : (d : ℕ) (h : Holding) → get job.state.held d ≡ Some h → (l : ℕ) × (i : ℕ) × (base l + i ≡ 8 * d) × ((k : ℕ) → k < 8 → IsSome (m.byte l (i + k))) × (h ≡ plain (m.subpool l))
+  pub bytes : (l i b : ℕ) → m.byte l i ≡ Some b → get job.state.bytes (base l + i) ≡ Some b
+  pub all_bytes : (a b : ℕ) → get job.state.bytes a ≡ Some b → (l : ℕ) × (i : ℕ) × (base l + i ≡ a) × (m.byte l i ≡ Some b)
+  pub names : (name : Name) → get job.names name ≡ option_map (λ l. place_at (base l) (m.len l)) (get m.names name)
+  pub pools : job.state.pools ≡ empty
+  pub owners : job.state.owners ≡ m.owners
+  pub fill : job.state.regions.fill ≡ m.fill
+  pub abended : job.abended ≡ m.abended
+  pub labels : IsLabels m
+
+-- From what is linked, a tidy statement of a run that is granted in full prints on both machines the same, and leaves what is
+-- linked.
+abbrev pub TidyStep : Type 0
+TidyStep =
+    (number : ℕ) (job : JobValue) (m : Labels) (t : Name) (s : Statement) (text : List ℕ) (new : JobValue)
+    → IsRunning job → Link job m → TidyLine (Some m) (Ok (line.Statement t s)) → DoesInFull number job t s text new
+    → (later : Labels) × labels.Does number m t s text later × Link new later
+
+-- Each run of a tidy script that is granted in full prints what the label machine prints.
+abbrev pub TidyText : Type 0
+TidyText = (read : Reader) (script text : List ℕ) (outcome : Outcome) → IsReader read → Tidy read script → IsPrintingInFull read script text outcome → IsLabelText read script text
+
+-- The label machine prints one text.
+abbrev pub OneLabelText : Type 0
+OneLabelText = (read : Reader) (script one other : List ℕ) → IsLabelText read script one → IsLabelText read script other → one ≡ other
+
+-- Two runs of a tidy script that are granted in full print the same, wherever their areas lie.
+abbrev pub PlacesDoNotMatter : Type 0
+PlacesDoNotMatter =
+    (read : Reader) (script one other : List ℕ) (o p : Outcome) → IsReader read → Tidy read script
+    → IsPrintingInFull read script one o → IsPrintingInFull read script other p → one ≡ other

@@ -1,0 +1,111 @@
+//! The numbers of the machine, as the code uses them: each is the one of the definitions.
+
+ghost use Rattle.std.specs.Prelude.{◌≡◌};
+ghost use Rattle.mvs_model.specs.Codes as codes;
+ghost use Rattle.mvs_model.specs.Numbers as numbers;
+
+use crate::code::Code;
+
+/// The bytes of a page (Assembler Services Guide, virtual storage management).
+pub const PAGE_BYTES: u32 = 4_096;
+
+/// The doublewords of a page.
+pub const PAGE_DOUBLEWORDS: usize = 512;
+
+/// Where the region below 16 megabytes begins. This project's choice.
+pub const BELOW_BEGINS: u32 = 0x6000;
+
+/// The first page of the region below.
+pub const FIRST_PAGE_BELOW: u32 = 6;
+
+/// The first doubleword of the region below.
+pub const FIRST_DOUBLEWORD_BELOW: u32 = 3_072;
+
+/// 16 megabytes, where the region above begins.
+pub const ABOVE_BEGINS: u32 = 0x100_0000;
+
+/// The first page of the region above.
+pub const FIRST_PAGE_ABOVE: u32 = 4_096;
+
+/// The first doubleword of the region above.
+pub const FIRST_DOUBLEWORD_ABOVE: u32 = 2_097_152;
+
+/// The most pages of the region below. This project's choice.
+pub const MOST_PAGES_BELOW: u32 = 2_048;
+
+/// The most pages of the region above. This project's choice.
+pub const MOST_PAGES_ABOVE: u32 = 8_192;
+
+/// How many subpool numbers a program may name, from 0 on (Assembler Services Guide, virtual storage management).
+pub const SUBPOOL_NUMBERS: u8 = 128;
+
+/// How many subpools there are at a time. This project's choice.
+pub const MOST_SUBPOOLS: usize = 4_096;
+
+/// How many tasks are active at a time. This project's choice.
+pub const MOST_TASKS: usize = 32;
+
+/// How many cell pools are active at a time. This project's choice.
+pub const MOST_POOLS: usize = 64;
+
+/// The most bytes that SHOW prints. This project's choice.
+pub const MOST_SHOWN: u32 = 4_096;
+
+/// How many bytes SHOW prints in a line. This project's choice.
+pub const LINE_BYTES: usize = 32;
+
+/// The most bytes of a script. This project's choice.
+pub const MOST_SCRIPT_BYTES: usize = 16_777_215;
+
+impl Code {
+    /// Bytes are read or written that may not be (System Codes, 0C4).
+    pub const NO_ACCESS: Code = Code::System(0x0C4);
+
+    /// A task returns that has an active subtask (System Codes, A03).
+    pub const ACTIVE_SUBTASK: Code = Code::System(0xA03);
+
+    /// CPOOL FREE at an address where no taken cell of the pool begins. This project's choice, as those below are.
+    pub const NO_SUCH_CELL: Code = Code::User(4_001);
+
+    /// CPOOL names no pool that is there.
+    pub const NO_SUCH_POOL: Code = Code::User(4_002);
+
+    /// ATTACH gives a subpool that the mother shares and does not own.
+    pub const NOT_OWNED: Code = Code::User(4_003);
+
+    /// ATTACH beyond the most tasks.
+    pub const TOO_MANY_TASKS: Code = Code::User(4_005);
+
+    /// All of subpool 0 is to be released.
+    pub const WHOLE_OF_ZERO: Code = Code::User(4_006);
+
+    /// CPOOL BUILD beyond the most cell pools.
+    pub const TOO_MANY_POOLS: Code = Code::User(4_007);
+
+    /// CPOOL BUILD of a name that a pool has.
+    pub const POOL_IN_USE: Code = Code::User(4_008);
+
+    /// ATTACH of a name that an active task has.
+    pub const TASK_IN_USE: Code = Code::User(4_009);
+}
+
+/// Each number that the code uses is the one of the definitions.
+pub fn numbers_agree()
+    ensures page { (PAGE_BYTES ≡ numbers.page_bytes) × (PAGE_DOUBLEWORDS ≡ numbers.page_doublewords) }
+    ensures pages { (FIRST_PAGE_BELOW ≡ numbers.first_page_below) × (FIRST_PAGE_ABOVE ≡ numbers.first_page_above) }
+    ensures doublewords { (FIRST_DOUBLEWORD_BELOW ≡ numbers.first_doubleword_below) × (FIRST_DOUBLEWORD_ABOVE ≡ numbers.first_doubleword_above) }
+    ensures begins { (BELOW_BEGINS ≡ numbers.below_begins) × (ABOVE_BEGINS ≡ numbers.above_begins) }
+    ensures regions { (MOST_PAGES_BELOW ≡ numbers.most_pages_below) × (MOST_PAGES_ABOVE ≡ numbers.most_pages_above) }
+    ensures subpools { (SUBPOOL_NUMBERS ≡ numbers.subpool_numbers) × (MOST_SUBPOOLS ≡ numbers.most_subpools) }
+    ensures most { (MOST_TASKS ≡ numbers.most_tasks) × (MOST_POOLS ≡ numbers.most_pools) }
+    ensures shown { (MOST_SHOWN ≡ numbers.most_shown) × (LINE_BYTES ≡ numbers.line_bytes) }
+    ensures script { MOST_SCRIPT_BYTES ≡ numbers.most_script_bytes }
+{}
+
+/// Each code of a refusal that the code uses is the one of the definitions.
+pub fn codes_agree()
+    ensures system { (Code.NO_ACCESS ≡ codes.no_access) × (Code.ACTIVE_SUBTASK ≡ codes.active_subtask) }
+    ensures pools { (Code.NO_SUCH_CELL ≡ codes.no_such_cell) × (Code.NO_SUCH_POOL ≡ codes.no_such_pool) × (Code.TOO_MANY_POOLS ≡ codes.too_many_pools) × (Code.POOL_IN_USE ≡ codes.pool_in_use) }
+    ensures tasks { (Code.NOT_OWNED ≡ codes.not_owned) × (Code.TOO_MANY_TASKS ≡ codes.too_many_tasks) × (Code.TASK_IN_USE ≡ codes.task_in_use) }
+    ensures whole { Code.WHOLE_OF_ZERO ≡ codes.whole_of_zero }
+{}

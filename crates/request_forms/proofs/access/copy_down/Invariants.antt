@@ -1,0 +1,5 @@
+use Rattle.request_forms.specs.Access.{Copied}
+use Rattle.request_forms.proofs.access.copy_down.Given as goal
+
+abbrev pub invariant-loop-k : goal.invariant-loop-k
+invariant-loop-k l = Copied l.initial.store l.to l.from l.k l.store

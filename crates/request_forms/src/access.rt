@@ -1,0 +1,228 @@
+//! Access to bytes: SHOW, PUT and MOVE, which are this project's own statements.
+
+ghost use Rattle.std.specs.Prelude.{◌≡◌, ◌<◌, ◌≤◌, ◌+◌, ◌^◌, ◌↔◌, Some, IfOk, IfSome, IsSome, IsTrue, MatchOption, ℕ, true, false, length, slice_get};
+ghost use Rattle.std.specs.FinMap.{get};
+ghost use Rattle.mvs_model.specs.declared.name.Name.{Name};
+ghost use Rattle.mvs_model.specs.declared.request.Request.TheVariants as request;
+ghost use Rattle.mvs_model.specs.Place.{place_at};
+ghost use Rattle.mvs_model.specs.Owners.{Owners};
+ghost use Rattle.mvs_model.specs.State.{granted};
+ghost use Rattle.mvs_model.specs.Storage.{AllHeld};
+ghost use Rattle.cell_pool.specs.Agree.{Agree};
+ghost use Rattle.mvs_model.specs.Changes.{Granted};
+ghost use Rattle.mvs_model.specs.Steps.{Acts};
+ghost use Rattle.mvs_model.specs.Replies.{is_abend};
+ghost use Rattle.subpool_store.specs.Written.{Puts};
+ghost use Rattle.request_forms.specs.Answers.{Answers};
+ghost use Rattle.request_forms.specs.Access.{Copied};
+ghost use Rattle.request_forms.specs.Machine.{IsStepStorage, machine_state};
+
+use crate::machine::Machine;
+use cell_pool::Pools;
+use mvs_model::bounded::{MoveLength, ShowLength};
+use mvs_model::code::Code;
+use mvs_model::place::{Addr, Place};
+use mvs_model::request::{Bytes, Reply};
+use subpool_store::Store;
+
+// Up to where bytes from an address on may be read and written, for one cause: up to the end of the taken cell round the
+// address, or of its doubleword, where that is held outside of cell pools. None where the byte at the address may not be.
+fn readable_end(store: &Store, pools: &Pools, addr: Addr) -> Option<u32>
+    requires { Agree pools.now store.now }
+    ensures { (o : Owners) → MatchOption result
+        (granted (machine_state pools.now store.now o) addr ≡ false)
+        (λ end. (addr < end) × ((a : ℕ) → addr ≤ a → a < end → granted (machine_state pools.now store.now o) a ≡ true)) }
+{
+    if let Some(cell) = pools.cell_at(store, addr) {
+        return Some(cell.addr().get() + cell.len());
+    }
+    let Some(subpool) = store.held(addr) else {
+        return None;
+    };
+    let first = addr.get() / 8 * 8;
+    if pools.touches(store, subpool, Place::new(Addr::new(first), 8)) {
+        return None;
+    }
+    Some(first + 8)
+}
+
+// Whether the subpool that holds the first byte of a place holds all of it outside of cell pools.
+fn is_plain(store: &Store, pools: &Pools, place: Place) -> bool
+    requires { Agree pools.now store.now }
+    ensures { (o : Owners) → IsTrue result → Granted (machine_state pools.now store.now o) place }
+{
+    let Some(subpool) = store.held(place.addr()) else {
+        return false;
+    };
+    let first = place.addr().get() / 8 * 8;
+    let end = place.addr().get() + place.len();
+    if end > 0x8000_0000 {
+        return false;
+    }
+    let whole = Place::new(Addr::new(first), (end - first).div_ceil(8) * 8);
+    if !store.holds(subpool, whole) {
+        return false;
+    }
+    !pools.touches(store, subpool, whole)
+}
+
+// Whether each byte of a place may be read and written.
+fn may_access(store: &Store, pools: &Pools, place: Place) -> bool
+    requires { Agree pools.now store.now }
+    ensures granted { (o : Owners) → IsTrue result ↔ Granted (machine_state pools.now store.now o) place }
+    ensures some { 1 ≤ place.len }
+{
+    if is_plain(store, pools, place) {
+        return true;
+    }
+    let end = place.addr().get() + place.len();
+    let mut at = place.addr().get();
+    'walk: while at < end {
+        if at >= 0x8000_0000 {
+            return false;
+        }
+        match readable_end(store, pools, Addr::new(at)) {
+            Some(next) => at = next,
+            None => return false,
+        }
+    }
+    true
+}
+
+// Writes bytes over those of a place that is held.
+fn write(store: &mut Store, place: Place, bytes: &[u8])
+    requires held { AllHeld store.old place }
+    requires len { length bytes.now ≡ place.len }
+    ensures { Puts store.old place bytes.now store.new }
+{
+    let part = store.bytes_mut(place);
+    part.copy_from_slice(bytes);
+}
+
+// The byte at an address that is held.
+fn byte(store: &Store, addr: Addr) -> u8
+    requires { AllHeld store.now (place_at addr 1) }
+    ensures { get store.now.bytes addr ≡ Some result }
+{
+    store.bytes(Place::new(addr, 1))[0]
+}
+
+// Copies a byte to another address; both are held.
+fn copy_byte(store: &mut Store, to: Addr, from: Addr)
+    requires target { AllHeld store.old (place_at to 1) }
+    requires source { AllHeld store.old (place_at from 1) }
+    ensures { Copied store.old to from 1 store.new }
+{
+    let value = byte(store, from);
+    write(store, Place::new(to, 1), &[value]);
+}
+
+// The address so many bytes behind another one.
+fn behind(addr: Addr, distance: u32) -> Addr
+    requires { addr + distance < 2 ^ 31 }
+    ensures { result ≡ addr + distance }
+{
+    Addr::new(addr.get() + distance)
+}
+
+// Copies bytes to lower addresses, the first one first.
+fn copy_down(store: &mut Store, to: Addr, from: Addr, len: u32)
+    requires storage { IsStepStorage store.old }
+    requires target { AllHeld store.old (place_at to len) }
+    requires source { AllHeld store.old (place_at from len) }
+    requires lower { to ≤ from }
+    ensures { Copied store.old to from len store.new }
+{
+    for k in 0..len {
+        copy_byte(store, behind(to, k), behind(from, k));
+    }
+}
+
+// Copies bytes to higher addresses, the last one first.
+fn copy_up(store: &mut Store, to: Addr, from: Addr, len: u32)
+    requires storage { IsStepStorage store.old }
+    requires target { AllHeld store.old (place_at to len) }
+    requires source { AllHeld store.old (place_at from len) }
+    requires higher { from ≤ to }
+    ensures { Copied store.old to from len store.new }
+{
+    for k in (0..len).rev() {
+        copy_byte(store, behind(to, k), behind(from, k));
+    }
+}
+
+// Copies bytes that are held: what is stored is what the source held before, also where the two places overlap.
+fn copy(store: &mut Store, to: Addr, from: Addr, len: u32)
+    requires storage { IsStepStorage store.old }
+    requires target { AllHeld store.old (place_at to len) }
+    requires source { AllHeld store.old (place_at from len) }
+    ensures { Copied store.old to from len store.new }
+{
+    if to.get() <= from.get() {
+        copy_down(store, to, from, len);
+    } else {
+        copy_up(store, to, from, len);
+    }
+}
+
+impl Machine {
+    /// The bytes of a place. None where one of them may not be read: its doubleword is not held, or it lies in a part of a
+    /// cell pool and in no taken cell (this project's choice).
+    pub fn bytes(&self, place: Place) -> Option<&[u8]>
+        ensures granted { IsSome result ↔ Granted self.now place }
+        ensures len { IfSome result (λ part. length part.now ≡ place.len) }
+        ensures bytes { IfSome result (λ part. (k : ℕ) → k < place.len → slice_get part.now k ≡ get self.now.bytes (place.addr + k)) }
+    {
+        if !may_access(&self.store, &self.pools, place) {
+            return None;
+        }
+        Some(self.store.bytes(place))
+    }
+
+    /// SHOW: it only looks whether the bytes may be read.
+    pub fn show(&self, from: Addr, len: ShowLength) -> Result<Reply, Code>
+        ensures answer { (t : Name) → Answers (Acts self.now t (request.Show from len)) self.now t result self.now }
+        ensures no_abend { IfOk result (λ reply. is_abend reply ≡ false) }
+    {
+        if !may_access(&self.store, &self.pools, Place::new(from, len.get())) {
+            return Err(Code::NO_ACCESS);
+        }
+        Ok(Reply::Done)
+    }
+
+    /// PUT: the bytes stand at the address and behind it now.
+    pub fn put(&mut self, to: Addr, bytes: &Bytes) -> Result<Reply, Code>
+        ensures answer { (t : Name) → Answers (Acts self.old t (request.Put to bytes.now)) self.old t result self.new }
+        ensures no_abend { IfOk result (λ reply. is_abend reply ≡ false) }
+    {
+        let place = Place::new(to, bytes.len() as u32);
+        if !may_access(&self.store, &self.pools, place) {
+            return Err(Code::NO_ACCESS);
+        }
+        write(&mut self.store, place, bytes.as_slice());
+        Ok(Reply::Done)
+    }
+
+    // Whether all bytes that a MOVE reads and writes may be.
+    fn may_move(&self, to: Addr, from: Addr, len: MoveLength) -> bool
+        ensures { IsTrue result ↔ (Granted self.now (place_at to len) × Granted self.now (place_at from len)) }
+    {
+        let len = len.get();
+        if !may_access(&self.store, &self.pools, Place::new(to, len)) {
+            return false;
+        }
+        may_access(&self.store, &self.pools, Place::new(from, len))
+    }
+
+    /// MOVE: the bytes behind one address stand behind the other now.
+    pub fn move_bytes(&mut self, to: Addr, from: Addr, len: MoveLength) -> Result<Reply, Code>
+        ensures answer { (t : Name) → Answers (Acts self.old t (request.Move to from len)) self.old t result self.new }
+        ensures no_abend { IfOk result (λ reply. is_abend reply ≡ false) }
+    {
+        if !self.may_move(to, from, len) {
+            return Err(Code::NO_ACCESS);
+        }
+        copy(&mut self.store, to, from, len.get());
+        Ok(Reply::Done)
+    }
+}
