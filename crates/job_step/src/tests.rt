@@ -9,6 +9,7 @@ macro_rules! says {
 
 mod access;
 mod asked;
+mod keepers;
 mod long_run;
 mod reports;
 mod storage;

@@ -365,3 +365,46 @@ fn pool_end(rt: HostRuntime) -> Result<(), Fail> {
     assert!(rt; prints(&rt, &lines, "STEP ENDED RC 8")?);
     Ok(())
 }
+
+// Subpools 131 and 132 are the job step task's.
+#[test]
+fn keeper(rt: HostRuntime) -> Result<(), Fail> {
+    let lines = [
+        (
+            "* Subpools 131 and 132 are the job step task's, whichever task names them.",
+            "",
+        ),
+        ("JOB REGION BELOW=2", "JOB REGION BELOW 2 ABOVE 0"),
+        ("* SUB shares nothing with JOB, not even subpool 0.", ""),
+        ("JOB ATTACH TASK=SUB,SZERO=NO", "JOB ATTACHED"),
+        ("SUB GETMAIN RU,LV=8,A=X,SP=131", "SUB RC 0"),
+        (
+            "SUB CPOOL BUILD,CPID=P,CSIZE=8,PCELLCT=1,SP=132",
+            "SUB RC 0",
+        ),
+        ("SUB PUT X,X'C3'", "SUB OK"),
+        (
+            "* What SUB obtained there is not among its own subpools.",
+            "",
+        ),
+        ("SUB REPORT SP", "SUB SP NONE"),
+        (
+            "SUB REPORT MAP",
+            "SUB MAP 00006000 00001000 SP 131 OWNER JOB\nSUB MAP 00007000 00001000 SP 132 OWNER JOB",
+        ),
+        ("* So nothing of it goes when SUB ends.", ""),
+        ("SUB RETURN", "SUB ENDED"),
+        (
+            "JOB REPORT SP",
+            "JOB SP 131 OWNED PLAIN 8 POOL 0\nJOB SP 132 OWNED PLAIN 0 POOL 32",
+        ),
+        ("JOB SHOW X,1", "JOB DATA +0000 C3"),
+        ("JOB CPOOL GET,COND,CPID=P,CELL=C", "JOB CELL"),
+        ("* Any task may release there, also the whole.", ""),
+        ("JOB ATTACH TASK=SUB", "JOB ATTACHED"),
+        ("SUB FREEMAIN RU,SP=131", "SUB RC 0"),
+        ("JOB SHOW X,1", "JOB ABEND S0C4\nSUB ENDED WITH JOB"),
+    ];
+    assert!(rt; prints(&rt, &lines, "STEP ENDED RC 8")?);
+    Ok(())
+}
