@@ -9,7 +9,6 @@ macro_rules! says {
 
 mod access;
 mod asked;
-mod keepers;
 mod long_run;
 mod reports;
 mod storage;
