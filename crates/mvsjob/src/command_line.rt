@@ -1,13 +1,15 @@
 //! The words of the command line, which `clap` reads.
 
-ghost use Rattle.std.specs.Prelude.{◌≡◌, IfOk, IfErr, codes, map, string_bytes, true};
+ghost use Rattle.std.specs.Prelude.{◌≡◌, IfOk, IfErr, MatchOption, codes, map, string_bytes, true, false};
 ghost use Rattle.std.specs.Option.{unwrap_or};
 ghost use Rattle.clap.specs.Words.{app_of, first_value, found_of, kind_of, takes};
 ghost use Rattle.clap.specs.declared.error.kind.ErrorKind.TheVariants.{OutOfMemory};
-ghost use Rattle.mvsjob.specs.CommandLine.{command, file_of};
+ghost use Rattle.mvsjob.specs.CommandLine.{command, file_of, is_placement, place_word, placement_of};
 
 use crate::choices::Settings;
+use clap::error::ErrorKind;
 use clap::{Arg, ArgMatches, Command};
+use mvs_model::want::Placement;
 use std::alloc::{AllocError, Global};
 
 const ABOUT: &str =
@@ -21,15 +23,19 @@ const STATUSES: &str = "Exit status:
 
 The script's language is described in docs/SCRIPT.md.";
 
-// The command: one word that may be left out.
+// The command: a word and an option, each of which may be left out.
 fn command<'a>(alloc: Global) -> Result<Command<'a>, AllocError>
     ensures { IfOk result (λ c. app_of c ≡ command) }
 {
     let file = Arg::new(alloc, "FILE").help("The script; standard input where it is left out or -");
+    let place = Arg::new(alloc, "place").long("place").help(
+        "Which of the places that serve is taken: low, the lowest (the default), or high",
+    );
     Command::new(alloc, "mvsjob")
         .about(ABOUT)
         .after_help(STATUSES)
-        .arg(file)
+        .arg(file)?
+        .arg(place)
 }
 
 // The word for the script.
@@ -42,17 +48,50 @@ fn file<'a>(matches: &ArgMatches<'a>) -> &'a str
     }
 }
 
+// The value of --place.
+fn place<'a>(matches: &ArgMatches<'a>) -> &'a str
+    ensures { result.now ≡ unwrap_or (first_value (found_of matches.now) (codes "place")) (codes "low") }
+{
+    match matches.get_str("place") {
+        Some(place) => place,
+        None => "low",
+    }
+}
+
+// The placement that a value names.
+fn placement(word: &str) -> Option<Placement>
+    ensures { MatchOption result
+        (is_placement word.now ≡ false)
+        (λ placement. (is_placement word.now ≡ true) × (placement ≡ placement_of word.now)) }
+{
+    if word == "high" {
+        Some(Placement::High)
+    } else if word == "low" {
+        Some(Placement::Low)
+    } else {
+        None
+    }
+}
+
 /// Reads the words of a command line, the program's name first. An error is what `clap` has to say of them, a text for the user
 /// (where it is the help that the words ask for, `use_stderr` is false), or want of memory.
 pub fn settings<'a>(alloc: Global, words: &'a [String]) -> Result<Settings<'a>, clap::Error>
     // What clap assigns the words to.
     ensures file { IfOk result (λ s. s.file.now ≡ file_of (map string_bytes words.entry.now)) }
-    // Words that clap takes are refused for want of memory alone.
-    ensures refused { IfErr result (λ error. takes command (map string_bytes words.entry.now) ≡ true → kind_of error ≡ OutOfMemory) }
+    ensures placement { IfOk result (λ s. (is_placement (place_word (map string_bytes words.entry.now)) ≡ true)
+        × (s.placement ≡ placement_of (place_word (map string_bytes words.entry.now)))) }
+    // Words that clap takes, and that name a placement, are refused for want of memory alone.
+    ensures refused { IfErr result (λ error. takes command (map string_bytes words.entry.now) ≡ true
+        → is_placement (place_word (map string_bytes words.entry.now)) ≡ true → kind_of error ≡ OutOfMemory) }
 {
-    let matches = command(alloc)?.try_get_matches_from(words)?;
+    let mut command = command(alloc)?;
+    let matches = command.try_get_matches_from_mut(words)?;
+    let Some(placement) = placement(place(&matches)) else {
+        return Err(command.error(ErrorKind::InvalidValue, "--place takes low or high")?);
+    };
     Ok(Settings {
         file: file(&matches),
+        placement,
     })
 }
 

@@ -33,6 +33,8 @@ fn settings_always_refuses(rt: HostRuntime) -> Result<(), Fail> {
     assert!(rt; is_file(&rt, &["-"], "-")?);
     assert!(rt; is_file(&rt, &["first.job"], "first.job")?);
     assert!(rt; is_file(&rt, &["--", "--help"], "--help")?);
+    assert!(rt; is_file(&rt, &["--place", "low", "first.job"], "first.job")?);
+    assert!(rt; is_file(&rt, &["--place=high"], "-")?);
     Ok(())
 }
 
@@ -40,6 +42,8 @@ fn settings_always_refuses(rt: HostRuntime) -> Result<(), Fail> {
 fn words_that_are_refused(rt: HostRuntime) -> Result<(), Fail> {
     assert!(rt; is_refused(&rt, &["A", "B"], true)?);
     assert!(rt; is_refused(&rt, &["--bogus"], true)?);
+    assert!(rt; is_refused(&rt, &["--place", "middle"], true)?);
+    assert!(rt; is_refused(&rt, &["--place"], true)?);
     assert!(rt; is_refused(&rt, &["--help"], false)?);
     Ok(())
 }
