@@ -13,6 +13,7 @@ mod reports;
 mod resolve;
 mod run;
 mod serve;
+mod stream;
 mod text;
 
 use choices::Settings;
