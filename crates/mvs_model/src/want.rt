@@ -29,10 +29,11 @@ pub enum Loc {
     Res,
 }
 
-/// Which of the places that serve is taken: the lowest. This project's choice.
+/// Which of the places that serve is taken: the lowest, or the highest. This project's choice.
 #[derive(Clone, Copy, Debug, PartialEq, Eq)]
 pub enum Placement {
     Low,
+    High,
 }
 
 /// What a grant has to meet: its least and its greatest length in bytes, both whole doublewords, the power of

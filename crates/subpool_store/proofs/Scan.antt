@@ -4,7 +4,7 @@ use Rattle.std.proofs.lemmas.Bool.{both_ways, cases_lt}
 use Rattle.mvs_model.specs.Place.{PlaceValue}
 use Rattle.mvs_model.specs.Storage.{IsLength, IsRun, InRun, Meets}
 use Rattle.mvs_model.specs.Want.{WantValue, IsWant}
-use Rattle.subpool_store.specs.Search.{AllPass, Beats, BehindBest, IsCandidate, IsNextRun, IsShorter, LongestIn}
+use Rattle.subpool_store.specs.Search.{AllPass, Beats, BehindBest, IsCandidate, IsNextRun, LongestIn}
 
 -- the first doubleword of such a place passes
 pub first_passes : (test : ℕ → Bool) (first : ℕ) (q : PlaceValue) → 8 ≤ q.len → q.addr % 8 ≡ 0 → AllPass test first q → (first ≤ q.addr / 8) × (test (q.addr / 8 - first) ≡ true)
@@ -76,9 +76,9 @@ best_of_all test first want best from some none before q cand = elim (before q c
 -- the longest place of a run is a candidate
 pub best_found : (test : ℕ → Bool) (first : ℕ) (want : WantValue) (from start end next : ℕ) (p : PlaceValue) (best best' r : Option PlaceValue) → IsNextRun test from start end next →
     p.addr ≡ 8 * (first + start) → p.len ≡ 8 * (end - start) → LongestIn p want r →
-    (best' ≡ best) ⊎ ((best' ≡ r) × IsShorter best r) → IfSome best (IsCandidate test first want) → IfSome best' (IsCandidate test first want)
+    (best' ≡ best) ⊎ (best' ≡ r) → IfSome best (IsCandidate test first want) → IfSome best' (IsCandidate test first want)
 best_found test first want from start end next p best best' r run addr_is len_is answer (inl e) old = subst (λ o. IfSome o (IsCandidate test first want)) (sym e) old
-best_found test first want from start end next p best best' r run addr_is len_is answer (inr e) old = subst (λ o. IfSome o (IsCandidate test first want)) (sym e.0) (new r answer) where
+best_found test first want from start end next p best best' r run addr_is len_is answer (inr e) old = subst (λ o. IfSome o (IsCandidate test first want)) (sym e) (new r answer) where
   new : (r : Option PlaceValue) → LongestIn p want r → IfSome r (IsCandidate test first want)
   new None none = tt
   new (Some b) found = record { length = found.length; meets = found.meets; pass = run_passes test first from start end next p b run addr_is len_is found.inside }

@@ -28,7 +28,7 @@ use crate::search::{Found, find};
 use mvs_model::error::OutOfMemory;
 use mvs_model::place::{Addr, Place};
 use mvs_model::subpool::SubpoolId;
-use mvs_model::want::Want;
+use mvs_model::want::{Placement, Want};
 use page_map::PageMap;
 use std::alloc::Global;
 use std::marker::Model;
@@ -202,12 +202,19 @@ impl Half {
         })
     }
 
-    // A longest open place that meets what is wanted.
-    pub fn find(&self, subpool: SubpoolId, want: &Want) -> Found
+    // A longest open place that meets what is wanted, the one that the placement takes.
+    pub fn find(&self, placement: Placement, subpool: SubpoolId, want: &Want) -> Found
         ensures best { BestIn self.now subpool want.now result.place }
         ensures wanted { IsWant want.now }
     {
-        find(self.first, &self.held, &self.pages, subpool, want)
+        find(
+            placement,
+            self.first,
+            &self.held,
+            &self.pages,
+            subpool,
+            want,
+        )
     }
 
     // Gives an open place to the subpool and fills it.

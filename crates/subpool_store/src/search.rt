@@ -17,10 +17,10 @@ ghost use Rattle.subpool_store.specs.Search.{
 use crate::held_map::HeldMap;
 use crate::run::Run;
 use crate::walk::Walk;
-use boundary_loc::{first_in, longest_in};
+use boundary_loc::{first_in, last_in, longest_in};
 use mvs_model::place::{Addr, Place};
 use mvs_model::subpool::SubpoolId;
-use mvs_model::want::Want;
+use mvs_model::want::{Placement, Want};
 use page_map::PageMap;
 
 /// What a search found, and how many page entries and free runs it examined.
@@ -64,7 +64,7 @@ fn only_length(want: &Want) -> Option<u32>
 }
 
 // A longest place of a run: the lowest one, where one length alone is wanted.
-fn best_in(run: Place, want: &Want, only: Option<u32>) -> Option<Place>
+fn lowest_in(run: Place, want: &Want, only: Option<u32>) -> Option<Place>
     requires run { IsRun run }
     requires wanted { IsWant want.now }
     requires only { IfSome only (IsOnlyLength want.now) }
@@ -73,6 +73,32 @@ fn best_in(run: Place, want: &Want, only: Option<u32>) -> Option<Place>
     match only {
         Some(len) => first_in(run, want, len),
         None => longest_in(run, want),
+    }
+}
+
+// The highest of the longest places of a run.
+fn highest_in(run: Place, want: &Want, only: Option<u32>) -> Option<Place>
+    requires run { IsRun run }
+    requires wanted { IsWant want.now }
+    requires only { IfSome only (IsOnlyLength want.now) }
+    ensures { LongestIn run want.now result }
+{
+    match only {
+        Some(len) => last_in(run, want, len),
+        None => last_in(run, want, longest_in(run, want)?.len()),
+    }
+}
+
+// A longest place of a run, the one that the placement takes.
+fn best_in(placement: Placement, run: Place, want: &Want, only: Option<u32>) -> Option<Place>
+    requires run { IsRun run }
+    requires wanted { IsWant want.now }
+    requires only { IfSome only (IsOnlyLength want.now) }
+    ensures { LongestIn run want.now result }
+{
+    match placement {
+        Placement::Low => lowest_in(run, want, only),
+        Placement::High => highest_in(run, want, only),
     }
 }
 
@@ -101,9 +127,40 @@ pub fn is_longest(place: &Option<Place>, want: &Want) -> bool
     }
 }
 
+// Of a place and one behind it the longer one; where they are equally long, the one that the placement takes.
+fn preferred(placement: Placement, one: Option<Place>, behind: Option<Place>) -> Option<Place>
+    ensures either { (result ≡ one) ⊎ (result ≡ behind) }
+    ensures one { (n : ℕ) → Beats one n → Beats result n }
+    ensures behind { (n : ℕ) → Beats behind n → Beats result n }
+{
+    match placement {
+        Placement::Low => longer(one, behind),
+        Placement::High => longer(behind, one),
+    }
+}
+
+// Whether nothing behind the best place can be taken in its stead.
+fn is_final(placement: Placement, best: &Option<Place>, want: &Want) -> bool
+    ensures longest { IsTrue result → (n : ℕ) → IsLength want.now n → Beats best.now n }
+    ensures wanted { IsWant want.now }
+{
+    let is_longest = is_longest(best, want);
+    match placement {
+        Placement::Low => is_longest,
+        Placement::High => false,
+    }
+}
+
 // A longest place that meets what is wanted and whose doublewords the subpool may take. Of several that are
-// equally long it is the lowest one.
-pub fn find(first: u32, held: &HeldMap, pages: &PageMap, subpool: SubpoolId, want: &Want) -> Found
+// equally long it is the lowest one, or the highest one, as the placement says.
+pub fn find(
+    placement: Placement,
+    first: u32,
+    held: &HeldMap,
+    pages: &PageMap,
+    subpool: SubpoolId,
+    want: &Want,
+) -> Found
     requires exact { IsExact held.now pages.now }
     requires end { 8 * (first + length held.now) ≤ 2 ^ 31 }
     requires one_side { first < 2097152 → first + length held.now ≤ 2097152 }
@@ -115,8 +172,12 @@ pub fn find(first: u32, held: &HeldMap, pages: &PageMap, subpool: SubpoolId, wan
     let mut walk = Walk::new();
     let mut best = None;
     'runs: while let Some(run) = walk.next_run(held, pages, subpool) {
-        best = longer(best, best_in(run_place(first, run), want, only));
-        if is_longest(&best, want) {
+        best = preferred(
+            placement,
+            best,
+            best_in(placement, run_place(first, run), want, only),
+        );
+        if is_final(placement, &best, want) {
             return Found::new(best, walk.steps);
         }
     }

@@ -72,11 +72,11 @@ fn is_below(place: Place) -> bool
 }
 
 // The best place in the region above, if a place may be there.
-fn find_above(above: &Half, subpool: SubpoolId, want: &Want) -> Option<Place>
+fn find_above(placement: Placement, above: &Half, subpool: SubpoolId, want: &Want) -> Option<Place>
     ensures { BestAbove above.now subpool want.now result }
 {
     match want.side() {
-        Side::Either => above.find(subpool, want).place,
+        Side::Either => above.find(placement, subpool, want).place,
         Side::Below => None,
     }
 }
@@ -112,11 +112,11 @@ impl Store {
             (Chosen self.now.regions (holder self.now) subpool want.now) }
         ensures storage { IsStorage self.now }
     {
-        let above = find_above(&self.above, subpool, want);
+        let above = find_above(self.placement, &self.above, subpool, want);
         if is_longest(&above, want) {
             return above;
         }
-        longer(above, self.below.find(subpool, want).place)
+        longer(above, self.below.find(self.placement, subpool, want).place)
     }
 
     // Gives an open place to the subpool and fills it.
@@ -134,10 +134,10 @@ impl Store {
         }
     }
 
-    /// Obtains what is wanted: the greatest length of those that are wanted for which there is a place, and the
-    /// lowest such place above 16 megabytes, or below where none is above. None where there is no place, and
-    /// then nothing changes (Assembler Services Reference, GETMAIN; that the lowest place is taken is this
-    /// project's choice).
+    /// Obtains what is wanted: the greatest length of those that are wanted for which there is a place, and of
+    /// such places above 16 megabytes, or below where none is above, the lowest or the highest, as the placement
+    /// says. None where there is no place, and then nothing changes (Assembler Services Reference, GETMAIN; which
+    /// place is taken is this project's choice).
     pub fn obtain(&mut self, subpool: SubpoolId, want: &Want) -> Option<Place>
         ensures grant { MatchOption result
             (NoPlace self.old.regions (holder self.old) subpool want.now × (self.new ≡ self.old))

@@ -84,14 +84,14 @@ fn exact_fit(rt: HostRuntime) -> Result<(), Fail> {
     }
     let two = Want::fixed(Length::new(16), Exponent::new(3), Side::Below);
     assert_eq!(rt; store.obtain(one, &two), None);
-    assert_eq!(rt; store.below.find(one, &two).steps, 257);
+    assert_eq!(rt; store.below.find(Placement::Low, one, &two).steps, 257);
     let hole = Want::fixed(Length::new(8), Exponent::new(3), Side::Below);
     assert_eq!(rt;
         store.obtain(one, &hole),
         Some(Place::new(Addr::new(0x6008), 8))
     );
     // The page, the run that serves, and the one behind it, which shows that the first does not go on.
-    assert_eq!(rt; store.below.find(one, &hole).steps, 3);
+    assert_eq!(rt; store.below.find(Placement::Low, one, &hole).steps, 3);
     Ok(())
 }
 
@@ -175,7 +175,45 @@ fn each_page_once(rt: HostRuntime) -> Result<(), Fail> {
     );
     let want = Want::fixed(Length::new(8192), Exponent::new(3), Side::Below);
     assert_eq!(rt; store.obtain(one, &want), None);
-    assert_eq!(rt; store.below.find(one, &want).steps, 2049);
-    assert_eq!(rt; store.below.find(two, &want).steps, 2048);
+    assert_eq!(rt; store.below.find(Placement::Low, one, &want).steps, 2049);
+    assert_eq!(rt; store.below.find(Placement::Low, two, &want).steps, 2048);
+    Ok(())
+}
+
+// With the other placement the highest place, of a variable request the highest of the greatest length; above first too.
+#[test]
+fn highest_place(rt: HostRuntime) -> Result<(), Fail> {
+    let one = SubpoolId::new(1);
+    let two = SubpoolId::new(2);
+    let mut store = Store::new(rt.alloc(), 2, 1, 0, Placement::High)?;
+    let least = Want::fixed(Length::new(8), Exponent::new(3), Side::Below);
+    let want = Want::fixed(Length::new(2048), Exponent::new(3), Side::Either);
+    assert_eq!(rt;
+        store.obtain(one, &least),
+        Some(Place::new(Addr::new(0x7FF8), 8))
+    );
+    assert_eq!(rt;
+        store.obtain(two, &least),
+        Some(Place::new(Addr::new(0x6FF8), 8))
+    );
+    assert_eq!(rt;
+        store.obtain(one, &want),
+        Some(Place::new(Addr::new(0x1000800), 2048))
+    );
+    assert_eq!(rt;
+        store.obtain(one, &want),
+        Some(Place::new(Addr::new(0x1000000), 2048))
+    );
+    assert_eq!(rt;
+        store.obtain(one, &want),
+        Some(Place::new(Addr::new(0x77F8), 2048))
+    );
+    let most = Ask::fixed(Length::new(16384), Exponent::new(3), Loc::Below);
+    let longest = most.at_least(Length::new(8)).want(Side::Below);
+    assert_eq!(rt;
+        store.obtain(two, &longest),
+        Some(Place::new(Addr::new(0x6000), 4088))
+    );
+    assert_eq!(rt; store.obtain(two, &least), None);
     Ok(())
 }
