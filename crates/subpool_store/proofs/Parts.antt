@@ -1,11 +1,11 @@
 -- The bytes of a place that is held, as a part of the region's bytes.
-use Rattle.std.proofs.Common.{◌≡◌, ◌∙◌, ℕ, ◌+◌, ◌-◌, ◌*◌, ◌/◌, ◌<◌, ◌≤◌, Bool, Option, Some, None, IsSome, is_some, true, List, length, refl, sym, ap, arith}
+use Rattle.std.proofs.Common.{◌≡◌, ◌∙◌, ℕ, ◌+◌, ◌-◌, ◌*◌, ◌/◌, ◌≤◌, Bool, Option, Some, None, IsSome, is_some, true, List, refl, sym, ap, arith}
 use Rattle.std.proofs.lemmas.Bool.{false≢true}
 use Rattle.std.specs.FinMap.{get}
 use Rattle.mvs_model.specs.Place.{PlaceValue}
 use Rattle.page_map.specs.Owners.{owner_of}
 use Rattle.region_raw.specs.Pages.{IsPart, Pages}
-use Rattle.subpool_store.specs.Half.{AllHeldIn, HalfState, IsOpened, half_of, value_at}
+use Rattle.subpool_store.specs.Half.{AllHeldIn, HalfState, IsOpened, half_of}
 use Rattle.subpool_store.proofs.Exact.{holder_some}
 use Rattle.subpool_store.proofs.Methods.{all_inside}
 use Rattle.subpool_store.proofs.Opened.{part_of_assigned}

@@ -1,5 +1,5 @@
 -- What a map of bytes has once bytes were written over it.
-use Rattle.std.specs.Prelude.{◌≡◌, ℕ, ◌+◌, ◌-◌, ◌&&◌, min, List, map, Option, Some, length, is_some, nat_lt, slice_index, if◌then◌else◌}
+use Rattle.std.specs.Prelude.{◌≡◌, ℕ, ◌+◌, ◌-◌, ◌&&◌, min, List, Option, Some, length, is_some, nat_lt, slice_index, if◌then◌else◌}
 use Rattle.std.specs.Ordering.{nat_cmp}
 use Rattle.std.specs.FinMap.{FinMap, get}
 use Rattle.mvs_model.specs.Place.{PlaceValue}

@@ -1,6 +1,6 @@
 //! One region.
 
-ghost use Rattle.std.specs.Prelude.{◌≡◌, ◌<◌, ◌≤◌, ◌+◌, ◌-◌, ◌*◌, ◌/◌, ◌%◌, ◌^◌, ◌↔◌, Some, None, MatchBool, MatchOption, ℕ, length, Bool, true, false, ◌==◌, IfOk, IsSome, IsTrue, slice_index, slice_index_or, slice_set};
+ghost use Rattle.std.specs.Prelude.{◌≡◌, ◌<◌, ◌≤◌, ◌+◌, ◌-◌, ◌*◌, ◌/◌, ◌%◌, ◌^◌, ◌↔◌, ◌⊎◌, Some, None, MatchBool, MatchOption, ℕ, length, Bool, true, false, ◌==◌, IfOk, IsSome, IsTrue, slice_index, slice_index_or, slice_set};
 ghost use Rattle.std.specs.Borrow.{sem};
 ghost use Rattle.std.specs.FinMap.{get, empty};
 ghost use Rattle.mvs_model.specs.Finite.{count_below, has};
@@ -386,5 +386,22 @@ impl Half {
         let len = place.len() as usize;
         let from = (place.addr().get() - 8 * self.first) as usize;
         self.bytes.part_mut(from, len)
+    }
+
+    // Lends the bytes of one place to read, and those of another one to write.
+    pub fn two(&mut self, from: Place, to: Place) -> (&[u8], &mut [u8])
+        requires source { AllHeldIn self.old from }
+        requires target { AllHeldIn self.old to }
+        requires len { from.len ≡ to.len }
+        requires apart { (from.addr + from.len ≤ to.addr) ⊎ (to.addr + to.len ≤ from.addr) }
+        ensures* writes_back { sem 𝓛 (LendsHalf self.entry to result.1) }
+        ensures len { (length result.0.now ≡ from.len) × (length result.1.now ≡ to.len) }
+        ensures source_bytes { (k : ℕ) → k < from.len → get self.old.bytes (from.addr + k) ≡ Some (slice_index result.0.now k) }
+        ensures target_bytes { (k : ℕ) → k < to.len → get self.old.bytes (to.addr + k) ≡ Some (slice_index result.1.now k) }
+    {
+        let len = from.len() as usize;
+        let source = (from.addr().get() - 8 * self.first) as usize;
+        let target = (to.addr().get() - 8 * self.first) as usize;
+        self.bytes.two_parts(source, target, len)
     }
 }

@@ -1,6 +1,6 @@
 //! Storage of both regions.
 
-ghost use Rattle.std.specs.Prelude.{◌≡◌, ◌<◌, ◌≤◌, ◌+◌, ◌*◌, ◌/◌, ◌%◌, ◌^◌, ◌↔◌, Some, None, MatchBool, MatchOption, MatchResult, IfOk, IsTrue, List, ℕ, length, slice_get};
+ghost use Rattle.std.specs.Prelude.{◌≡◌, ◌<◌, ◌≤◌, ◌+◌, ◌*◌, ◌/◌, ◌%◌, ◌^◌, ◌↔◌, ◌⊎◌, Some, None, MatchBool, MatchOption, MatchResult, IfOk, IsTrue, List, ℕ, length, slice_get};
 ghost use Rattle.std.specs.Borrow.{sem};
 ghost use Rattle.std.specs.FinMap.{get, empty};
 ghost use Rattle.mvs_model.specs.Storage.{
@@ -275,6 +275,100 @@ impl Store {
             self.below.part_mut(place)
         } else {
             self.above.part_mut(place)
+        }
+    }
+
+    // Both places lie below.
+    fn two_below(&mut self, from: Place, to: Place) -> (&[u8], &mut [u8])
+        requires source { AllHeld self.old from }
+        requires target { AllHeld self.old to }
+        requires len { from.len ≡ to.len }
+        requires from_below { from.addr < 0x1000000 }
+        requires to_below { to.addr < 0x1000000 }
+        requires apart { (from.addr + from.len ≤ to.addr) ⊎ (to.addr + to.len ≤ from.addr) }
+        ensures* writes_back { sem 𝓛 (LendsBytes self.entry to result.1) }
+        ensures written { (w : List ℕ) → length w ≡ to.len → Puts self.old to w (written self.old to w) }
+        ensures len { (length result.0.now ≡ from.len) × (length result.1.now ≡ to.len) }
+        ensures source_bytes { (k : ℕ) → k < from.len → slice_get result.0.now k ≡ get self.old.bytes (from.addr + k) }
+        ensures target_bytes { (k : ℕ) → k < to.len → slice_get result.1.now k ≡ get self.old.bytes (to.addr + k) }
+    {
+        self.below.two(from, to)
+    }
+
+    // Both places lie above.
+    fn two_above(&mut self, from: Place, to: Place) -> (&[u8], &mut [u8])
+        requires source { AllHeld self.old from }
+        requires target { AllHeld self.old to }
+        requires len { from.len ≡ to.len }
+        requires from_above { 0x1000000 ≤ from.addr }
+        requires to_above { 0x1000000 ≤ to.addr }
+        requires apart { (from.addr + from.len ≤ to.addr) ⊎ (to.addr + to.len ≤ from.addr) }
+        ensures* writes_back { sem 𝓛 (LendsBytes self.entry to result.1) }
+        ensures written { (w : List ℕ) → length w ≡ to.len → Puts self.old to w (written self.old to w) }
+        ensures len { (length result.0.now ≡ from.len) × (length result.1.now ≡ to.len) }
+        ensures source_bytes { (k : ℕ) → k < from.len → slice_get result.0.now k ≡ get self.old.bytes (from.addr + k) }
+        ensures target_bytes { (k : ℕ) → k < to.len → slice_get result.1.now k ≡ get self.old.bytes (to.addr + k) }
+    {
+        self.above.two(from, to)
+    }
+
+    // The bytes that are read lie below, and those that are written above.
+    fn two_up(&mut self, from: Place, to: Place) -> (&[u8], &mut [u8])
+        requires source { AllHeld self.old from }
+        requires target { AllHeld self.old to }
+        requires len { from.len ≡ to.len }
+        requires from_below { from.addr < 0x1000000 }
+        requires to_above { 0x1000000 ≤ to.addr }
+        ensures* writes_back { sem 𝓛 (LendsBytes self.entry to result.1) }
+        ensures written { (w : List ℕ) → length w ≡ to.len → Puts self.old to w (written self.old to w) }
+        ensures len { (length result.0.now ≡ from.len) × (length result.1.now ≡ to.len) }
+        ensures source_bytes { (k : ℕ) → k < from.len → slice_get result.0.now k ≡ get self.old.bytes (from.addr + k) }
+        ensures target_bytes { (k : ℕ) → k < to.len → slice_get result.1.now k ≡ get self.old.bytes (to.addr + k) }
+    {
+        (self.below.part(from), self.above.part_mut(to))
+    }
+
+    // The bytes that are read lie above, and those that are written below.
+    fn two_down(&mut self, from: Place, to: Place) -> (&[u8], &mut [u8])
+        requires source { AllHeld self.old from }
+        requires target { AllHeld self.old to }
+        requires len { from.len ≡ to.len }
+        requires from_above { 0x1000000 ≤ from.addr }
+        requires to_below { to.addr < 0x1000000 }
+        ensures* writes_back { sem 𝓛 (LendsBytes self.entry to result.1) }
+        ensures written { (w : List ℕ) → length w ≡ to.len → Puts self.old to w (written self.old to w) }
+        ensures len { (length result.0.now ≡ from.len) × (length result.1.now ≡ to.len) }
+        ensures source_bytes { (k : ℕ) → k < from.len → slice_get result.0.now k ≡ get self.old.bytes (from.addr + k) }
+        ensures target_bytes { (k : ℕ) → k < to.len → slice_get result.1.now k ≡ get self.old.bytes (to.addr + k) }
+    {
+        (self.above.part(from), self.below.part_mut(to))
+    }
+
+    /// Lends the bytes of one place to read, and those of another one to write: what is written back is what the
+    /// second place has then, and all else is as before. Both are held, are of one length and have no byte in common.
+    pub fn two(&mut self, from: Place, to: Place) -> (&[u8], &mut [u8])
+        requires source { AllHeld self.old from }
+        requires target { AllHeld self.old to }
+        requires len { from.len ≡ to.len }
+        requires apart { (from.addr + from.len ≤ to.addr) ⊎ (to.addr + to.len ≤ from.addr) }
+        ensures* writes_back { sem 𝓛 (LendsBytes self.entry to result.1) }
+
+        // What the storage is once the loan is over, where `w` was left behind the second result.
+        ensures written { (w : List ℕ) → length w ≡ to.len → Puts self.old to w (written self.old to w) }
+        ensures len { (length result.0.now ≡ from.len) × (length result.1.now ≡ to.len) }
+        ensures source_bytes { (k : ℕ) → k < from.len → slice_get result.0.now k ≡ get self.old.bytes (from.addr + k) }
+        ensures target_bytes { (k : ℕ) → k < to.len → slice_get result.1.now k ≡ get self.old.bytes (to.addr + k) }
+    {
+        if from.addr().get() < 0x100_0000 {
+            if to.addr().get() < 0x100_0000 {
+                self.two_below(from, to)
+            } else {
+                self.two_up(from, to)
+            }
+        } else if to.addr().get() < 0x100_0000 {
+            self.two_down(from, to)
+        } else {
+            self.two_above(from, to)
         }
     }
 }

@@ -1,4 +1,4 @@
-use Rattle.std.proofs.Common.{◌-◌, ◌*◌, ◌<◌, ◌≤◌, arith}
+use Rattle.std.proofs.Common.{◌-◌, ◌*◌, ◌<◌, arith}
 use Rattle.subpool_store.specs.Half.{value_at}
 use Rattle.subpool_store.proofs.Methods.{half_sound, open_usable, take_half, take_changes}
 use Rattle.subpool_store.proofs.Opened.{opened_written, part_of_assigned}
