@@ -6,6 +6,7 @@ ghost use Rattle.std.specs.FinMap.{get, empty};
 ghost use Rattle.mvs_model.specs.Storage.{
   AllHeld,
   Chosen,
+  Covers,
   Grant,
   HeldBy,
   IsPageOwner,
@@ -69,6 +70,26 @@ fn is_below(place: Place) -> bool
     ensures some { 1 ≤ place.len }
 {
     u64::from(place.addr().get()) + u64::from(place.len()) <= 0x100_0000
+}
+
+// Whether the place ends at the last address or before.
+fn has_addresses(place: Place) -> bool
+    ensures within { MatchBool result (place.addr + place.len ≤ 2 ^ 31) (2 ^ 31 < place.addr + place.len) }
+    ensures some { 1 ≤ place.len }
+{
+    place.addr().get() + place.len() <= 0x8000_0000
+}
+
+// The doublewords of which a byte lies in the place, as a place.
+fn whole_doublewords(place: Place) -> Place
+    requires { place.addr + place.len ≤ 2 ^ 31 }
+    ensures whole { IsWhole result }
+    ensures same { (d : ℕ) → Covers result d ↔ Covers place d }
+{
+    let first = place.addr().get() / 8 * 8;
+    let end = place.addr().get() + place.len();
+    let len = (end - first).div_ceil(8) * 8;
+    Place::new(Addr::new(first), len)
 }
 
 // The best place in the region above, if a place may be there.
@@ -174,7 +195,7 @@ impl Store {
             (λ _. (HeldBy self.old subpool place → ⊥) × (self.new ≡ self.old)) }
         ensures storage { IsStorage self.new }
     {
-        if !self.holds(subpool, place) {
+        if !self.holds_whole(subpool, place) {
             return Err(NotHeld);
         }
         self.give(subpool, place);
@@ -190,8 +211,20 @@ impl Store {
         self.above.release_all(subpool);
     }
 
-    /// Whether the subpool holds each doubleword of a place of whole doublewords.
+    /// Whether the subpool holds each doubleword of which a byte lies in the place.
     pub fn holds(&self, subpool: SubpoolId, place: Place) -> bool
+        ensures holds { IsTrue result ↔ HeldBy self.now subpool place }
+        ensures storage { IsStorage self.now }
+    {
+        let _ = &self.fill;
+        if !has_addresses(place) {
+            return false;
+        }
+        self.holds_whole(subpool, whole_doublewords(place))
+    }
+
+    // The same of a place of whole doublewords.
+    fn holds_whole(&self, subpool: SubpoolId, place: Place) -> bool
         requires { IsWhole place }
         ensures holds { IsTrue result ↔ HeldBy self.now subpool place }
         ensures storage { IsStorage self.now }
