@@ -2,7 +2,7 @@
 
 use mvs_model::want::Placement;
 
-/// Where the script is, and where areas are placed.
+/// Where the script is, and which place a grant takes.
 #[derive(Drop)]
 pub struct Settings<'a> {
     /// The name of a file, `-` for standard input.
