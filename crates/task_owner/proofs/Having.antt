@@ -1,7 +1,7 @@
 -- Under which numbers a task may have subpools.
-use Rattle.std.proofs.Common.{◌≡◌, ℕ, ◌<◌, Bool, true, false, ◌&&◌, Option, None, ltb, arith, sym, ap, refl, ◌∙◌, ◌⊎◌, inl, inr}
+use Rattle.std.proofs.Common.{◌≡◌, ℕ, ◌<◌, true, ltb, arith, sym, ◌∙◌, inl, inr}
 use Rattle.std.proofs.lemmas.Bool.Decides.{nat_tests}
-use Rattle.mvs_model.specs.Gifts.{GiftsValue, has_bit, gives, shares}
+use Rattle.mvs_model.specs.Gifts.{GiftsValue, gives, shares}
 use Rattle.mvs_model.specs.Subpool.{is_subpool_number}
 use Rattle.task_owner.specs.Seats.{MayHave}
 use Rattle.task_owner.specs.declared.seat.Seat.{Seat}
