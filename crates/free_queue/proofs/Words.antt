@@ -64,6 +64,7 @@ module _ (old mid new : Pages) (p at k k' next n : ℕ) (e : k ≡ page_bytes * 
 
   pub two_keeps : Keeps old p new
   two_keeps = record {
+    sizes = two.sizes ∙ one.sizes;
     pages = λ q. two.pages q ∙ one.pages q;
     others = λ j other.
         two.others j (λ from. elim (cases_lt j (k' + 4)) [ inl low ↦ absurd (other (omega (arith, e', inside, from, low))) | inr past ↦ past ])

@@ -1,5 +1,5 @@
 -- The free runs of a page, and how the bytes of the page spell them. All is counted in bytes from the page's start.
-use Rattle.std.specs.Prelude.{◌≡◌, ℕ, ◌+◌, ◌*◌, ◌%◌, ◌/◌, ◌<◌, ◌≤◌, ◌⊎◌, ◌↔◌, List, [], ◌∷◌, Option, Some, None, ⊤, if◌then◌else◌, nat_lt, unwrap_or}
+use Rattle.std.specs.Prelude.{◌≡◌, ℕ, ◌+◌, ◌*◌, ◌%◌, ◌/◌, ◌<◌, ◌≤◌, ◌⊎◌, ◌↔◌, List, [], ◌∷◌, length, Option, Some, None, ⊤, if◌then◌else◌, nat_lt, unwrap_or}
 use Rattle.std.specs.Int.{from_be_bytes, w32}
 use Rattle.mvs_model.specs.Numbers.{page_bytes}
 use Rattle.region_raw.specs.Pages.{Pages, byte_of, is_open}
@@ -83,7 +83,8 @@ abbrev pub place_of : Option Run → Option (ℕ × ℕ)
 place_of None = None
 place_of (Some r) = Some (r.from, r.len)
 
--- Which pages are open is as before, and so are the bytes of all pages but p.
+-- How many pages there are and which of them are open is as before, and so are the bytes of all pages but p.
 pub record Keeps (old : Pages) (p : ℕ) (new : Pages) : Type 0 where
+  pub sizes : length new ≡ length old
   pub pages : (q : ℕ) → is_open new q ≡ is_open old q
   pub others : (k : ℕ) → (k / page_bytes ≡ p → ⊥) → byte_of new k ≡ byte_of old k
