@@ -1,5 +1,6 @@
 -- A region as a list of pages, each blank or a list of bytes, and as one row of bytes.
-use Rattle.std.specs.Prelude.{◌≡◌, ℕ, zero, suc, ◌+◌, ◌-◌, ◌/◌, ◌%◌, ◌<◌, ◌≤◌, Bool, true, false, List, [], ◌∷◌, ◌++◌, map, length, take, drop, replicate, get_or, slice_index, Option, Some, None, is_some, ⊤}
+use Rattle.std.specs.Prelude.{◌≡◌, ℕ, zero, suc, ◌+◌, ◌-◌, ◌/◌, ◌%◌, ◌<◌, ◌≤◌, Bool, true, false, List, [], ◌∷◌, ◌++◌, map, length, take, drop, replicate, get_or, slice_index, Option, Some, None, is_some, unwrap_or, ⊤}
+use Rattle.std.specs.Int.{from_be_bytes, w32}
 use Rattle.mvs_model.specs.Numbers.{page_bytes}
 use Rattle.region_raw.specs.Rows.{overlaid, run, values}
 
@@ -50,6 +51,14 @@ byte_in (Some bytes) i = Some (slice_index bytes i)
 -- the byte at an index of a region, if its page is open
 abbrev pub byte_of : Pages → ℕ → Option ℕ
 byte_of ps k = byte_in (get_or ps (k / page_bytes) None) (k % page_bytes)
+
+-- the value of the byte at an index of a region, where its page is open
+abbrev pub value_at : Pages → ℕ → ℕ
+value_at ps k = unwrap_or (byte_of ps k) 0
+
+-- the word in the four bytes from an index of a region on, the high byte first
+abbrev pub word_of : Pages → ℕ → ℕ
+word_of ps k = from_be_bytes w32 (value_at ps k ∷ value_at ps (k + 1) ∷ value_at ps (k + 2) ∷ value_at ps (k + 3) ∷ [])
 
 -- there is a byte, and each of the n bytes from an index of a region on lies in an open page
 abbrev pub IsPart : Pages → ℕ → ℕ → Type 0

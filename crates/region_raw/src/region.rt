@@ -1,9 +1,9 @@
 //! A region: a list of pages, each blank or 4096 bytes.
 ghost use Rattle.std.specs.Prelude.{◌≡◌, ◌+◌, ◌<◌, ◌≤◌, ℕ, true, List, [], ◌∷◌, Some, None, length, replicate, slice_index, slice_set, IfOk, IsOk};
 ghost use Rattle.std.specs.Borrow.{sem};
-ghost use Rattle.std.specs.Int.{from_be_bytes, to_be_bytes, w32};
+ghost use Rattle.std.specs.Int.{to_be_bytes, w32};
 ghost use Rattle.mvs_model.specs.Numbers.{page_bytes, most_pages_above};
-ghost use Rattle.region_raw.specs.Pages.{IsBlank, IsPart, Writes, byte_of, is_open, part_of, with_part};
+ghost use Rattle.region_raw.specs.Pages.{IsBlank, IsPart, Writes, byte_of, is_open, part_of, with_part, word_of};
 ghost use Rattle.region_raw.specs.Rows.{IsApart};
 
 use crate::block::Block;
@@ -87,7 +87,7 @@ impl Region {
     /// The word in the four bytes from `at` on, the high byte first.
     pub fn word(&self, at: usize) -> u32
         requires { IsPart self.now at 4 }
-        ensures { result ≡ from_be_bytes w32 (part_of self.now at 4) }
+        ensures { result ≡ word_of self.now at }
     {
         let bytes = self.part(at, 4);
         u32::from_be_bytes([bytes[0], bytes[1], bytes[2], bytes[3]])

@@ -1,5 +1,5 @@
 -- One region: which of its doublewords are held, the owners of its pages, and its bytes.
-use Rattle.std.specs.Prelude.{◌≡◌, ℕ, ◌+◌, ◌-◌, ◌*◌, ◌/◌, ◌%◌, ◌^◌, ◌<◌, ◌≤◌, ◌==◌, not, Bool, false, Option, Some, None, List, length, is_some, nat_le, slice_index_or, unwrap_or, MatchOption, IsSome, if◌then◌else◌, refl}
+use Rattle.std.specs.Prelude.{◌≡◌, ℕ, ◌+◌, ◌-◌, ◌*◌, ◌/◌, ◌%◌, ◌^◌, ◌<◌, ◌≤◌, ◌==◌, not, Bool, false, Option, Some, None, List, length, is_some, nat_le, slice_index_or, MatchOption, IsSome, if◌then◌else◌, refl}
 use Rattle.std.specs.Ordering.{nat_cmp}
 use Rattle.std.specs.FinMap.{FinMap, get, code}
 use Rattle.std.specs.Coded.{Coded, code_by, coded×, coded_ℕ}
@@ -9,6 +9,7 @@ use Rattle.mvs_model.specs.Storage.{Covers, IsLength, LiesIn, MayTake, Meets, Pa
 use Rattle.mvs_model.specs.Table.{table}
 use Rattle.mvs_model.specs.Want.{WantValue}
 use Rattle.page_map.specs.Owners.{owner_of}
+pub use Rattle.region_raw.specs.Pages.{value_at}
 use Rattle.region_raw.specs.Pages.{Pages, byte_of, is_open}
 use Rattle.subpool_store.specs.Search.{IsExact}
 
@@ -38,10 +39,6 @@ half_code =
 -- who holds each doubleword
 abbrev pub held_of : ℕ → List Bool → List (Option ℕ) → FinMap nat_cmp ℕ
 held_of first bits pages = table (first + length bits) (shifted first (cell bits pages))
-
--- the value of the byte at an index of a region, where its page is open
-abbrev pub value_at : Pages → ℕ → ℕ
-value_at bytes k = unwrap_or (byte_of bytes k) 0
 
 -- the byte at an address, where its doubleword is held
 abbrev pub byte_at : ℕ → List Bool → List (Option ℕ) → (ℕ → ℕ) → ℕ → Option ℕ

@@ -1,0 +1,188 @@
+//! The queue of the free runs of a page, which lies in the free doublewords themselves.
+//!
+//! The first doubleword of a run holds two words, the high byte first: where in the page the next run begins, and the
+//! length of this one in bytes. The runs rise, and no two touch. Here a head is a plain word; `queue` has the calls.
+#![tactic(auto)]
+
+ghost use Rattle.std.specs.Prelude.{◌≡◌, ◌%◌, ℕ, ◌+◌, ◌*◌, ◌<◌, ◌≤◌, ◌⊎◌, ◌↔◌, List, [], ◌∷◌, IsTrue, true};
+ghost use Rattle.mvs_model.specs.Numbers.{page_bytes, most_pages_above};
+ghost use Rattle.region_raw.specs.Pages.{byte_of, is_open};
+ghost use Rattle.free_queue.specs.Runs.{
+  Adds,
+  Covers,
+  Gives,
+  IsFree,
+  Keeps,
+  NoneFree,
+  Queue,
+  Run,
+  Same,
+  Takes,
+  Within,
+  end,
+  next_run,
+  page_of,
+  place_of,
+  word,
+};
+
+use region_raw::region::Region;
+
+pub mod queue;
+#[cfg(test)]
+mod tests;
+
+// The word that ends the chain of runs.
+const END: u32 = 0xFFFF_FFFF;
+
+// Where an offset of a page lies in the region.
+fn index(page: usize, at: u32) -> usize
+    requires few { page < most_pages_above }
+    requires inside { at < page_bytes }
+    ensures { result ≡ page_bytes * page + at }
+{
+    4_096 * page + at as usize
+}
+
+// Where the run behind the one at an offset begins.
+fn link(region: &Region, page: usize, at: u32) -> u32
+    requires few { page < most_pages_above }
+    requires inside { at + 8 ≤ page_bytes }
+    requires there { is_open region.now page ≡ true }
+    ensures { result ≡ word (page_of region.now page) at }
+{
+    region.word(index(page, at))
+}
+
+// The length of the run at an offset.
+fn len(region: &Region, page: usize, at: u32) -> u32
+    requires few { page < most_pages_above }
+    requires inside { at + 8 ≤ page_bytes }
+    requires there { is_open region.now page ≡ true }
+    ensures { result ≡ word (page_of region.now page) (at + 4) }
+{
+    region.word(index(page, at + 4))
+}
+
+// Writes the two words of a run.
+fn set(region: &mut Region, page: usize, at: u32, next: u32, n: u32)
+    requires few { page < most_pages_above }
+    requires inside { at + 8 ≤ page_bytes }
+    requires whole { at % 8 ≡ 0 }
+    requires there { is_open region.old page ≡ true }
+    ensures next { word (page_of region.new page) at ≡ next }
+    ensures len { word (page_of region.new page) (at + 4) ≡ n }
+    ensures same { (d : ℕ) → (d ≡ at → ⊥) → Same (page_of region.old page) (page_of region.new page) d }
+    ensures keeps { Keeps region.old page region.new }
+{
+    region.put_word(index(page, at), next);
+    region.put_word(index(page, at + 4), n);
+}
+
+// Puts what lies from one offset to another before the queue at a third one, if there is anything.
+fn put_run(region: &mut Region, page: usize, at: u32, stop: u32, next: u32) -> u32
+    requires few { page < most_pages_above }
+    requires there { is_open region.old page ≡ true }
+    requires order { at ≤ stop }
+    requires inside { stop ≤ page_bytes }
+    requires whole { (at % 8 ≡ 0) × (stop % 8 ≡ 0) }
+    ensures keeps { Keeps region.old page region.new }
+    ensures same { (d : ℕ) → (d < at) ⊎ (stop ≤ d) → Same (page_of region.old page) (page_of region.new page) d }
+    ensures queue { (rs : List Run) → Queue (stop + 1) (page_of region.old page) next rs → Adds at stop rs (page_of region.new page) result }
+{
+    if at < stop {
+        set(region, page, at, next, stop - at);
+        at
+    } else {
+        next
+    }
+}
+
+// Makes all of an open page free, and gives its head.
+fn start(region: &mut Region, page: usize) -> u32
+    requires few { page < most_pages_above }
+    requires there { is_open region.old page ≡ true }
+    ensures keeps { Keeps region.old page region.new }
+    ensures queue { Queue 0 (page_of region.new page) result (record { from = 0; len = page_bytes } ∷ []) }
+{
+    set(region, page, 0, END, 4_096);
+    0
+}
+
+// Whether all of a page is free.
+fn is_whole(region: &Region, page: usize, head: u32) -> bool
+    requires few { page < most_pages_above }
+    requires there { is_open region.now page ≡ true }
+    ensures { (rs : List Run) → Queue 0 (page_of region.now page) head rs → IsTrue result ↔ ((d : ℕ) → d < page_bytes → IsFree rs d) }
+{
+    head == 0 && len(region, page, 0) == 4_096
+}
+
+// The first free run of a page that begins at an offset or behind it: where it begins, and its length.
+fn next_free(region: &Region, page: usize, head: u32, from: u32) -> Option<(u32, u32)>
+    requires few { page < most_pages_above }
+    requires there { is_open region.now page ≡ true }
+    requires inside { from ≤ page_bytes }
+    requires queue { (rs : List Run) × Queue 0 (page_of region.now page) head rs }
+    ensures { (rs : List Run) → Queue 0 (page_of region.now page) head rs → result ≡ place_of (next_run from rs) }
+{
+    let mut at = head;
+    'runs: while at < from {
+        at = link(region, page, at);
+    }
+    if at == END {
+        None
+    } else {
+        Some((at, len(region, page, at)))
+    }
+}
+
+// Takes bytes that lie in one free run out of the queue: they are not free then.
+fn take(region: &mut Region, page: usize, head: u32, from: u32, n: u32) -> u32
+    requires few { page < most_pages_above }
+    requires there { is_open region.old page ≡ true }
+    requires some { 0 < n }
+    requires whole { (from % 8 ≡ 0) × (n % 8 ≡ 0) }
+    requires queue { (lo : ℕ) × (rs : List Run) × Queue lo (page_of region.old page) head rs × Covers rs from n }
+    ensures keeps { Keeps region.old page region.new }
+    ensures same { (lo : ℕ) (rs : List Run) → Queue lo (page_of region.old page) head rs → Covers rs from n → (d : ℕ) → (IsFree rs d → ⊥) → Same (page_of region.old page) (page_of region.new page) d }
+    ensures queue { (lo : ℕ) (rs : List Run) → Queue lo (page_of region.old page) head rs → Covers rs from n → Takes lo rs from n (page_of region.new page) result }
+{
+    let next = link(region, page, head);
+    let stop = head + len(region, page, head);
+    if stop <= from {
+        let rest = take(region, page, next, from, n);
+        put_run(region, page, head, stop, rest)
+    } else {
+        let rest = put_run(region, page, from + n, stop, next);
+        put_run(region, page, head, from, rest)
+    }
+}
+
+// Puts bytes of which none is free into the queue: they are free then, joined with what is free beside them.
+fn give(region: &mut Region, page: usize, head: u32, from: u32, n: u32) -> u32
+    requires few { page < most_pages_above }
+    requires there { is_open region.old page ≡ true }
+    requires some { 0 < n }
+    requires inside { from + n ≤ page_bytes }
+    requires whole { (from % 8 ≡ 0) × (n % 8 ≡ 0) }
+    requires queue { (lo : ℕ) × (rs : List Run) × (lo ≤ from) × Queue lo (page_of region.old page) head rs × NoneFree rs from n }
+    ensures keeps { Keeps region.old page region.new }
+    ensures same { (lo : ℕ) (rs : List Run) → lo ≤ from → Queue lo (page_of region.old page) head rs → NoneFree rs from n → (d : ℕ) → (IsFree rs d → ⊥) → (Within from n d → ⊥) → Same (page_of region.old page) (page_of region.new page) d }
+    ensures queue { (lo : ℕ) (rs : List Run) → lo ≤ from → Queue lo (page_of region.old page) head rs → NoneFree rs from n → Gives lo rs from n (page_of region.new page) result }
+{
+    let stop = from + n;
+    if stop < head {
+        return put_run(region, page, from, stop, head);
+    }
+    let next = link(region, page, head);
+    let end = head + len(region, page, head);
+    if stop == head {
+        return put_run(region, page, from, end, next);
+    }
+    if end < from {
+        let rest = give(region, page, next, from, n);
+        return put_run(region, page, head, end, rest);
+    }
+    give(region, page, next, head, stop - head)
+}

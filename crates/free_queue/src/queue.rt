@@ -1,0 +1,104 @@
+//! The calls of a page's queue of free runs. Offsets and lengths are bytes, multiples of 8, and `page` is an open page of
+//! the region.
+
+ghost use Rattle.std.specs.Prelude.{◌≡◌, ◌%◌, ℕ, ◌+◌, ◌<◌, ◌≤◌, ◌↔◌, List, [], ◌∷◌, IsTrue, true};
+ghost use Rattle.mvs_model.specs.Numbers.{page_bytes, most_pages_above};
+ghost use Rattle.region_raw.specs.Pages.{is_open};
+ghost use Rattle.free_queue.specs.Runs.{
+  Covers,
+  Gives,
+  IsFree,
+  Keeps,
+  NoneFree,
+  Queue,
+  Run,
+  Same,
+  Takes,
+  Within,
+  next_run,
+  page_of,
+  place_of,
+};
+
+use region_raw::region::Region;
+use std::marker::Model;
+
+/// The offset of a page's first free run, or none where nothing of the page is free.
+#[derive(Clone, Copy, Debug, PartialEq, Eq)]
+pub struct Head {
+    offset: u32,
+}
+
+impl Model for Head {
+    ghost use Rattle.std.specs.Prelude.{ℕ};
+
+    ghost Value = { ℕ };
+
+    ghost view = { λ head. head.offset };
+
+    ghost inverse = { λ n. record { offset = n } };
+}
+
+/// Makes all of a page free. What it holds is lost.
+pub fn start(region: &mut Region, page: usize) -> Head
+    requires few { page < most_pages_above }
+    requires there { is_open region.old page ≡ true }
+    ensures keeps { Keeps region.old page region.new }
+    ensures queue { Queue 0 (page_of region.new page) result (record { from = 0; len = page_bytes } ∷ []) }
+{
+    let offset = crate::start(region, page);
+    Head { offset }
+}
+
+/// Takes `n` bytes from an offset on, at least 8, all of them free: they are free no more. Doublewords that were not free
+/// keep their bytes, and so do all other pages.
+pub fn take(region: &mut Region, page: usize, head: Head, from: u32, n: u32) -> Head
+    requires few { page < most_pages_above }
+    requires there { is_open region.old page ≡ true }
+    requires some { 0 < n }
+    requires whole { (from % 8 ≡ 0) × (n % 8 ≡ 0) }
+    requires queue { (rs : List Run) × Queue 0 (page_of region.old page) head rs × Covers rs from n }
+    ensures keeps { Keeps region.old page region.new }
+    ensures same { (rs : List Run) → Queue 0 (page_of region.old page) head rs → Covers rs from n → (d : ℕ) → (IsFree rs d → ⊥) → Same (page_of region.old page) (page_of region.new page) d }
+    ensures queue { (rs : List Run) → Queue 0 (page_of region.old page) head rs → Covers rs from n → Takes 0 rs from n (page_of region.new page) result }
+{
+    let offset = crate::take(region, page, head.offset, from, n);
+    Head { offset }
+}
+
+/// Gives `n` bytes from an offset on, at least 8, none of them free: they are free then. Doublewords that were not free
+/// and are none of these keep their bytes, and so do all other pages.
+pub fn give(region: &mut Region, page: usize, head: Head, from: u32, n: u32) -> Head
+    requires few { page < most_pages_above }
+    requires there { is_open region.old page ≡ true }
+    requires some { 0 < n }
+    requires inside { from + n ≤ page_bytes }
+    requires whole { (from % 8 ≡ 0) × (n % 8 ≡ 0) }
+    requires queue { (rs : List Run) × Queue 0 (page_of region.old page) head rs × NoneFree rs from n }
+    ensures keeps { Keeps region.old page region.new }
+    ensures same { (rs : List Run) → Queue 0 (page_of region.old page) head rs → NoneFree rs from n → (d : ℕ) → (IsFree rs d → ⊥) → (Within from n d → ⊥) → Same (page_of region.old page) (page_of region.new page) d }
+    ensures queue { (rs : List Run) → Queue 0 (page_of region.old page) head rs → NoneFree rs from n → Gives 0 rs from n (page_of region.new page) result }
+{
+    let offset = crate::give(region, page, head.offset, from, n);
+    Head { offset }
+}
+
+/// The first free run that begins at an offset or behind it: where it begins, and its length.
+pub fn next_free(region: &Region, page: usize, head: Head, from: u32) -> Option<(u32, u32)>
+    requires few { page < most_pages_above }
+    requires there { is_open region.now page ≡ true }
+    requires inside { from ≤ page_bytes }
+    requires queue { (rs : List Run) × Queue 0 (page_of region.now page) head rs }
+    ensures { (rs : List Run) → Queue 0 (page_of region.now page) head rs → result ≡ place_of (next_run from rs) }
+{
+    crate::next_free(region, page, head.offset, from)
+}
+
+/// Whether all of a page is free.
+pub fn is_whole(region: &Region, page: usize, head: Head) -> bool
+    requires few { page < most_pages_above }
+    requires there { is_open region.now page ≡ true }
+    ensures { (rs : List Run) → Queue 0 (page_of region.now page) head rs → IsTrue result ↔ ((d : ℕ) → d < page_bytes → IsFree rs d) }
+{
+    crate::is_whole(region, page, head.offset)
+}
