@@ -10,4 +10,5 @@ pub mod Taken
 pub mod Said
 pub mod Rowed
 pub mod Stated
+pub mod LineBuffers
 pub mod Lines

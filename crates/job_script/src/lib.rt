@@ -10,6 +10,7 @@ ghost use Rattle.job_script.specs.Operations.{operation_text};
 ghost use Rattle.job_script.specs.Stated.{is_in_place, field_of, StatementReading};
 
 use crate::addresses::{is_name, name};
+pub use crate::line_buffer::{LineBuffer, Pushed};
 use crate::operations::{Operation, read_operation};
 use crate::parted::{next_word, parted};
 use crate::statement::read_operands;
@@ -23,6 +24,7 @@ mod given;
 mod items;
 mod keys;
 mod kinds;
+mod line_buffer;
 mod operations;
 mod parted;
 mod pools;

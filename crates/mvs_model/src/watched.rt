@@ -1,7 +1,7 @@
 //! Readers and writers whose failures are remembered.
 
 ghost use Rattle.std.specs.Prelude.{◌≡◌, ◌<◌, ◌≤◌, length, true, false, IfOk, OnOk, OnErr};
-ghost use Rattle.std.specs.Io.KnownBytes.{ReadConsumes, WriteAppends};
+ghost use Rattle.std.specs.Io.KnownBytes.{Keeps, ReadConsumes, WriteAppends};
 
 use std::io::{Read, Write};
 use std::marker::Model;
@@ -86,5 +86,18 @@ impl<W: Write> Watched<W> {
                 Err(Failed)
             }
         }
+    }
+
+    /// Passes on what the writer has kept back.
+    pub fn flush(&mut self) -> Result<(), Failed>
+        ensures bytes { Keeps (W.contents self.old.inner) (W.contents self.new.inner) }
+        ensures ok { OnOk result (self.new.failed ≡ self.old.failed) }
+        ensures err { OnErr result (self.new.failed ≡ true) }
+    {
+        if self.inner.flush().is_ok() {
+            return Ok(());
+        }
+        self.failed = true;
+        Err(Failed)
     }
 }

@@ -1,20 +1,24 @@
 -- What clap gives the words of the program's command.
-use Rattle.std.proofs.Common.{◌≡◌, ◌∙◌, ap, refl, codes, true, List}
-use Rattle.std.specs.Option.{unwrap_or}
+use Rattle.std.proofs.Common.{◌≡◌, ◌∙◌, sym, ap, refl, codes, true, List}
 use Rattle.clap.specs.Words.{HasMatchesOf, Text, app_of, first_of, first_value, found_of, is_simple, matches_of}
 use Rattle.clap.proofs.OnLiterals.{clap_on_literals}
 use Rattle.clap.proofs.WalkLemmas.{first_value-rows}
 use Rattle.clap.specs.declared.builder.command.Command.{Command}
+use Rattle.clap.specs.declared.builder.value_parser.ValueParser.{ValueParser}
 use Rattle.clap.specs.declared.parser.matches.ArgMatches.{ArgMatches}
-use Rattle.mvsjob.specs.CommandLine.{command, file_of}
+use Rattle.mvsjob.specs.CommandLine.{Assigns, IsLowOrHigh, command}
 
-command_is_simple : is_simple command ≡ true
+command_is_simple : (parser : ValueParser) → is_simple (command parser) ≡ true
 unfolding clap_on_literals
-command_is_simple = refl
+command_is_simple parser = refl
 
--- the script's word is among its matches
-pub file_given : (c : Command) (words : List Text) (m : ArgMatches) → app_of c ≡ command → HasMatchesOf (app_of c) words m
-    → unwrap_or (first_value (found_of m) (codes "FILE")) (codes "-") ≡ file_of words
-file_given c words m is has =
-    let rows = (has (ap is_simple is ∙ command_is_simple)).0 ∙ ap (λ a. matches_of a words) is in
-    ap (λ o. unwrap_or o (codes "-")) (first_value-rows (found_of m) (codes "FILE") ∙ ap (first_of (codes "FILE")) rows)
+-- the first values of its matches
+pub assigned : (c : Command) (words : List Text) (parser : ValueParser) (m : ArgMatches) → IsLowOrHigh parser → app_of c ≡ command parser → HasMatchesOf (app_of c) words m
+    → Assigns words (first_value (found_of m) (codes "FILE")) (first_value (found_of m) (codes "place"))
+assigned c words parser m low_or_high is has =
+    let rows = (has (ap is_simple is ∙ command_is_simple parser)).0 ∙ ap (λ a. matches_of a words) is in (
+      parser,
+      low_or_high,
+      sym (first_value-rows (found_of m) (codes "FILE") ∙ ap (first_of (codes "FILE")) rows),
+      sym (first_value-rows (found_of m) (codes "place") ∙ ap (first_of (codes "place")) rows),
+    )

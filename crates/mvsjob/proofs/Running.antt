@@ -1,7 +1,7 @@
 -- A script that is run, a line at a time.
 use Rattle.std.proofs.Common.{◌≡◌, ℕ, ◌+◌, List, [], ◌∷◌, ◌++◌, length, Option, Some, None, true, false, Ok, Err, inl, inr, ap, refl, sym, arith, subst, cond, codes}
 use Rattle.std.proofs.KnownBytes.{Appends-nil, Appends-trans}
-use Rattle.std.specs.Io.KnownBytes.{Appends}
+use Rattle.std.specs.Io.KnownBytes.{Appends, Keeps}
 use Rattle.mvs_model.specs.declared.outcome.Outcome.{Outcome}
 use Rattle.mvs_model.specs.declared.outcome.Outcome.TheVariants.{Clean, ScriptFault, SomeAbend}
 use Rattle.mvs_model.specs.declared.line.Fault.TheVariants.{OutOfPlace}
@@ -13,22 +13,10 @@ use Rattle.mvs_model.proofs.Going.{Reaches, reaches_start, reaches_next, reaches
 use Rattle.mvsjob.specs.declared.job.Stop.{Stop}
 use Rattle.job_script.specs.Lines.{line_of}
 use Rattle.mvsjob.specs.Serving.{RunsLine, stage_of}
+use Rattle.mvsjob.specs.Streams.{Progress, Printed, PrintedFront}
 use Rattle.mvsjob.specs.Writing.{AppendsFront}
 use Rattle.mvsjob.proofs.Appending.{Appends-kept}
 use Rattle.job_script.proofs.InRanges.{line_of-IsReader}
-
--- What stands between two moments of a writer is the printing of a run up to here.
-pub record Progress (start now : Option (List ℕ)) (script : List ℕ) (number : ℕ) (stage : Stage) (left : List (List ℕ)) : Type 0 where
-  pub written : List ℕ
-  pub appended : Appends start now written
-  pub reached : Reaches line_of (lines_of script) written number stage left
-
--- the whole printing, or a front of one
-abbrev pub Printed : Option (List ℕ) → Option (List ℕ) → List ℕ → Outcome → Type 0
-Printed start now script outcome = (written : List ℕ) × Appends start now written × IsPrinting line_of script written outcome
-
-abbrev pub PrintedFront : Option (List ℕ) → Option (List ℕ) → List ℕ → Type 0
-PrintedFront start now script = (written : List ℕ) × Appends start now written × IsPrintingFront line_of script written
 
 pub progress_start : (start : Option (List ℕ)) (script : List ℕ) → Progress start start script 1 Before (lines_of script)
 progress_start start script = record { written = []; appended = Appends-nil start; reached = reaches_start line_of line_of-IsReader (lines_of script) }
@@ -47,9 +35,13 @@ module _ (start now later : Option (List ℕ)) (script : List ℕ) (number : ℕ
   progress_fault new l lines e r =
       (p.written ++ r.0, Appends-trans start now later p.written r.0 p.appended r.1, reaches_fault line_of line_of-IsReader (lines_of script) p.written r.0 number old l lines (rw e at p.reached) r.2)
 
+  -- what is printed so far is a front
+  pub progress_front : Keeps now later → PrintedFront start later script
+  progress_front kept = (p.written, Appends-kept start now later p.written p.appended kept, front_so_far line_of line_of-IsReader (lines_of script) p.written number old left p.reached)
+
   -- the job stops in a line
   pub progress_stopped : (new : Stage) (l : List ℕ) (lines : List (List ℕ)) (stop : Stop) → left ≡ l ∷ lines → RunsLine now later number old (line_of l (is_before old)) new (Err stop) → PrintedFront start later script
-  progress_stopped new l lines stop e (inl kept) = (p.written, Appends-kept start now later p.written p.appended kept, front_so_far line_of line_of-IsReader (lines_of script) p.written number old left p.reached)
+  progress_stopped new l lines stop e (inl kept) = progress_front kept
   progress_stopped new l lines stop e (inr (text, inl serves, front)) = (
     p.written ++ front.0,
     Appends-trans start now later p.written front.0 p.appended front.3,

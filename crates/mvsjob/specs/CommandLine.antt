@@ -1,12 +1,29 @@
 -- What the words of the command line say, the program's name first. (this project's choice)
-use Rattle.std.specs.Prelude.{ℕ, List, codes}
-use Rattle.std.specs.Option.{unwrap_or}
-use Rattle.clap.specs.Words.{App, Text, first_of, matches_of, new_app, new_rule, with_rule}
+use Rattle.std.specs.Prelude.{◌≡◌, ℕ, List, [], ◌∷◌, codes, map, Option, Some, true}
+use Rattle.clap.specs.Words.{App, Text, first_of, matches_of, new_app, new_rule, takes, with_rule}
+use Rattle.clap.specs.Walk.{Rule}
+use Rattle.clap.specs.declared.builder.value_parser.ValueParser.{ValueParser}
+use Rattle.clap.specs.declared.builder.value_parser.ValueParser.TheVariants.{Names}
 
--- the program's command: one word, which may be left out
-abbrev pub command : App
-command = with_rule (new_app (codes "mvsjob")) (new_rule (codes "FILE"))
+-- A value has to be `low` or `high`.
+abbrev pub IsLowOrHigh : ValueParser → Type 0
+IsLowOrHigh (Names names) = map (λ name. name.now) names.now ≡ codes "low" ∷ codes "high" ∷ []
+IsLowOrHigh _ = ⊥
 
--- the word that clap gives FILE, or `-` where there is none
-abbrev pub file_of : List Text → List ℕ
-file_of words = unwrap_or (first_of (codes "FILE") (matches_of command words)) (codes "-")
+-- the option that says which place is taken
+abbrev pub place_rule : ValueParser → Rule
+place_rule parser = record (new_rule (codes "place")) { long = Some (codes "place"); parser = Some parser }
+
+-- the program's command: a word and an option, which may both be left out
+abbrev pub command : ValueParser → App
+command parser = with_rule (with_rule (new_app (codes "mvsjob")) (new_rule (codes "FILE"))) (place_rule parser)
+
+-- Of the words, clap gives these to FILE and to `--place`.
+abbrev pub Assigns : List Text → Option Text → Option Text → Type 0
+Assigns words file place = (parser : ValueParser) × IsLowOrHigh parser
+    × (first_of (codes "FILE") (matches_of (command parser) words) ≡ file)
+    × (first_of (codes "place") (matches_of (command parser) words) ≡ place)
+
+-- Clap takes the words.
+abbrev pub IsTaken : List Text → Type 0
+IsTaken words = (parser : ValueParser) → IsLowOrHigh parser → takes (command parser) words ≡ true

@@ -1,13 +1,15 @@
 //! The words of the command line, which `clap` reads.
 
-ghost use Rattle.std.specs.Prelude.{◌≡◌, IfOk, IfErr, codes, map, string_bytes, true};
+ghost use Rattle.std.specs.Prelude.{◌≡◌, ◌↔◌, ℕ, List, Option, Some, IfOk, IfErr, codes, map, string_bytes};
 ghost use Rattle.std.specs.Option.{unwrap_or};
-ghost use Rattle.clap.specs.Words.{app_of, first_value, found_of, kind_of, takes};
+ghost use Rattle.clap.specs.Words.{app_of, first_value, found_of, kind_of};
+ghost use Rattle.clap.specs.declared.builder.value_parser.ValueParser.{ValueParser};
 ghost use Rattle.clap.specs.declared.error.kind.ErrorKind.TheVariants.{OutOfMemory};
-ghost use Rattle.mvsjob.specs.CommandLine.{command, file_of};
+ghost use Rattle.mvsjob.specs.CommandLine.{Assigns, IsLowOrHigh, IsTaken, command};
 
 use crate::choices::Settings;
 use clap::{Arg, ArgMatches, Command};
+use mvs_model::want::Placement;
 use std::alloc::{AllocError, Global};
 
 const ABOUT: &str =
@@ -21,15 +23,23 @@ const STATUSES: &str = "Exit status:
 
 The script's language is described in docs/SCRIPT.md.";
 
-// The command: one word that may be left out.
+/// The values of the option `--place`.
+static PLACES: [&str; 2] = ["low", "high"];
+
+// The command: a word and an option, which may both be left out.
 fn command<'a>(alloc: Global) -> Result<Command<'a>, AllocError>
-    ensures { IfOk result (λ c. app_of c ≡ command) }
+    ensures { IfOk result (λ c. (parser : ValueParser) × IsLowOrHigh parser × (app_of c ≡ command parser)) }
 {
     let file = Arg::new(alloc, "FILE").help("The script; standard input where it is left out or -");
+    let place = Arg::new(alloc, "place")
+        .long("place")
+        .value_parser(PLACES.as_slice())
+        .help("Which of the places that serve a request is taken; low where it is left out");
     Command::new(alloc, "mvsjob")
         .about(ABOUT)
         .after_help(STATUSES)
-        .arg(file)
+        .arg(file)?
+        .arg(place)
 }
 
 // The word for the script.
@@ -42,17 +52,29 @@ fn file<'a>(matches: &ArgMatches<'a>) -> &'a str
     }
 }
 
+// Which place is taken.
+fn placement(matches: &ArgMatches<'_>) -> Placement
+    ensures { result ≡ Placement.High ↔ first_value (found_of matches.now) (codes "place") ≡ Some (codes "high") }
+{
+    match matches.get_str("place") {
+        Some(place) if place == "high" => Placement::High,
+        _ => Placement::Low,
+    }
+}
+
 /// Reads the words of a command line, the program's name first. An error is what `clap` has to say of them, a text for the user
 /// (where it is the help that the words ask for, `use_stderr` is false), or want of memory.
 pub fn settings<'a>(alloc: Global, words: &'a [String]) -> Result<Settings<'a>, clap::Error>
     // What clap assigns the words to.
-    ensures file { IfOk result (λ s. s.file.now ≡ file_of (map string_bytes words.entry.now)) }
+    ensures ok { IfOk result (λ s. (file : Option (List ℕ)) × (place : Option (List ℕ)) × Assigns (map string_bytes words.entry.now) file place
+        × (s.file.now ≡ unwrap_or file (codes "-")) × (s.placement ≡ Placement.High ↔ place ≡ Some (codes "high"))) }
     // Words that clap takes are refused for want of memory alone.
-    ensures refused { IfErr result (λ error. takes command (map string_bytes words.entry.now) ≡ true → kind_of error ≡ OutOfMemory) }
+    ensures refused { IfErr result (λ error. IsTaken (map string_bytes words.entry.now) → kind_of error ≡ OutOfMemory) }
 {
     let matches = command(alloc)?.try_get_matches_from(words)?;
     Ok(Settings {
         file: file(&matches),
+        placement: placement(&matches),
     })
 }
 

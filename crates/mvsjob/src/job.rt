@@ -108,7 +108,7 @@ fn run_statement<W: Write>(
 }
 
 /// Runs one line, and answers whether the job goes on after it.
-fn run_line<W: Write>(
+pub fn run_line<W: Write>(
     stage: &mut Option<Job>,
     alloc: Global,
     placement: Placement,
@@ -139,36 +139,8 @@ fn run_line<W: Write>(
     }
 }
 
-// Where the first line ends: at its line feed, or at the end.
-fn line_end(text: &[u8]) -> usize
-    ensures within { result ≤ length text.now }
-    ensures before { (k : ℕ) → k < result → slice_index text.now k ≢ 10 }
-    ensures found { result < length text.now → slice_index text.now result ≡ 10 }
-{
-    for (i, byte) in text.iter().enumerate() {
-        if *byte == b'\n' {
-            return i;
-        }
-    }
-    text.len()
-}
-
-// The first line, and what follows it.
-fn next_line(text: &[u8]) -> (&[u8], &[u8])
-    requires { 0 < length text.now }
-    ensures lines { lines_of text.now ≡ result.0.now ∷ lines_of result.1.now }
-    ensures less { length result.1.now < length text.now }
-{
-    let end = line_end(text);
-    if end < text.len() {
-        (&text[..end], &text[end + 1..])
-    } else {
-        (text, &[])
-    }
-}
-
-// Prints the end of a job that has no more lines, and answers how it ends.
-fn close<W: Write>(
+/// Prints the end of a job that has no more lines, and answers how it ends.
+pub fn close<W: Write>(
     stage: &Option<Job>,
     number: u32,
     writer: &mut Watched<W>,
@@ -194,32 +166,4 @@ fn close<W: Write>(
             }
         }
     }
-}
-
-/// Runs a whole script.
-pub fn run_script<W: Write>(
-    alloc: Global,
-    placement: Placement,
-    script: &[u8],
-    writer: &mut Watched<W>,
-) -> Result<Outcome, Stop>
-    requires { length script.now < 2 ^ 24 }
-    ensures bytes { MatchResult result
-        (λ outcome. (written : List ℕ) × Appends (W.contents writer.old.inner) (W.contents writer.new.inner) written × IsPrinting line_of script.now written outcome)
-        (λ _. (written : List ℕ) × Appends (W.contents writer.old.inner) (W.contents writer.new.inner) written × IsPrintingFront line_of script.now written) }
-    ensures ok { OnOk result (writer.new.failed ≡ writer.old.failed) }
-    ensures write { IsErrOf result Stop.Write → writer.new.failed ≡ true }
-{
-    let mut stage = None;
-    let mut number = 1u32;
-    let mut rest = script;
-    while !rest.is_empty() {
-        let (line, after) = next_line(rest);
-        if !run_line(&mut stage, alloc, placement, number, line, writer)? {
-            return Ok(Outcome::ScriptFault);
-        }
-        rest = after;
-        number += 1;
-    }
-    Ok(close(&stage, number, writer)?)
 }

@@ -13,6 +13,7 @@ mod reports;
 mod resolve;
 mod run;
 mod serve;
+mod stream;
 mod text;
 
 use choices::Settings;
@@ -53,13 +54,17 @@ fn status_of(outcome: Outcome) -> u8
 }
 
 // Runs the script that a reader tells, and flushes what it printed. A flush that fails is a write that failed.
-fn run_from<R: Read + Drop>(rt: &HostRuntime, reader: R) -> Result<Outcome, RunFault> {
+fn run_from<R: Read + Drop>(
+    rt: &HostRuntime,
+    reader: R,
+    placement: Placement,
+) -> Result<Outcome, RunFault> {
     let Ok(writer) = BufWriter::new(rt.alloc(), io::writer(rt)) else {
         return Err(RunFault::Memory);
     };
     let mut reader = Watched::new(reader);
     let mut writer = Watched::new(writer);
-    let ended = run_job(rt.alloc(), &mut reader, &mut writer, Placement::Low);
+    let ended = run_job(rt.alloc(), &mut reader, &mut writer, placement);
     let mut writer = writer.into_inner();
     match writer.flush() {
         Ok(()) => ended,
@@ -73,16 +78,19 @@ fn run_from<R: Read + Drop>(rt: &HostRuntime, reader: R) -> Result<Outcome, RunF
 // Runs the script that the words name.
 fn run_named(rt: &HostRuntime, settings: &Settings<'_>) -> Result<Outcome, GiveUp> {
     if settings.file == "-" {
-        return Ok(run_from(rt, rt.stdin())?);
+        return Ok(run_from(rt, rt.stdin(), settings.placement)?);
     }
     let Ok(script) = File::open(rt, settings.file) else {
         return Err(GiveUp::Script);
     };
-    Ok(run_from(rt, script)?)
+    Ok(run_from(rt, script, settings.placement)?)
 }
 
 // Prints what `clap` says of the words, and answers the exit status.
 fn explain(rt: &HostRuntime, error: &clap::Error) -> Result<u8, GiveUp> {
+    if error.kind() == clap::error::ErrorKind::OutOfMemory {
+        return Err(GiveUp::Job(RunFault::Memory));
+    }
     match error.print(rt) {
         Ok(()) if error.use_stderr() => Ok(GAVE_UP),
         Ok(()) => Ok(0),

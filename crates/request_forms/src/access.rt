@@ -18,6 +18,7 @@ ghost use Rattle.request_forms.specs.Access.{Copied};
 ghost use Rattle.request_forms.specs.Machine.{IsStepStorage, machine_state};
 
 use crate::machine::Machine;
+use crate::release::is_outside_pools;
 use cell_pool::Pools;
 use mvs_model::bounded::{MoveLength, ShowLength};
 use mvs_model::code::Code;
@@ -40,7 +41,7 @@ fn readable_end(store: &Store, pools: &Pools, addr: Addr) -> Option<u32>
         return None;
     };
     let first = addr.get() / 8 * 8;
-    if pools.touches(store, subpool, Place::new(Addr::new(first), 8)) {
+    if !is_outside_pools(store, pools, subpool, Place::new(Addr::new(first), 8)) {
         return None;
     }
     Some(first + 8)
@@ -63,7 +64,7 @@ fn is_plain(store: &Store, pools: &Pools, place: Place) -> bool
     if !store.holds(subpool, whole) {
         return false;
     }
-    !pools.touches(store, subpool, whole)
+    is_outside_pools(store, pools, subpool, whole)
 }
 
 // Whether each byte of a place may be read and written.

@@ -11,11 +11,11 @@ fn words(alloc: Global, given: &[&str]) -> Result<Vec<String>, Fail> {
     Ok(words)
 }
 
-// The script that these words name.
-fn is_file(rt: &HostRuntime, given: &[&str], file: &str) -> Result<bool, Fail> {
+// Whether these words ask for this.
+fn asks(rt: &HostRuntime, given: &[&str], file: &str, placement: Placement) -> Result<bool, Fail> {
     let words = words(rt.alloc(), given)?;
     let settings = settings(rt.alloc(), &words)?;
-    Ok(settings.file == file)
+    Ok(settings.file == file && settings.placement == placement)
 }
 
 // Whether these words are refused, by a text for this stream.
@@ -29,10 +29,13 @@ fn is_refused(rt: &HostRuntime, given: &[&str], stderr: bool) -> Result<bool, Fa
 
 #[test]
 fn settings_always_refuses(rt: HostRuntime) -> Result<(), Fail> {
-    assert!(rt; is_file(&rt, &[], "-")?);
-    assert!(rt; is_file(&rt, &["-"], "-")?);
-    assert!(rt; is_file(&rt, &["first.job"], "first.job")?);
-    assert!(rt; is_file(&rt, &["--", "--help"], "--help")?);
+    assert!(rt; asks(&rt, &[], "-", Placement::Low)?);
+    assert!(rt; asks(&rt, &["-"], "-", Placement::Low)?);
+    assert!(rt; asks(&rt, &["first.job"], "first.job", Placement::Low)?);
+    assert!(rt; asks(&rt, &["--", "--help"], "--help", Placement::Low)?);
+    assert!(rt; asks(&rt, &["--place", "low", "A"], "A", Placement::Low)?);
+    assert!(rt; asks(&rt, &["A", "--place=high"], "A", Placement::High)?);
+    assert!(rt; asks(&rt, &["--place", "high"], "-", Placement::High)?);
     Ok(())
 }
 
@@ -40,6 +43,9 @@ fn settings_always_refuses(rt: HostRuntime) -> Result<(), Fail> {
 fn words_that_are_refused(rt: HostRuntime) -> Result<(), Fail> {
     assert!(rt; is_refused(&rt, &["A", "B"], true)?);
     assert!(rt; is_refused(&rt, &["--bogus"], true)?);
+    assert!(rt; is_refused(&rt, &["--place", "mid"], true)?);
+    assert!(rt; is_refused(&rt, &["--place", "HIGH"], true)?);
+    assert!(rt; is_refused(&rt, &["--place"], true)?);
     assert!(rt; is_refused(&rt, &["--help"], false)?);
     Ok(())
 }

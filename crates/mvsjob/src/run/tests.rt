@@ -1,5 +1,4 @@
 mod codes;
-mod examples;
 mod lists;
 mod places;
 mod pools;
@@ -69,12 +68,67 @@ impl Write for Narrow {
     }
 }
 
-// Runs a script from memory, and answers the outcome and whether this was printed.
-fn run(rt: &HostRuntime, script: &[u8], printed: &[u8]) -> Result<(Outcome, bool), RunFault> {
-    let mut reader = Watched::new(script);
+/// A reader that gives one byte, then two, and so on up to so many, then one again.
+#[derive(Drop)]
+struct Pieces<'a> {
+    rest: &'a [u8],
+    next: usize,
+    most: usize,
+}
+
+impl Read for Pieces<'_> {
+    fn read(&mut self, buf: &mut [u8]) -> io::Result<usize> {
+        let count = self.next.min(buf.len()).min(self.rest.len());
+        buf[..count].copy_from_slice(&self.rest[..count]);
+        self.rest = &self.rest[count..];
+        self.next = if self.next < self.most {
+            self.next + 1
+        } else {
+            1
+        };
+        Ok(count)
+    }
+}
+
+/// A reader that fails where another has no more bytes.
+#[derive(Drop)]
+struct Failing<'a>(Pieces<'a>);
+
+impl Read for Failing<'_> {
+    fn read(&mut self, buf: &mut [u8]) -> io::Result<usize> {
+        if self.0.rest.is_empty() {
+            return Err(Error::from(ErrorKind::Other));
+        }
+        self.0.read(buf)
+    }
+}
+
+// Runs the script of a reader, and answers the outcome and whether this was printed.
+fn run_from<R: Read + Drop>(
+    rt: &HostRuntime,
+    reader: R,
+    printed: &[u8],
+) -> Result<(Outcome, bool), RunFault> {
+    let mut reader = Watched::new(reader);
     let mut writer = Watched::new(Vec::new(rt.alloc()));
     let outcome = run_job(rt.alloc(), &mut reader, &mut writer, Placement::Low)?;
     Ok((outcome, writer.into_inner().as_slice() == printed))
+}
+
+// Runs a script from memory, a byte a call, and one to seven bytes by turns, and answers the outcome and whether this was
+// printed each time.
+fn run(rt: &HostRuntime, script: &[u8], printed: &[u8]) -> Result<(Outcome, bool), RunFault> {
+    let (outcome, is_printed) = run_from(rt, script, printed)?;
+    let mut same = is_printed;
+    for most in [1, 7] {
+        let pieces = Pieces {
+            rest: script,
+            next: 1,
+            most,
+        };
+        same &= run_from(rt, pieces, printed)? == (outcome, true);
+    }
+    Ok((outcome, same))
 }
 
 // The outcome of a job by its last line.
@@ -172,7 +226,7 @@ fn each_failing_read_is_a_read_fault(rt: HostRuntime) -> Result<(), Fail> {
         let ended = run_job(rt.alloc(), &mut reader, &mut writer, Placement::Low);
         assert!(rt; ended == Err(RunFault::Read));
         assert!(rt; reader.failed());
-        assert!(rt; writer.into_inner().is_empty());
+        assert!(rt; FIRST_PRINTED.starts_with(writer.into_inner().as_slice()));
     }
     Ok(())
 }
@@ -193,5 +247,27 @@ fn each_failing_write_leaves_a_front(rt: HostRuntime) -> Result<(), Fail> {
             assert!(rt; writer.into_inner().bytes.as_slice() == &FIRST_PRINTED[..calls]);
         }
     }
+    Ok(())
+}
+
+// A reader whose next call behind the 256th byte of a line would fail: the job has ended before.
+#[test]
+fn no_read_behind_a_fault(rt: HostRuntime) -> Result<(), Fail> {
+    let mut script = Vec::new(rt.alloc());
+    script.extend_from_slice(FIRST)?;
+    for _ in 0..256 {
+        script.push(b'*')?;
+    }
+    let mut reader = Watched::new(Failing(Pieces {
+        rest: script.as_slice(),
+        next: 1,
+        most: 1,
+    }));
+    let mut writer = Watched::new(Vec::new(rt.alloc()));
+    let ended = run_job(rt.alloc(), &mut reader, &mut writer, Placement::Low);
+    assert!(rt; ended == Ok(Outcome::ScriptFault));
+    let printed =
+        b"1 JOB REGION BELOW 1 ABOVE 0\n2 JOB RC 0\n3 JOB AT 00006000\n4 JS01\nJOB FAULT RC 12\n";
+    assert!(rt; writer.into_inner().as_slice() == printed.as_slice());
     Ok(())
 }

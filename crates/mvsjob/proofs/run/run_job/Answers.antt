@@ -1,22 +1,62 @@
-use Rattle.std.proofs.Common.{◌∙◌, [], sym}
+use Rattle.std.proofs.Common.{◌≡◌, ◌∙◌, ◌++◌, sym, ap, Ok, Err, refl, length, arith}
+use Rattle.std.proofs.lemmas.Grind.{common_steps}
 use Rattle.std.proofs.lemmas.Result.{err_from_is_err_and}
-use Rattle.std.proofs.KnownBytes.{Appends-nil}
-use Rattle.mvs_model.specs.Lines.{lines_of}
-use Rattle.mvs_model.specs.Runs.{Before}
+use Rattle.std.specs.Io.KnownBytes.{Consumes}
+use Rattle.mvs_model.specs.Runs.{IsPrinting}
+use Rattle.mvs_model.specs.Labels.{IsLabelText}
+use Rattle.mvs_model.specs.Tidy.{Tidy, IsPrintingInFull}
 use Rattle.job_script.specs.Lines.{line_of}
-use Rattle.job_script.proofs.InRanges.{line_of-IsReader}
-use Rattle.mvs_model.proofs.TidySteps.{tidy_text}
-use Rattle.mvs_model.proofs.Going.{front_so_far, reaches_start}
+use Rattle.mvsjob.specs.Streams.{HasEnded, HasGivenUp}
+use Rattle.mvsjob.specs.Writing.{Exchanges}
+use Rattle.mvsjob.proofs.Feeding.{under_way_start, given_up, given_up_within, ended_within, ended_tidy, if_ok, if_err}
 use Rattle.mvsjob.proofs.run.run_job.Goals as goal
 
-pub returns-in_err-script-clause-fault : goal.returns-in_err-script-clause-fault
-returns-in_err-script-clause-fault g c =
+pub reading-init : goal.reading-init
+reading-init g c = record {
+  under_way = under_way_start _ _ _ _ _ c.new-stream.ensures.number c.new-stream.ensures.stage c.new-stream.ensures.line;
+  room = let e : length c.new-stream.result.line ≡ 0 = ap length c.new-stream.ensures.line in omega arith;
+  number = omega arith;
+  small = omega arith;
+  reader = refl;
+  writer = refl;
+}
+
+pub reading-preserved : goal.reading-preserved
+reading-preserved g c =
+    let on = c.in_ok-told.ensures.on c.in-On.told (ap (λ x. Ok x) c.in-On.is) in
+    record {
+      under_way = rw (c.in-On.is) at (c.in_ok-told.ensures.turn _ _ _ c.reading.invariant.under_way);
+      room = on.3;
+      number = omega (arith, on.2);
+      small = grind (arith, common_steps);
+      reader = c.in_ok-told.ensures.healthy.0 ∙ c.reading.invariant.reader;
+      writer = c.in_ok-told.ensures.healthy.1 ∙ c.reading.invariant.writer;
+    }
+
+pub returns-in_err-told-clause-fault : goal.returns-in_err-told-clause-fault
+returns-in_err-told-clause-fault g c =
     let p = err_from_is_err_and c.from_residual.result c.from_residual.ensures.1 in
-    let b = c.in_err-script.ensures.bytes in
-    rw (p.1) (b.0, [], b.1, Appends-nil _, (b.2, front_so_far line_of line_of-IsReader (lines_of b.0) [] 1 Before (lines_of b.0) (reaches_start line_of line_of-IsReader (lines_of b.0)), λ e. b.3 (sym p.2 ∙ e)))
+    rw (p.1) (given_up _ _ _ _ 16777215 _ p.0 (c.in_err-told.ensures.turn _ _ _ c.reading.invariant.under_way) (grind (arith, common_steps)) (λ e. c.in_err-told.ensures.not_long (ap (λ x. Err x) (sym p.2 ∙ e))))
+
+pub returns-in-Ended-clause-ok : goal.returns-in-Ended-clause-ok
+returns-in-Ended-clause-ok g c = ended_within _ _ _ _ _ c.in-Ended.outcome (rw (c.in-Ended.is) at (c.in_ok-told.ensures.turn _ _ _ c.reading.invariant.under_way)) (grind (arith, common_steps))
 
 -- of a tidy script in full it is the label machine's text
-pub returns-in-Ok-clause-tidy : goal.returns-in-Ok-clause-tidy
-returns-in-Ok-clause-tidy g c =
-    let b = c.in-Ok.ensures.bytes in
-    (c.in_ok-script.script.items, b.0, c.in_ok-script.ensures.bytes.0, b.1, (rw c.as_slice.ensures.value at b.2, λ tidy full. tidy_text line_of c.in_ok-script.script.items b.0 c.in-Ok.outcome line_of-IsReader tidy full))
+pub returns-in-Ended-clause-tidy : goal.returns-in-Ended-clause-tidy
+returns-in-Ended-clause-tidy g c = ended_tidy _ _ _ _ _ c.in-Ended.outcome (rw (c.in-Ended.is) at (c.in_ok-told.ensures.turn _ _ _ c.reading.invariant.under_way))
+
+pub returns-clause-ok : goal.returns-clause-ok
+returns-clause-ok g c =
+    if_ok c.last_turn.result _ (λ o. HasEnded (g.R.Read.remaining c.args.reader.now.inner) (g.R.Read.remaining c.last_turn.new.reader.inner) (g.W.Write.contents c.args.writer.now.inner) (g.W.Write.contents c.last_turn.new.writer.inner) 16777215 o) _
+    (c.last_turn.ensures.turn _ _ _ c.reading.invariant.under_way) (λ o h. ended_within _ _ _ _ _ o h (omega (arith, c.reading.invariant.small)))
+
+pub returns-clause-tidy : goal.returns-clause-tidy
+returns-clause-tidy g c =
+    if_ok c.last_turn.result _ (λ o. Exchanges (g.R.Read.remaining c.args.reader.now.inner) (g.R.Read.remaining c.last_turn.new.reader.inner) (g.W.Write.contents c.args.writer.now.inner) (g.W.Write.contents c.last_turn.new.writer.inner)
+    (λ told written. IsPrinting line_of told written o × (Tidy line_of told → IsPrintingInFull line_of told written o → IsLabelText line_of told written))) _
+    (c.last_turn.ensures.turn _ _ _ c.reading.invariant.under_way) (λ o h. ended_tidy _ _ _ _ _ o h)
+
+pub returns-clause-fault : goal.returns-clause-fault
+returns-clause-fault g c =
+    if_err c.last_turn.result _ _ (λ fault. HasGivenUp (g.R.Read.remaining c.args.reader.now.inner) (g.R.Read.remaining c.last_turn.new.reader.inner) (g.W.Write.contents c.args.writer.now.inner) (g.W.Write.contents c.last_turn.new.writer.inner) 16777215 fault)
+    (c.last_turn.ensures.turn _ _ _ c.reading.invariant.under_way) (λ fault h. given_up_within _ _ _ _ _ fault h (omega (arith, c.reading.invariant.small)))
