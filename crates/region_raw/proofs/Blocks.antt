@@ -32,11 +32,11 @@ use Rattle.region_raw.specs.declared.raw.Right.{Right}
 use Rattle.region_raw.specs.contracts.raw.Start as B
 use Rattle.region_raw.specs.contracts.raw.RawBytes as C
 use Rattle.region_raw.specs.contracts.raw.Right as R
-use Rattle.region_raw.proofs.Starts.{Bs, word}
-use Rattle.region_raw.proofs.LendTwo.{Cr, Mark}
+use Rattle.region_raw.proofs.Starts.{StartRow, word}
+use Rattle.region_raw.proofs.LendTwo.{BytesRow, NoFields}
 
-abbrev pub Rr : RattleType
-Rr = R.the_row
+abbrev pub RightRow : RattleType
+RightRow = R.the_row
 
 -- the data fields of the right, of which there is none
 abbrev pub Seal : RattleType
@@ -47,7 +47,7 @@ abbrev pub bare : Val
 bare = vstruct vnil
 
 abbrev pub Made : List RattleType
-Made = Bs ∷ Cr ∷ Rr ∷ []
+Made = StartRow ∷ BytesRow ∷ RightRow ∷ []
 
 abbrev pub made_val : Start → Val
 made_val x = vstruct (vcons (word x) (vcons bare (vcons bare vnil)))
@@ -58,7 +58,7 @@ module _ {M : Type 1} {𝓤 : Ura M} (𝓛 : Logic 𝓤) where
   -- the pointer, the bytes and the right, as one value
   pub made : (x : Start) (d : RawBytes) (r : Right) → ent 𝓤 (sep 𝓤 (sem 𝓛 (owned d.at d.bytes)) (sem 𝓛 (to_be_freed r.at r.len))) (sem 𝓛 ((Tuple Made).own_val (x, d, r) (made_val x ∷ [])))
   made x d r = qed 𝓛 (‵ (owned d.at d.bytes) ∷ ‵ (to_be_freed r.at r.len) ∷ []) ∵
-      owns_it ! Mark (Is Mark) (Struct-Makes 𝓛 (Owning.shape C.the_type) tt) tt (bare ∷ []) (tt, (refl, tt)) $ fjoin ! $ move ! (1 ∷ []) $
+      owns_it ! NoFields (Is NoFields) (Struct-Makes 𝓛 (Owning.shape C.the_type) tt) tt (bare ∷ []) (tt, (refl, tt)) $ fjoin ! $ move ! (1 ∷ []) $
       owns_it ! Seal (Is Seal) (Struct-Makes 𝓛 (Owning.shape R.the_type) tt) tt (bare ∷ []) (tt, (refl, tt)) $ fjoin ! $
       nothing ! $ move ! (1 ∷ 0 ∷ []) $ fjoin ! $ move ! (1 ∷ 0 ∷ []) $ fjoin ! $
       nothing ! $ feq_i ! (List Val) (ptr_val x.ptr ∷ []) (ptr_val x.ptr ∷ []) refl $ fjoin ! $ feq_i ! (List Val) (word x ∷ []) (word x ∷ []) refl $ fjoin ! $

@@ -47,15 +47,15 @@ pub single_set : (cs : Bytes) (i x : ℕ) → i < length cs → take i cs ++ (So
 single_set cs i x lt = let next : i + 1 ≡ suc i = omega arith in ap (λ k. take i cs ++ Some x ∷ drop k cs) next ∙ sym (set_split cs i (Some x) lt)
 
 module _ {M : Type 1} {𝓤 : Ura M} (𝓛 : Logic 𝓤) (b : ℕ) where
-  cut : (xs ys : Bytes) (o at : ℕ) → at ≡ o + length xs → ent 𝓤 (sem 𝓛 (row b o (xs ++ ys))) (sep 𝓤 (sem 𝓛 (row b o xs)) (sem 𝓛 (row b at ys)))
-  cut [] ys o at e = let same : o ≡ at = omega arith in qed 𝓛 (‵ (row b o ys) ∷ []) ∵ rewrite ! 0 (λ (k : ℕ). ‵ (row b k ys)) same refl $ nothing ! $ done !
-  cut (x ∷ xs) ys o at e = let next : at ≡ (o + 1) + length xs = omega arith in qed 𝓛 (‵ (row b o (x ∷ xs ++ ys)) ∷ []) ∵ fsplit ! $ move ! (1 ∷ []) $
-      use1 𝓛 (‵ (row b (o + 1) xs) ⊛ ‵ (row b at ys)) (cut xs ys (o + 1) at next) $ split ! $ move ! (2 ∷ 0 ∷ []) $ fjoin ! $ done !
+  split_row : (xs ys : Bytes) (o at : ℕ) → at ≡ o + length xs → ent 𝓤 (sem 𝓛 (row b o (xs ++ ys))) (sep 𝓤 (sem 𝓛 (row b o xs)) (sem 𝓛 (row b at ys)))
+  split_row [] ys o at e = let same : o ≡ at = omega arith in qed 𝓛 (‵ (row b o ys) ∷ []) ∵ rewrite ! 0 (λ (k : ℕ). ‵ (row b k ys)) same refl $ nothing ! $ done !
+  split_row (x ∷ xs) ys o at e = let next : at ≡ (o + 1) + length xs = omega arith in qed 𝓛 (‵ (row b o (x ∷ xs ++ ys)) ∷ []) ∵ fsplit ! $ move ! (1 ∷ []) $
+      use1 𝓛 (‵ (row b (o + 1) xs) ⊛ ‵ (row b at ys)) (split_row xs ys (o + 1) at next) $ split ! $ move ! (2 ∷ 0 ∷ []) $ fjoin ! $ done !
 
-  glue : (xs ys : Bytes) (o at : ℕ) → at ≡ o + length xs → ent 𝓤 (sep 𝓤 (sem 𝓛 (row b o xs)) (sem 𝓛 (row b at ys))) (sem 𝓛 (row b o (xs ++ ys)))
-  glue [] ys o at e = let same : at ≡ o = omega arith in qed 𝓛 (‵ ftrue ∷ ‵ (row b at ys) ∷ []) ∵ skip ! $ rewrite ! 0 (λ (k : ℕ). ‵ (row b k ys)) same refl $ done !
-  glue (x ∷ xs) ys o at e = let next : at ≡ (o + 1) + length xs = omega arith in qed 𝓛 (‵ (row b o (x ∷ xs)) ∷ ‵ (row b at ys) ∷ []) ∵ fsplit ! $ move ! (1 ∷ 2 ∷ []) $
-      use2 𝓛 (‵ (row b (o + 1) (xs ++ ys))) (glue xs ys (o + 1) at next) $ move ! (1 ∷ 0 ∷ []) $ fjoin ! $ done !
+  join_rows : (xs ys : Bytes) (o at : ℕ) → at ≡ o + length xs → ent 𝓤 (sep 𝓤 (sem 𝓛 (row b o xs)) (sem 𝓛 (row b at ys))) (sem 𝓛 (row b o (xs ++ ys)))
+  join_rows [] ys o at e = let same : at ≡ o = omega arith in qed 𝓛 (‵ ftrue ∷ ‵ (row b at ys) ∷ []) ∵ skip ! $ rewrite ! 0 (λ (k : ℕ). ‵ (row b k ys)) same refl $ done !
+  join_rows (x ∷ xs) ys o at e = let next : at ≡ (o + 1) + length xs = omega arith in qed 𝓛 (‵ (row b o (x ∷ xs)) ∷ ‵ (row b at ys) ∷ []) ∵ fsplit ! $ move ! (1 ∷ 2 ∷ []) $
+      use2 𝓛 (‵ (row b (o + 1) (xs ++ ys))) (join_rows xs ys (o + 1) at next) $ move ! (1 ∷ 0 ∷ []) $ fjoin ! $ done !
 
   -- a row of values, as the elements of a slice
   pub to_cells : (xs : List ℕ) (o : ℕ) → ent 𝓤 (sem 𝓛 (row b o (map Some xs))) (sem 𝓛 (cells (mem u8) xs b o))
@@ -82,15 +82,15 @@ module _ {M : Type 1} {𝓤 : Ura M} (𝓛 : Logic 𝓤) (b : ℕ) where
     -- a run is taken out
     pub out : ent 𝓤 (sem 𝓛 (row b o cs)) (sep 𝓤 (sem 𝓛 (row b (o + at) Run)) (sep 𝓤 (sem 𝓛 (row b o (take at cs))) (sem 𝓛 (row b ((o + at) + n) (drop (at + n) cs)))))
     out = qed 𝓛 (‵ (row b o cs) ∷ []) ∵ rewrite ! 0 (λ (l : Bytes). ‵ (row b o l)) parts refl $
-        use1 𝓛 (‵ (row b o (take at cs)) ⊛ ‵ (row b (o + at) (Run ++ drop (at + n) cs))) (cut (take at cs) (Run ++ drop (at + n) cs) o (o + at) long_front) $ split ! $ move ! (1 ∷ []) $
-        use1 𝓛 (‵ (row b (o + at) Run) ⊛ ‵ (row b ((o + at) + n) (drop (at + n) cs))) (cut Run (drop (at + n) cs) (o + at) ((o + at) + n) long_run) $ split ! $ move ! (0 ∷ 2 ∷ 1 ∷ []) $ done !
+        use1 𝓛 (‵ (row b o (take at cs)) ⊛ ‵ (row b (o + at) (Run ++ drop (at + n) cs))) (split_row (take at cs) (Run ++ drop (at + n) cs) o (o + at) long_front) $ split ! $ move ! (1 ∷ []) $
+        use1 𝓛 (‵ (row b (o + at) Run) ⊛ ‵ (row b ((o + at) + n) (drop (at + n) cs))) (split_row Run (drop (at + n) cs) (o + at) ((o + at) + n) long_run) $ split ! $ move ! (0 ∷ 2 ∷ 1 ∷ []) $ done !
 
     -- another one comes back
     pub back : (ws : Bytes) → length ws ≡ n → ent 𝓤 (sep 𝓤 (sem 𝓛 (row b (o + at) ws)) (sep 𝓤 (sem 𝓛 (row b o (take at cs))) (sem 𝓛 (row b ((o + at) + n) (drop (at + n) cs))))) (sem 𝓛 (row b o (take at cs ++ (ws ++ drop (at + n) cs))))
     back ws long = let end : (o + at) + n ≡ (o + at) + length ws = omega arith in
         qed 𝓛 (‵ (row b (o + at) ws) ∷ ‵ (row b o (take at cs)) ∷ ‵ (row b ((o + at) + n) (drop (at + n) cs)) ∷ []) ∵ move ! (0 ∷ 2 ∷ []) $
-        use2 𝓛 (‵ (row b (o + at) (ws ++ drop (at + n) cs))) (glue ws (drop (at + n) cs) (o + at) ((o + at) + n) end) $ move ! (1 ∷ 0 ∷ []) $
-        by ! (glue (take at cs) (ws ++ drop (at + n) cs) o (o + at) long_front)
+        use2 𝓛 (‵ (row b (o + at) (ws ++ drop (at + n) cs))) (join_rows ws (drop (at + n) cs) (o + at) ((o + at) + n) end) $ move ! (1 ∷ 0 ∷ []) $
+        by ! (join_rows (take at cs) (ws ++ drop (at + n) cs) o (o + at) long_front)
 
     -- a run is taken out, and the same one comes back
     aside : ent 𝓤 (sem 𝓛 (row b o cs)) (sep 𝓤 (sem 𝓛 (row b (o + at) Run)) (wand 𝓤 (sem 𝓛 (row b (o + at) Run)) (sem 𝓛 (row b o cs))))

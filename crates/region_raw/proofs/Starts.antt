@@ -11,16 +11,16 @@ use Rattle.region_raw.specs.declared.raw.Start.{Start}
 use Rattle.region_raw.specs.contracts.raw.Start as B
 use Rattle.region_raw.proofs.raw.Start.TheLaws as start_laws
 
-abbrev pub Bs : RattleType
-Bs = B.the_row
+abbrev pub StartRow : RattleType
+StartRow = B.the_row
 
 -- how a start lies in a local
 abbrev pub word : Start → Val
 word x = (start_laws.the_told).val x
 
-abbrev pub word_tells : Tells Bs (Is Bs) (λ x. word x ∷ [])
+abbrev pub word_tells : Tells StartRow (Is StartRow) (λ x. word x ∷ [])
 word_tells = (start_laws.the_told).tells
 
-pub good : (p : Ptr) → T (has_ty (layout Bs) (word (record { ptr = p }))) × WT (word (record { ptr = p }))
+pub good : (p : Ptr) → T (has_ty (layout StartRow) (word (record { ptr = p }))) × WT (word (record { ptr = p }))
 good (block_ptr b o) = (tt, (tt, tt))
 good null_ptr = (tt, (record { fits = lit< tt }, tt))

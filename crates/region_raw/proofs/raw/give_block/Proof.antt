@@ -19,32 +19,32 @@ use Rattle.std_heap.specs.contracts.GlobalAllocator.deallocate as g
 use Rattle.std_heap.proofs.GlobalAllocator.deallocate.Met.{met}
 use Rattle.region_raw.specs.Ownership.{owned, to_be_freed, row, bytes_ty}
 use Rattle.region_raw.specs.contracts.raw.give_block as f
-use Rattle.region_raw.proofs.Starts.{Bs, word, word_tells, good}
+use Rattle.region_raw.proofs.Starts.{StartRow, word, word_tells, good}
 use Rattle.region_raw.proofs.Cuts.{forgotten}
-use Rattle.region_raw.proofs.LendTwo.{Cr}
+use Rattle.region_raw.proofs.LendTwo.{BytesRow}
 use base.Fml.{Fml}
 use denote.Triple.Clauses.{lasts}
 use Prim.Native.Nat.{◌*◌}
 use Rattle.region_raw.proofs.raw.RawBytes.TheLaws as bytes_laws
 use Rattle.region_raw.proofs.raw.Right.TheLaws as right_laws
-use Rattle.region_raw.proofs.Blocks.{right_is, Rr, bare, blank_is_room}
+use Rattle.region_raw.proofs.Blocks.{right_is, RightRow, bare, blank_is_room}
 use Rattle.region_raw.proofs.raw.give_block.Statement.{statement}
 use Rattle.region_raw.proofs.raw.give_block.Code as code
 
 abbrev stayed : Stays f.ended.signature.params f.ended.kept
-stayed = (stay_dropped (RefOf (0 ∷ []) tt (plain (λ _. HP.the_row)) (λ _. tt)) yes, (stay_dropped (plain (λ _. Bs)) yes, (stay_dropped (plain (λ _. usize)) yes, (stay_dropped (plain (λ _. Cr)) yes, (stay_dropped (plain (λ _. Rr)) yes, tt)))))
+stayed = (stay_dropped (RefOf (0 ∷ []) tt (plain (λ _. HP.the_row)) (λ _. tt)) yes, (stay_dropped (plain (λ _. StartRow)) yes, (stay_dropped (plain (λ _. usize)) yes, (stay_dropped (plain (λ _. BytesRow)) yes, (stay_dropped (plain (λ _. RightRow)) yes, tt)))))
 
 pub give_block_spec : {M : Type 1} → statement M
 give_block_spec 𝓤 𝓛 𝓜 𝓡 wired =
     let c = f.clauses 𝓛 𝓜.mem 𝓡.returns in let W = walk_of 𝓛 f.ended stayed c in let 𝓣 = tables 𝓤 𝓛.H 𝓜 𝓡 𝓡.env in
     let G = triple_of 𝓛 g.signature (g.spec 𝓛 𝓜.mem 𝓡.returns) in
-    proved 𝓛 f.ended stayed c 𝓜 𝓡 (Goes-dropped 𝓛 1 (RefOf (0 ∷ []) tt (plain (λ _. HP.the_row)) (λ _. tt)) yes (λ κs x w. refl), (Goes-dropped 𝓛 1 (plain (λ _. Bs)) yes (λ κs x w. refl), (Goes-dropped 𝓛 1 (plain (λ _. usize)) yes (λ κs x w. refl), (Goes-blank 𝓛 1 (plain (λ _. Cr)) yes (λ κs x w. tt), (Goes-blank 𝓛 1 (plain (λ _. Rr)) yes (λ κs x w. tt), tt)))))
+    proved 𝓛 f.ended stayed c 𝓜 𝓡 (Goes-dropped 𝓛 1 (RefOf (0 ∷ []) tt (plain (λ _. HP.the_row)) (λ _. tt)) yes (λ κs x w. refl), (Goes-dropped 𝓛 1 (plain (λ _. StartRow)) yes (λ κs x w. refl), (Goes-dropped 𝓛 1 (plain (λ _. usize)) yes (λ κs x w. refl), (Goes-blank 𝓛 1 (plain (λ _. BytesRow)) yes (λ κs x w. tt), (Goes-blank 𝓛 1 (plain (λ _. RightRow)) yes (λ κs x w. tt), tt)))))
     f.Key.name code.function (code.unfolded 𝓤 𝓛.H 𝓜 𝓡 wired)
     (λ κs. (shr_vals, ((λ x. word x ∷ []), (uint_vals w64, ((λ d. (bytes_laws.the_told).val d ∷ []), ((λ d. (right_laws.the_told).val d ∷ []), tt))))))
     (λ κs. ((λ r vs s. s.0), (word_tells, (uint_Tells w64, ((bytes_laws.the_told).tells, ((right_laws.the_told).tells, tt)))))) (λ κs qs bounds a _ are.
     let κ = κs.0 in let q = qs.0 in let r = a.0 in let p = a.1.0.ptr in let n = a.1.1.0 in let d = a.1.1.1.0 in let cs = d.bytes in let t = a.1.1.1.1.0 in let τ = bytes_ty n in
     let y : W.Ghost = ((κs, qs, bounds, a, (shr_vals r, (word a.1.0 ∷ [], (uint_vals w64 n, (bare ∷ [], (bare ∷ [], tt)))))), tt) in
-    qed 𝓛 (((‵ (flft κ q) ⊛ ‵ ftrue) ⊛ (‵ ((ShrRef (named 0) κ HP.the_row).own_val r (shr_vals r)) ⊛ ‵ (owns (Bs ∷ usize ∷ Cr ∷ Rr ∷ []) a.1 y.0.4.1)))
+    qed 𝓛 (((‵ (flft κ q) ⊛ ‵ ftrue) ⊛ (‵ ((ShrRef (named 0) κ HP.the_row).own_val r (shr_vals r)) ⊛ ‵ (owns (StartRow ∷ usize ∷ BytesRow ∷ RightRow ∷ []) a.1 y.0.4.1)))
     ∷ (raw (fact 𝓤 (0 < n)) ⊛ (raw (fact 𝓤 ((d.at ≡ p) × (length cs ≡ n))) ⊛ raw (fact 𝓤 ((t.at ≡ p) × (t.len ≡ n))))) ∷ []) ∵
     split ! $ split ! $ move ! (2 ∷ []) $ split ! $ move ! (4 ∷ []) $ split ! $ heard ! _ (λ has. split ! $ heard ! _ (λ is_d. heard ! _ (λ is_t.
     -- [the heap's `&`; the other arguments; the token]
@@ -58,7 +58,7 @@ give_block_spec 𝓤 𝓛 𝓜 𝓡 wired =
     let shaped : (capped (size τ) ≡ n) × (capped (align τ) ≡ 1) = (capped_is (n * 1) (omega arith) ∙ omega arith, refl) in
     use1 𝓛 (‵ (row b o (replicate (length cs) None))) (forgotten 𝓛 b cs o) $ rewrite ! 0 (λ (k : ℕ). ‵ (row b o (replicate k None))) long refl $ use1 𝓛 (‵ (froom τ b o)) (blank_is_room 𝓛 b n o) $
     rewrite ! 1 (λ (F : Fml). ‵ F) ((λ i. to_be_freed ((is_t.0 ∙ e) i) (is_t.1 i)) ∙ right_is (block_ptr b o) n has) refl $
-    take_at ! 2 $ rewrite ! 0 (λ (x : Ptr). ‵ (fat full_share (layout Bs) (l 2) 0 (word (record { ptr = x })))) e refl $ give_at ! 2 $
+    take_at ! 2 $ rewrite ! 0 (λ (x : Ptr). ‵ (fat full_share (layout StartRow) (l 2) 0 (word (record { ptr = x })))) e refl $ give_at ! 2 $
     fjoin ! $ use0 𝓛 (raw (fact 𝓤 ((capped (size τ) ≡ n) × (capped (align τ) ≡ 1)))) (fact_i 𝓤 ((capped (size τ) ≡ n) × (capped (align τ) ≡ 1)) (emp 𝓤) shaped) $ join ! $
     nothing ! $ flt_i ! 1 (2 ^ 64) (lit< tt) $ feq_i ! (List Val) (vint w64 1 ∷ []) (vint w64 1 ∷ []) refl $ fjoin ! $ fjoin ! $
     flt_i ! n (2 ^ 64) fits $ feq_i ! (List Val) (vint w64 n ∷ []) (vint w64 n ∷ []) refl $ fjoin ! $ fjoin ! $

@@ -9,32 +9,32 @@ use Rattle.region_raw.specs.Rows.{IsRun, run}
 use Rattle.region_raw.specs.Ownership.{seen}
 use Rattle.region_raw.specs.contracts.raw.RawBytes.slice as f
 use Rattle.region_raw.proofs.Runs.{length-run}
-use Rattle.region_raw.proofs.Starts.{Bs, word, word_tells, good}
+use Rattle.region_raw.proofs.Starts.{StartRow, word, word_tells, good}
 use Rattle.region_raw.proofs.Readers.{run_seen}
-use Rattle.region_raw.proofs.LendTwo.{Cr}
+use Rattle.region_raw.proofs.LendTwo.{BytesRow}
 use Rattle.region_raw.proofs.raw.RawBytes.slice.Statement.{statement}
 use Rattle.region_raw.proofs.raw.RawBytes.slice.Code as code
 
 abbrev stayed : Stays f.ended.signature.params f.ended.kept
-stayed = (stay_dropped (RefOf (0 ∷ []) tt (plain (λ _. Cr)) (λ _. tt)) yes, (stay_dropped (plain (λ _. Bs)) yes, (stay_dropped (plain (λ _. usize)) yes, (stay_dropped (plain (λ _. usize)) yes, tt))))
+stayed = (stay_dropped (RefOf (0 ∷ []) tt (plain (λ _. BytesRow)) (λ _. tt)) yes, (stay_dropped (plain (λ _. StartRow)) yes, (stay_dropped (plain (λ _. usize)) yes, (stay_dropped (plain (λ _. usize)) yes, tt))))
 
 pub slice_spec : {M : Type 1} → statement M
 slice_spec 𝓤 𝓛 𝓜 𝓡 wired =
     let c = f.clauses 𝓛 𝓜.mem 𝓡.returns in let W = walk_of 𝓛 f.ended stayed c in let 𝓣 = tables 𝓤 𝓛.H 𝓜 𝓡 𝓡.env in
     let number = Goes-dropped 𝓛 1 (plain (λ _. usize)) yes (λ κs x w. refl) in
-    proved 𝓛 f.ended stayed c 𝓜 𝓡 (Goes-dropped 𝓛 1 (RefOf (0 ∷ []) tt (plain (λ _. Cr)) (λ _. tt)) yes (λ κs x w. refl), (Goes-dropped 𝓛 1 (plain (λ _. Bs)) yes (λ κs x w. refl), (number, (number, tt))))
+    proved 𝓛 f.ended stayed c 𝓜 𝓡 (Goes-dropped 𝓛 1 (RefOf (0 ∷ []) tt (plain (λ _. BytesRow)) (λ _. tt)) yes (λ κs x w. refl), (Goes-dropped 𝓛 1 (plain (λ _. StartRow)) yes (λ κs x w. refl), (number, (number, tt))))
     f.Key.name code.function (code.unfolded 𝓤 𝓛.H 𝓜 𝓡 wired)
-    (λ κs. (shr_vals, ((λ x. word x ∷ []), (uint_vals w64, (uint_vals w64, tt))))) (λ κs. (shr_Tells (named 0) κs.0 Cr, (word_tells, (uint_Tells w64, (uint_Tells w64, tt))))) (λ κs qs bounds a g are.
+    (λ κs. (shr_vals, ((λ x. word x ∷ []), (uint_vals w64, (uint_vals w64, tt))))) (λ κs. (shr_Tells (named 0) κs.0 BytesRow, (word_tells, (uint_Tells w64, (uint_Tells w64, tt))))) (λ κs qs bounds a g are.
     let κ = κs.0 in let q = qs.0 in let rb = a.0.ref_ptr.0 in let ro = a.0.ref_ptr.1 in let d = a.0.now in let cs = d.bytes in
     let i = a.1.1.0 in let n = a.1.1.1.0 in let vs = shr_vals a.0 in
     let y : W.Ghost = ((κs, qs, bounds, a, (vs, (word a.1.0 ∷ [], (uint_vals w64 i, (uint_vals w64 n, tt))))), tt) in
-    qed 𝓛 (((‵ (flft κ q) ⊛ ‵ ftrue) ⊛ (‵ ((ShrRef (named 0) κ Cr).own_val a.0 vs) ⊛ ‵ (owns (Bs ∷ usize ∷ usize ∷ []) a.1 y.0.4.1)))
+    qed 𝓛 (((‵ (flft κ q) ⊛ ‵ ftrue) ⊛ (‵ ((ShrRef (named 0) κ BytesRow).own_val a.0 vs) ⊛ ‵ (owns (StartRow ∷ usize ∷ usize ∷ []) a.1 y.0.4.1)))
     ∷ (raw (fact 𝓤 (a.1.0.ptr ≡ d.at)) ⊛ raw (fact 𝓤 (IsRun cs i n))) ∷ []) ∵
     split ! $ split ! $ move ! (2 ∷ []) $ split ! $ move ! (4 ∷ []) $ split ! $ heard ! _ (λ same. heard ! _ (λ filled. keep ! (0 ∷ 2 ∷ []) $
     enter ! _ _ _ _ _ $ alloc_all ! (λ l. pass_all ! refl ((tt, tt), (good a.1.0.ptr, ((tt, record { fits = are.1.1.0.1 }), ((tt, record { fits = are.1.1.1.0.1 }), tt)))) $
     fsplit ! $ move ! (1 ∷ []) $ unhide ! $ fsplit ! $ move ! (1 ∷ []) $
     in_a_block ! d.at (λ p. seen p cs κ) (id⊢ 𝓤 (never 𝓤)) (λ b o e. fsplit ! $ flt_l ! (λ small.
-    take_at ! 2 $ rewrite ! 0 (λ (p : Ptr). ‵ (fat full_share (layout Bs) (l 2) 0 (word (record { ptr = p })))) (same ∙ e) refl $ give_at ! 2 $ first ! $ blocks ! $
+    take_at ! 2 $ rewrite ! 0 (λ (p : Ptr). ‵ (fat full_share (layout StartRow) (l 2) 0 (word (record { ptr = p })))) (same ∙ e) refl $ give_at ! 2 $ first ! $ blocks ! $
     sets ! (bin ! (get_in ! (fld ! refl (stop !)) (sub ! 0 refl (whole !))) (get ! refl) tt) refl (tt, tt) $
     sets_last ! (agg ! (and_then ! (get ! refl) (and_then ! (get ! refl) (no_more !)))) refl (tt, (tt, (record { fits = are.1.1.1.0.1 }, tt))) $
     exec ! 𝓣.C 𝓣.Λ (env code.Mir.locals l) code.Mir.t-2 (at_ret _ (W.post y)) $

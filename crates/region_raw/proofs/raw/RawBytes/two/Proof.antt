@@ -4,14 +4,14 @@ use Rattle.region_raw.specs.Rows.{IsApart, IsRun, run}
 use Rattle.region_raw.specs.LendsRaw.{with_run}
 use Rattle.region_raw.specs.Ownership.{owned}
 use Rattle.region_raw.specs.contracts.raw.RawBytes.two as f
-use Rattle.region_raw.proofs.LendTwo.{Cr, Lent, lends}
+use Rattle.region_raw.proofs.LendTwo.{BytesRow, Lent, lends}
 use Rattle.region_raw.proofs.Runs.{length-run}
-use Rattle.region_raw.proofs.Starts.{Bs, word, word_tells, good}
+use Rattle.region_raw.proofs.Starts.{StartRow, word, word_tells, good}
 use Rattle.region_raw.proofs.raw.RawBytes.two.Statement.{statement}
 use Rattle.region_raw.proofs.raw.RawBytes.two.Code as code
 
 abbrev stayed : Stays f.ended.signature.params f.ended.kept
-stayed = (stay_dropped (mut_ref_to (0 ∷ []) tt (plain (λ _. Cr))) no, (stay_dropped (plain (λ _. Bs)) yes, (stay_dropped (plain (λ _. usize)) yes, (stay_dropped (plain (λ _. usize)) yes, (stay_dropped (plain (λ _. usize)) yes, tt)))))
+stayed = (stay_dropped (mut_ref_to (0 ∷ []) tt (plain (λ _. BytesRow))) no, (stay_dropped (plain (λ _. StartRow)) yes, (stay_dropped (plain (λ _. usize)) yes, (stay_dropped (plain (λ _. usize)) yes, (stay_dropped (plain (λ _. usize)) yes, tt)))))
 
 abbrev Two : Lft → List RattleType
 Two κ = ShrSlice (named 0) κ u8 ∷ MutSlice (named 0) κ u8 ∷ []
@@ -20,22 +20,22 @@ pub two_spec : {M : Type 1} → statement M
 two_spec 𝓤 𝓛 𝓜 𝓡 wired =
     let c = f.clauses 𝓛 𝓜.mem 𝓡.returns in let W = walk_of 𝓛 f.ended stayed c in let 𝓣 = tables 𝓤 𝓛.H 𝓜 𝓡 𝓡.env in
     let number = Goes-dropped 𝓛 1 (plain (λ _. usize)) yes (λ κs x w. refl) in
-    proved 𝓛 f.ended stayed c 𝓜 𝓡 (Goes-spent_ref 𝓛 1 (0 ∷ []) tt (plain (λ _. Cr)), (Goes-dropped 𝓛 1 (plain (λ _. Bs)) yes (λ κs x w. refl), (number, (number, (number, tt)))))
+    proved 𝓛 f.ended stayed c 𝓜 𝓡 (Goes-spent_ref 𝓛 1 (0 ∷ []) tt (plain (λ _. BytesRow)), (Goes-dropped 𝓛 1 (plain (λ _. StartRow)) yes (λ κs x w. refl), (number, (number, (number, tt)))))
     f.Key.name code.function (code.unfolded 𝓤 𝓛.H 𝓜 𝓡 wired)
     (λ κs. (mut_vals, ((λ x. word x ∷ []), (uint_vals w64, (uint_vals w64, (uint_vals w64, tt))))))
-    (λ κs. (mut_Tells (named 0) κs.0 Cr, (word_tells, (uint_Tells w64, (uint_Tells w64, (uint_Tells w64, tt))))))
+    (λ κs. (mut_Tells (named 0) κs.0 BytesRow, (word_tells, (uint_Tells w64, (uint_Tells w64, (uint_Tells w64, tt))))))
     (λ κs qs bounds a g are.
     let κ = κs.0 in let q = qs.0 in let rb = a.0.ref_ptr.0 in let ro = a.0.ref_ptr.1 in let γ = a.0.ghost_name in let d = a.0.now in let cs = d.bytes in
     let i = a.1.1.0 in let j = a.1.1.1.0 in let n = a.1.1.1.1.0 in let vs = mut_vals a.0 in
     let y : W.Ghost = ((κs, qs, bounds, a, (vs, (word a.1.0 ∷ [], (uint_vals w64 i, (uint_vals w64 j, (uint_vals w64 n, tt)))))), tt) in
-    qed 𝓛 (((‵ (flft κ q) ⊛ ‵ ftrue) ⊛ (‵ ((MutRef (named 0) κ Cr).own_val a.0 vs) ⊛ ‵ (owns (Bs ∷ usize ∷ usize ∷ usize ∷ []) a.1 y.0.4.1)))
+    qed 𝓛 (((‵ (flft κ q) ⊛ ‵ ftrue) ⊛ (‵ ((MutRef (named 0) κ BytesRow).own_val a.0 vs) ⊛ ‵ (owns (StartRow ∷ usize ∷ usize ∷ usize ∷ []) a.1 y.0.4.1)))
     ∷ (raw (fact 𝓤 (a.1.0.ptr ≡ d.at)) ⊛ (raw (fact 𝓤 (IsApart i j n)) ⊛ (raw (fact 𝓤 (IsRun cs i n)) ⊛ raw (fact 𝓤 (IsRun cs j n))))) ∷ []) ∵
     split ! $ split ! $ move ! (2 ∷ []) $ split ! $ move ! (4 ∷ []) $ split ! $ heard ! _ (λ same. split ! $ heard ! _ (λ apart. split ! $ heard ! _ (λ source. heard ! _ (λ target. keep ! (0 ∷ 2 ∷ []) $
     enter ! _ _ _ _ _ $ alloc_all ! (λ l. pass_all ! refl ((tt, tt), (good a.1.0.ptr, ((tt, record { fits = are.1.1.0.1 }), ((tt, record { fits = are.1.1.1.0.1 }), ((tt, record { fits = are.1.1.1.1.0.1 }), tt))))) $
-    fsplit3 ! $ move ! (1 ∷ 2 ∷ 3 ∷ []) $ opens ! tt Cr rb ro (λ us. move ! (1 ∷ []) $ fsplit ! $ move ! (1 ∷ []) $
+    fsplit3 ! $ move ! (1 ∷ 2 ∷ 3 ∷ []) $ opens ! tt BytesRow rb ro (λ us. move ! (1 ∷ []) $ fsplit ! $ move ! (1 ∷ []) $
     in_a_block ! d.at (λ p. owned p cs) (id⊢ 𝓤 (never 𝓤)) (λ b o e. fsplit ! $ flt_l ! (λ small.
     -- [the row; the mark; its cell; the open borrow; obs; auth]
-    take_at ! 2 $ rewrite ! 0 (λ (p : Ptr). ‵ (fat full_share (layout Bs) (l 2) 0 (word (record { ptr = p })))) (same ∙ e) refl $ give_at ! 2 $ first ! $ blocks ! $
+    take_at ! 2 $ rewrite ! 0 (λ (p : Ptr). ‵ (fat full_share (layout StartRow) (l 2) 0 (word (record { ptr = p })))) (same ∙ e) refl $ give_at ! 2 $ first ! $ blocks ! $
     sets ! (bin ! (get_in ! (fld ! refl (stop !)) (sub ! 0 refl (whole !))) (get ! refl) tt) refl (tt, tt) $
     sets ! (agg ! (and_then ! (get ! refl) (and_then ! (get ! refl) (no_more !)))) refl (tt, (tt, (record { fits = are.1.1.1.1.0.1 }, tt))) $
     sets ! (bin ! (get_in ! (fld ! refl (stop !)) (sub ! 0 refl (whole !))) (get ! refl) tt) refl (tt, tt) $
@@ -49,9 +49,9 @@ two_spec 𝓤 𝓛 𝓜 𝓡 wired =
     let first : Bor (List ℕ) = record { ref_ptr = (b, o + i); now = xs } in
     let v : Val = vstruct (vcons (slice_val (b, i + o) n) (vcons (slice_val (b, j + o) n) vnil)) in
     move ! (3 ∷ 4 ∷ 5 ∷ 0 ∷ 1 ∷ 2 ∷ []) $ group ! 6 $
-    use1 𝓛 (later (some (λ (δ : GName). raw (Ends δ)))) (lends 𝓛 κ q rb ro γ d us b o i j n xs ys e apart source.0 target.0 small source.1 target.1 long_x long_y (Cr.coded.code d) (Cr.coded.code d)) $ await ! tt $ pick ! (λ δ.
+    use1 𝓛 (later (some (λ (δ : GName). raw (Ends δ)))) (lends 𝓛 κ q rb ro γ d us b o i j n xs ys e apart source.0 target.0 small source.1 target.1 long_x long_y (BytesRow.coded.code d) (BytesRow.coded.code d)) $ await ! tt $ pick ! (λ δ.
     let second : MutBor (List ℕ) = record { ref_ptr = (b, o + j); ghost_name = δ; now = ys } in
-    use1 𝓛 (‵ ((ShrSlice (named 0) κ u8).own_val first (slice_val (b, o + i) (length xs) ∷ [])) ⊛ (‵ ((MutSlice (named 0) κ u8).own_val second (slice_val (b, o + j) (length ys) ∷ [])) ⊛ (‵ (flft κ q) ⊛ ‵ (follows Cr (Array u8 0) γ δ (with_run d j))))) (id⊢ 𝓤 _) $ split3 ! $
+    use1 𝓛 (‵ ((ShrSlice (named 0) κ u8).own_val first (slice_val (b, o + i) (length xs) ∷ [])) ⊛ (‵ ((MutSlice (named 0) κ u8).own_val second (slice_val (b, o + j) (length ys) ∷ [])) ⊛ (‵ (flft κ q) ⊛ ‵ (follows BytesRow (Array u8 0) γ δ (with_run d j))))) (id⊢ 𝓤 _) $ split3 ! $
     nothing ! $ move ! (2 ∷ 0 ∷ []) $ fjoin ! $ move ! (1 ∷ 0 ∷ []) $ fjoin ! $
     feq_i ! (List Val) (v ∷ []) (vstruct (vcons (slice_val (b, o + i) (length xs)) (vcons (slice_val (b, o + j) (length ys)) vnil)) ∷ []) (λ k. vstruct (vcons (slice_val (b, at_i k) (sym long_x k)) (vcons (slice_val (b, at_j k) (sym long_y k)) vnil)) ∷ []) $ fjoin ! $
     fpack ! (Valss (Two κ)) (within (shape (tuple_type (Two κ))) (first, (second, tt)) (v ∷ [])) (slice_val (b, o + i) (length xs) ∷ [], (slice_val (b, o + j) (length ys) ∷ [], tt)) $
