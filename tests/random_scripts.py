@@ -7,7 +7,7 @@ from plain_machine import Machine, round8
 TASKS = ["JOB", "T1", "T2", "T3"]
 AREAS = ["A", "B", "C", "D", "E", "F"]
 POOLS = ["P", "Q", "R"]
-NUMBERS = [0, 0, 1, 2, 5]
+NUMBERS = [0, 0, 1, 2, 5, 131, 132]
 LENGTHS = [1, 8, 12, 40, 100, 512, 2000, 4096, 5000, 9000]
 LOCS = ["BELOW", "24", "ANY", "31", "RES"]
 

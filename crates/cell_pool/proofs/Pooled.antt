@@ -15,7 +15,7 @@ use Rattle.mvs_model.specs.declared.request.Reply.{Reply}
 use Rattle.mvs_model.specs.declared.request.Reply.TheVariants.{Rc0}
 use Rattle.mvs_model.specs.Name.{name_cmp}
 use Rattle.mvs_model.specs.Storage.{Storage, NoPlace, holder as held_by}
-use Rattle.mvs_model.specs.Owners.{Enters}
+use Rattle.mvs_model.specs.Owners.{Enters, keeper}
 use Rattle.mvs_model.specs.Pools.{part_want}
 use Rattle.mvs_model.specs.State.{State}
 use Rattle.mvs_model.specs.View.{state_of}
@@ -120,7 +120,7 @@ module _ (roots : FinMap name_cmp Root) (old : Storage) (name : Name) (s : ℕ) 
 -- what BUILD answers is the machine's step
 pub build_is_step : BuildIsStep
 build_is_step roots new_roots old new name s plan o after t number agree valid of = (done, refused) where
-  done : Builds roots old name s plan new_roots new → Enters o t number s after → BuildStep (state_of old o (pools_of roots old)) t name number plan Rc0 (state_of new after (pools_of new_roots new))
+  done : Builds roots old name s plan new_roots new → Enters o (keeper o t number) number s after → BuildStep (state_of old o (pools_of roots old)) t name number plan Rc0 (state_of new after (pools_of new_roots new))
   done b enters = no_match _ (is_invalid number) valid (no_match _ (contains_key (pools_of roots old) name) b.fresh (no_match _ (nat_le 64 (len (pools_of roots old))) b.room (inr ((s, of, (b.place, after, enters, b.extends o after)), refl))))
 
   refused : (code : Code) → IsRefusal roots old name s plan code → (reply : Reply) (ended : State) → Abends (state_of old o (pools_of roots old)) t code reply ended → BuildStep (state_of old o (pools_of roots old)) t name number plan reply ended
@@ -131,8 +131,8 @@ build_is_step roots new_roots old new name s plan o after t number agree valid o
     one : (b c : Bool) → MatchBool b (code ≡ User 4008) (MatchBool c (code ≡ User 4007) (NoPlace old.regions (held_by old) s (part_want plan.cell_size plan.primary plan.side) × (code ≡ System 0x878)))
         → MatchBool b (Abends (state_of old o (pools_of roots old)) t (User 4008) reply ended)
         (MatchBool c (Abends (state_of old o (pools_of roots old)) t (User 4007) reply ended)
-        ((ShortOf (state_of old o (pools_of roots old)) t number (part_want plan.cell_size plan.primary plan.side) × Abends (state_of old o (pools_of roots old)) t (short Located) reply ended)
-        ⊎ (MachineBuilds (state_of old o (pools_of roots old)) t name number plan ended × (reply ≡ Rc0))))
+        ((ShortOf (state_of old o (pools_of roots old)) (keeper o t number) number (part_want plan.cell_size plan.primary plan.side) × Abends (state_of old o (pools_of roots old)) t (short Located) reply ended)
+        ⊎ (MachineBuilds (state_of old o (pools_of roots old)) (keeper o t number) name number plan ended × (reply ≡ Rc0))))
     one true c e = abends (User 4008) e
     one false true e = abends (User 4007) e
     one false false e = inl ((s, of, subst (λ h. NoPlace old.regions h s (part_want plan.cell_size plan.primary plan.side)) (λ k d. sym (holder_state old o (pools_of roots old) agree.parts.storage d) k) e.0), abends (System 0x878) e.1)

@@ -6,7 +6,7 @@ use Rattle.mvs_model.specs.Name.{name_cmp}
 use Rattle.mvs_model.specs.Place.{PlaceValue}
 use Rattle.mvs_model.specs.Want.{WantValue}
 use Rattle.mvs_model.specs.Storage.{Storage, IsStorage, Covers, has_address, holder, Grant, Release, ReleaseAll}
-use Rattle.mvs_model.specs.Owners.{Owners, SubpoolOf, Enters}
+use Rattle.mvs_model.specs.Owners.{Owners, SubpoolOf, Enters, keeper}
 use Rattle.mvs_model.specs.declared.code.Code.{Code}
 use Rattle.mvs_model.specs.declared.request.Reply.{Reply}
 use Rattle.mvs_model.specs.declared.request.Reply.TheVariants.{Rc0}
@@ -64,10 +64,11 @@ FewerAgree = (roots fewer : FinMap name_cmp Root) (st : Storage) → Agree roots
 abbrev pub NoneAgree : Type 0
 NoneAgree = (st : Storage) → IsStorage st → IsBounded st.regions → Agree empty st
 
--- What BUILD answers and leaves is the machine's step for each task that has the subpool under the number, or gets it now.
+-- What BUILD answers and leaves is the machine's step for each task that means the subpool by the number, whose keeper has it or
+-- gets it now.
 abbrev pub BuildIsStep : Type 0
-BuildIsStep = (roots new_roots : FinMap name_cmp Root) (old new : Storage) (name : Name) (s : ℕ) (plan : Plan) (o after : Owners) (t : Name) (number : ℕ) → Agree roots old → is_invalid number ≡ false → SubpoolOf o t number s
-    → (Builds roots old name s plan new_roots new → Enters o t number s after → BuildStep (state_of old o (pools_of roots old)) t name number plan Rc0 (state_of new after (pools_of new_roots new)))
+BuildIsStep = (roots new_roots : FinMap name_cmp Root) (old new : Storage) (name : Name) (s : ℕ) (plan : Plan) (o after : Owners) (t : Name) (number : ℕ) → Agree roots old → is_invalid number ≡ false → SubpoolOf o (keeper o t number) number s
+    → (Builds roots old name s plan new_roots new → Enters o (keeper o t number) number s after → BuildStep (state_of old o (pools_of roots old)) t name number plan Rc0 (state_of new after (pools_of new_roots new)))
     × ((code : Code) → IsRefusal roots old name s plan code → (reply : Reply) (ended : State) → Abends (state_of old o (pools_of roots old)) t code reply ended → BuildStep (state_of old o (pools_of roots old)) t name number plan reply ended)
 
 -- Where the records of a subpool's pools go, the machine's pools of this subpool go, and what is left agrees with storage.

@@ -20,7 +20,6 @@ as_words words.Conditional = codes "COND" ∷ codes "C" ∷ codes "UNCOND" ∷ c
 -- the kind
 abbrev pub as_kind : Kind → grammar.Kind
 as_kind (kind.Number least most) = grammar.Number least most
-as_kind kind.Subpool = grammar.Subpool
 as_kind kind.HexByte = grammar.HexByte
 as_kind (kind.Word w) = grammar.Word (as_words w)
 as_kind kind.Name = grammar.Name

@@ -31,8 +31,6 @@ pub enum Words {
 pub enum Kind {
     /// A number from the first to the second.
     Number(u32, u32),
-    /// The number of a subpool.
-    Subpool,
     /// Two hexadecimal digits.
     HexByte,
     /// One of these words.
@@ -133,7 +131,7 @@ pub fn is_of(kind: Kind, text: &[u8]) -> bool
     ensures { result ≡ is_of (as_kind kind) text.now }
 {
     match kind {
-        Kind::Number(_, _) | Kind::Subpool => is_number(text),
+        Kind::Number(_, _) => is_number(text),
         Kind::HexByte => is_hex_byte(text),
         Kind::Word(words) => is_word(words, text),
         Kind::Name => is_name(text),
@@ -170,14 +168,6 @@ pub fn repeats(kind: Kind, text: &[u8]) -> bool
         Kind::DistinctNames(_) => has_twice(Item::Name, text),
         _ => false,
     }
-}
-
-// Whether the number is that of a subpool. 131 and 132 are not built.
-fn is_subpool(text: &[u8]) -> bool
-    requires { is_number text.now ≡ true }
-    ensures { result ≡ is_within grammar.Subpool text.now }
-{
-    is_in_range(0, 255, text) && number(text) != 131 && number(text) != 132
 }
 
 // Whether two numbers are in their range, and the second is not above the first.
@@ -223,7 +213,6 @@ pub fn is_within(kind: Kind, text: &[u8]) -> bool
 {
     match kind {
         Kind::Number(least, most) => is_in_range(least, most, text),
-        Kind::Subpool => is_subpool(text),
         Kind::HexByte | Kind::Word(_) | Kind::Name => true,
         Kind::Address => is_address_in_range(text),
         Kind::Bytes(most) => has_at_most(most, text),

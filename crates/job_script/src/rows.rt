@@ -154,7 +154,7 @@ const ADDR_OR_NONE: Keyword = Keyword {
 
 const SP: Keyword = Keyword {
     key: Key::Sp,
-    kind: Kind::Subpool,
+    kind: Kind::Number(0, 255),
     required: false,
 };
 

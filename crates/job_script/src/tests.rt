@@ -209,7 +209,7 @@ fn numbers_keep_to_their_ranges(rt: HostRuntime) {
         b"JOB GETMAIN R,LV=2147483648,A=X",
         b"JOB GETMAIN R,LV=00000000008,A=X",
         b"JOB GETMAIN R,LV=0,LV=X",
-        b"JOB GETMAIN R,LV=8,A=X,SP=131",
+        b"JOB ATTACH TASK=T,GSPV=131",
         b"JOB GETMAIN R,LV=8,A=X,SP=256",
         b"JOB GETMAIN VC,LV=(8,9),A=X",
         b"JOB GETMAIN RC,LV=8,A=X,STARTBDY=32",
@@ -217,7 +217,7 @@ fn numbers_keep_to_their_ranges(rt: HostRuntime) {
         b"JOB GETMAIN LC,LA=(8,0),A=(X,Y)",
         b"JOB FREEMAIN LC,A=(X,X,X,X,X,X,X,X,X,X,X,X,X,X,X,X,X),LA=(8)",
         b"JOB GETMAIN LC,A=(A,B,C,D,E,F,G,H,I,J,K,L,M,N,O,P,Q),LA=(8)",
-        b"JOB ATTACH TASK=T,GSPL=(1,128)",
+        b"JOB ATTACH TASK=T,SHSPL=(1,132)",
         b"JOB ABEND 4096",
     ];
     assert_eq!(rt; exception(&lengths, false, Fault::OutOfRange), None);

@@ -2,6 +2,7 @@
 
 ghost use Rattle.std.specs.Prelude.{◌≡◌, ◌<◌, ◌+◌, ◌||◌, ◌↔◌, ℕ, true, false, IfOk, IfSome, IsSome, MatchOption, length, slice_get};
 ghost use Rattle.std.specs.FinMap.{get};
+ghost use Rattle.mvs_model.specs.Numbers.{subpool_numbers};
 ghost use Rattle.mvs_model.specs.Owners.{is_active};
 ghost use Rattle.mvs_model.specs.Start.{start};
 ghost use Rattle.mvs_model.specs.Changes.{Granted};
@@ -128,7 +129,7 @@ impl Step {
     /// it is not active.
     pub fn subpool_line(&self, name: &Name, from: u8) -> Option<SubpoolLine>
         ensures { MatchOption result
-            (HasNone self.now.state.owners name.now from 128)
+            (HasNone self.now.state.owners name.now from subpool_numbers)
             (IsSubpoolLine self.now.state name.now from) }
     {
         self.machine.subpool_line(name, from)

@@ -19,7 +19,7 @@ use Rattle.mvs_model.specs.Place.{PlaceValue, place_at}
 use Rattle.mvs_model.specs.Want.{WantValue, want_of, fixed_want, side_of}
 use Rattle.mvs_model.specs.Gifts.{GiftsValue}
 use Rattle.mvs_model.specs.Storage.{NoPlace, IsWhole}
-use Rattle.mvs_model.specs.Owners.{Owners, is_active, entry, SubpoolOf, Enters, attach_refusal, has_subtask}
+use Rattle.mvs_model.specs.Owners.{Owners, is_active, keeper, subpool_meant, SubpoolOf, Enters, attach_refusal, has_subtask}
 use Rattle.mvs_model.specs.Pools.{Pool, part_want, IsCellOf, IsFreeCell}
 use Rattle.mvs_model.specs.State.{State, holder}
 use Rattle.mvs_model.specs.Codes.{family, is_conditional, short, not_held}
@@ -94,7 +94,7 @@ module _ (P : State → Type 0) (closed : Closed P) where
 
   obtains : (old : State) (t : Name) (form : Form) (number : ℕ) (want : WantValue) (reply : Reply) (new : State) → ObtainStep old t form number want reply new → P old → P new
   obtains old t form number want reply new h p =
-      chosen (is_invalid number) h (λ _ a. abends old t _ reply new a p) (λ _ k. elim k [ inl f ↦ fails _ old t _ reply new f.1 p | inr g ↦ closed.granted old t number want g.0 new g.2 p ])
+      chosen (is_invalid number) h (λ _ a. abends old t _ reply new a p) (λ _ k. elim k [ inl f ↦ fails _ old t _ reply new f.1 p | inr g ↦ closed.granted old (keeper old.owners t number) number want g.0 new g.2 p ])
 
   lists : (t : Name) (number : ℕ) (wants : List WantValue) (ps : List PlaceValue) (old new : State) → ListGrant old t number wants ps new → P old → P new
   lists t number [] [] old new h p = subst P (sym h) p
@@ -104,7 +104,7 @@ module _ (P : State → Type 0) (closed : Closed P) where
 
   obtains_list : (old : State) (t : Name) (form : Form) (number : ℕ) (wants : List WantValue) (reply : Reply) (new : State) → ObtainListStep old t form number wants reply new → P old → P new
   obtains_list old t form number wants reply new h p =
-      chosen (is_invalid number) h (λ _ a. abends old t _ reply new a p) (λ _ k. elim k [ inl f ↦ fails _ old t _ reply new f.1 p | inr g ↦ lists t number wants g.0 old new g.2 p ])
+      chosen (is_invalid number) h (λ _ a. abends old t _ reply new a p) (λ _ k. elim k [ inl f ↦ fails _ old t _ reply new f.1 p | inr g ↦ lists (keeper old.owners t number) number wants g.0 old new g.2 p ])
 
   frees : (o : Option ℕ) (old : State) (ps : List PlaceValue) (new : State) → AllByRecursion IsWhole ps → MayRelease old o ps → Frees old ps new → P old → P new
   frees None old ps new w m f p = absurd m
@@ -113,9 +113,9 @@ module _ (P : State → Type 0) (closed : Closed P) where
   releases : (old : State) (t : Name) (form : Form) (number : ℕ) (ps : List PlaceValue) (reply : Reply) (new : State) → ReleaseStep old t form number ps reply new → P old → P new
   releases old t form number ps reply new h p =
       chosen (is_invalid number) h (λ _ a. abends old t _ reply new a p) (λ _ k. chosen (not (list_all on_doubleword ps)) k (λ _ a. abends old t _ reply new a p) (λ e m. choice (whole_places ps (is_so (list_all on_doubleword ps) e)) m)) where
-        choice : AllByRecursion IsWhole (map whole ps) → (((MayRelease old (entry old.owners t number) (map whole ps) → ⊥) × Fails (is_conditional form) old t (not_held (family form)) reply new) ⊎ (MayRelease old (entry old.owners t number) (map whole ps) × (reply ≡ Rc0) × Frees old (map whole ps) new)) → P new
+        choice : AllByRecursion IsWhole (map whole ps) → (((MayRelease old (subpool_meant old.owners t number) (map whole ps) → ⊥) × Fails (is_conditional form) old t (not_held (family form)) reply new) ⊎ (MayRelease old (subpool_meant old.owners t number) (map whole ps) × (reply ≡ Rc0) × Frees old (map whole ps) new)) → P new
         choice w (inl f) = fails _ old t _ reply new f.1 p
-        choice w (inr g) = frees (entry old.owners t number) old (map whole ps) new w g.0 g.2 p
+        choice w (inr g) = frees (subpool_meant old.owners t number) old (map whole ps) new w g.0 g.2 p
 
   empties : (o : Option ℕ) (old new : State) → EmptiesEntry old o new → P old → P new
   empties None old new h p = subst P (sym h) p
@@ -123,16 +123,16 @@ module _ (P : State → Type 0) (closed : Closed P) where
 
   releases_whole : (old : State) (t : Name) (form : Form) (number : ℕ) (reply : Reply) (new : State) → ReleaseWholeStep old t form number reply new → P old → P new
   releases_whole old t form number reply new h p =
-      chosen (is_invalid number) h (λ _ a. abends old t _ reply new a p) (λ _ k. chosen (number == 0) k (λ _ a. abends old t _ reply new a p) (λ _ e. empties (entry old.owners t number) old new e.1 p))
+      chosen (is_invalid number) h (λ _ a. abends old t _ reply new a p) (λ _ k. chosen (number == 0) k (λ _ a. abends old t _ reply new a p) (λ _ e. empties (subpool_meant old.owners t number) old new e.1 p))
 
   builds : (old : State) (t name : Name) (number : ℕ) (plan : Plan) (reply : Reply) (new : State) → IsPlan plan → BuildStep old t name number plan reply new → P old → P new
   builds old t name number plan reply new r h p =
       chosen (is_invalid number) h (λ _ a. abends old t _ reply new a p)
       (λ _ k. chosen (contains_key old.pools name) k (λ _ a. abends old t _ reply new a p)
       (λ fresh l. chosen (nat_le 64 (len old.pools)) l (λ _ a. abends old t _ reply new a p) (λ _ m. choice fresh m))) where
-        choice : contains_key old.pools name ≡ false → ((ShortOf old t number (part_want plan.cell_size plan.primary plan.side) × Abends old t (short Located) reply new) ⊎ (Builds old t name number plan new × (reply ≡ Rc0))) → P new
+        choice : contains_key old.pools name ≡ false → ((ShortOf old (keeper old.owners t number) number (part_want plan.cell_size plan.primary plan.side) × Abends old t (short Located) reply new) ⊎ (Builds old (keeper old.owners t number) name number plan new × (reply ≡ Rc0))) → P new
         choice fresh (inl f) = abends old t _ reply new f.1 p
-        choice fresh (inr g) = let b = g.0 in closed.built old t name number b.0 plan b.2.0 b.2.1 new fresh r b.1 b.2.2 b.2.3 p
+        choice fresh (inr g) = let b = g.0 in closed.built old (keeper old.owners t number) name number b.0 plan b.2.0 b.2.1 new fresh r b.1 b.2.2 b.2.3 p
 
   frees_cell : (o : Option Pool) (old : State) (t name : Name) (c : ℕ) (reply : Reply) (new : State) → get old.pools name ≡ o → FreeStep old t name c o reply new → P old → P new
   frees_cell None old t name c reply new e h p = abends old t _ reply new h p

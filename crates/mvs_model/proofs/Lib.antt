@@ -4,6 +4,7 @@ pub mod Decide
 pub mod Elements
 pub mod Falling
 pub mod Going
+pub mod Keepers
 pub mod Keyed
 pub mod Kept
 pub mod Made

@@ -18,7 +18,7 @@ use Rattle.mvs_model.specs.declared.line.Written.TheVariants as written
 use Rattle.mvs_model.specs.declared.line.Fault.{Fault}
 use Rattle.mvs_model.specs.Gifts.{GiftsValue}
 use Rattle.mvs_model.specs.Place.{place_at, round8}
-use Rattle.mvs_model.specs.Owners.{Owners, is_active, entry, Enters, Attach, attach_refusal, has_subtask, IsFallen, Ends, ends_with}
+use Rattle.mvs_model.specs.Owners.{Owners, is_active, keeper, subpool_meant, Enters, Attach, attach_refusal, has_subtask, IsFallen, Ends, ends_with}
 use Rattle.mvs_model.specs.Codes.{is_conditional}
 use Rattle.mvs_model.specs.Steps.{is_invalid, on_doubleword}
 use Rattle.mvs_model.specs.Texts.{abend_lines, fault_text}
@@ -72,14 +72,14 @@ module _ (number : ℕ) (old : Labels) (t : Name) (text other : List ℕ) (a b :
 
   obtains_one : (form : Form) (n : ℕ) (ns : List ℕ) (areas : List Name) (told : List ℕ) → Obtains number old t form n ns areas told text a → Obtains number old t form n ns areas told other b → One
   obtains_one form n ns areas told x y = by_two (is_invalid n) x y (λ p q. abends_one _ p q) (λ p q.
-      tells_two told _ _ (ap named (grants_each_one t n ns old p.0 q.0 p.1 q.1)) p.2 q.2) where
+      tells_two told _ _ (ap named (grants_each_one (keeper old.owners t n) n ns old p.0 q.0 p.1 q.1)) p.2 q.2) where
         named : Labels → Labels
         named m = record m { names = all_named m.names areas ns old.count }
 
   releases_one : (form : Form) (n : ℕ) (qs : List Spot) → Releases number old t form n qs text a → Releases number old t form n qs other b → One
   releases_one form n qs x y = by_two (is_invalid n) x y (λ p q. abends_one _ p q) (λ p q.
       by_two (not (list_all (λ q. on_doubleword q.place) qs)) p q (λ p q. abends_one _ p q) (λ p q.
-      by_two (not (may_free old (entry old.owners t n) (map rounded qs))) p q (λ p q. fails_one (is_conditional form) _ p q) (λ p q. tells_one (codes "RC 0") _ p q)))
+      by_two (not (may_free old (subpool_meant old.owners t n) (map rounded qs))) p q (λ p q. fails_one (is_conditional form) _ p q) (λ p q. tells_one (codes "RC 0") _ p q)))
 
   empties_one : (form : Form) (n : ℕ) → Empties number old t form n text a → Empties number old t form n other b → One
   empties_one form n x y = by_two (is_invalid n) x y (λ p q. abends_one _ p q) (λ p q. by_two (n == 0) p q (λ p q. abends_one (User 4006) p q) (λ p q. tells_one (codes "RC 0") _ p q))

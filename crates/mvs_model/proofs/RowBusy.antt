@@ -1,5 +1,5 @@
 -- A return with a subtask, on the label machine.
-use Rattle.std.proofs.Common.{◌≡◌, ℕ, zero, suc, ◌+◌, ◌/◌, ◌%◌, ◌^◌, ◌<◌, ◌⊎◌, inl, inr, Bool, true, false, cond, List, [], ◌∷◌, ◌++◌, Option, Some, None, arith, refl, sym, ap, ◌∙◌, subst}
+use Rattle.std.proofs.Common.{◌≡◌, ℕ, zero, suc, ◌+◌, ◌/◌, ◌%◌, ◌^◌, ◌<◌, ◌⊎◌, inl, inr, Bool, true, false, cond, ltb, List, [], ◌∷◌, ◌++◌, Option, Some, None, arith, refl, sym, ap, ◌∙◌, subst}
 use Rattle.std.specs.Prelude.{is_some, IsSome, not, ◌&&◌, ◌||◌, ◌==◌, nat_le, MatchOption, codes}
 use Rattle.std.specs.List.{list_any, Contains}
 use Rattle.std.specs.List.Sorted.{IsStrictlySortedBy}
@@ -33,16 +33,24 @@ use Rattle.mvs_model.proofs.Rows.{Walks, shows, active_does, on, alone, zero_own
 pub no_bit : (n : ℕ) → has_bit 0 n ≡ false
 no_bit n = ap (λ x. x % 2 == 1) (zero-div (2 ^ n))
 
+-- that a number is below 128 is no condition where that is known
+pub guarded : (n : ℕ) (b : Bool) → (b ≡ true → n < 128) → (ltb n 128 && b) ≡ b
+guarded n true h = let l : n < 128 = h refl in grind (arith, nat_tests)
+guarded n false h = at (ltb n 128) where
+  at : (c : Bool) → (c && false) ≡ false
+  at true = refl
+  at false = refl
+
 pub never : (n : ℕ) (f : ℕ → Bool) → ((k : ℕ) → f k ≡ false) → any_below f n ≡ false
 unfolding any_below
 never zero f h = refl
 never (suc n) f h = (λ i. h n i || any_below f n) ∙ never n f h
 
 shares_is : (n : ℕ) → shares zero_shared n ≡ (n == 0)
-shares_is n = ap (λ b. b || (n == 0)) (no_bit n)
+shares_is n = (λ i. ltb n 128 && (no_bit n i || (n == 0))) ∙ guarded n (n == 0) (λ e. grind (arith, nat_tests))
 
 gives_none : (n : ℕ) → gives zero_shared n ≡ false
-gives_none n = no_bit n
+gives_none n = ap (λ b. ltb n 128 && b) (no_bit n) ∙ guarded n false (λ e. absurd (let f : false ≡ true = e in cc))
 
 -- after number 0 no number is made
 made : (n : ℕ) → EntersBelow alone job (shares zero_shared) (suc n) zero_owned

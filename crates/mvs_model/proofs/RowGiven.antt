@@ -35,7 +35,7 @@ use Rattle.mvs_model.specs.Lines.{card_of}
 use Rattle.mvs_model.specs.declared.line.Statement.{Statement}
 use Rattle.mvs_model.specs.declared.line.Statement.TheVariants as says
 use Rattle.mvs_model.specs.declared.line.Written.TheVariants as written
-use Rattle.mvs_model.proofs.RowBusy.{no_bit, never}
+use Rattle.mvs_model.proofs.RowBusy.{no_bit, never, guarded}
 
 -- bit 5 alone is set in 32
 five_bit : (n : ℕ) → has_bit 32 n ≡ (n == 5)
@@ -77,10 +77,13 @@ owner_ready s = get-insert nat_cmp_total owners_1.owner 1 job s ∙ (λ i. cond 
 
 -- what JOB shares with A, and gives to B
 shares_a : (n : ℕ) → shares five_shared n ≡ ((n == 5) || (n == 0))
-shares_a n = ap (λ b. b || (n == 0)) (five_bit n)
+shares_a n = (λ i. ltb n 128 && (five_bit n i || (n == 0))) ∙ guarded n ((n == 5) || (n == 0)) (λ e. grind (arith, nat_tests))
 
 shares_b : (n : ℕ) → shares five_given n ≡ (n == 0)
-shares_b n = ap (λ b. b || (n == 0)) (no_bit n)
+shares_b n = (λ i. ltb n 128 && (no_bit n i || (n == 0))) ∙ guarded n (n == 0) (λ e. grind (arith, nat_tests))
+
+gives_b : (n : ℕ) → gives five_given n ≡ (n == 5)
+gives_b n = ap (λ b. ltb n 128 && b) (five_bit n) ∙ guarded n (n == 5) (λ e. grind (arith, nat_tests))
 
 no_owner : (s : ℕ) → get alone.owner s ≡ None
 no_owner s = get-empty nat_cmp s
@@ -151,7 +154,7 @@ ready_a_is : attach_a.1.ready ≡ ready_a
 ready_a_is = one_below owners_1 job (shares five_shared) 128 attach_a.1.ready ready_a attach_a.1.made (made_a 127)
 
 gives_a : (n : ℕ) → gives five_shared n ≡ false
-gives_a n = no_bit n
+gives_a n = ap (λ b. ltb n 128 && b) (no_bit n) ∙ guarded n false (λ e. absurd (let f : false ≡ true = e in cc))
 
 entry_2 : (t : Name) (n : ℕ) → entry owners_2 t n ≡ handed ready_a job task_a five_shared t n
 unfolding owners_2
@@ -365,8 +368,8 @@ line_is number m n s held own e f = λ i. reply_line number task_a (codes "SP " 
 abbrev two_lines : List ℕ → List ℕ → ℕ → List ℕ
 two_lines zero_line five_line n = cond (n == 0) zero_line (cond (n == 5) five_line [])
 
-report_is : (number : ℕ) (m : Labels) (zero_line five_line : List ℕ) → ((n : ℕ) → entry_line number m task_a n (entry m.owners task_a n) ≡ two_lines zero_line five_line n) → subpools_text number m task_a ≡ or_none number task_a (each_below 128 (two_lines zero_line five_line))
-report_is number m zero_line five_line h = λ i. or_none number task_a (each_below 128 (λ n. h n i))
+report_is : (number : ℕ) (m : Labels) (zero_line five_line : List ℕ) → ((n : ℕ) → entry_line number m task_a n (entry m.owners task_a n) ≡ two_lines zero_line five_line n) → subpools_text number m task_a ≡ or_none number task_a (each_below 133 (two_lines zero_line five_line))
+report_is number m zero_line five_line h = λ i. or_none number task_a (each_below 133 (λ n. h n i))
 
 is_number : (n k : ℕ) → (n == k) ≡ true → n ≡ k
 is_number n k e = grind (arith, nat_tests)
@@ -449,7 +452,7 @@ may_attach_b = λ i. cond (new i) (Some (User 4009)) (cond (nat_le 32 (few_2 i))
   owned n false e = refl
 
   given : gives_shared owners_2 job five_given ≡ false
-  given = never 128 _ (λ n. (λ i. five_bit n i && has (λ s. not (owns owners_2 job s)) (entry_2_job n i)) ∙ owned n (n == 5) (is_number n 5))
+  given = never 128 _ (λ n. (λ i. gives_b n i && has (λ s. not (owns owners_2 job s)) (entry_2_job n i)) ∙ owned n (n == 5) (is_number n 5))
 
 lone_b : has_subtask owners_3 task_b ≡ false
 lone_b = all_names _ (keys owners_3.tasks) (λ x. ap (has (λ (task : Task). has (same_name task_b) task.mother)) (task_3 x) ∙ at (same_name task_b x) (same_name task_a x) (same_name x job)) where
@@ -474,13 +477,13 @@ attach_b_does = active_does 4 given_2 given_3 job (says.Request (written.Attach 
     (subst (λ r. Attaches 4 given_2 job task_b five_given Below r (reply_line 4 job (codes "ATTACHED")) given_3) (sym may_attach_b) (owners_3, attach_b.1, (refl, refl)))
 
 abbrev report_3 : List ℕ
-report_3 = or_none 5 task_a (each_below 128 (two_lines (line_text 5 0 false 0) (line_text 5 5 false 8)))
+report_3 = or_none 5 task_a (each_below 133 (two_lines (line_text 5 0 false 0) (line_text 5 5 false 8)))
 
 abbrev report_4 : List ℕ
-report_4 = or_none 7 task_a (each_below 128 (two_lines (line_text 7 0 false 0) []))
+report_4 = or_none 7 task_a (each_below 133 (two_lines (line_text 7 0 false 0) []))
 
 abbrev report_5 : List ℕ
-report_5 = or_none 9 task_a (each_below 128 (two_lines (line_text 9 0 false 0) (line_text 9 5 true 4096)))
+report_5 = or_none 9 task_a (each_below 133 (two_lines (line_text 9 0 false 0) (line_text 9 5 true 4096)))
 
 report_3_does : Does 5 given_3 task_a says.ReportSubpools report_3 given_3
 report_3_does = active_does 5 given_3 given_3 task_a says.ReportSubpools report_3 active_3_a (sym (report_is 5 given_3 _ _ lines_3), refl)

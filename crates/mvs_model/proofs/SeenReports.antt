@@ -12,6 +12,7 @@ use Rattle.mvs_model.specs.Owners.{Owners, entry}
 use Rattle.mvs_model.specs.Kept.{OwnersKept}
 use Rattle.mvs_model.specs.State.{Holding, plain}
 use Rattle.mvs_model.specs.View.{seen}
+use Rattle.mvs_model.proofs.Keepers.{number_low}
 use Rattle.mvs_model.specs.Reports.{bytes_held, first_from, number_of}
 
 -- the first of the values that a function has
@@ -47,7 +48,7 @@ module _ {X : Type 0} where
 -- the number under which a subpool stands is the one that its owner has for it
 pub number_kept : (o : Owners) (t : Name) (n s : ℕ) → OwnersKept o → entry o t n ≡ Some s → number_of o t s ≡ Some n
 number_kept o t n s kept is =
-    first_only 0 128 n (λ m. cond (has (λ r. r == s) (entry o t m)) (Some m) None) n (omega arith) (kept.numbers t n s is)
+    first_only 0 133 n (λ m. cond (has (λ r. r == s) (entry o t m)) (Some m) None) n (omega arith) (number_low n (kept.numbers t n s is))
     (ap (λ v. cond (has (λ r. r == s) v) (Some n) None) is ∙ ap (λ b. cond b (Some n) None) (let e : (s == s) ≡ true = grind (arith, nat_tests) in e))
     (λ m y low high e. at (entry o t m) m y refl e) where
       at : (v : Option ℕ) (m y : ℕ) → entry o t m ≡ v → cond (has (λ r. r == s) v) (Some m) None ≡ Some y → y ≡ n

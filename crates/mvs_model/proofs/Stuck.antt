@@ -22,7 +22,7 @@ use Rattle.mvs_model.specs.Place.{PlaceValue, place_at, round8}
 use Rattle.mvs_model.specs.Want.{WantValue, want_of, fixed_want}
 use Rattle.mvs_model.specs.Gifts.{GiftsValue}
 use Rattle.mvs_model.specs.Storage.{Chosen, NoPlace, covers, Covers, has_address}
-use Rattle.mvs_model.specs.Owners.{Owners, is_active, entry, SubpoolOf, Ends, ends_with, attach_refusal, has_subtask}
+use Rattle.mvs_model.specs.Owners.{Owners, is_active, keeper, subpool_meant, SubpoolOf, Ends, ends_with, attach_refusal, has_subtask}
 use Rattle.mvs_model.specs.Pools.{Pool, Part, part_want, part_length, first_cell, IsCellOf, IsFreeCell, cell_at, in_parts, in_taken}
 use Rattle.mvs_model.specs.State.{State, Holding, plain, pooled, subpool_in, holder, granted}
 use Rattle.mvs_model.specs.Codes.{family, is_conditional, short, bad_subpool, bad_address, not_held}
@@ -125,8 +125,8 @@ area_some old t number want even ordered =
 
 obtain_some : (old : State) (t : Name) (form : Form) (number : ℕ) (want : WantValue) → want.least % 8 ≡ 0 → want.least ≤ want.most → Some2 (ObtainStep old t form number want)
 obtain_some old t form number want even ordered = either_some (is_invalid number) (λ _. abends_some old t (bad_subpool (family form) true)) (λ _. choice) where
-  choice : Some2 (λ reply new. (ShortOf old t number want × Fails (is_conditional form) old t (short (family form)) reply new) ⊎ ((p : PlaceValue) × (reply ≡ Granted p) × GrantTo old t number want p new))
-  choice = elim (area_some old t number want even ordered) [
+  choice : Some2 (λ reply new. (ShortOf old (keeper old.owners t number) number want × Fails (is_conditional form) old t (short (family form)) reply new) ⊎ ((p : PlaceValue) × (reply ≡ Granted p) × GrantTo old (keeper old.owners t number) number want p new))
+  choice = elim (area_some old (keeper old.owners t number) number want even ordered) [
     | inl short_of ↦ let f = fails_some (is_conditional form) old t (short (family form)) in (f.0, (f.1.0, inl (short_of, f.1.1)))
     | inr g ↦ (Granted g.0, (g.1, inr (g.0, refl, g.2)))
   ]
@@ -144,8 +144,8 @@ list_some t number start (n ∷ ns) old =
 
 obtain_list_some : (old : State) (t : Name) (form : Form) (number start : ℕ) (lengths : List ℕ) → Some2 (ObtainListStep old t form number (map (λ n. fixed_want n start Below) lengths))
 obtain_list_some old t form number start lengths = either_some (is_invalid number) (λ _. abends_some old t (bad_subpool (family form) true)) (λ _. choice) where
-  choice : Some2 (λ reply new. (ListShort old t number (map (λ n. fixed_want n start Below) lengths) × Fails (is_conditional form) old t (short (family form)) reply new) ⊎ ((ps : List PlaceValue) × (reply ≡ Listed ps) × ListGrant old t number (map (λ n. fixed_want n start Below) lengths) ps new))
-  choice = elim (list_some t number start lengths old) [
+  choice : Some2 (λ reply new. (ListShort old (keeper old.owners t number) number (map (λ n. fixed_want n start Below) lengths) × Fails (is_conditional form) old t (short (family form)) reply new) ⊎ ((ps : List PlaceValue) × (reply ≡ Listed ps) × ListGrant old (keeper old.owners t number) number (map (λ n. fixed_want n start Below) lengths) ps new))
+  choice = elim (list_some (keeper old.owners t number) number start lengths old) [
     | inl s ↦ let f = fails_some (is_conditional form) old t (short (family form)) in (f.0, (f.1.0, inl (s, f.1.1)))
     | inr g ↦ (Listed g.0, (g.1, inr (g.0, refl, g.2)))
   ]
@@ -197,8 +197,8 @@ decided_may_release st (Some s) ps = decided_and (decided_each (HeldPlain st s) 
 release_some : (old : State) (t : Name) (form : Form) (number : ℕ) (ps : List PlaceValue) → Some2 (ReleaseStep old t form number ps)
 release_some old t form number ps =
     either_some (is_invalid number) (λ _. abends_some old t (bad_subpool (family form) false)) (λ _. either_some (not (list_all on_doubleword ps)) (λ _. abends_some old t (bad_address (family form))) (λ _. choice)) where
-      choice : Some2 (λ reply new. ((MayRelease old (entry old.owners t number) (map whole ps) → ⊥) × Fails (is_conditional form) old t (not_held (family form)) reply new) ⊎ (MayRelease old (entry old.owners t number) (map whole ps) × (reply ≡ Rc0) × Frees old (map whole ps) new))
-      choice = elim (decided_may_release old (entry old.owners t number) (map whole ps)) [
+      choice : Some2 (λ reply new. ((MayRelease old (subpool_meant old.owners t number) (map whole ps) → ⊥) × Fails (is_conditional form) old t (not_held (family form)) reply new) ⊎ (MayRelease old (subpool_meant old.owners t number) (map whole ps) × (reply ≡ Rc0) × Frees old (map whole ps) new))
+      choice = elim (decided_may_release old (subpool_meant old.owners t number) (map whole ps)) [
         | inl h ↦ let f = frees_some old (map whole ps) in (Rc0, (f.0, inr (h, refl, f.1)))
         | inr n ↦ let f = fails_some (is_conditional form) old t (not_held (family form)) in (f.0, (f.1.0, inl (n, f.1.1)))
       ]
@@ -210,7 +210,7 @@ empties_entry_some old (Some s) = empties_some old s
 release_whole_some : (old : State) (t : Name) (form : Form) (number : ℕ) → Some2 (ReleaseWholeStep old t form number)
 release_whole_some old t form number =
     either_some (is_invalid number) (λ _. abends_some old t (bad_subpool (family form) false))
-    (λ _. either_some (number == 0) (λ _. abends_some old t (User 4006)) (λ _. let e = empties_entry_some old (entry old.owners t number) in (Rc0, (e.0, (refl, e.1)))))
+    (λ _. either_some (number == 0) (λ _. abends_some old t (User 4006)) (λ _. let e = empties_entry_some old (subpool_meant old.owners t number) in (Rc0, (e.0, (refl, e.1)))))
 
 extends_some : (old : State) (name : Name) (pool : Pool) (count : ℕ) (p : PlaceValue) (owners : Owners) → Chosen old.regions (holder old) pool.subpool (part_want pool.cell_size count pool.side) p → (new : State) × Extends old name pool count p owners new
 extends_some old name pool count p owners c =
@@ -258,11 +258,11 @@ build_some old t name number plan =
     either_some (is_invalid number) (λ _. abends_some old t (bad_subpool Located true))
     (λ _. either_some (contains_key old.pools name) (λ _. abends_some old t (User 4008))
     (λ _. either_some (nat_le 64 (len old.pools)) (λ _. abends_some old t (User 4007)) (λ _. choice))) where
-      choice : Some2 (λ reply new. (ShortOf old t number (part_want plan.cell_size plan.primary plan.side) × Abends old t (short Located) reply new) ⊎ (Builds old t name number plan new × (reply ≡ Rc0)))
+      choice : Some2 (λ reply new. (ShortOf old (keeper old.owners t number) number (part_want plan.cell_size plan.primary plan.side) × Abends old t (short Located) reply new) ⊎ (Builds old (keeper old.owners t number) name number plan new × (reply ≡ Rc0)))
       choice =
-          let s = subpool_some old.owners t number in
+          let s = subpool_some old.owners (keeper old.owners t number) number in
           elim (part_some old s.0 plan.cell_size plan.primary plan.side) [
-            | inl c ↦ let o = enters_some old.owners t number s.0 in let e = extends_some old name (new_pool s.0 plan) plan.primary c.0 o.0 c.1 in (Rc0, (e.0, inr ((s.0, s.1, (c.0, o.0, o.1, e.1)), refl)))
+            | inl c ↦ let o = enters_some old.owners (keeper old.owners t number) number s.0 in let e = extends_some old name (new_pool s.0 plan) plan.primary c.0 o.0 c.1 in (Rc0, (e.0, inr ((s.0, s.1, (c.0, o.0, o.1, e.1)), refl)))
             | inr none ↦ let f = abends_some old t (short Located) in (f.0, (f.1.0, inl ((s.0, s.1, none), f.1.1)))
           ]
 

@@ -21,7 +21,7 @@ use Rattle.mvs_model.specs.Gifts.{GiftsValue}
 use Rattle.mvs_model.specs.Want.{WantValue, fixed_want}
 use Rattle.mvs_model.specs.Finite.{has}
 use Rattle.mvs_model.specs.Storage.{IsWhole}
-use Rattle.mvs_model.specs.Owners.{Owners, entry, attach_refusal, has_subtask, IsFallen, Ends, ends_with, Attach}
+use Rattle.mvs_model.specs.Owners.{Owners, keeper, attach_refusal, has_subtask, IsFallen, Ends, ends_with, Attach}
 use Rattle.mvs_model.specs.State.{State}
 use Rattle.mvs_model.specs.Codes.{family, is_conditional, short, bad_subpool, bad_address, not_held}
 use Rattle.mvs_model.specs.Changes.{GrantTo, ShortOf, ListGrant, ListShort, Frees, Drops, Empties, End}
@@ -137,10 +137,10 @@ module _ (number : ℕ) (job new : JobValue) (m : Labels) (k : Link job m) (t : 
 
   -- all that is granted is named
   obtained : (number_of : ℕ) (form : Form) (ns : List ℕ) (areas : List Name) (ps : List PlaceValue) (told : List ℕ) → is_invalid number_of ≡ false → new.names ≡ all_set job.names areas ps → new.abended ≡ job.abended → text ≡ reply_line number t told
-      → (mid : Labels) (later : Link (at_state job new.state) mid) → GrantsEach m t number_of ns mid → Placed later.base mid.len mid.count ns ps m.count → Linked (labels.Obtains number m t form number_of ns areas told text)
+      → (mid : Labels) (later : Link (at_state job new.state) mid) → GrantsEach m (keeper m.owners t number_of) number_of ns mid → Placed later.base mid.len mid.count ns ps m.count → Linked (labels.Obtains number m t form number_of ns areas told text)
   obtained n form ns areas ps told valid names abended said mid later grants placed = (
     record mid { names = all_named mid.names areas ns m.count },
-    passed _ ((x : Labels) × GrantsEach m t n ns x × labels.Tells number t told (record x { names = all_named x.names areas ns m.count }) text (record mid { names = all_named mid.names areas ns m.count })) (is_invalid n) valid (mid, grants, (said, refl)),
+    passed _ ((x : Labels) × GrantsEach m (keeper m.owners t n) n ns x × labels.Tells number t told (record x { names = all_named x.names areas ns m.count }) text (record mid { names = all_named mid.names areas ns m.count })) (is_invalid n) valid (mid, grants, (said, refl)),
     link_named (at_state job new.state) new mid later (all_named mid.names areas ns m.count) refl abended
         (subst (λ x. Agrees later.base mid.len mid.count x (all_named mid.names areas ns m.count)) (sym names)
         (agrees_all later.base mid.len mid.count areas ns ps m.count job.names mid.names (record { place = later.names; low = later.labels.named }) placed)),
@@ -160,7 +160,7 @@ module _ (number : ℕ) (job new : JobValue) (m : Labels) (k : Link job m) (t : 
         | inr g ↦
             let now = turned reply (Granted g.0) g.1 made in
             let size = largest g.0 g.1 in
-            let one = grant_one job m k t n (round8 most) want g.0 new.state g.2 size in
+            let one = grant_one job m k (keeper m.owners t n) n (round8 most) want g.0 new.state (subst (λ o. GrantTo job.state (keeper o t n) n want g.0 new.state) k.owners g.2) size in
             obtained n form (most ∷ []) (area ∷ []) (g.0 ∷ []) told valid (now.names ∙ ap (λ names. all_set job.names names (g.0 ∷ [])) sets) (now.abended ∙ or_false job.abended) (now.text_is ∙ said g.0 size)
             one.0 one.1 (one.0, one.2, refl) (one.4, (let c : one.0.count ≡ m.count + 1 = one.5 in omega (arith, c)), tt)
       ])
@@ -175,7 +175,7 @@ module _ (number : ℕ) (job new : JobValue) (m : Labels) (k : Link job m) (t : 
         | inl s ↦ absurd (not_short (is_conditional form) form r reply full answered s.1)
         | inr g ↦
             let now = turned reply (Listed g.0) g.1 made in
-            let all = grant_each t n ns wants g.0 new.state job m k fixed g.2 in
+            let all = grant_each (keeper m.owners t n) n ns wants g.0 new.state job m k fixed (subst (λ o. ListGrant job.state (keeper o t n) n wants g.0 new.state) k.owners g.2) in
             obtained n form ns areas g.0 (codes "RC 0") valid (now.names ∙ ap (λ names. all_set job.names names g.0) sets) (now.abended ∙ or_false job.abended) (now.text_is ∙ said g.0)
             all.0 all.1 all.2 all.4
       ])

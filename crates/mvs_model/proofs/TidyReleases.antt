@@ -17,7 +17,7 @@ use Rattle.mvs_model.specs.Place.{PlaceValue, place_at, round8}
 use Rattle.mvs_model.specs.Gifts.{GiftsValue}
 use Rattle.mvs_model.specs.Finite.{has}
 use Rattle.mvs_model.specs.Storage.{IsWhole}
-use Rattle.mvs_model.specs.Owners.{Owners, entry, attach_refusal, has_subtask, Attach}
+use Rattle.mvs_model.specs.Owners.{Owners, subpool_meant, attach_refusal, has_subtask, Attach}
 use Rattle.mvs_model.specs.State.{State}
 use Rattle.mvs_model.specs.Codes.{family, is_conditional, bad_subpool, bad_address, not_held}
 use Rattle.mvs_model.specs.Changes.{Frees, Drops, Empties, End}
@@ -65,32 +65,32 @@ module _ (number : ℕ) (job new : JobValue) (m : Labels) (k : Link job m) (t : 
         Freed later = labels.Tells number t (codes "RC 0") (without m (λ l i. list_any (λ q. has_offset q l i) (map rounded qs))) text later
 
         Held : Labels → Type 0
-        Held later = MatchBool (not (may_free m (entry m.owners t n) (map rounded qs))) (labels.Fails (is_conditional form) number m t (not_held (family form)) text later) (Freed later)
+        Held later = MatchBool (not (may_free m (subpool_meant m.owners t n) (map rounded qs))) (labels.Fails (is_conditional form) number m t (not_held (family form)) text later) (Freed later)
 
         Aligned : Labels → Type 0
         Aligned later = MatchBool (not (list_all (λ q. on_doubleword q.place) qs)) (labels.Abends number m t (bad_address (family form)) text later) (Held later)
 
         May : Owners → List PlaceValue → Type 0
-        May o ps = MayRelease job.state (entry o t n) ps
+        May o ps = MayRelease job.state (subpool_meant o t n) ps
 
         held : AllByRecursion IsWhole (map whole (map (span_of job m k) qs))
-            → (((MayRelease job.state (entry job.state.owners t n) (map whole (map (span_of job m k) qs)) → ⊥) × Fails (is_conditional form) job.state t (not_held (family form)) reply new.state)
-            ⊎ (MayRelease job.state (entry job.state.owners t n) (map whole (map (span_of job m k) qs)) × (reply ≡ Rc0) × Frees job.state (map whole (map (span_of job m k) qs)) new.state))
+            → (((MayRelease job.state (subpool_meant job.state.owners t n) (map whole (map (span_of job m k) qs)) → ⊥) × Fails (is_conditional form) job.state t (not_held (family form)) reply new.state)
+            ⊎ (MayRelease job.state (subpool_meant job.state.owners t n) (map whole (map (span_of job m k) qs)) × (reply ≡ Rc0) × Frees job.state (map whole (map (span_of job m k) qs)) new.state))
             → Linked number job new m k t a text Held
         held w (inl f) =
             let l = fails number job new m k t a text (is_conditional form) (not_held (family form)) reply made f.1 in
-            (l.0, taken (labels.Fails (is_conditional form) number m t (not_held (family form)) text l.0) (Freed l.0) (not (may_free m (entry m.owners t n) (map rounded qs))) (refused (may_free m (entry m.owners t n) (map rounded qs)) refl) l.1, l.2) where
-              refused : (b : Bool) → may_free m (entry m.owners t n) (map rounded qs) ≡ b → not b ≡ true
-              refused true e = absurd (f.0 (subst (λ o. May o (map whole (map (span_of job m k) qs))) (sym k.owners) (subst (λ ps. May m.owners ps) (sym (rounded_all qs)) (free_may job m k (entry m.owners t n) (map rounded qs) there (subst (AllByRecursion IsWhole) (rounded_all qs) w) e))))
+            (l.0, taken (labels.Fails (is_conditional form) number m t (not_held (family form)) text l.0) (Freed l.0) (not (may_free m (subpool_meant m.owners t n) (map rounded qs))) (refused (may_free m (subpool_meant m.owners t n) (map rounded qs)) refl) l.1, l.2) where
+              refused : (b : Bool) → may_free m (subpool_meant m.owners t n) (map rounded qs) ≡ b → not b ≡ true
+              refused true e = absurd (f.0 (subst (λ o. May o (map whole (map (span_of job m k) qs))) (sym k.owners) (subst (λ ps. May m.owners ps) (sym (rounded_all qs)) (free_may job m k (subpool_meant m.owners t n) (map rounded qs) there (subst (AllByRecursion IsWhole) (rounded_all qs) w) e))))
               refused false e = refl
         held w (inr f) =
-            let may = may_be_free job m k (entry m.owners t n) (map rounded qs) there (subst (λ ps. May m.owners ps) (rounded_all qs) (subst (λ o. May o (map whole (map (span_of job m k) qs))) k.owners f.0)) in
+            let may = may_be_free job m k (subpool_meant m.owners t n) (map rounded qs) there (subst (λ ps. May m.owners ps) (rounded_all qs) (subst (λ o. May o (map whole (map (span_of job m k) qs))) k.owners f.0)) in
             let now = turned number job new m k t a text reply Rc0 f.1 made in
             let s = same_names number job new m k t a text Rc0 (refl, refl) now in
             let frees = subst (λ ps. Frees job.state ps new.state) (rounded_all qs) f.2 in
             let w2 = subst (AllByRecursion IsWhole) (rounded_all qs) w in (
               without m (λ l i. list_any (λ q. has_offset q l i) (map rounded qs)),
-              passed _ (Freed (without m (λ l i. list_any (λ q. has_offset q l i) (map rounded qs)))) (not (may_free m (entry m.owners t n) (map rounded qs))) (ap not may) (now.text_is, refl),
+              passed _ (Freed (without m (λ l i. list_any (λ q. has_offset q l i) (map rounded qs)))) (not (may_free m (subpool_meant m.owners t n) (map rounded qs))) (ap not may) (now.text_is, refl),
               link_less job new m k (λ l i. list_any (λ q. has_offset q l i) (map rounded qs)) (goes_freed job m k (map rounded qs) new.state there w2 frees) s.0 m.owners (frees.owners ∙ k.owners) m.abended (s.1 ∙ k.abended),
             )
 
@@ -110,13 +110,13 @@ module _ (number : ℕ) (job new : JobValue) (m : Labels) (k : Link job m) (t : 
       let s = same_names number job new m k t a text Rc0 (refl, refl) now in (
         empty_now,
         passed _ (Zero empty_now) (is_invalid n) valid (passed (labels.Abends number m t (User 4006) text empty_now) (Gone empty_now) (n == 0) other (now.text_is, refl)),
-        emptied (entry m.owners t n) (subst (λ o. EmptiesEntry job.state (entry o t n) new.state) k.owners y.1) s.0 s.1,
+        emptied (subpool_meant m.owners t n) (subst (λ o. EmptiesEntry job.state (subpool_meant o t n) new.state) k.owners y.1) s.0 s.1,
       ))) where
         empty_now : Labels
-        empty_now = without m (λ l i. has (λ s. m.subpool l == s) (entry m.owners t n))
+        empty_now = without m (λ l i. has (λ s. m.subpool l == s) (subpool_meant m.owners t n))
 
         Gone : Labels → Type 0
-        Gone later = labels.Tells number t (codes "RC 0") (without m (λ l i. has (λ s. m.subpool l == s) (entry m.owners t n))) text later
+        Gone later = labels.Tells number t (codes "RC 0") (without m (λ l i. has (λ s. m.subpool l == s) (subpool_meant m.owners t n))) text later
 
         Zero : Labels → Type 0
         Zero later = MatchBool (n == 0) (labels.Abends number m t (User 4006) text later) (Gone later)

@@ -46,7 +46,7 @@ unset_of (Some l) e = absurd (let f : false ≡ true = e in cc)
 module _ (number : ℕ) (job : JobValue) (m : Labels) (k : Link job m) (t : Name) where
   -- the report on subpools
   report_same : Within job.state → subpools_text number job.state t ≡ labels.subpools_text number m t
-  report_same within = λ i. or_none number t (each_below 128 (λ n. line_same n i)) where
+  report_same within = λ i. or_none number t (each_below 133 (λ n. line_same n i)) where
     line_at : (n : ℕ) (v : Option ℕ) → entry_line number job.state t n v ≡ labels.entry_line number m t n v
     line_at n None = refl
     line_at n (Some s) = λ i. reply_line number t (codes "SP " ++ decimal n ++ cond (owns (k.owners i) t s) (codes " OWNED PLAIN ") (codes " SHARED PLAIN ") ++ decimal (plain_same job m k within s i) ++ codes " POOL " ++ decimal (pool_none job m k within s i))

@@ -7,8 +7,6 @@ use Rattle.std.specs.Prelude.{ℕ, List, [], ◌∷◌, Bool, true, false, codes
 pub data Kind : Type 0 where
   -- a number from a least to a greatest one
   Number : ℕ → ℕ → Kind
-  -- the number of a subpool: 0 to 255, without 131 and 132
-  Subpool : Kind
   -- two hexadecimal digits
   HexByte : Kind
   -- one of these words
@@ -111,7 +109,7 @@ abbrev pub lengths_kind : Kind
 lengths_kind = Pair 1 2147483647
 
 abbrev pub sp : Keyword
-sp = takes (codes "SP") Subpool
+sp = takes (codes "SP") (Number 0 255)
 
 abbrev pub bndry : Keyword
 bndry = takes (codes "BNDRY") (Word (codes "DBLWD" ∷ codes "PAGE" ∷ []))

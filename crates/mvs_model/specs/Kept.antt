@@ -2,7 +2,7 @@
 use Rattle.std.specs.Prelude.{◌≡◌, ◌⊎◌, ℕ, ◌<◌, ◌≤◌, true, Some, None, IsSome}
 use Rattle.std.specs.FinMap.{get, len}
 use Rattle.mvs_model.specs.declared.name.Name.{Name}
-use Rattle.mvs_model.specs.Subpool.{IsSubpoolNumber}
+use Rattle.mvs_model.specs.Subpool.{IsSubpoolNumber, is_step_number}
 use Rattle.mvs_model.specs.Owners.{Task, Owners, is_active, entry, IsMother, Descends}
 use Rattle.mvs_model.specs.Numbers.{most_tasks, most_subpools}
 
@@ -13,6 +13,7 @@ IsFirst o t = (task : Task) × (get o.tasks t ≡ Some task) × (task.mother ≡
 -- At most 32 tasks are active. If any is, they are one family: one of them has no mother, all the others descend from it,
 -- and none descends from itself.
 -- The subpools that the tasks have are those that have an owner: each stands under one number, and its owner has it there.
+-- Under 131 and 132 only the task without a mother has any.
 pub record OwnersKept (o : Owners) : Type 0 where
   pub few : len o.tasks ≤ most_tasks
   pub mothers : (t x : Name) → IsMother o t x → is_active o t ≡ true
@@ -24,4 +25,5 @@ pub record OwnersKept (o : Owners) : Type 0 where
   pub one_number : (t q : Name) (m n s : ℕ) → entry o t m ≡ Some s → entry o q n ≡ Some s → m ≡ n
   pub active : (t : Name) (n s : ℕ) → entry o t n ≡ Some s → is_active o t ≡ true
   pub numbers : (t : Name) (n s : ℕ) → entry o t n ≡ Some s → IsSubpoolNumber n
+  pub step_numbers : (t : Name) (n s : ℕ) → entry o t n ≡ Some s → is_step_number n ≡ true → IsFirst o t
   pub subpools : (t : Name) (s : ℕ) → get o.owner s ≡ Some t → s < most_subpools

@@ -1,5 +1,5 @@
 -- The label machine: areas without addresses, each granted in full. What it prints depends on no place.
-use Rattle.std.specs.Prelude.{◌≡◌, ◌⊎◌, ℕ, zero, suc, ◌+◌, ◌-◌, ◌/◌, ◌<◌, Bool, true, false, not, ◌&&◌, ◌==◌, nat_lt, List, [], ◌∷◌, ◌++◌, length, map, Option, Some, None, Result, Ok, Err, is_some, slice_get, if◌then◌else◌, MatchOption, codes, decimal}
+use Rattle.std.specs.Prelude.{◌≡◌, ◌⊎◌, ℕ, zero, suc, ◌+◌, ◌-◌, Bool, true, false, not, ◌&&◌, ◌==◌, nat_lt, List, [], ◌∷◌, ◌++◌, length, map, Option, Some, None, Result, Ok, Err, is_some, slice_get, if◌then◌else◌, MatchOption}
 use Rattle.std.specs.Bool.{MatchBool}
 use Rattle.std.specs.List.{list_all, list_any}
 use Rattle.std.specs.Option.{option_map, option_and_then, unwrap_or}
@@ -25,7 +25,7 @@ use Rattle.mvs_model.specs.Card.{CardValue}
 use Rattle.mvs_model.specs.Name.{name_cmp}
 use Rattle.mvs_model.specs.Finite.{has, all_below, any_below, count_below, total_below}
 use Rattle.mvs_model.specs.Storage.{has_address}
-use Rattle.mvs_model.specs.Owners.{Owners, is_active, entry, owns, SubpoolOf, Enters, Attach, attach_refusal, has_subtask, IsFallen, Ends, ends_with}
+use Rattle.mvs_model.specs.Owners.{Owners, is_active, keeper, subpool_meant, SubpoolOf, Enters, Attach, attach_refusal, has_subtask, IsFallen, Ends, ends_with}
 use Rattle.mvs_model.specs.Start.{first_owners}
 use Rattle.mvs_model.specs.Codes.{family, is_conditional, bad_subpool, bad_address, not_held, whole_of_zero, active_subtask, no_access}
 use Rattle.mvs_model.specs.Steps.{is_invalid, on_doubleword, whole}
@@ -155,7 +155,7 @@ abbrev pub Obtains : ℕ → Labels → Name → Form → ℕ → List ℕ → L
 Obtains number old t form n lengths areas told text new =
     MatchBool (is_invalid n)
     (Abends number old t (bad_subpool (family form) true) text new)
-    ((mid : Labels) × GrantsEach old t n lengths mid × Tells number t told (record mid { names = all_named mid.names areas lengths old.count }) text new)
+    ((mid : Labels) × GrantsEach old (keeper old.owners t n) n lengths mid × Tells number t told (record mid { names = all_named mid.names areas lengths old.count }) text new)
 
 -- whether the places may be released from what the task has under a number
 abbrev pub may_free : Labels → Option ℕ → List Spot → Bool
@@ -169,7 +169,7 @@ Releases number old t form n qs text new =
     (Abends number old t (bad_subpool (family form) false) text new)
     (MatchBool (not (list_all (λ q. on_doubleword q.place) qs))
     (Abends number old t (bad_address (family form)) text new)
-    (MatchBool (not (may_free old (entry old.owners t n) (map rounded qs)))
+    (MatchBool (not (may_free old (subpool_meant old.owners t n) (map rounded qs)))
     (Fails (is_conditional form) number old t (not_held (family form)) text new)
     (Tells number t rc_0 (without old (λ l i. list_any (λ q. has_offset q l i) (map rounded qs))) text new)))
 
@@ -180,7 +180,7 @@ Empties number old t form n text new =
     (Abends number old t (bad_subpool (family form) false) text new)
     (MatchBool (n == 0)
     (Abends number old t whole_of_zero text new)
-    (Tells number t rc_0 (without old (λ l i. has (λ s. old.subpool l == s) (entry old.owners t n))) text new))
+    (Tells number t rc_0 (without old (λ l i. has (λ s. old.subpool l == s) (subpool_meant old.owners t n))) text new))
 
 -- what becomes of ATTACH, by the code that refuses it
 abbrev pub Attaches : ℕ → Labels → Name → Name → GiftsValue → Residence → Option Code → List ℕ → Labels → Type 0

@@ -38,13 +38,25 @@ most_pages_below = 2048
 abbrev pub most_pages_above : ℕ
 most_pages_above = 8192
 
--- how many subpool numbers a program may name, from 0 on. (Assembler Services Guide, virtual storage management)
-abbrev pub subpool_numbers : ℕ
-subpool_numbers = 128
+-- how many subpool numbers each task has for itself, from 0 on. (Assembler Services Guide, virtual storage management)
+abbrev pub task_numbers : ℕ
+task_numbers = 128
 
--- how many subpools there are at a time: as many as the tasks' numbers. (this project's choice)
+-- the two numbers that are the job step task's, whichever task names them. (Assembler Services Guide, virtual storage
+-- management; that they are the job step task's is this project's choice)
+abbrev pub first_step_number : ℕ
+first_step_number = 131
+
+abbrev pub second_step_number : ℕ
+second_step_number = 132
+
+-- a bound of all subpool numbers that a program may name
+abbrev pub subpool_numbers : ℕ
+subpool_numbers = 133
+
+-- how many subpools there are at a time: as many as the tasks' numbers, and two more. (this project's choice)
 abbrev pub most_subpools : ℕ
-most_subpools = 4096
+most_subpools = 4098
 
 -- how many tasks are active at a time, and how many cell pools. (this project's choice)
 abbrev pub most_tasks : ℕ

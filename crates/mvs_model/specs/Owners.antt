@@ -1,5 +1,6 @@
 -- Tasks, the subpools that they have under numbers, and who owns a subpool.
-use Rattle.std.specs.Prelude.{◌≡◌, ◌↔◌, ℕ, suc, ◌<◌, Bool, true, false, not, ◌&&◌, ◌||◌, ◌==◌, nat_le, List, Option, Some, None, if◌then◌else◌, IsSome, MatchOption, refl}
+use Rattle.std.specs.Prelude.{◌≡◌, ◌↔◌, ℕ, suc, ◌<◌, Bool, true, false, not, ◌&&◌, ◌||◌, ◌==◌, nat_le, List, find, Option, Some, None, is_some, if◌then◌else◌, IsSome, MatchOption, refl}
+use Rattle.std.specs.Option.{unwrap_or}
 use Rattle.std.specs.List.{list_any, Contains}
 use Rattle.std.specs.List.Sorted.{IsStrictlySortedBy}
 use Rattle.std.specs.declared.cmp.Ordering.{Ordering}
@@ -10,11 +11,11 @@ use Rattle.mvs_model.specs.declared.name.Name.{Name}
 use Rattle.mvs_model.specs.declared.want.Residence.{Residence}
 use Rattle.mvs_model.specs.declared.want.Residence.TheVariants.{Below, Above}
 use Rattle.mvs_model.specs.declared.code.Code.{Code}
-use Rattle.mvs_model.specs.declared.code.Code.TheVariants.{User}
 use Rattle.mvs_model.specs.Name.{name_cmp, same_name, name_code}
 use Rattle.mvs_model.specs.Finite.{Changes, Keeps, has, any_below}
 use Rattle.mvs_model.specs.Gifts.{GiftsValue, gives, shares}
-use Rattle.mvs_model.specs.Numbers.{subpool_numbers, most_tasks}
+use Rattle.mvs_model.specs.Numbers.{task_numbers, most_tasks}
+use Rattle.mvs_model.specs.Subpool.{is_step_number}
 use Rattle.mvs_model.specs.Codes.{task_in_use, too_many_tasks, not_owned}
 
 -- An active task: who attached it (nobody, for the job step task), and where it resides. (Assembler Services Guide,
@@ -95,6 +96,18 @@ has_subtask o t = list_any (λ x. has (is_child t) (get o.tasks x)) (keys o.task
 abbrev pub owns : Owners → Name → ℕ → Bool
 owns o t s = has (same_name t) (get o.owner s)
 
+-- the job step task: the active task that nobody attached
+abbrev pub job_step_task : Owners → Option Name
+job_step_task o = find (λ t. has (λ task. not (is_some task.mother)) (get o.tasks t)) (keys o.tasks)
+
+-- whose subpool a task means by a number: the job step task's for 131 and 132, and else its own. (this project's choice)
+abbrev pub keeper : Owners → Name → ℕ → Name
+keeper o t number = if is_step_number number then unwrap_or (job_step_task o) t else t
+
+-- the subpool that a task means by a number, where it is there
+abbrev pub subpool_meant : Owners → Name → ℕ → Option ℕ
+subpool_meant o t number = entry o (keeper o t number) number
+
 -- Nobody owns the subpool, and each lower one has an owner. (that the least is taken is this project's choice)
 pub record IsSpare (o : Owners) (s : ℕ) : Type 0 where
   pub spare : get o.owner s ≡ None
@@ -125,7 +138,7 @@ pub data EntersBelow (old : Owners) (t : Name) (wanted : ℕ → Bool) : ℕ →
 
 -- whether the mother gives a number whose subpool she does not own. (this project's choice)
 abbrev pub gives_shared : Owners → Name → GiftsValue → Bool
-gives_shared o mother gifts = any_below (λ n. gives gifts n && has (λ s. not (owns o mother s)) (entry o mother n)) subpool_numbers
+gives_shared o mother gifts = any_below (λ n. gives gifts n && has (λ s. not (owns o mother s)) (entry o mother n)) task_numbers
 
 -- why an ATTACH is refused, if it is: the name is active, 32 tasks are active, or a number is given whose subpool the
 -- mother does not own. (this project's choice)
@@ -138,7 +151,7 @@ attach_refusal o mother name gifts =
 
 -- whether the subpool is one that the mother has under a number that she gives
 abbrev pub is_given : Owners → Name → GiftsValue → ℕ → Bool
-is_given o mother gifts s = any_below (λ n. gives gifts n && has (λ r. r == s) (entry o mother n)) subpool_numbers
+is_given o mother gifts s = any_below (λ n. gives gifts n && has (λ r. r == s) (entry o mother n)) task_numbers
 
 -- what a task has under a number once the mother's gifts are handed over: the subtask has what is given and shared, the
 -- mother has no more what she gave
@@ -152,7 +165,7 @@ handed ready mother name gifts t number =
 -- numbers that the mother does not have is this project's choice)
 pub record Attach (old : Owners) (mother name : Name) (gifts : GiftsValue) (residence : Residence) (new : Owners) : Type 0 where
   pub ready : Owners
-  pub made : EntersBelow old mother (shares gifts) subpool_numbers ready
+  pub made : EntersBelow old mother (shares gifts) task_numbers ready
   pub tasks : Changes (get old.tasks) (same_name name) (Some (record { mother = Some mother; residence = residence })) (get new.tasks)
   pub table : (t : Name) (number : ℕ) → entry new t number ≡ handed ready mother name gifts t number
   pub owner : Changes (get ready.owner) (is_given ready mother gifts) (Some name) (get new.owner)

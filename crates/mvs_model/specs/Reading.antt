@@ -20,7 +20,7 @@ use Rattle.mvs_model.specs.declared.line.Written.TheVariants as written
 use Rattle.mvs_model.specs.Name.{padded}
 use Rattle.mvs_model.specs.Want.{AskValue}
 use Rattle.mvs_model.specs.Gifts.{GiftsValue}
-use Rattle.mvs_model.specs.Grammar.{Kind, Number, Subpool, HexByte, Word, Name, Address, Bytes, Pair, NumberOrPair, Numbers, DistinctNumbers, DistinctNames, Addresses, Rule, Together, Excludes, SameLength, Apart, Meaning, IsRegion, Obtains, ObtainsList, Releases, ReleasesArea, ReleasesList, BuildsPool, GetsCell, FreesCell, DeletesPool, Attaches, Returns, Abends, Puts, Shows, Moves, AsksWhere, Reports, Row, table}
+use Rattle.mvs_model.specs.Grammar.{Kind, Number, HexByte, Word, Name, Address, Bytes, Pair, NumberOrPair, Numbers, DistinctNumbers, DistinctNames, Addresses, Rule, Together, Excludes, SameLength, Apart, Meaning, IsRegion, Obtains, ObtainsList, Releases, ReleasesArea, ReleasesList, BuildsPool, GetsCell, FreesCell, DeletesPool, Attaches, Returns, Abends, Puts, Shows, Moves, AsksWhere, Reports, Row, table}
 
 -- ---- items: the texts that they are, and what they say
 
@@ -129,7 +129,6 @@ is_twice same (x ∷ xs) = list_any (same x) xs || is_twice same xs
 -- whether the text is of the kind
 abbrev pub is_of : Kind → List ℕ → Bool
 is_of (Number least most) text = is_number text
-is_of Subpool text = is_number text
 is_of HexByte text = (length text == 2) && list_all is_hex_digit text
 is_of (Word words) text = is_one_of words text
 is_of Name text = is_name text
@@ -155,7 +154,6 @@ is_pair_in_range least most text = list_all (is_in_range least most) (items text
 -- whether what stands there is in its range
 abbrev pub is_within : Kind → List ℕ → Bool
 is_within (Number least most) text = is_in_range least most text
-is_within Subpool text = is_in_range 0 255 text && not (number text == 131) && not (number text == 132)
 is_within HexByte text = true
 is_within (Word words) text = true
 is_within Name text = true

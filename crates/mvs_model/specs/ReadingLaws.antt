@@ -1,5 +1,5 @@
 -- Laws of the reading of a line.
-use Rattle.std.specs.Prelude.{◌≡◌, ℕ, Bool, true, false, List, [], ◌∷◌, ◌++◌, None, Some, codes, Option, option_map, find, bytes_eq, ◌&&◌, decimal, ◌≤◌, ◌≢◌, nat_lt, nat_le, length, slice_get, Ok}
+use Rattle.std.specs.Prelude.{◌≡◌, ℕ, Bool, true, false, List, [], ◌∷◌, ◌++◌, None, Some, codes, Option, option_map, find, bytes_eq, ◌&&◌, decimal, ◌≤◌, nat_lt, nat_le, length, slice_get, Ok}
 use Rattle.mvs_model.specs.Lines.{IsLine}
 use Rattle.std.specs.List.{list_all}
 use Rattle.mvs_model.specs.Want.{AskValue, IsAsk}
@@ -80,18 +80,13 @@ pub record MoreFaults : Type 0 where
   pub show_high : FaultOf false (codes "JOB SHOW X,4097") OutOfRange
   pub move_high : FaultOf false (codes "JOB MOVE X,Y,65537") OutOfRange
   pub below_high : FaultOf true (codes "JOB REGION BELOW=2049") OutOfRange
-  pub of_131 : FaultOf false (codes "JOB FREEMAIN R,SP=131") OutOfRange
   pub ranges : Have OutOfRange (
       codes "J GETMAIN R,LV=0,A=X" ∷
       codes "J GETMAIN R,LV=2147483648,A=X" ∷
       codes "J GETMAIN R,LV=8,A=X,SP=256" ∷
-      codes "J GETMAIN R,LV=8,A=X,SP=131" ∷
-      codes "J GETMAIN R,LV=8,A=X,SP=132" ∷
       codes "J GETMAIN RC,LV=0,A=X" ∷
       codes "J GETMAIN RC,LV=2147483648,A=X" ∷
       codes "J GETMAIN RC,LV=8,A=X,SP=256" ∷
-      codes "J GETMAIN RC,LV=8,A=X,SP=131" ∷
-      codes "J GETMAIN RC,LV=8,A=X,SP=132" ∷
       codes "J GETMAIN VC,LV=(8,0),A=X" ∷
       codes "J GETMAIN VC,LV=(2147483648,8),A=X" ∷
       codes "J GETMAIN VC,LV=(8,9),A=X" ∷
@@ -136,8 +131,10 @@ pub record MoreFaults : Type 0 where
       codes "J CPOOL BUILD,CPID=P,SCELLCT=65537" ∷
       codes "J ATTACH TASK=T,GSPV=0" ∷
       codes "J ATTACH TASK=T,GSPV=128" ∷
+      codes "J ATTACH TASK=T,GSPV=131" ∷
       codes "J ATTACH TASK=T,SHSPV=0" ∷
       codes "J ATTACH TASK=T,SHSPV=128" ∷
+      codes "J ATTACH TASK=T,SHSPV=132" ∷
       codes "J ATTACH TASK=T,GSPL=(0)" ∷
       codes "J ATTACH TASK=T,GSPL=(128)" ∷
       codes "J ATTACH TASK=T,SHSPL=(0)" ∷
@@ -394,7 +391,7 @@ getmain_ru_text task number ask area =
 -- Each request for one length that GETMAIN RU can make is read from its spelling.
 abbrev pub SpellsGetmainRu : Type 0
 SpellsGetmainRu =
-    (task area : List ℕ) (number : ℕ) (ask : AskValue) → is_name task ≡ true → is_name area ≡ true → number ≤ 255 → number ≢ 131 → number ≢ 132 → IsAsk ask → ask.least ≡ ask.most
+    (task area : List ℕ) (number : ℕ) (ask : AskValue) → is_name task ≡ true → is_name area ≡ true → number ≤ 255 → IsAsk ask → ask.least ≡ ask.most
     → LineOf false (getmain_ru_text task number ask area) (line.Statement (padded task) (says.Request (written.Obtain form.Ru number ask false (padded area))))
 
 -- some of these

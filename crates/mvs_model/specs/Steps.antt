@@ -26,7 +26,7 @@ use Rattle.mvs_model.specs.Gifts.{GiftsValue, IsGifts}
 use Rattle.mvs_model.specs.Finite.{all_below}
 use Rattle.mvs_model.specs.Storage.{NoPlace}
 use Rattle.mvs_model.specs.Owners as owners
-use Rattle.mvs_model.specs.Owners.{Owners, Task, is_active, entry, SubpoolOf, Enters, has_subtask, attach_refusal}
+use Rattle.mvs_model.specs.Owners.{Owners, Task, is_active, keeper, subpool_meant, SubpoolOf, Enters, has_subtask, attach_refusal}
 use Rattle.mvs_model.specs.Pools.{Pool, part_want, IsCellOf, IsFreeCell, cell_at}
 use Rattle.mvs_model.specs.State.{State, holder, granted}
 use Rattle.mvs_model.specs.Codes.{family, form_side, is_conditional, short, bad_subpool, bad_address, not_held, whole_of_zero, pool_in_use, too_many_pools, no_such_pool, no_such_cell, active_subtask, no_access}
@@ -64,16 +64,16 @@ abbrev pub ObtainStep : State → Name → Form → ℕ → WantValue → Reply 
 ObtainStep old t form number want reply new =
     MatchBool (is_invalid number)
     (Abends old t (bad_subpool (family form) true) reply new)
-    ((ShortOf old t number want × Fails (is_conditional form) old t (short (family form)) reply new)
-    ⊎ ((p : PlaceValue) × (reply ≡ Granted p) × GrantTo old t number want p new))
+    ((ShortOf old (keeper old.owners t number) number want × Fails (is_conditional form) old t (short (family form)) reply new)
+    ⊎ ((p : PlaceValue) × (reply ≡ Granted p) × GrantTo old (keeper old.owners t number) number want p new))
 
 -- The same for a list: all its places are granted, or none. (Assembler Services Reference, GETMAIN)
 abbrev pub ObtainListStep : State → Name → Form → ℕ → List WantValue → Reply → State → Type 0
 ObtainListStep old t form number wants reply new =
     MatchBool (is_invalid number)
     (Abends old t (bad_subpool (family form) true) reply new)
-    ((ListShort old t number wants × Fails (is_conditional form) old t (short (family form)) reply new)
-    ⊎ ((ps : List PlaceValue) × (reply ≡ Listed ps) × ListGrant old t number wants ps new))
+    ((ListShort old (keeper old.owners t number) number wants × Fails (is_conditional form) old t (short (family form)) reply new)
+    ⊎ ((ps : List PlaceValue) × (reply ≡ Listed ps) × ListGrant old (keeper old.owners t number) number wants ps new))
 
 -- the place with its length rounded
 abbrev pub whole : PlaceValue → PlaceValue
@@ -97,8 +97,8 @@ ReleaseStep old t form number ps reply new =
     (Abends old t (bad_subpool (family form) false) reply new)
     (MatchBool (not (list_all on_doubleword ps))
     (Abends old t (bad_address (family form)) reply new)
-    (((MayRelease old (entry old.owners t number) (map whole ps) → ⊥) × Fails (is_conditional form) old t (not_held (family form)) reply new)
-    ⊎ (MayRelease old (entry old.owners t number) (map whole ps) × (reply ≡ Rc0) × Frees old (map whole ps) new)))
+    (((MayRelease old (subpool_meant old.owners t number) (map whole ps) → ⊥) × Fails (is_conditional form) old t (not_held (family form)) reply new)
+    ⊎ (MayRelease old (subpool_meant old.owners t number) (map whole ps) × (reply ≡ Rc0) × Frees old (map whole ps) new)))
 
 -- A number under which the task has no subpool releases nothing and is answered 0. (this project's choice)
 abbrev pub EmptiesEntry : State → Option ℕ → State → Type 0
@@ -113,7 +113,7 @@ ReleaseWholeStep old t form number reply new =
     (Abends old t (bad_subpool (family form) false) reply new)
     (MatchBool (number == 0)
     (Abends old t whole_of_zero reply new)
-    ((reply ≡ Rc0) × EmptiesEntry old (entry old.owners t number) new))
+    ((reply ≡ Rc0) × EmptiesEntry old (subpool_meant old.owners t number) new))
 
 -- What CPOOL BUILD says of a pool.
 pub record Plan : Type 0 where
@@ -141,8 +141,8 @@ BuildStep old t name number plan reply new =
     (Abends old t pool_in_use reply new)
     (MatchBool (nat_le most_pools (len old.pools))
     (Abends old t too_many_pools reply new)
-    ((ShortOf old t number (part_want plan.cell_size plan.primary plan.side) × Abends old t (short Located) reply new)
-    ⊎ (Builds old t name number plan new × (reply ≡ Rc0)))))
+    ((ShortOf old (keeper old.owners t number) number (part_want plan.cell_size plan.primary plan.side) × Abends old t (short Located) reply new)
+    ⊎ (Builds old (keeper old.owners t number) name number plan new × (reply ≡ Rc0)))))
 
 -- A cell is taken, and the reply is its place.
 abbrev pub Gets : State → Name → Pool → ℕ → Reply → State → Type 0

@@ -2,8 +2,8 @@
 
 ghost use Rattle.std.specs.Prelude.{◌≡◌, SomeIff, IsTrue, ◌↔◌, ◌<◌};
 ghost use Rattle.mvs_model.specs.Gifts.{GiftsValue, IsGifts, gives, shares};
-ghost use Rattle.mvs_model.specs.Subpool.{IsSubpoolNumber};
 
+use crate::numbers::TASK_NUMBERS;
 use std::marker::Model;
 
 /// The subpool numbers that a mother gives to a subtask and shares with it, bit n for number n, and whether
@@ -43,19 +43,17 @@ impl Gifts {
         })
     }
 
-    /// Whether the mother gives the number.
+    /// Whether the mother gives the number; none from 128 on can be given.
     pub fn gives(&self, number: u8) -> bool
-        requires { IsSubpoolNumber number }
         ensures { result ≡ gives self.now number }
     {
-        (self.given >> number) & 1 == 1
+        number < TASK_NUMBERS && (self.given >> number) & 1 == 1
     }
 
-    /// Whether the mother shares the number.
+    /// Whether the mother shares the number; none from 128 on can be shared.
     pub fn shares(&self, number: u8) -> bool
-        requires { IsSubpoolNumber number }
         ensures { result ≡ shares self.now number }
     {
-        (self.shared >> number) & 1 == 1 || self.zero && number == 0
+        number < TASK_NUMBERS && ((self.shared >> number) & 1 == 1 || self.zero && number == 0)
     }
 }

@@ -36,11 +36,20 @@ pub const MOST_PAGES_BELOW: u32 = 2_048;
 /// The most pages of the region above. This project's choice.
 pub const MOST_PAGES_ABOVE: u32 = 8_192;
 
-/// How many subpool numbers a program may name, from 0 on (Assembler Services Guide, virtual storage management).
-pub const SUBPOOL_NUMBERS: u8 = 128;
+/// How many subpool numbers each task has for itself, from 0 on (Assembler Services Guide, virtual storage management).
+pub const TASK_NUMBERS: u8 = 128;
+
+/// The first of the two numbers that are the job step task's, whichever task names them. This project's choice.
+pub const FIRST_STEP_NUMBER: u8 = 131;
+
+/// The second of them.
+pub const SECOND_STEP_NUMBER: u8 = 132;
+
+/// A bound of all subpool numbers that a program may name.
+pub const SUBPOOL_NUMBERS: u8 = 133;
 
 /// How many subpools there are at a time. This project's choice.
-pub const MOST_SUBPOOLS: usize = 4_096;
+pub const MOST_SUBPOOLS: usize = 4_098;
 
 /// How many tasks are active at a time. This project's choice.
 pub const MOST_TASKS: usize = 32;
@@ -97,6 +106,7 @@ pub fn numbers_agree()
     ensures begins { (BELOW_BEGINS ≡ numbers.below_begins) × (ABOVE_BEGINS ≡ numbers.above_begins) }
     ensures regions { (MOST_PAGES_BELOW ≡ numbers.most_pages_below) × (MOST_PAGES_ABOVE ≡ numbers.most_pages_above) }
     ensures subpools { (SUBPOOL_NUMBERS ≡ numbers.subpool_numbers) × (MOST_SUBPOOLS ≡ numbers.most_subpools) }
+    ensures numbers { (TASK_NUMBERS ≡ numbers.task_numbers) × (FIRST_STEP_NUMBER ≡ numbers.first_step_number) × (SECOND_STEP_NUMBER ≡ numbers.second_step_number) }
     ensures most { (MOST_TASKS ≡ numbers.most_tasks) × (MOST_POOLS ≡ numbers.most_pools) }
     ensures shown { (MOST_SHOWN ≡ numbers.most_shown) × (LINE_BYTES ≡ numbers.line_bytes) }
     ensures script { MOST_SCRIPT_BYTES ≡ numbers.most_script_bytes }

@@ -1,14 +1,14 @@
 //! Subpools and their numbers.
 
 ghost use Rattle.std.specs.Prelude.{◌≡◌, ◌<◌, ◌≤◌, SomeIff};
-ghost use Rattle.mvs_model.specs.Subpool.{IsSubpoolNumber};
-ghost use Rattle.mvs_model.specs.Numbers.{most_subpools};
+ghost use Rattle.mvs_model.specs.Subpool.{IsSubpoolNumber, is_step_number};
+ghost use Rattle.mvs_model.specs.Numbers.{most_subpools, subpool_numbers};
 
-use crate::numbers::SUBPOOL_NUMBERS;
+use crate::numbers::{FIRST_STEP_NUMBER, SECOND_STEP_NUMBER, TASK_NUMBERS};
 use std::marker::Model;
 
-/// The number of a subpool that a program may name: 0 to 127 (Assembler Services Guide, virtual storage
-/// management). Subpools 131 and 132 are not built yet.
+/// The number of a subpool that a program may name: 0 to 127, 131 and 132 (Assembler Services Guide, virtual storage
+/// management).
 #[derive(Clone, Copy, Debug, PartialEq, Eq, PartialOrd, Ord)]
 pub struct SubNo {
     value: u8,
@@ -27,12 +27,19 @@ impl Model for SubNo {
     ghost inverse = { λ n. record { value = n } };
 }
 
+// Whether a number is one of the job step task's.
+fn is_step_number(value: u8) -> bool
+    ensures { result ≡ is_step_number value }
+{
+    value == FIRST_STEP_NUMBER || value == SECOND_STEP_NUMBER
+}
+
 impl SubNo {
     /// The number of a subpool; None where a request that names it is refused as naming an invalid subpool.
     pub fn new(value: u8) -> Option<SubNo>
         ensures { SomeIff result (IsSubpoolNumber value) value }
     {
-        if value < SUBPOOL_NUMBERS {
+        if value < TASK_NUMBERS || is_step_number(value) {
             Some(SubNo { value })
         } else {
             None
@@ -42,12 +49,20 @@ impl SubNo {
     pub fn get(&self) -> u8
         ensures value { result ≡ self.now }
         ensures valid { IsSubpoolNumber result }
+        ensures low { result < subpool_numbers }
     {
         self.value
     }
+
+    /// Whether subpools of the number are the job step task's, whichever task names it (this project's choice).
+    pub fn is_of_step(&self) -> bool
+        ensures { result ≡ is_step_number self.now }
+    {
+        is_step_number(self.value)
+    }
 }
 
-/// A subpool of the step, by a bare number that nothing prints, below 4,096.
+/// A subpool of the step, by a bare number that nothing prints, below 4,098.
 #[derive(Clone, Copy, Debug, PartialEq, Eq)]
 pub struct SubpoolId {
     value: u16,

@@ -111,6 +111,8 @@ fn numbers_given_and_shared(rt: HostRuntime) {
         (3, false, false),
         (126, false, false),
         (127, true, false),
+        (129, false, false),
+        (130, false, false),
     ] {
         assert_eq!(rt; gifts.gives(number), gives, "at {number}");
         assert_eq!(rt; gifts.shares(number), shares, "at {number}");
@@ -168,14 +170,14 @@ fn addresses_and_places(rt: HostRuntime) {
 
 #[test]
 fn subpool_numbers(rt: HostRuntime) {
-    for value in [0, 1, 127] {
+    for value in [0, 1, 127, 131, 132] {
         assert_eq!(rt; SubNo::new(value).map(|n| n.get()), Some(value));
     }
-    for value in [128, 130, 131, 132, 133, 255] {
+    for value in [128, 130, 133, 255] {
         assert_eq!(rt; SubNo::new(value), None);
     }
     assert_eq!(rt; SubpoolId::new(0).get(), 0);
-    assert_eq!(rt; SubpoolId::new(4_095).get(), 4_095);
+    assert_eq!(rt; SubpoolId::new(4_097).get(), 4_097);
 }
 
 #[test]

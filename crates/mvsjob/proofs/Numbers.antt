@@ -70,9 +70,9 @@ module _ (number : ℕ) (st : State) (t : Name) where
   pub numbers_more : (a b c : Option (List ℕ)) (from : ℕ) (line : SubpoolLine) → IsSubpoolLine st t from line → Appends a b (each_below from number_line) → Appends b c (line_text line) → Appends a c (each_below (line.number + 1) number_line)
   numbers_more a b c from line is so_far p = rw (lines_with from line is) (Appends-trans a b c _ _ so_far p)
 
-  pub numbers_front : (a b c : Option (List ℕ)) (from : ℕ) (line : SubpoolLine) → IsSubpoolLine st t from line → Appends a b (each_below from number_line) → AppendsFront b c (line_text line) → AppendsFront a c (each_below 128 number_line)
+  pub numbers_front : (a b c : Option (List ℕ)) (from : ℕ) (line : SubpoolLine) → IsSubpoolLine st t from line → Appends a b (each_below from number_line) → AppendsFront b c (line_text line) → AppendsFront a c (each_below 133 number_line)
   numbers_front a b c from line is so_far p =
-      let all = each_front number_line (line.number + 1) 128 (omega (arith, is.low)) in
+      let all = each_front number_line (line.number + 1) 133 (omega (arith, is.low)) in
       subst (AppendsFront a c) (ap (λ z. z ++ all.0) (sym (lines_with from line is)) ∙ sym all.1) (front_longer a c _ all.0 (front_more a b c _ _ so_far p))
 
   -- the report of a task that has a number, and of one that has none
@@ -86,15 +86,15 @@ module _ (number : ℕ) (st : State) (t : Name) where
   some_line : (text : List ℕ) → 0 < length (reply_line number t text)
   some_line text = longer (decimal number ++ codes " " ++ trimmed t ++ codes " " ++ text) (codes "\n") (let e : 0 < 1 = omega arith in e)
 
-  pub some_text : (line : SubpoolLine) → IsSubpoolLine st t 0 line → each_below 128 number_line ≡ subpools_text number st t
+  pub some_text : (line : SubpoolLine) → IsSubpoolLine st t 0 line → each_below 133 number_line ≡ subpools_text number st t
   some_text line is =
-      let all = each_front number_line (line.number + 1) 128 (omega (arith, is.low)) in
+      let all = each_front number_line (line.number + 1) 133 (omega (arith, is.low)) in
       let with = all.1 ∙ ap (λ z. z ++ all.0) (lines_with 0 line is) in
       let one = some_line (subpool_said line.number line.owned line.plain line.pool) in
       let two = length-append (each_below 0 number_line) (line_text line) in
       let three = length-append (each_below 0 number_line ++ line_text line) all.0 in
       let four = ap length with in
-      sym (or_some (each_below 128 number_line) (omega (arith, one, two, three, four)))
+      sym (or_some (each_below 133 number_line) (omega (arith, one, two, three, four)))
 
-  pub none_text : HasNone st.owners t 0 128 → reply_line number t (codes "SP NONE") ≡ subpools_text number st t
-  none_text none = sym (ap (or_none number t) (lines_none 0 128 (omega arith) none ∙ each_none number_line))
+  pub none_text : HasNone st.owners t 0 133 → reply_line number t (codes "SP NONE") ≡ subpools_text number st t
+  none_text none = sym (ap (or_none number t) (lines_none 0 133 (omega arith) none ∙ each_none number_line))

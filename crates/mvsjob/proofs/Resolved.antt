@@ -26,7 +26,7 @@ use Rattle.mvs_model.specs.Changes.{GrantTo, ListGrant, ListShort, ShortOf}
 use Rattle.mvs_model.specs.Pools.{Pool, cell_at}
 use Rattle.mvs_model.specs.Steps.{Step, Acts, Abends, Fails, Refuses, ObtainStep, ObtainListStep, Gets, GetsNone, GetStep, all_granted, Accesses, is_invalid}
 use Rattle.mvs_model.specs.Codes.{is_conditional}
-use Rattle.mvs_model.specs.Owners.{is_active}
+use Rattle.mvs_model.specs.Owners.{is_active, keeper}
 use Rattle.mvs_model.specs.Texts.{reply_line, data_lines}
 use Rattle.mvs_model.specs.Job.{JobValue}
 use Rattle.mvs_model.specs.Replies.{reply_text, bytes_at, shown}
@@ -102,7 +102,7 @@ obtain_areas old t form number want reply new b h =
     by_test (is_invalid number) h (λ a. abend_areas old t _ reply new a)
     (λ k. elim k [
       | inl f ↦ fail_areas (is_conditional form) old t _ reply new f.1
-      | inr g ↦ subst Areas (sym g.1) (one_area g.0 (area_in old.regions g.0 b (grant_inside old t number want g.0 new g.2)))
+      | inr g ↦ subst Areas (sym g.1) (one_area g.0 (area_in old.regions g.0 b (grant_inside old (keeper old.owners t number) number want g.0 new g.2)))
     ])
 
 obtain_list_areas : (old : State) (t : Name) (form : Form) (number : ℕ) (wants : List WantValue) (reply : Reply) (new : State) → IsBounded old.regions → ObtainListStep old t form number wants reply new → Areas reply
@@ -110,7 +110,7 @@ obtain_list_areas old t form number wants reply new b h =
     by_test (is_invalid number) h (λ a. abend_areas old t _ reply new a)
     (λ k. elim k [
       | inl f ↦ fail_areas (is_conditional form) old t _ reply new f.1
-      | inr g ↦ subst Areas (sym g.1) (all_in old.regions g.0 b (list_inside old.regions t number wants g.0 old new refl g.2))
+      | inr g ↦ subst Areas (sym g.1) (all_in old.regions g.0 b (list_inside old.regions (keeper old.owners t number) number wants g.0 old new refl g.2))
     ])
 
 -- so does one that gets a cell

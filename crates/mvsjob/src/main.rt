@@ -88,6 +88,9 @@ fn run_named(rt: &HostRuntime, settings: &Settings<'_>) -> Result<Outcome, GiveU
 
 // Prints what `clap` says of the words, and answers the exit status.
 fn explain(rt: &HostRuntime, error: &clap::Error) -> Result<u8, GiveUp> {
+    if error.kind() == clap::error::ErrorKind::OutOfMemory {
+        return Err(GiveUp::Job(RunFault::Memory));
+    }
     match error.print(rt) {
         Ok(()) if error.use_stderr() => Ok(GAVE_UP),
         Ok(()) => Ok(0),

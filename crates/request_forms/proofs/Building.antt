@@ -1,6 +1,6 @@
 -- What BUILD in a store is for the machine.
-use Rattle.std.proofs.Common.{◌≡◌, ℕ, ◌<◌, true, false, Some, None, Result, Ok, Err, refl, sym, ap, ◌∙◌}
-use Rattle.std.specs.Prelude.{IfErr, OnOk, OnErr, is_ok, IsOk}
+use Rattle.std.proofs.Common.{◌≡◌, ℕ, true, false, Some, None, Result, Ok, Err, refl, sym, ap, ◌∙◌}
+use Rattle.std.specs.Prelude.{IfErr, OnOk, OnErr, is_ok}
 use Rattle.std.specs.FinMap.{FinMap, get}
 use Rattle.mvs_model.specs.declared.name.Name.{Name}
 use Rattle.mvs_model.specs.declared.code.Code.{Code}
@@ -8,9 +8,10 @@ use Rattle.mvs_model.specs.declared.code.Family.TheVariants.{Located}
 use Rattle.mvs_model.specs.declared.request.Reply.TheVariants.{Rc0}
 use Rattle.mvs_model.specs.Name.{name_cmp}
 use Rattle.mvs_model.specs.Storage.{Storage}
-use Rattle.mvs_model.specs.Owners.{Owners, entry, IsSpare, Binds}
+use Rattle.mvs_model.specs.Owners.{Owners, keeper, subpool_meant, IsSpare, Binds}
 use Rattle.mvs_model.specs.State.{State}
 use Rattle.mvs_model.specs.Codes.{bad_subpool}
+use Rattle.mvs_model.specs.Subpool.{is_subpool_number}
 use Rattle.mvs_model.specs.Steps.{Plan, BuildStep, is_invalid, residence_of}
 use Rattle.mvs_model.specs.declared.want.Residence.{Residence}
 use Rattle.mvs_model.specs.declared.want.Residence.TheVariants.{Below}
@@ -26,30 +27,30 @@ use Rattle.request_forms.proofs.Cases.{not_valid, is_valid, yes_match}
 use Rattle.request_forms.proofs.Obtaining.{its_subpool, new_subpool, stays_entered, now_entered}
 
 -- an invalid number abends
-pub invalid_build : (old : State) (t name : Name) (number : ℕ) (plan : Plan) → (number < 128 → ⊥) → Answers (BuildStep old t name number plan) old t (Err (bad_subpool Located true)) old
+pub invalid_build : (old : State) (t name : Name) (number : ℕ) (plan : Plan) → (is_subpool_number number ≡ true → ⊥) → Answers (BuildStep old t name number plan) old t (Err (bad_subpool Located true)) old
 invalid_build old t name number plan h = (refl, λ reply ended a. yes_match _ (is_invalid number) (not_valid number h) a)
 
 -- where the task resides
 pub residence_seen : (o same : Owners) (t : Name) (r : Residence) → option_map (λ task. task.residence) (get o.tasks t) ≡ Some r → o ≡ same → r ≡ residence_of same t
 residence_seen o same t r e is = sym (ap (λ v. unwrap_or v Below) e) ∙ ap (λ x. residence_of x t) is
 
-module _ (roots fewer : FinMap name_cmp Root) (st new : Storage) (o : Owners) (t name : Name) (number s : ℕ) (plan : Plan) (agree : Agree roots st) (low : number < 128) where
+module _ (roots fewer : FinMap name_cmp Root) (st new : Storage) (o : Owners) (t name : Name) (number s : ℕ) (plan : Plan) (agree : Agree roots st) (low : is_subpool_number number ≡ true) where
   refusal : (code : Code) → new ≡ st → fewer ≡ roots → machine_state fewer new o ≡ machine_state roots st o
   refusal code same alike = ap (λ r. machine_state r new o) alike ∙ ap (λ s. machine_state roots s o) same
 
   -- in a subpool that the task has
-  pub built_here : (r : Result (Unit {0}) Code) → entry o t number ≡ Some s → OnOk r (Builds roots st name s plan fewer new) → IfErr r (IsRefusal roots st name s plan) → OnErr r (new ≡ st) → OnErr r (fewer ≡ roots)
+  pub built_here : (r : Result (Unit {0}) Code) → subpool_meant o t number ≡ Some s → OnOk r (Builds roots st name s plan fewer new) → IfErr r (IsRefusal roots st name s plan) → OnErr r (new ≡ st) → OnErr r (fewer ≡ roots)
       → Answered (λ _. Rc0) (BuildStep (machine_state roots st o) t name number plan) (machine_state roots st o) t r (machine_state fewer new o)
-  built_here (Ok _) e built why same alike = (build_is_step roots fewer st new name s plan o o t number agree (is_valid number low) (its_subpool o t number s e)).0 built (stays_entered o t number s e)
-  built_here (Err code) e built why same alike = (refusal code same alike, (build_is_step roots fewer st new name s plan o o t number agree (is_valid number low) (its_subpool o t number s e)).1 code why)
+  built_here (Ok _) e built why same alike = (build_is_step roots fewer st new name s plan o o t number agree (is_valid number low) (its_subpool o (keeper o t number) number s e)).0 built (stays_entered o (keeper o t number) number s e)
+  built_here (Err code) e built why same alike = (refusal code same alike, (build_is_step roots fewer st new name s plan o o t number agree (is_valid number low) (its_subpool o (keeper o t number) number s e)).1 code why)
 
   -- in a subpool that the task gets
-  pub built_new : (after : Owners) (r : Result (Unit {0}) Code) → is_ok r ≡ true → entry o t number ≡ None → IsSpare o s → Binds o t number s after → OnOk r (Builds roots st name s plan fewer new)
+  pub built_new : (after : Owners) (r : Result (Unit {0}) Code) → is_ok r ≡ true → subpool_meant o t number ≡ None → IsSpare o s → Binds o (keeper o t number) number s after → OnOk r (Builds roots st name s plan fewer new)
       → Answered (λ _. Rc0) (BuildStep (machine_state roots st o) t name number plan) (machine_state roots st o) t r (machine_state fewer new after)
-  built_new after (Ok _) is e spare binds built = (build_is_step roots fewer st new name s plan o after t number agree (is_valid number low) (new_subpool o t number s e spare)).0 built (now_entered o t number s after e binds)
+  built_new after (Ok _) is e spare binds built = (build_is_step roots fewer st new name s plan o after t number agree (is_valid number low) (new_subpool o (keeper o t number) number s e spare)).0 built (now_entered o (keeper o t number) number s after e binds)
   built_new after (Err code) is e spare binds built = absurd (let f : false ≡ true = is in cc)
 
-  pub not_built : (r : Result (Unit {0}) Code) → is_ok r ≡ false → entry o t number ≡ None → IsSpare o s → IfErr r (IsRefusal roots st name s plan) → OnErr r (new ≡ st) → OnErr r (fewer ≡ roots)
+  pub not_built : (r : Result (Unit {0}) Code) → is_ok r ≡ false → subpool_meant o t number ≡ None → IsSpare o s → IfErr r (IsRefusal roots st name s plan) → OnErr r (new ≡ st) → OnErr r (fewer ≡ roots)
       → Answered (λ _. Rc0) (BuildStep (machine_state roots st o) t name number plan) (machine_state roots st o) t r (machine_state fewer new o)
   not_built (Ok _) is e spare why same alike = absurd (let f : true ≡ false = is in cc)
-  not_built (Err code) is e spare why same alike = (refusal code same alike, (build_is_step roots fewer st new name s plan o o t number agree (is_valid number low) (new_subpool o t number s e spare)).1 code why)
+  not_built (Err code) is e spare why same alike = (refusal code same alike, (build_is_step roots fewer st new name s plan o o t number agree (is_valid number low) (new_subpool o (keeper o t number) number s e spare)).1 code why)

@@ -23,13 +23,13 @@ use Rattle.request_forms.specs.Machine.{machine_state}
 use Rattle.request_forms.proofs.Places.{plain_from}
 
 -- what a test that fails says
-pub none_touched : (P Q : Type 0) (b : Bool) → MatchBool b P Q → IsTrue (not b) → Q
-none_touched P Q true h e = absurd (let f : false ≡ true = e in cc)
-none_touched P Q false h e = h
+pub outside : (P Q : Type 0) (b : Bool) → MatchBool b P Q → IsTrue b → P
+outside P Q true h e = h
+outside P Q false h e = absurd (let f : false ≡ true = e in cc)
 
-pub touched_not : (P Q R : Type 0) (b : Bool) → MatchBool b P Q → (P → R → ⊥) → R → IsTrue (not b)
-touched_not P Q R true h differ r = absurd (differ h r)
-touched_not P Q R false _ _ _ = refl
+pub outside_back : (P Q R : Type 0) (b : Bool) → MatchBool b P Q → (Q → R → ⊥) → R → IsTrue b
+outside_back P Q R true _ _ _ = refl
+outside_back P Q R false h differ r = absurd (differ h r)
 
 either : (b c : Bool) → c ≡ true → (b || c) ≡ true
 either true c e = refl

@@ -1,15 +1,18 @@
 -- The cases of a request, by tests.
-use Rattle.std.proofs.Common.{◌≡◌, ℕ, ◌<◌, ◌≤◌, Bool, true, false, arith}
+use Rattle.std.proofs.Common.{◌≡◌, ℕ, Bool, true, false, not, ap, refl}
 use Rattle.std.specs.Bool.{MatchBool}
-use Rattle.std.proofs.lemmas.Bool.Decides.{nat_tests}
+use Rattle.mvs_model.specs.Subpool.{is_subpool_number}
 use Rattle.mvs_model.specs.Steps.{is_invalid}
 
 -- a number that no subpool has
-pub not_valid : (n : ℕ) → (n < 128 → ⊥) → is_invalid n ≡ true
-not_valid n h = let l : 128 ≤ n = omega arith in grind (arith, nat_tests)
+pub not_valid : (n : ℕ) → (is_subpool_number n ≡ true → ⊥) → is_invalid n ≡ true
+not_valid n h = at (is_subpool_number n) h where
+  at : (b : Bool) → (b ≡ true → ⊥) → not b ≡ true
+  at true h = absurd (h refl)
+  at false h = refl
 
-pub is_valid : (n : ℕ) → n < 128 → is_invalid n ≡ false
-is_valid n l = grind (arith, nat_tests)
+pub is_valid : (n : ℕ) → is_subpool_number n ≡ true → is_invalid n ≡ false
+is_valid n h = ap not h
 
 -- the case of a test that holds; of one that does not
 pub yes_match : {P : Type 0} (Q : Type 0) (b : Bool) → b ≡ true → P → MatchBool b P Q

@@ -1,16 +1,24 @@
--- Bytes of a store that are copied one after another.
-use Rattle.std.proofs.Common.{◌≡◌, ℕ, ◌+◌, ◌-◌, ◌*◌, ◌/◌, ◌<◌, ◌≤◌, inl, inr, true, false, cond, Option, Some, None, refl, sym, ap, ◌∙◌, subst, arith}
-use Rattle.std.specs.Prelude.{is_some}
-use Rattle.std.proofs.lemmas.Bool.{cases_lt, cond-true, cond-false}
+-- Bytes of a store that are copied piece by piece.
+use Rattle.std.proofs.Common.{◌≡◌, ℕ, ◌+◌, ◌-◌, ◌*◌, ◌/◌, ◌<◌, ◌≤◌, ◌⊎◌, inl, inr, List, length, get_or, true, false, cond, Option, Some, None, refl, sym, ap, ◌∙◌, subst, arith}
+use Rattle.std.specs.Prelude.{is_some, slice_get}
+use Rattle.std.proofs.lemmas.Bool.{cases_Bool, cases_lt, cond-true, cond-false}
+use Rattle.std.proofs.lemmas.Option.{slice_get-get_or}
 use Rattle.std.proofs.lemmas.Bool.Decides.{nat_tests}
 use Rattle.std.specs.FinMap.{get}
 use Rattle.mvs_model.specs.Place.{PlaceValue, place_at}
 use Rattle.mvs_model.specs.Storage.{Storage, holder, IsStorage, AllHeld, has_address}
+use Rattle.subpool_store.specs.Written.{Puts}
 use Rattle.request_forms.specs.Machine.{IsStepStorage}
 use Rattle.request_forms.specs.Access.{Copied}
 
 has_in : (p : PlaceValue) (x : ℕ) → p.addr ≤ x → x < p.addr + p.len → has_address p x ≡ true
 has_in p x low high = grind (arith, nat_tests)
+
+has_from : (p : PlaceValue) (x : ℕ) → has_address p x ≡ true → p.addr ≤ x
+has_from p x hit = grind (arith, nat_tests)
+
+has_to : (p : PlaceValue) (x : ℕ) → has_address p x ≡ true → x < p.addr + p.len
+has_to p x hit = grind (arith, nat_tests)
 
 has_out : (p : PlaceValue) (x : ℕ) → (p.addr ≤ x → p.addr + p.len ≤ x) → has_address p x ≡ false
 has_out p x out = grind (arith, nat_tests)
@@ -32,53 +40,76 @@ address_held st a n k is h l =
 pub copied_none : (st : Storage) (to from : ℕ) → IsStorage st → Copied st to from 0 st
 copied_none st to from is = record { regions = refl; held = refl; bytes = λ x. sym (cond-false _ _ _ (has_out (place_at to 0) x (λ low. omega arith))); storage = is }
 
--- one more byte behind those that are copied
-module _ (f g h : ℕ → Option ℕ) (to from k : ℕ) where
-  next_byte : to ≤ from → ((x : ℕ) → g x ≡ cond (has_address (place_at to k) x) (f (from + (x - to))) (f x)) → ((x : ℕ) → h x ≡ cond (has_address (place_at (to + k) 1) x) (g (from + k + (x - (to + k)))) (g x))
-      → (x : ℕ) → h x ≡ cond (has_address (place_at to (k + 1)) x) (f (from + (x - to))) (f x)
-  next_byte lower done one x =
+-- more bytes behind those that are copied
+module _ (f g h : ℕ → Option ℕ) (to from k m : ℕ) where
+  next_bytes : to ≤ from → ((x : ℕ) → g x ≡ cond (has_address (place_at to k) x) (f (from + (x - to))) (f x)) → ((x : ℕ) → h x ≡ cond (has_address (place_at (to + k) m) x) (g (from + k + (x - (to + k)))) (g x))
+      → (x : ℕ) → h x ≡ cond (has_address (place_at to (k + m)) x) (f (from + (x - to))) (f x)
+  next_bytes lower done one x =
       elim (cases_lt x to) [
-        | inl l ↦ one x ∙ cond-false _ _ _ (has_out (place_at (to + k) 1) x (λ w. omega arith)) ∙ done x ∙ cond-false _ _ _ (has_out (place_at to k) x (λ w. omega arith)) ∙ sym (cond-false _ _ _ (has_out (place_at to (k + 1)) x (λ w. omega arith)))
+        | inl l ↦ one x ∙ cond-false _ _ _ (has_out (place_at (to + k) m) x (λ w. omega arith)) ∙ done x ∙ cond-false _ _ _ (has_out (place_at to k) x (λ w. omega arith)) ∙ sym (cond-false _ _ _ (has_out (place_at to (k + m)) x (λ w. omega arith)))
         | inr l ↦ elim (cases_lt x (to + k)) [
-          | inl m ↦ one x ∙ cond-false _ _ _ (has_out (place_at (to + k) 1) x (λ w. omega arith)) ∙ done x ∙ cond-true _ _ _ (has_in (place_at to k) x l m) ∙ sym (cond-true _ _ _ (has_in (place_at to (k + 1)) x l (omega arith)))
-          | inr m ↦ elim (cases_lt x (to + k + 1)) [
-            | inl e ↦ one x ∙ cond-true _ _ _ (has_in (place_at (to + k) 1) x m e) ∙ done (from + k + (x - (to + k))) ∙ cond-false _ _ _ (has_out (place_at to k) (from + k + (x - (to + k))) (λ w. omega arith)) ∙ ap f (let s : from + k + (x - (to + k)) ≡ from + (x - to) = omega arith in s) ∙ sym (cond-true _ _ _ (has_in (place_at to (k + 1)) x l (omega arith)))
-            | inr b ↦ one x ∙ cond-false _ _ _ (has_out (place_at (to + k) 1) x (λ w. omega arith)) ∙ done x ∙ cond-false _ _ _ (has_out (place_at to k) x (λ w. omega arith)) ∙ sym (cond-false _ _ _ (has_out (place_at to (k + 1)) x (λ w. omega arith)))
+          | inl b ↦ one x ∙ cond-false _ _ _ (has_out (place_at (to + k) m) x (λ w. omega arith)) ∙ done x ∙ cond-true _ _ _ (has_in (place_at to k) x l b) ∙ sym (cond-true _ _ _ (has_in (place_at to (k + m)) x l (omega arith)))
+          | inr b ↦ elim (cases_lt x (to + k + m)) [
+            | inl e ↦ one x ∙ cond-true _ _ _ (has_in (place_at (to + k) m) x b e) ∙ done (from + k + (x - (to + k))) ∙ cond-false _ _ _ (has_out (place_at to k) (from + k + (x - (to + k))) (λ w. omega arith)) ∙ ap f (let s : from + k + (x - (to + k)) ≡ from + (x - to) = omega arith in s) ∙ sym (cond-true _ _ _ (has_in (place_at to (k + m)) x l (omega arith)))
+            | inr e ↦ one x ∙ cond-false _ _ _ (has_out (place_at (to + k) m) x (λ w. omega arith)) ∙ done x ∙ cond-false _ _ _ (has_out (place_at to k) x (λ w. omega arith)) ∙ sym (cond-false _ _ _ (has_out (place_at to (k + m)) x (λ w. omega arith)))
           ]
         ]
       ]
 
--- one more byte before them
-module _ (f g h : ℕ → Option ℕ) (to from n : ℕ) where
-  byte_before : from ≤ to → ((x : ℕ) → g x ≡ cond (has_address (place_at (to + 1) n) x) (f (from + 1 + (x - (to + 1)))) (f x)) → ((x : ℕ) → h x ≡ cond (has_address (place_at to 1) x) (g (from + (x - to))) (g x))
-      → (x : ℕ) → h x ≡ cond (has_address (place_at to (n + 1)) x) (f (from + (x - to))) (f x)
-  byte_before higher done one x =
+-- more bytes before them
+module _ (f g h : ℕ → Option ℕ) (to from n m : ℕ) where
+  bytes_before : from ≤ to → ((x : ℕ) → g x ≡ cond (has_address (place_at (to + m) n) x) (f (from + m + (x - (to + m)))) (f x)) → ((x : ℕ) → h x ≡ cond (has_address (place_at to m) x) (g (from + (x - to))) (g x))
+      → (x : ℕ) → h x ≡ cond (has_address (place_at to (n + m)) x) (f (from + (x - to))) (f x)
+  bytes_before higher done one x =
       elim (cases_lt x to) [
-        | inl l ↦ one x ∙ cond-false _ _ _ (has_out (place_at to 1) x (λ w. omega arith)) ∙ done x ∙ cond-false _ _ _ (has_out (place_at (to + 1) n) x (λ w. omega arith)) ∙ sym (cond-false _ _ _ (has_out (place_at to (n + 1)) x (λ w. omega arith)))
-        | inr l ↦ elim (cases_lt x (to + 1)) [
-          | inl m ↦ one x ∙ cond-true _ _ _ (has_in (place_at to 1) x l m) ∙ done (from + (x - to)) ∙ cond-false _ _ _ (has_out (place_at (to + 1) n) (from + (x - to)) (λ w. omega arith)) ∙ sym (cond-true _ _ _ (has_in (place_at to (n + 1)) x l (omega arith)))
-          | inr m ↦ elim (cases_lt x (to + 1 + n)) [
-            | inl e ↦ one x ∙ cond-false _ _ _ (has_out (place_at to 1) x (λ w. omega arith)) ∙ done x ∙ cond-true _ _ _ (has_in (place_at (to + 1) n) x m e) ∙ ap f (let s : from + 1 + (x - (to + 1)) ≡ from + (x - to) = omega arith in s) ∙ sym (cond-true _ _ _ (has_in (place_at to (n + 1)) x l (omega arith)))
-            | inr b ↦ one x ∙ cond-false _ _ _ (has_out (place_at to 1) x (λ w. omega arith)) ∙ done x ∙ cond-false _ _ _ (has_out (place_at (to + 1) n) x (λ w. omega arith)) ∙ sym (cond-false _ _ _ (has_out (place_at to (n + 1)) x (λ w. omega arith)))
+        | inl l ↦ one x ∙ cond-false _ _ _ (has_out (place_at to m) x (λ w. omega arith)) ∙ done x ∙ cond-false _ _ _ (has_out (place_at (to + m) n) x (λ w. omega arith)) ∙ sym (cond-false _ _ _ (has_out (place_at to (n + m)) x (λ w. omega arith)))
+        | inr l ↦ elim (cases_lt x (to + m)) [
+          | inl b ↦ one x ∙ cond-true _ _ _ (has_in (place_at to m) x l b) ∙ done (from + (x - to)) ∙ cond-false _ _ _ (has_out (place_at (to + m) n) (from + (x - to)) (λ w. omega arith)) ∙ sym (cond-true _ _ _ (has_in (place_at to (n + m)) x l (omega arith)))
+          | inr b ↦ elim (cases_lt x (to + m + n)) [
+            | inl e ↦ one x ∙ cond-false _ _ _ (has_out (place_at to m) x (λ w. omega arith)) ∙ done x ∙ cond-true _ _ _ (has_in (place_at (to + m) n) x b e) ∙ ap f (let s : from + m + (x - (to + m)) ≡ from + (x - to) = omega arith in s) ∙ sym (cond-true _ _ _ (has_in (place_at to (n + m)) x l (omega arith)))
+            | inr e ↦ one x ∙ cond-false _ _ _ (has_out (place_at to m) x (λ w. omega arith)) ∙ done x ∙ cond-false _ _ _ (has_out (place_at (to + m) n) x (λ w. omega arith)) ∙ sym (cond-false _ _ _ (has_out (place_at to (n + m)) x (λ w. omega arith)))
           ]
         ]
       ]
 
-pub copied_next : (old mid new : Storage) (to from k : ℕ) → to ≤ from → Copied old to from k mid → Copied mid (to + k) (from + k) 1 new → Copied old to from (k + 1) new
-copied_next old mid new to from k lower done one = record {
+pub copied_next : (old mid new : Storage) (to from k m : ℕ) → to ≤ from → Copied old to from k mid → Copied mid (to + k) (from + k) m new → Copied old to from (k + m) new
+copied_next old mid new to from k m lower done one = record {
   regions = one.regions ∙ done.regions;
   held = one.held ∙ done.held;
-  bytes = next_byte (get old.bytes) (get mid.bytes) (get new.bytes) to from k lower done.bytes one.bytes;
+  bytes = next_bytes (get old.bytes) (get mid.bytes) (get new.bytes) to from k m lower done.bytes one.bytes;
   storage = one.storage;
 }
 
-pub copied_before : (old mid new : Storage) (to from n : ℕ) → from ≤ to → Copied old (to + 1) (from + 1) n mid → Copied mid to from 1 new → Copied old to from (n + 1) new
-copied_before old mid new to from n higher done one = record {
+pub copied_before : (old mid new : Storage) (to from n m : ℕ) → from ≤ to → Copied old (to + m) (from + m) n mid → Copied mid to from m new → Copied old to from (n + m) new
+copied_before old mid new to from n m higher done one = record {
   regions = one.regions ∙ done.regions;
   held = one.held ∙ done.held;
-  bytes = byte_before (get old.bytes) (get mid.bytes) (get new.bytes) to from n higher done.bytes one.bytes;
+  bytes = bytes_before (get old.bytes) (get mid.bytes) (get new.bytes) to from n m higher done.bytes one.bytes;
   storage = one.storage;
 }
+
+-- to copy bytes over themselves changes nothing
+pub copied_same : (st : Storage) (at n : ℕ) → IsStorage st → Copied st at at n st
+copied_same st at n is = record { regions = refl; held = refl; bytes = λ x. same x (cases_Bool (has_address (place_at at n) x)); storage = is } where
+  same : (x : ℕ) → (has_address (place_at at n) x ≡ true) ⊎ (has_address (place_at at n) x ≡ false) → get st.bytes x ≡ cond (has_address (place_at at n) x) (get st.bytes (at + (x - at))) (get st.bytes x)
+  same x (inr out) = sym (cond-false _ _ _ out)
+  same x (inl hit) = let low = has_from (place_at at n) x hit in ap (get st.bytes) (let e : x ≡ at + (x - at) = omega (arith, low) in e) ∙ sym (cond-true _ _ _ hit)
+
+-- part of a place that is held is held, also once bytes were copied
+pub held_part : (old mid : Storage) (to from k a n i m : ℕ) → Copied old to from k mid → AllHeld old (place_at a n) → i + m ≤ n → AllHeld mid (place_at (a + i) m)
+held_part old mid to from k a n i m done held fits d covered =
+    let high : a + i < 8 * d + 8 = covered.0 in let low : 8 * d < a + i + m = covered.1 in
+    ap (λ h. is_some (get h d)) done.held ∙ held d (omega arith, omega arith)
+
+-- what was written is what the source has
+pub copied_put : (old : Storage) (to from n : ℕ) (w : List ℕ) (new : Storage) → length w ≡ n → ((k : ℕ) → k < n → slice_get w k ≡ get old.bytes (from + k)) → Puts old (place_at to n) w new → Copied old to from n new
+copied_put old to from n w new size each puts = record { regions = puts.regions; held = puts.held; bytes = λ x. puts.bytes x ∙ read x (cases_Bool (has_address (place_at to n) x)); storage = puts.storage } where
+  read : (x : ℕ) → (has_address (place_at to n) x ≡ true) ⊎ (has_address (place_at to n) x ≡ false) →
+      cond (has_address (place_at to n) x) (Some (get_or w (x - to) 0)) (get old.bytes x) ≡ cond (has_address (place_at to n) x) (get old.bytes (from + (x - to))) (get old.bytes x)
+  read x (inr out) = cond-false _ _ _ out ∙ sym (cond-false _ _ _ out)
+  read x (inl hit) =
+      let low = has_from (place_at to n) x hit in let high = has_to (place_at to n) x hit in let inside : x - to < n = omega (arith, low, high) in
+      cond-true _ _ _ hit ∙ sym (slice_get-get_or w (x - to) 0 (omega (arith, inside, size))) ∙ each (x - to) inside ∙ sym (cond-true _ _ _ hit)
 
 -- the same with other words for the addresses
 pub copied_as : (old new : Storage) (to from n at off m : ℕ) → to ≡ at → from ≡ off → n ≡ m → Copied old to from n new → Copied old at off m new

@@ -1,5 +1,5 @@
 -- A list that is obtained from a store is obtained from the machine.
-use Rattle.std.proofs.Common.{◌≡◌, ℕ, ◌<◌, ◌≤◌, inl, inr, Bool, true, false, cond, List, [], ◌∷◌, ◌++◌, length, Option, Some, None, Ok, Err, refl, sym, ap, ◌∙◌, subst, append_assoc, arith}
+use Rattle.std.proofs.Common.{◌≡◌, ℕ, ◌≤◌, inl, inr, Bool, true, false, cond, List, [], ◌∷◌, ◌++◌, length, Option, Some, None, Ok, Err, refl, sym, ap, ◌∙◌, subst, append_assoc, arith}
 use Rattle.std.specs.Prelude.{MatchOption, ◌&&◌, ◌==◌}
 use Rattle.std.proofs.lemmas.Bool.Decides.{nat_tests}
 use Rattle.std.specs.FinMap.{FinMap, get}
@@ -11,10 +11,11 @@ use Rattle.mvs_model.specs.Name.{name_cmp, same_name}
 use Rattle.mvs_model.specs.Place.{PlaceValue}
 use Rattle.mvs_model.specs.Want.{WantValue, fixed_want}
 use Rattle.mvs_model.specs.Storage.{Storage, IsStorage, Grant, Release}
-use Rattle.mvs_model.specs.Owners.{Owners, entry, IsSpare, Binds}
+use Rattle.mvs_model.specs.Owners.{Owners, entry, keeper, IsSpare, Binds}
 use Rattle.mvs_model.specs.State.{State}
 use Rattle.mvs_model.specs.Codes.{family, is_conditional, short, bad_subpool}
 use Rattle.mvs_model.specs.Changes.{ListGrant, ListShort}
+use Rattle.mvs_model.specs.Subpool.{is_subpool_number}
 use Rattle.mvs_model.specs.Steps.{Fails, is_invalid, ObtainListStep}
 use Rattle.mvs_model.proofs.Orders.{same_name_self}
 use Rattle.mvs_model.proofs.Owning.{enters_some}
@@ -135,10 +136,10 @@ module _ (roots : FinMap name_cmp Root) where
 
 -- the answers of a list
 module _ (old : State) (t : Name) (form : Form) (number : ℕ) (wants : List WantValue) where
-  pub invalid_list : (number < 128 → ⊥) → Answers (ObtainListStep old t form number wants) old t (Err (bad_subpool (family form) true)) old
+  pub invalid_list : (is_subpool_number number ≡ true → ⊥) → Answers (ObtainListStep old t form number wants) old t (Err (bad_subpool (family form) true)) old
   invalid_list h = (refl, λ reply ended a. yes_match _ (is_invalid number) (not_valid number h) a)
 
-  pub short_list : number < 128 → ListShort old t number wants → Answers (ObtainListStep old t form number wants) old t (cond (is_conditional form) (Ok Rc4) (Err (short (family form)))) old
+  pub short_list : is_subpool_number number ≡ true → ListShort old (keeper old.owners t number) number wants → Answers (ObtainListStep old t form number wants) old t (cond (is_conditional form) (Ok Rc4) (Err (short (family form)))) old
   short_list l s = at (is_conditional form) refl where
     at : (b : Bool) → is_conditional form ≡ b → Answers (ObtainListStep old t form number wants) old t (cond b (Ok Rc4) (Err (short (family form)))) old
     at true e = no_match _ (is_invalid number) (is_valid number l) (inl (s, subst (λ b. Fails b old t (short (family form)) Rc4 old) (sym e) (refl, refl)))

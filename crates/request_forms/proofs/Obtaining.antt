@@ -1,5 +1,5 @@
 -- What is obtained from a store is obtained from the machine.
-use Rattle.std.proofs.Common.{◌≡◌, ℕ, ◌<◌, inl, Bool, true, false, cond, Option, Some, None, Ok, Err, refl, sym, ap, subst}
+use Rattle.std.proofs.Common.{◌≡◌, ℕ, inl, Bool, true, false, cond, Option, Some, None, Ok, Err, refl, sym, ap, subst}
 use Rattle.std.specs.Prelude.{MatchOption}
 use Rattle.mvs_model.specs.declared.name.Name.{Name}
 use Rattle.mvs_model.specs.declared.code.Form.{Form}
@@ -12,11 +12,12 @@ use Rattle.mvs_model.specs.declared.request.Reply.TheVariants.{Rc4}
 use Rattle.mvs_model.specs.Place.{PlaceValue}
 use Rattle.mvs_model.specs.Want.{WantValue, side_of}
 use Rattle.mvs_model.specs.Storage.{Storage, holder, IsStorage, NoPlace, Grant}
-use Rattle.mvs_model.specs.Owners.{Owners, entry, IsSpare, SubpoolOf, Binds, Enters}
+use Rattle.mvs_model.specs.Owners.{Owners, entry, keeper, IsSpare, SubpoolOf, Binds, Enters}
 use Rattle.mvs_model.specs.State.{State}
 use Rattle.mvs_model.specs.Name.{name_cmp}
 use Rattle.mvs_model.specs.Codes.{family, form_side, is_conditional, short, bad_subpool}
 use Rattle.mvs_model.specs.Changes.{GrantTo, ShortOf}
+use Rattle.mvs_model.specs.Subpool.{is_subpool_number}
 use Rattle.mvs_model.specs.Steps.{Fails, side_for, is_invalid, ObtainStep}
 use Rattle.mvs_model.proofs.Seen.{no_place_seen}
 use Rattle.cell_pool.specs.Agree.{Agree}
@@ -60,11 +61,11 @@ pub area_of_new : (roots : FinMap name_cmp Root) (st new : Storage) (o after : O
 area_of_new roots st new o after t number s want p agree now e spare binds g = granted roots st new o after t number s want p agree now (new_subpool o t number s e spare) (now_entered o t number s after e binds) g
 
 -- an invalid number abends
-pub invalid_answers : (old : State) (t : Name) (form : Form) (number : ℕ) (want : WantValue) → (number < 128 → ⊥) → Answers (ObtainStep old t form number want) old t (Err (bad_subpool (family form) true)) old
+pub invalid_answers : (old : State) (t : Name) (form : Form) (number : ℕ) (want : WantValue) → (is_subpool_number number ≡ true → ⊥) → Answers (ObtainStep old t form number want) old t (Err (bad_subpool (family form) true)) old
 invalid_answers old t form number want h = (refl, λ reply ended a. yes_match _ (is_invalid number) (not_valid number h) a)
 
 -- shortage is answered 4, or abends
-pub short_answers : (old : State) (t : Name) (form : Form) (number : ℕ) (want : WantValue) → number < 128 → ShortOf old t number want → Answers (ObtainStep old t form number want) old t (cond (is_conditional form) (Ok Rc4) (Err (short (family form)))) old
+pub short_answers : (old : State) (t : Name) (form : Form) (number : ℕ) (want : WantValue) → is_subpool_number number ≡ true → ShortOf old (keeper old.owners t number) number want → Answers (ObtainStep old t form number want) old t (cond (is_conditional form) (Ok Rc4) (Err (short (family form)))) old
 short_answers old t form number want l s = at (is_conditional form) refl where
   at : (b : Bool) → is_conditional form ≡ b → Answers (ObtainStep old t form number want) old t (cond b (Ok Rc4) (Err (short (family form)))) old
   at true e = no_match _ (is_invalid number) (is_valid number l) (inl (s, subst (λ b. Fails b old t (short (family form)) Rc4 old) (sym e) (refl, refl)))

@@ -1,5 +1,5 @@
 -- What is released from a store is released from the machine.
-use Rattle.std.proofs.Common.{◌≡◌, ℕ, ◌<◌, inl, Bool, true, false, cond, List, map, Option, Some, None, Ok, Err, refl, sym, ap, subst, arith}
+use Rattle.std.proofs.Common.{◌≡◌, ℕ, inl, Bool, true, false, cond, List, map, Option, Some, None, Ok, Err, refl, sym, ap, subst, arith}
 use Rattle.std.specs.Prelude.{not, ◌==◌}
 use Rattle.std.specs.List.{list_all}
 use Rattle.std.proofs.lemmas.Bool.Decides.{nat_tests}
@@ -8,7 +8,7 @@ use Rattle.mvs_model.specs.declared.code.Form.{Form}
 use Rattle.mvs_model.specs.declared.request.Reply.TheVariants.{Rc0, Rc4}
 use Rattle.mvs_model.specs.Place.{PlaceValue}
 use Rattle.mvs_model.specs.Storage.{Storage, IsStorage, ReleaseAll}
-use Rattle.mvs_model.specs.Owners.{Owners, entry}
+use Rattle.mvs_model.specs.Owners.{Owners, subpool_meant}
 use Rattle.mvs_model.specs.State.{State}
 use Rattle.std.specs.FinMap.{FinMap, get}
 use Rattle.mvs_model.specs.Name.{name_cmp}
@@ -17,6 +17,7 @@ use Rattle.cell_pool.specs.Agree.{Agree}
 use Rattle.cell_pool.specs.Roots.{Root}
 use Rattle.request_forms.specs.Machine.{machine_state}
 use Rattle.mvs_model.specs.Codes.{family, is_conditional, bad_subpool, bad_address, not_held}
+use Rattle.mvs_model.specs.Subpool.{is_subpool_number}
 use Rattle.mvs_model.specs.Steps.{Fails, is_invalid, whole, on_doubleword, MayRelease, ReleaseStep, EmptiesEntry, ReleaseWholeStep}
 use Rattle.request_forms.proofs.Pooling.{emptied}
 use Rattle.request_forms.specs.Answers.{Answers}
@@ -24,16 +25,16 @@ use Rattle.request_forms.proofs.Cases.{not_valid, is_valid, yes_match, no_match}
 
 -- the answers of a release, in the order of the causes
 module _ (old : State) (t : Name) (form : Form) (number : ℕ) (ps : List PlaceValue) where
-  pub invalid_release : (number < 128 → ⊥) → Answers (ReleaseStep old t form number ps) old t (Err (bad_subpool (family form) false)) old
+  pub invalid_release : (is_subpool_number number ≡ true → ⊥) → Answers (ReleaseStep old t form number ps) old t (Err (bad_subpool (family form) false)) old
   invalid_release h = (refl, λ reply ended a. yes_match _ (is_invalid number) (not_valid number h) a)
 
-  pub misplaced_release : number < 128 → list_all on_doubleword ps ≡ false → Answers (ReleaseStep old t form number ps) old t (Err (bad_address (family form))) old
+  pub misplaced_release : is_subpool_number number ≡ true → list_all on_doubleword ps ≡ false → Answers (ReleaseStep old t form number ps) old t (Err (bad_address (family form))) old
   misplaced_release l e = (refl, λ reply ended a. no_match _ (is_invalid number) (is_valid number l) (yes_match _ (not (list_all on_doubleword ps)) (ap not e) a))
 
-  pub unheld_release : (s : Option ℕ) → number < 128 → list_all on_doubleword ps ≡ true → s ≡ entry old.owners t number → (MayRelease old s (map whole ps) → ⊥)
+  pub unheld_release : (s : Option ℕ) → is_subpool_number number ≡ true → list_all on_doubleword ps ≡ true → s ≡ subpool_meant old.owners t number → (MayRelease old s (map whole ps) → ⊥)
       → Answers (ReleaseStep old t form number ps) old t (cond (is_conditional form) (Ok Rc4) (Err (not_held (family form)))) old
   unheld_release s l e is h = at (is_conditional form) refl where
-    none : MayRelease old (entry old.owners t number) (map whole ps) → ⊥
+    none : MayRelease old (subpool_meant old.owners t number) (map whole ps) → ⊥
     none = subst (λ v. MayRelease old v (map whole ps) → ⊥) is h
 
     at : (b : Bool) → is_conditional form ≡ b → Answers (ReleaseStep old t form number ps) old t (cond b (Ok Rc4) (Err (not_held (family form)))) old
@@ -46,10 +47,10 @@ not_zero n m e h = grind (arith, nat_tests)
 
 -- the answers of a release of a whole subpool
 module _ (old : State) (t : Name) (form : Form) (number : ℕ) where
-  pub invalid_whole : (number < 128 → ⊥) → Answers (ReleaseWholeStep old t form number) old t (Err (bad_subpool (family form) false)) old
+  pub invalid_whole : (is_subpool_number number ≡ true → ⊥) → Answers (ReleaseWholeStep old t form number) old t (Err (bad_subpool (family form) false)) old
   invalid_whole h = (refl, λ reply ended a. yes_match _ (is_invalid number) (not_valid number h) a)
 
-  pub done_whole : (new : State) (s : Option ℕ) → number < 128 → (number == 0) ≡ false → s ≡ entry old.owners t number → EmptiesEntry old s new
+  pub done_whole : (new : State) (s : Option ℕ) → is_subpool_number number ≡ true → (number == 0) ≡ false → s ≡ subpool_meant old.owners t number → EmptiesEntry old s new
       → Answers (ReleaseWholeStep old t form number) old t (Ok Rc0) new
   done_whole new s l e is empties = no_match _ (is_invalid number) (is_valid number l) (no_match _ (number == 0) e (refl, subst (λ v. EmptiesEntry old v new) is empties))
 

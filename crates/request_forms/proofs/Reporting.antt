@@ -40,11 +40,11 @@ pub pool_fits : (roots : FinMap name_cmp Root) (st : Storage) (s : ℕ) (o : Own
 pool_fits roots st s o pool all agree some most = omega (arith, some, most, splits_bytes roots st s o agree)
 
 -- a line of the first number that the task has
-pub line_is : (roots : FinMap name_cmp Root) (st : Storage) (o : Owners) (u t : Name) (from number s : ℕ) (line : SubpoolLine) → Agree roots st → u ≡ t → from ≤ number → number < 128 → HasNone o u from number → entry o u number ≡ Some s
+pub line_is : (roots : FinMap name_cmp Root) (st : Storage) (o : Owners) (u t : Name) (from number s : ℕ) (line : SubpoolLine) → Agree roots st → u ≡ t → from ≤ number → number < 133 → HasNone o u from number → entry o u number ≡ Some s
     → line.number ≡ number → line.owned ≡ has (owns o u) (entry o u number) → line.pool ≡ bytes_held (machine_state roots st o) s true → line.plain ≡ held_bytes st s - line.pool → IsSubpoolLine (machine_state roots st o) t from line
 line_is roots st o u t from number s line agree name behind low none entered number_is owned pool plain = record {
   behind = subst (λ n. from ≤ n) (sym number_is) behind;
-  low = subst (λ n. n < 128) (sym number_is) low;
+  low = subst (λ n. n < 133) (sym number_is) low;
   first = subst (λ n. HasNone o t from n) (sym number_is) (subst (λ x. HasNone o x from number) name none);
   subpool = s;
   has = ap (λ n. entry o t n) number_is ∙ ap (λ x. entry o x number) (sym name) ∙ entered;

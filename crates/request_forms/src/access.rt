@@ -1,6 +1,6 @@
 //! Access to bytes: SHOW, PUT and MOVE, which are this project's own statements.
 
-ghost use Rattle.std.specs.Prelude.{◌≡◌, ◌<◌, ◌≤◌, ◌+◌, ◌^◌, ◌↔◌, Some, IfOk, IfSome, IsSome, IsTrue, MatchOption, ℕ, true, false, length, slice_get};
+ghost use Rattle.std.specs.Prelude.{◌≡◌, ◌<◌, ◌≤◌, ◌+◌, ◌^◌, ◌↔◌, ◌⊎◌, Some, IfOk, IfSome, IsSome, IsTrue, MatchOption, ℕ, true, false, length, slice_get};
 ghost use Rattle.std.specs.FinMap.{get};
 ghost use Rattle.mvs_model.specs.declared.name.Name.{Name};
 ghost use Rattle.mvs_model.specs.declared.request.Request.TheVariants as request;
@@ -18,6 +18,7 @@ ghost use Rattle.request_forms.specs.Access.{Copied};
 ghost use Rattle.request_forms.specs.Machine.{IsStepStorage, machine_state};
 
 use crate::machine::Machine;
+use crate::release::is_outside_pools;
 use cell_pool::Pools;
 use mvs_model::bounded::{MoveLength, ShowLength};
 use mvs_model::code::Code;
@@ -40,7 +41,7 @@ fn readable_end(store: &Store, pools: &Pools, addr: Addr) -> Option<u32>
         return None;
     };
     let first = addr.get() / 8 * 8;
-    if pools.touches(store, subpool, Place::new(Addr::new(first), 8)) {
+    if !is_outside_pools(store, pools, subpool, Place::new(Addr::new(first), 8)) {
         return None;
     }
     Some(first + 8)
@@ -63,7 +64,7 @@ fn is_plain(store: &Store, pools: &Pools, place: Place) -> bool
     if !store.holds(subpool, whole) {
         return false;
     }
-    !pools.touches(store, subpool, whole)
+    is_outside_pools(store, pools, subpool, whole)
 }
 
 // Whether each byte of a place may be read and written.
@@ -99,24 +100,6 @@ fn write(store: &mut Store, place: Place, bytes: &[u8])
     part.copy_from_slice(bytes);
 }
 
-// The byte at an address that is held.
-fn byte(store: &Store, addr: Addr) -> u8
-    requires { AllHeld store.now (place_at addr 1) }
-    ensures { get store.now.bytes addr ≡ Some result }
-{
-    store.bytes(Place::new(addr, 1))[0]
-}
-
-// Copies a byte to another address; both are held.
-fn copy_byte(store: &mut Store, to: Addr, from: Addr)
-    requires target { AllHeld store.old (place_at to 1) }
-    requires source { AllHeld store.old (place_at from 1) }
-    ensures { Copied store.old to from 1 store.new }
-{
-    let value = byte(store, from);
-    write(store, Place::new(to, 1), &[value]);
-}
-
 // The address so many bytes behind another one.
 fn behind(addr: Addr, distance: u32) -> Addr
     requires { addr + distance < 2 ^ 31 }
@@ -125,29 +108,49 @@ fn behind(addr: Addr, distance: u32) -> Addr
     Addr::new(addr.get() + distance)
 }
 
-// Copies bytes to lower addresses, the first one first.
+// Copies bytes to a place that has none of them.
+fn copy_apart(store: &mut Store, to: Addr, from: Addr, len: u32)
+    requires some { 1 ≤ len }
+    requires target { AllHeld store.old (place_at to len) }
+    requires source { AllHeld store.old (place_at from len) }
+    requires apart { (from + len ≤ to) ⊎ (to + len ≤ from) }
+    ensures { Copied store.old to from len store.new }
+{
+    let (source, target) = store.two(Place::new(from, len), Place::new(to, len));
+    target.copy_from_slice(source);
+}
+
+// Copies bytes to lower addresses, the first ones first: as many at a time as the two places lie apart.
 fn copy_down(store: &mut Store, to: Addr, from: Addr, len: u32)
     requires storage { IsStepStorage store.old }
     requires target { AllHeld store.old (place_at to len) }
     requires source { AllHeld store.old (place_at from len) }
-    requires lower { to ≤ from }
+    requires lower { to < from }
     ensures { Copied store.old to from len store.new }
 {
-    for k in 0..len {
-        copy_byte(store, behind(to, k), behind(from, k));
+    let distance = from.get() - to.get();
+    let mut done = 0;
+    'pieces: while done < len {
+        let piece = distance.min(len - done);
+        copy_apart(store, behind(to, done), behind(from, done), piece);
+        done += piece;
     }
 }
 
-// Copies bytes to higher addresses, the last one first.
+// Copies bytes to higher addresses, the last ones first: as many at a time as the two places lie apart.
 fn copy_up(store: &mut Store, to: Addr, from: Addr, len: u32)
     requires storage { IsStepStorage store.old }
     requires target { AllHeld store.old (place_at to len) }
     requires source { AllHeld store.old (place_at from len) }
-    requires higher { from ≤ to }
+    requires higher { from < to }
     ensures { Copied store.old to from len store.new }
 {
-    for k in (0..len).rev() {
-        copy_byte(store, behind(to, k), behind(from, k));
+    let distance = to.get() - from.get();
+    let mut left = len;
+    'pieces: while left > 0 {
+        let piece = distance.min(left);
+        left -= piece;
+        copy_apart(store, behind(to, left), behind(from, left), piece);
     }
 }
 
@@ -158,9 +161,9 @@ fn copy(store: &mut Store, to: Addr, from: Addr, len: u32)
     requires source { AllHeld store.old (place_at from len) }
     ensures { Copied store.old to from len store.new }
 {
-    if to.get() <= from.get() {
+    if to.get() < from.get() {
         copy_down(store, to, from, len);
-    } else {
+    } else if from.get() < to.get() {
         copy_up(store, to, from, len);
     }
 }

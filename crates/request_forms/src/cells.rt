@@ -1,12 +1,13 @@
 //! Requests for cells of cell pools (Assembler Services Reference, CPOOL). They have the codes of STORAGE (this project's
 //! choice).
 
-ghost use Rattle.std.specs.Prelude.{◌≡◌, ◌<◌, true, false, IfOk};
+ghost use Rattle.std.specs.Prelude.{◌≡◌, true, false, IfOk};
 ghost use Rattle.std.specs.FinMap.{get};
 ghost use Rattle.mvs_model.specs.declared.name.Name.{Name as TheName};
 ghost use Rattle.mvs_model.specs.declared.request.Reply.TheVariants.{Rc0};
 ghost use Rattle.mvs_model.specs.Owners.{is_active};
 ghost use Rattle.mvs_model.specs.Replies.{is_abend};
+ghost use Rattle.mvs_model.specs.Subpool.{IsSubpoolNumber};
 ghost use Rattle.mvs_model.specs.Steps.{BuildStep, DeleteStep, FreeStep, GetStep, residence_of};
 ghost use Rattle.mvs_model.specs.Want.{side_of};
 ghost use Rattle.cell_pool.specs.Answered.{Answered, cell_reply};
@@ -35,7 +36,7 @@ fn reply_of(cell: Option<Place>) -> Reply
 }
 
 impl Machine {
-    // Makes a pool in the subpool that the task has under a number, which is made where there was none, and only where the
+    // Makes a pool in the subpool that the task means by a number, which is made where there was none, and only where the
     // pool is made.
     fn build_pool(
         &mut self,
@@ -48,7 +49,7 @@ impl Machine {
         side: Side,
     ) -> Result<(), Code>
         requires active { is_active self.old.owners name ≡ true }
-        requires valid { number < 128 }
+        requires valid { IsSubpoolNumber number }
         ensures { Answered (λ _. Rc0) (BuildStep self.old name pool.now number (record { cell_size = size; primary = primary; secondary = secondary; side = side })) self.old name result self.new }
     {
         match self.tasks.subpool_of(name, number) {

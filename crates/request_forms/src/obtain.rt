@@ -6,7 +6,7 @@ ghost use Rattle.mvs_model.specs.Codes as table;
 ghost use Rattle.mvs_model.specs.Want.{want_of};
 ghost use Rattle.mvs_model.specs.Changes.{GrantTo, ShortOf};
 ghost use Rattle.mvs_model.specs.Steps.{ObtainStep, side_for};
-ghost use Rattle.mvs_model.specs.Owners.{is_active};
+ghost use Rattle.mvs_model.specs.Owners.{is_active, keeper};
 ghost use Rattle.mvs_model.specs.Replies.{is_abend};
 ghost use Rattle.request_forms.specs.Answers.{Answers};
 
@@ -32,13 +32,13 @@ pub(crate) fn refused(form: Form, code: Code) -> Result<Reply, Code>
 }
 
 impl Machine {
-    // Obtains an area under a number of the task: its subpool is made where there was none, and only where the area
-    // is granted.
+    // Obtains an area of the subpool that the task means by a number, which is made where there was none, and only where the
+    // area is granted.
     fn obtain_area(&mut self, name: Name, number: SubNo, want: &Want) -> Option<Place>
         requires { is_active self.old.owners name ≡ true }
         ensures { MatchOption result
-            (ShortOf self.old name number want.now × (self.new ≡ self.old))
-            (λ p. GrantTo self.old name number want.now p self.new) }
+            (ShortOf self.old (keeper self.old.owners name number) number want.now × (self.new ≡ self.old))
+            (λ p. GrantTo self.old (keeper self.old.owners name number) number want.now p self.new) }
     {
         match self.tasks.subpool_of(name, number) {
             Some(subpool) => self.store.obtain(subpool, want),

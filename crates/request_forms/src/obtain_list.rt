@@ -2,7 +2,7 @@
 
 ghost use Rattle.std.specs.Prelude.{◌≡◌, true, ◌+◌, ◌≤◌, ◌<◌, false, IfOk, MatchOption, None, List, [], ◌∷◌, ◌++◌, length};
 ghost use Rattle.mvs_model.specs.Changes.{ListGrant, ListShort};
-ghost use Rattle.mvs_model.specs.Owners.{is_active};
+ghost use Rattle.mvs_model.specs.Owners.{is_active, keeper};
 ghost use Rattle.mvs_model.specs.Replies.{is_abend};
 ghost use Rattle.mvs_model.specs.Place.{PlaceValue};
 ghost use Rattle.mvs_model.specs.Steps.{ObtainListStep};
@@ -77,7 +77,8 @@ fn grant_each(
 }
 
 impl Machine {
-    // Obtains areas under a number of the task: its subpool is made where there was none, and only where all areas are granted.
+    // Obtains areas of the subpool that the task means by a number, which is made where there was none, and only where all
+    // areas are granted.
     fn obtain_areas(
         &mut self,
         name: Name,
@@ -87,8 +88,8 @@ impl Machine {
     ) -> Option<Places>
         requires { is_active self.old.owners name ≡ true }
         ensures { MatchOption result
-            (ListShort self.old name number (list_wants lengths.now start) × (self.new ≡ self.old))
-            (λ ps. ListGrant self.old name number (list_wants lengths.now start) ps self.new) }
+            (ListShort self.old (keeper self.old.owners name number) number (list_wants lengths.now start) × (self.new ≡ self.old))
+            (λ ps. ListGrant self.old (keeper self.old.owners name number) number (list_wants lengths.now start) ps self.new) }
     {
         match self.tasks.subpool_of(name, number) {
             Some(subpool) => grant_each(&mut self.store, subpool, lengths.as_slice(), start, None),

@@ -1,6 +1,6 @@
 //! Requests that release.
 
-ghost use Rattle.std.specs.Prelude.{◌≡◌, ◌↔◌, ◌+◌, ◌/◌, ◌≤◌, true, false, IsTrue, IfOk, MatchResult, map, [], ◌∷◌};
+ghost use Rattle.std.specs.Prelude.{◌≡◌, ◌↔◌, ◌+◌, ◌/◌, ◌≤◌, true, false, IsTrue, IfOk, MatchBool, MatchResult, map, [], ◌∷◌};
 ghost use Rattle.std.specs.List.{AllByRecursion, list_all};
 ghost use Rattle.mvs_model.specs.Changes.{Disjoint, Frees, HeldPlain, Misses};
 ghost use Rattle.mvs_model.specs.Owners.{Owners};
@@ -11,6 +11,8 @@ ghost use Rattle.mvs_model.specs.Steps.{MayRelease, ReleaseStep, ReleaseWholeSte
 ghost use Rattle.mvs_model.specs.Storage.{HeldBy, IsStorage, IsWhole, Release};
 ghost use Rattle.request_forms.specs.Answers.{Answers};
 ghost use Rattle.cell_pool.specs.Agree.{Agree};
+ghost use Rattle.cell_pool.specs.Cells.{Touches, TouchesNone};
+ghost use Rattle.cell_pool.specs.Roots.{pools_of};
 ghost use Rattle.request_forms.specs.Lists.{HoldsApart, ReleasesEach};
 ghost use Rattle.request_forms.specs.Machine.{machine_state};
 
@@ -59,6 +61,21 @@ fn are_on_doublewords(places: &[Place]) -> bool
     places.iter().all(|place| is_on_doubleword(*place))
 }
 
+// Whether no part of a cell pool that lies in the subpool has a doubleword of the place.
+pub(crate) fn is_outside_pools(
+    store: &Store,
+    pools: &Pools,
+    subpool: SubpoolId,
+    place: Place,
+) -> bool
+    requires { Agree pools.now store.now }
+    ensures { MatchBool result
+        (TouchesNone store.now (pools_of pools.now store.now) subpool place)
+        (Touches store.now (pools_of pools.now store.now) subpool place) }
+{
+    !pools.touches(store, subpool, place)
+}
+
 // Whether the subpool holds a place outside of cell pools.
 fn holds_plain(store: &Store, pools: &Pools, subpool: SubpoolId, place: Place) -> bool
     requires agree { Agree pools.now store.now }
@@ -68,7 +85,7 @@ fn holds_plain(store: &Store, pools: &Pools, subpool: SubpoolId, place: Place) -
     if !store.holds(subpool, place) {
         return false;
     }
-    !pools.touches(store, subpool, place)
+    is_outside_pools(store, pools, subpool, place)
 }
 
 // Whether the subpool holds each place outside of cell pools, its length rounded up to doublewords.

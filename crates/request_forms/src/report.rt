@@ -2,6 +2,7 @@
 
 ghost use Rattle.std.specs.Prelude.{◌≡◌, ◌≢◌, ◌<◌, ◌≤◌, ◌+◌, ◌*◌, Some, None, MatchBool, MatchOption};
 ghost use Rattle.mvs_model.specs.Numbers.{first_page_above, most_pages_above, page_bytes, subpool_numbers};
+ghost use Rattle.mvs_model.specs.Kept.{OwnersKept};
 ghost use Rattle.mvs_model.specs.Owners.{entry};
 ghost use Rattle.mvs_model.specs.Storage.{IsStorage};
 ghost use Rattle.task_owner.specs.Tasks.{IsTask, name_of};
@@ -19,7 +20,7 @@ use task_owner::{TaskId, Tasks};
 // The number of a subpool that the task has, with the subpool.
 fn entry_at(tasks: &Tasks, t: TaskId, n: u8) -> Option<(SubNo, SubpoolId)>
     requires task { IsTask tasks.now t }
-    requires low { n < subpool_numbers }
+    requires kept { OwnersKept tasks.now.owners }
     ensures { MatchOption result
         (entry tasks.now.owners (name_of tasks.now t) n ≡ None)
         (λ r. (r.0 ≡ n) × (entry tasks.now.owners (name_of tasks.now t) n ≡ Some r.1)) }
@@ -27,7 +28,7 @@ fn entry_at(tasks: &Tasks, t: TaskId, n: u8) -> Option<(SubNo, SubpoolId)>
     let Some(number) = SubNo::new(n) else {
         return None;
     };
-    let Some(subpool) = tasks.subpool(t, number) else {
+    let Some(subpool) = tasks.entry(t, number) else {
         return None;
     };
     Some((number, subpool))
@@ -35,7 +36,8 @@ fn entry_at(tasks: &Tasks, t: TaskId, n: u8) -> Option<(SubNo, SubpoolId)>
 
 // The first number at or after one that the task has, with its subpool.
 fn first_entry(tasks: &Tasks, t: TaskId, from: u8) -> Option<(SubNo, SubpoolId)>
-    requires { IsTask tasks.now t }
+    requires task { IsTask tasks.now t }
+    requires kept { OwnersKept tasks.now.owners }
     ensures { MatchOption result
         (HasNone tasks.now.owners (name_of tasks.now t) from subpool_numbers)
         (λ r. (from ≤ r.0) × (r.0 < subpool_numbers) × HasNone tasks.now.owners (name_of tasks.now t) from r.0 × (entry tasks.now.owners (name_of tasks.now t) r.0 ≡ Some r.1)) }

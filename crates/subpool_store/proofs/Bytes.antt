@@ -1,5 +1,5 @@
 -- What a change of the cells and of the bytes of a region is, seen from outside.
-use Rattle.std.proofs.Common.{◌≡◌, ℕ, ◌+◌, ◌-◌, ◌*◌, ◌/◌, ◌%◌, ◌<◌, ◌≤◌, ◌⊎◌, not, Bool, true, false, cond, eqb, Option, Some, None, is_some, List, length, get_or, refl, sym, ap, ◌∙◌, inl, inr, arith}
+use Rattle.std.proofs.Common.{◌≡◌, ℕ, ◌+◌, ◌-◌, ◌*◌, ◌/◌, ◌%◌, ◌<◌, ◌≤◌, ◌⊎◌, not, Bool, true, false, cond, eqb, Option, Some, None, is_some, List, length, refl, sym, ap, ◌∙◌, inl, inr, arith}
 use Rattle.std.proofs.lemmas.Bool.{cases_Bool, cases_lt, cond-true, cond-false}
 use Rattle.std.proofs.lemmas.List.{get_or_past}
 use Rattle.std.specs.FinMap.{get}
@@ -10,13 +10,13 @@ use Rattle.mvs_model.proofs.Tables.{get-table_all}
 use Rattle.subpool_store.specs.Bits.{in_range}
 use Rattle.subpool_store.specs.Half.{shifted, cell, byte_at, bytes_of, held_of}
 use Rattle.subpool_store.proofs.Cover.{covers_is, covers_none, has_address_is, has_address_range}
-use Rattle.subpool_store.proofs.Exact.{holder_at, shifted_at, shifted_none, cell_none}
+use Rattle.subpool_store.proofs.Exact.{holder_at, shifted_at, shifted_none, shifted_some, cell_none}
 
 past_end : (first : ℕ) (bits : List Bool) (pages : List (Option ℕ)) (d : ℕ) → first + length bits ≤ d → shifted first (cell bits pages) d ≡ None
 past_end first bits pages d past = shifted_none first (cell bits pages) d (λ low. cell_none bits pages (d - first) (get_or_past bits (d - first) false (omega arith)))
 
 -- the byte at an address
-pub get-bytes_of : (first : ℕ) (bits : List Bool) (pages : List (Option ℕ)) (bytes : List ℕ) (a : ℕ) → get (bytes_of first bits pages bytes) a ≡ byte_at first bits pages bytes a
+pub get-bytes_of : (first : ℕ) (bits : List Bool) (pages : List (Option ℕ)) (bytes : ℕ → ℕ) (a : ℕ) → get (bytes_of first bits pages bytes) a ≡ byte_at first bits pages bytes a
 get-bytes_of first bits pages bytes a = get-table_all (8 * (first + length bits)) (byte_at first bits pages bytes) past a where
   past : (k : ℕ) → 8 * (first + length bits) ≤ k → byte_at first bits pages bytes k ≡ None
   past k high = cond-false _ _ _ (ap is_some (past_end first bits pages (k / 8) (omega arith)))
@@ -37,6 +37,18 @@ cells_change first start end p f g v addr_is len_is some change k =
           ∙ ap (cond (in_range start end (k - first)) v) (shifted_at first f k high))
     ]
 
+-- a byte is the same where it is the same while its doubleword is held
+kept_at : (first : ℕ) (bits : List Bool) (pages : List (Option ℕ)) (bytes bytes' : ℕ → ℕ) (a : ℕ) →
+    ((t : ℕ) → 8 * first ≤ a → cell bits pages ((a - 8 * first) / 8) ≡ Some t → bytes' (a - 8 * first) ≡ bytes (a - 8 * first)) → byte_at first bits pages bytes' a ≡ byte_at first bits pages bytes a
+kept_at first bits pages bytes bytes' a kept = by (shifted first (cell bits pages) (a / 8)) refl where
+  by : (o : Option ℕ) → shifted first (cell bits pages) (a / 8) ≡ o → byte_at first bits pages bytes' a ≡ byte_at first bits pages bytes a
+  by None e = cond-false _ _ _ (ap is_some e) ∙ sym (cond-false _ _ _ (ap is_some e))
+  by (Some t) e =
+      let here = shifted_some first (cell bits pages) (a / 8) t e in
+      let from : first ≤ a / 8 = here.0 in
+      let index : (a - 8 * first) / 8 ≡ a / 8 - first = omega arith in
+      ap (λ x. cond (is_some (shifted first (cell bits pages) (a / 8))) (Some x) None) (kept t (omega arith) (ap (cell bits pages) index ∙ here.1))
+
 module _ (first : ℕ) (bits bits' : List Bool) (pages pages' : List (Option ℕ)) where
   -- what the function says of the holders is what the maps say
   pub holders_change : (p : PlaceValue) (v : Option ℕ) → ((k : ℕ) → shifted first (cell bits' pages') k ≡ cond (covers p k) v (shifted first (cell bits pages) k)) →
@@ -44,20 +56,21 @@ module _ (first : ℕ) (bits bits' : List Bool) (pages pages' : List (Option ℕ
   holders_change p v change k = holder_at first bits' pages' k ∙ change k ∙ sym (ap (cond (covers p k) v) (holder_at first bits pages k))
 
   -- the bytes of a place that is taken are the fill byte
-  pub taken_bytes : (start end s fill : ℕ) (p : PlaceValue) (bytes bytes' : List ℕ) → p.addr ≡ 8 * (first + start) → p.len ≡ 8 * (end - start) → start < end →
+  pub taken_bytes : (start end s fill : ℕ) (p : PlaceValue) (bytes bytes' : ℕ → ℕ) → p.addr ≡ 8 * (first + start) → p.len ≡ 8 * (end - start) → start < end →
       ((k : ℕ) → shifted first (cell bits' pages') k ≡ cond (covers p k) (Some s) (shifted first (cell bits pages) k)) →
-      ((k : ℕ) → get_or bytes' k 0 ≡ cond (in_range (8 * start) (8 * end) k) fill (get_or bytes k 0)) →
+      ((k : ℕ) → in_range (8 * start) (8 * end) k ≡ true → bytes' k ≡ fill) →
+      ((k t : ℕ) → in_range (8 * start) (8 * end) k ≡ false → cell bits pages (k / 8) ≡ Some t → bytes' k ≡ bytes k) →
       Changes (get (bytes_of first bits pages bytes)) (has_address p) (Some fill) (get (bytes_of first bits' pages' bytes'))
-  taken_bytes start end s fill p bytes bytes' addr_is len_is some holders filled a =
+  taken_bytes start end s fill p bytes bytes' addr_is len_is some holders inside outside a =
       get-bytes_of first bits' pages' bytes' a
       ∙ elim (cases_Bool (has_address p a)) [
         | inl hit ↦
             cond-true _ _ _ (ap is_some (holders (a / 8) ∙ cond-true _ _ _ (sym (here a) ∙ hit)))
-            ∙ ap Some (filled (a - 8 * first) ∙ cond-true _ _ _ (sym (range_at a hit) ∙ hit))
+            ∙ ap Some (inside (a - 8 * first) (sym (range_at a hit) ∙ hit))
             ∙ sym (cond-true _ _ _ hit)
         | inr out ↦
-            ap (λ o. cond (is_some o) (Some (get_or bytes' (a - 8 * first) 0)) None) (holders (a / 8) ∙ cond-false _ _ _ (sym (here a) ∙ out))
-            ∙ other a out (cases_lt a (8 * first))
+            ap (λ o. cond (is_some o) (Some (bytes' (a - 8 * first))) None) (holders (a / 8) ∙ cond-false _ _ _ (sym (here a) ∙ out))
+            ∙ other a out
             ∙ sym (get-bytes_of first bits pages bytes a)
             ∙ sym (cond-false _ _ _ out)
       ] where
@@ -73,23 +86,20 @@ module _ (first : ℕ) (bits bits' : List Bool) (pages pages' : List (Option ℕ
         range_at : (a : ℕ) → has_address p a ≡ true → has_address p a ≡ in_range (8 * start) (8 * end) (a - 8 * first)
         range_at a hit = has_address_range first start end a p addr_is len_is some (low a hit)
 
-        other : (a : ℕ) → has_address p a ≡ false → (a < 8 * first) ⊎ (8 * first ≤ a) →
-            cond (is_some (shifted first (cell bits pages) (a / 8))) (Some (get_or bytes' (a - 8 * first) 0)) None ≡ byte_at first bits pages bytes a
-        other a out (inl below) =
-            let none : shifted first (cell bits pages) (a / 8) ≡ None = shifted_none first (cell bits pages) (a / 8) (λ h. absurd (omega arith)) in
-            cond-false _ _ _ (ap is_some none) ∙ sym (cond-false _ _ _ (ap is_some none))
-        other a out (inr high) = ap (λ x. cond (is_some (shifted first (cell bits pages) (a / 8))) (Some x) None) (filled (a - 8 * first) ∙ cond-false _ _ _ (sym (has_address_range first start end a p addr_is len_is some high) ∙ out))
+        other : (a : ℕ) → has_address p a ≡ false → byte_at first bits pages bytes' a ≡ byte_at first bits pages bytes a
+        other a out = kept_at first bits pages bytes bytes' a (λ t high held. outside (a - 8 * first) t (sym (has_address_range first start end a p addr_is len_is some high) ∙ out) held)
 
   -- where doublewords are given back their bytes are gone
-  pub given_bytes : (p : PlaceValue) (bytes : List ℕ) → p.addr % 8 ≡ 0 → p.len % 8 ≡ 0 →
+  pub given_bytes : (p : PlaceValue) (bytes bytes' : ℕ → ℕ) → p.addr % 8 ≡ 0 → p.len % 8 ≡ 0 → ((k t : ℕ) → cell bits' pages' (k / 8) ≡ Some t → bytes' k ≡ bytes k) →
       ((k : ℕ) → shifted first (cell bits' pages') k ≡ cond (covers p k) None (shifted first (cell bits pages) k)) →
-      Changes (get (bytes_of first bits pages bytes)) (has_address p) None (get (bytes_of first bits' pages' bytes))
-  given_bytes p bytes on whole holders a =
-      get-bytes_of first bits' pages' bytes a
-      ∙ ap (λ o. cond (is_some o) (Some (get_or bytes (a - 8 * first) 0)) None) (holders (a / 8) ∙ ap (λ b. cond b None (shifted first (cell bits pages) (a / 8))) (sym (has_address_is p a on whole)))
+      Changes (get (bytes_of first bits pages bytes)) (has_address p) None (get (bytes_of first bits' pages' bytes'))
+  given_bytes p bytes bytes' on whole stays holders a =
+      get-bytes_of first bits' pages' bytes' a
+      ∙ kept_at first bits' pages' bytes bytes' a (λ t _ held. stays (a - 8 * first) t held)
+      ∙ ap (λ o. cond (is_some o) (Some (bytes (a - 8 * first))) None) (holders (a / 8) ∙ ap (λ b. cond b None (shifted first (cell bits pages) (a / 8))) (sym (has_address_is p a on whole)))
       ∙ inner (has_address p a) (shifted first (cell bits pages) (a / 8))
       ∙ sym (ap (cond (has_address p a) None) (get-bytes_of first bits pages bytes a)) where
-        inner : (b : Bool) (o : Option ℕ) → cond (is_some (cond b None o)) (Some (get_or bytes (a - 8 * first) 0)) None ≡ cond b None (cond (is_some o) (Some (get_or bytes (a - 8 * first) 0)) None)
+        inner : (b : Bool) (o : Option ℕ) → cond (is_some (cond b None o)) (Some (bytes (a - 8 * first))) None ≡ cond b None (cond (is_some o) (Some (bytes (a - 8 * first))) None)
         inner true o = refl
         inner false o = refl
 
@@ -103,17 +113,18 @@ module _ (first : ℕ) (bits bits' : List Bool) (pages pages' : List (Option ℕ
       Keeps (get (held_of first bits pages)) (λ _ t. not (eqb t s)) (get (held_of first bits' pages'))
   dropped_holders s cells k = holder_at first bits' pages' k ∙ dropped_shifted s cells k (cases_lt k first) ∙ sym (ap (kept (λ t. not (eqb t s))) (holder_at first bits pages k))
 
-  pub dropped_bytes : (s : ℕ) (bytes : List ℕ) → ((i : ℕ) → cell bits' pages' i ≡ kept (λ t. not (eqb t s)) (cell bits pages i)) →
-      Changes (get (bytes_of first bits pages bytes)) (λ a. has (λ t. eqb t s) (get (held_of first bits pages) (a / 8))) None (get (bytes_of first bits' pages' bytes))
-  dropped_bytes s bytes cells a =
-      get-bytes_of first bits' pages' bytes a
-      ∙ ap (λ o. cond (is_some o) (Some (get_or bytes (a - 8 * first) 0)) None) (dropped_shifted s cells (a / 8) (cases_lt (a / 8) first))
+  pub dropped_bytes : (s : ℕ) (bytes bytes' : ℕ → ℕ) → ((k t : ℕ) → cell bits' pages' (k / 8) ≡ Some t → bytes' k ≡ bytes k) → ((i : ℕ) → cell bits' pages' i ≡ kept (λ t. not (eqb t s)) (cell bits pages i)) →
+      Changes (get (bytes_of first bits pages bytes)) (λ a. has (λ t. eqb t s) (get (held_of first bits pages) (a / 8))) None (get (bytes_of first bits' pages' bytes'))
+  dropped_bytes s bytes bytes' stays cells a =
+      get-bytes_of first bits' pages' bytes' a
+      ∙ kept_at first bits' pages' bytes bytes' a (λ t _ held. stays (a - 8 * first) t held)
+      ∙ ap (λ o. cond (is_some o) (Some (bytes (a - 8 * first))) None) (dropped_shifted s cells (a / 8) (cases_lt (a / 8) first))
       ∙ inner (shifted first (cell bits pages) (a / 8))
       ∙ sym (ap (λ o. cond (has (λ t. eqb t s) o) None (byte_at first bits pages bytes a)) (holder_at first bits pages (a / 8)))
       ∙ sym (ap (cond (has (λ t. eqb t s) (get (held_of first bits pages) (a / 8))) None) (get-bytes_of first bits pages bytes a)) where
-        inner : (o : Option ℕ) → cond (is_some (kept (λ t. not (eqb t s)) o)) (Some (get_or bytes (a - 8 * first) 0)) None ≡ cond (has (λ t. eqb t s) o) None (cond (is_some o) (Some (get_or bytes (a - 8 * first) 0)) None)
+        inner : (o : Option ℕ) → cond (is_some (kept (λ t. not (eqb t s)) o)) (Some (bytes (a - 8 * first))) None ≡ cond (has (λ t. eqb t s) o) None (cond (is_some o) (Some (bytes (a - 8 * first))) None)
         inner None = refl
         inner (Some t) = at (eqb t s) where
-          at : (b : Bool) → cond (is_some (cond (not b) (Some t) None)) (Some (get_or bytes (a - 8 * first) 0)) None ≡ cond b None (Some (get_or bytes (a - 8 * first) 0))
+          at : (b : Bool) → cond (is_some (cond (not b) (Some t) None)) (Some (bytes (a - 8 * first))) None ≡ cond b None (Some (bytes (a - 8 * first)))
           at true = refl
           at false = refl

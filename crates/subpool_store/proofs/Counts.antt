@@ -145,7 +145,7 @@ pub count_page : (f : ℕ → Bool) (p count more : ℕ) → count ≡ count_bel
 count_page f p count more is next = (λ i. is i + next i) ∙ sym (count_split (512 * (p + 1)) (512 * p) 512 f (omega arith))
 
 -- the doublewords of s in a region, read off its map
-pub count_half : (first : ℕ) (bits : List Bool) (pages : List (Option ℕ)) (bytes : List ℕ) (h : HalfState) → half_of first bits pages bytes ≡ h → (s : ℕ) →
+pub count_half : (first : ℕ) (bits : List Bool) (pages : List (Option ℕ)) (bytes : ℕ → ℕ) (h : HalfState) → half_of first bits pages bytes ≡ h → (s : ℕ) →
     count_below (512 * length pages) (λ i. has (λ t. eqb t s) (cell bits pages i)) ≡ count_below (512 * h.pages) (λ i. has (λ t. eqb t s) (get h.held (h.first + i)))
 count_half first bits pages bytes h is s =
     count_same (512 * length pages) (λ i. has (λ t. eqb t s) (cell bits pages i)) (λ i. has (λ t. eqb t s) (get (held_of first bits pages) (first + i))) (λ i _. ap (has (λ t. eqb t s)) (sym (holder_index first bits pages i)))

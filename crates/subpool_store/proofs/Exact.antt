@@ -15,7 +15,7 @@ use Rattle.subpool_store.specs.Search.{may_take, AllPass}
 pub shifted_at : {X : Type 0} → (first : ℕ) (f : ℕ → Option X) (d : ℕ) → first ≤ d → shifted first f d ≡ f (d - first)
 shifted_at first f d h = grind (arith, nat_tests)
 
-shifted_some : {X : Type 0} → (first : ℕ) (f : ℕ → Option X) (d : ℕ) (t : X) → shifted first f d ≡ Some t → (first ≤ d) × (f (d - first) ≡ Some t)
+pub shifted_some : {X : Type 0} → (first : ℕ) (f : ℕ → Option X) (d : ℕ) (t : X) → shifted first f d ≡ Some t → (first ≤ d) × (f (d - first) ≡ Some t)
 shifted_some first f d t e = grind (arith, nat_tests)
 
 pub shifted_none : {X : Type 0} → (first : ℕ) (f : ℕ → Option X) (d : ℕ) → (first ≤ d → f (d - first) ≡ None) → shifted first f d ≡ None
@@ -61,7 +61,7 @@ usable_from s None h = refl
 usable_from s (Some t) h = eq-eqb t s (h t refl)
 
 -- what the test says of a doubleword
-pub may_from : (first : ℕ) (bits : List Bool) (pages : List (Option ℕ)) (bytes : List ℕ) (s i : ℕ) → IsHalf first bits pages bytes → may_take bits pages s i ≡ true → (i < length bits) × MayTake (get (held_of first bits pages)) s (first + i)
+pub may_from : (first : ℕ) (bits : List Bool) (pages : List (Option ℕ)) (bytes : ℕ → ℕ) (s i : ℕ) → IsHalf first bits pages → may_take bits pages s i ≡ true → (i < length bits) × MayTake (get (held_of first bits pages)) s (first + i)
 may_from first bits pages bytes s i half may =
     let parts = and_parts _ _ may in
     let clear = bit_clear bits i (not-true _ parts.0) in (
@@ -77,7 +77,7 @@ may_from first bits pages bytes s i half may =
       },
     )
 
-pub may_of : (first : ℕ) (bits : List Bool) (pages : List (Option ℕ)) (bytes : List ℕ) (s i : ℕ) → IsHalf first bits pages bytes → i < length bits → MayTake (get (held_of first bits pages)) s (first + i) → may_take bits pages s i ≡ true
+pub may_of : (first : ℕ) (bits : List Bool) (pages : List (Option ℕ)) (bytes : ℕ → ℕ) (s i : ℕ) → IsHalf first bits pages → i < length bits → MayTake (get (held_of first bits pages)) s (first + i) → may_take bits pages s i ≡ true
 may_of first bits pages bytes s i half within may =
     and_from _ _
     (elim (cases_Bool (get_or bits i false)) [
@@ -95,7 +95,7 @@ may_of first bits pages bytes s i half within may =
     held_cannot set (Some t) e = none-some t (sym may.free ∙ holder_index first bits pages i ∙ cell_at bits pages i set ∙ e)
 
 -- the places whose doublewords pass are the open ones
-pub open_from : (first : ℕ) (bits : List Bool) (pages : List (Option ℕ)) (bytes : List ℕ) (s : ℕ) (q : PlaceValue) → IsHalf first bits pages bytes → 8 ≤ q.len → AllPass (may_take bits pages s) first q → OpenIn (half_of first bits pages bytes) s q
+pub open_from : (first : ℕ) (bits : List Bool) (pages : List (Option ℕ)) (bytes : ℕ → ℕ) (s : ℕ) (q : PlaceValue) → IsHalf first bits pages → 8 ≤ q.len → AllPass (may_take bits pages s) first q → OpenIn (half_of first bits pages bytes) s q
 open_from first bits pages bytes s q half some all = record {
   inside =
       let begin = all (q.addr / 8) (omega arith, omega arith) in
@@ -112,7 +112,7 @@ open_from first bits pages bytes s q half some all = record {
       subst (MayTake (get (held_of first bits pages)) s) is (may_from first bits pages bytes s (d - first) half here.1).1;
 }
 
-pub open_of : (first : ℕ) (bits : List Bool) (pages : List (Option ℕ)) (bytes : List ℕ) (s : ℕ) (q : PlaceValue) → IsHalf first bits pages bytes → OpenIn (half_of first bits pages bytes) s q → AllPass (may_take bits pages s) first q
+pub open_of : (first : ℕ) (bits : List Bool) (pages : List (Option ℕ)) (bytes : ℕ → ℕ) (s : ℕ) (q : PlaceValue) → IsHalf first bits pages → OpenIn (half_of first bits pages bytes) s q → AllPass (may_take bits pages s) first q
 open_of first bits pages bytes s q half is_open d covered =
     let sizes : length bits ≡ 512 * length pages = half.exact.sizes in
     let inside : (8 * first ≤ q.addr) × (q.addr + q.len ≤ 8 * first + 4096 * length pages) = is_open.inside in

@@ -3,7 +3,6 @@ use Rattle.std.proofs.Common.{◌≡◌, ℕ, ◌+◌, ◌-◌, ◌*◌, ◌/◌
 use Rattle.std.proofs.lemmas.Bool.{cases_Bool, cases_lt, cond-true, cond-false, lt-ltb, le-ltb, true≢false}
 use Rattle.std.proofs.lemmas.Bool.Decides.{nat_tests}
 use Rattle.std.proofs.lemmas.List.{get_or_past}
-use Rattle.std.proofs.lemmas.List.FromFn.{get_or-map-range_with_len, length-map-range_with_len}
 use Rattle.std.specs.Ordering.{nat_cmp}
 use Rattle.std.specs.FinMap.{FinMap, get}
 use Rattle.mvs_model.specs.Place.{PlaceValue}
@@ -12,11 +11,10 @@ use Rattle.mvs_model.proofs.Tables.{get-table_all, same_maps}
 use Rattle.subpool_store.specs.Bits.{in_range}
 use Rattle.subpool_store.specs.Half.{HalfState, IsHalf, IsSound, byte_at, bytes_of, cell, half_of, shifted}
 use Rattle.subpool_store.specs.Joined.{IsStore, regions_of, store_of}
-use Rattle.subpool_store.specs.Written.{half_written, over, overlaid, overwritten, Puts, side_end, written}
+use Rattle.subpool_store.specs.Written.{half_written, over, overwritten, Puts, side_end, written}
 use Rattle.subpool_store.proofs.Both.{high_byte, low_byte, new_above, new_below, past_byte, storage_of}
 use Rattle.subpool_store.proofs.Bytes.{get-bytes_of}
-use Rattle.subpool_store.proofs.Exact.{holder_at, holder_some, shifted_none, cell_none}
-use Rattle.subpool_store.proofs.Methods.{set_within}
+use Rattle.subpool_store.proofs.Exact.{holder_at, holder_some, shifted_at, shifted_none, cell_none}
 use Rattle.subpool_store.proofs.Ranges.{in_range_true, in_range_false, in_range_from, out_of_range_from}
 
 -- what stays nothing where there was nothing
@@ -35,58 +33,42 @@ over_some m from to w k x e = ap (λ o. cond (in_range from to k && is_some o) (
 pub get-overwritten : (m : FinMap nat_cmp ℕ) (from to : ℕ) (w : List ℕ) → ((k : ℕ) → 2147483648 ≤ k → get m k ≡ None) → (k : ℕ) → get (overwritten m from to w) k ≡ over (get m) from to w k
 get-overwritten m from to w none k = get-table_all 2147483648 (over (get m) from to w) (λ j past. over_none (get m) from to w j (none j past)) k
 
-get_or-overlaid : (xs : List ℕ) (at : ℕ) (w : List ℕ) (k : ℕ) → k < length xs → get_or (overlaid xs at w) k 0 ≡ cond (in_range at (at + length w) k) (get_or w (k - at) 0) (get_or xs k 0)
-unfolding overlaid
-get_or-overlaid xs at w k low = get_or-map-range_with_len (λ k. cond (in_range at (at + length w) k) (get_or w (k - at) 0) (get_or xs k 0)) 0 (length xs) k k 0 low (omega arith)
-
-module _ (first : ℕ) (bits : List Bool) (pages : List (Option ℕ)) (bytes : List ℕ) (half : IsHalf first bits pages bytes) where
+module _ (first : ℕ) (bits : List Bool) (pages : List (Option ℕ)) (bytes bytes' : ℕ → ℕ) (half : IsHalf first bits pages) where
   none_past : (k : ℕ) → 2147483648 ≤ k → get (bytes_of first bits pages bytes) k ≡ None
   none_past k past =
       let end : 8 * (first + length bits) ≤ 2147483648 = half.end in
       get-bytes_of first bits pages bytes k
       ∙ cond-false _ _ _ (ap is_some (shifted_none first (cell bits pages) (k / 8) (λ from. cell_none bits pages (k / 8 - first) (get_or_past bits (k / 8 - first) false (omega arith)))))
 
-  module _ (a at : ℕ) (low : 8 * first ≤ a) (at_is : at ≡ a - 8 * first) (w : List ℕ) where
-    at_byte : (k : ℕ) (o : Option ℕ) → shifted first (cell bits pages) (k / 8) ≡ o → byte_at first bits pages (overlaid bytes at w) k ≡ over (get (bytes_of first bits pages bytes)) a (a + length w) w k
+  module _ (a at : ℕ) (low : 8 * first ≤ a) (at_is : at ≡ a - 8 * first) (w : List ℕ)
+      (each : (k t : ℕ) → cell bits pages (k / 8) ≡ Some t → bytes' k ≡ cond (in_range at (at + length w) k) (get_or w (k - at) 0) (bytes k)) where
+    at_byte : (k : ℕ) (o : Option ℕ) → shifted first (cell bits pages) (k / 8) ≡ o → byte_at first bits pages bytes' k ≡ over (get (bytes_of first bits pages bytes)) a (a + length w) w k
     at_byte k None free =
         cond-false _ _ _ (ap is_some free)
         ∙ sym (over_none (get (bytes_of first bits pages bytes)) a (a + length w) w k (get-bytes_of first bits pages bytes k ∙ cond-false _ _ _ (ap is_some free)))
     at_byte k (Some t) held =
         let there = holder_some first bits pages (k / 8) t (holder_at first bits pages (k / 8) ∙ held) in
         let from : first ≤ k / 8 = there.0 in
-        let inside : k / 8 - first < length bits = set_within bits (k / 8 - first) there.1 in
-        let sizes : length bytes ≡ 8 * length bits = half.sizes in
+        let index : (k - 8 * first) / 8 ≡ k / 8 - first = omega arith in
+        let here : cell bits pages ((k - 8 * first) / 8) ≡ Some t = ap (cell bits pages) index ∙ sym (shifted_at first (cell bits pages) (k / 8) from) ∙ held in
         cond-true _ _ _ (ap is_some held)
-        ∙ ap Some (get_or-overlaid bytes at w (k - 8 * first) (omega arith) ∙ moved k (omega arith))
-        ∙ sym (over_some (get (bytes_of first bits pages bytes)) a (a + length w) w k (get_or bytes (k - 8 * first) 0) (get-bytes_of first bits pages bytes k ∙ cond-true _ _ _ (ap is_some held))) where
+        ∙ ap Some (each (k - 8 * first) t here ∙ moved k (omega arith))
+        ∙ sym (over_some (get (bytes_of first bits pages bytes)) a (a + length w) w k (bytes (k - 8 * first)) (get-bytes_of first bits pages bytes k ∙ cond-true _ _ _ (ap is_some held))) where
           same_range : (n k : ℕ) → 8 * first ≤ k → in_range at (at + n) (k - 8 * first) ≡ in_range a (a + n) k
           same_range n k from = grind (arith, nat_tests)
 
-          moved : (k : ℕ) → 8 * first ≤ k → cond (in_range at (at + length w) (k - 8 * first)) (get_or w (k - 8 * first - at) 0) (get_or bytes (k - 8 * first) 0) ≡ cond (in_range a (a + length w) k) (get_or w (k - a) 0) (get_or bytes (k - 8 * first) 0)
+          moved : (k : ℕ) → 8 * first ≤ k → cond (in_range at (at + length w) (k - 8 * first)) (get_or w (k - 8 * first - at) 0) (bytes (k - 8 * first)) ≡ cond (in_range a (a + length w) k) (get_or w (k - a) 0) (bytes (k - 8 * first))
           moved k from =
               let index : k - 8 * first - at ≡ k - a = omega arith in
-              ap (λ b. cond b (get_or w (k - 8 * first - at) 0) (get_or bytes (k - 8 * first) 0)) (same_range (length w) k from) ∙ ap (λ i. cond (in_range a (a + length w) k) (get_or w i 0) (get_or bytes (k - 8 * first) 0)) index
+              ap (λ b. cond b (get_or w (k - 8 * first - at) 0) (bytes (k - 8 * first))) (same_range (length w) k from) ∙ ap (λ i. cond (in_range a (a + length w) k) (get_or w i 0) (bytes (k - 8 * first))) index
 
-    -- the region with its bytes overlaid is the region with its bytes written over
-    pub lends_half : (h : HalfState) → half_of first bits pages bytes ≡ h → half_of first bits pages (overlaid bytes at w) ≡ half_written h a w
+    -- the region with bytes in place of others is the region with its bytes written over
+    pub lends_half : (h : HalfState) → half_of first bits pages bytes ≡ h → half_of first bits pages bytes' ≡ half_written h a w
     lends_half h is =
         (λ i. record { first = first; pages = length pages; held = (half_of first bits pages bytes).held; bytes = same i })
         ∙ ap (λ g. half_written g a w) is where
-          same : bytes_of first bits pages (overlaid bytes at w) ≡ overwritten (bytes_of first bits pages bytes) a (a + length w) w
-          same = same_maps _ _ (λ k. get-bytes_of first bits pages (overlaid bytes at w) k ∙ at_byte k (shifted first (cell bits pages) (k / 8)) refl ∙ sym (get-overwritten (bytes_of first bits pages bytes) a (a + length w) w none_past k))
-
-length-overlaid : (xs : List ℕ) (at : ℕ) (w : List ℕ) → length (overlaid xs at w) ≡ length xs
-unfolding overlaid
-length-overlaid xs at w = length-map-range_with_len (λ k. cond (in_range at (at + length w) k) (get_or w (k - at) 0) (get_or xs k 0)) 0 (length xs)
-
-pub overlaid_half : (first : ℕ) (bits : List Bool) (pages : List (Option ℕ)) (bytes : List ℕ) → IsHalf first bits pages bytes → (at : ℕ) (w : List ℕ) → IsHalf first bits pages (overlaid bytes at w)
-overlaid_half first bits pages bytes half at w = record {
-  exact = half.exact;
-  aligned = half.aligned;
-  end = half.end;
-  one_side = half.one_side;
-  sizes = length-overlaid bytes at w ∙ half.sizes;
-}
+          same : bytes_of first bits pages bytes' ≡ overwritten (bytes_of first bits pages bytes) a (a + length w) w
+          same = same_maps _ _ (λ k. get-bytes_of first bits pages bytes' k ∙ at_byte k (shifted first (cell bits pages) (k / 8)) refl ∙ sym (get-overwritten (bytes_of first bits pages bytes) a (a + length w) w none_past k))
 
 -- a sound region stays sound
 sound_past : (h : HalfState) → IsSound h → h.first + 512 * h.pages ≤ 268435456 → (k : ℕ) → 2147483648 ≤ k → get h.bytes k ≡ None

@@ -9,6 +9,8 @@ pub mod Bytes
 pub mod Methods
 pub mod Both
 pub mod Choice
-pub mod Lent
+pub mod Opened
+pub mod Taken
+pub mod Parts
 pub mod LentHalf
 pub mod Counts

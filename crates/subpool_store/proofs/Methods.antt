@@ -10,7 +10,8 @@ use Rattle.mvs_model.specs.Storage.{Covers, IsWhole, LiesIn}
 use Rattle.mvs_model.specs.Want.{WantValue, IsWant}
 use Rattle.mvs_model.proofs.Tables.{same_maps}
 use Rattle.page_map.specs.Owners.{owner_of, is_usable}
-use Rattle.subpool_store.specs.Edits.{IsClear, IsMarked, IsAssigned, IsGivenUp, IsDropped, IsFilled}
+use Rattle.subpool_store.specs.Edits.{IsClear, IsMarked, IsAssigned, IsGivenUp, IsDropped}
+use Rattle.subpool_store.specs.Bits.{in_range}
 use Rattle.subpool_store.specs.Half.{HalfState, cell, shifted, IsHalf, IsSound, held_of, bytes_of, half_of, OpenIn, HeldIn, BestIn, ChangedIn, DroppedIn, AllHeldIn, OwnsPage}
 use Rattle.subpool_store.specs.Search.{Beats, IsCandidate, IsExact, may_take}
 use Rattle.subpool_store.proofs.Bytes.{get-bytes_of, cells_change, holders_change, taken_bytes, given_bytes, dropped_holders, dropped_bytes}
@@ -21,9 +22,9 @@ pub set_within : (bits : List Bool) (i : ℕ) → get_or bits i false ≡ true �
 set_within bits i set = elim (cases_lt i (length bits)) [ inl low ↦ low | inr high ↦ absurd (let e : false ≡ true = sym (get_or_past bits i false high) ∙ set in cc) ]
 
 -- an empty region
-pub nothing_kept : (first n : ℕ) (bits : List Bool) (pages : List (Option ℕ)) (bytes : List ℕ) → n ≤ 8192 → first % 512 ≡ 0 → 8 * (first + 512 * n) ≤ 2147483648 →
-    (first < 2097152 → first + 512 * n ≤ 2097152) → IsClear (512 * n) bits → pages ≡ replicate n None → length bytes ≡ 4096 * n → IsHalf first bits pages bytes
-nothing_kept first n bits pages bytes few aligned end one_side clear none size = record {
+pub nothing_kept : (first n : ℕ) (bits : List Bool) (pages : List (Option ℕ)) → n ≤ 8192 → first % 512 ≡ 0 → 8 * (first + 512 * n) ≤ 2147483648 →
+    (first < 2097152 → first + 512 * n ≤ 2097152) → IsClear (512 * n) bits → pages ≡ replicate n None → IsHalf first bits pages
+nothing_kept first n bits pages few aligned end one_side clear none = record {
   exact = record {
     sizes = clear.sizes ∙ ap (λ k. 512 * k) (sym count);
     most = let same : length pages ≡ n = count in omega arith;
@@ -33,7 +34,6 @@ nothing_kept first n bits pages bytes few aligned end one_side clear none size =
   aligned = aligned;
   end = subst (λ k. 8 * (first + k) ≤ 2147483648) (sym clear.sizes) end;
   one_side = subst (λ k. first < 2097152 → first + k ≤ 2097152) (sym clear.sizes) one_side;
-  sizes = let bits_size : length bits ≡ 512 * n = clear.sizes in omega arith;
 } where
   count : length pages ≡ n
   count = ap length none ∙ length-replicate n None
@@ -42,17 +42,17 @@ nothing_kept first n bits pages bytes few aligned end one_side clear none size =
   nobody p (inl low) = ap (λ l. owner_of l p) none ∙ get_or-replicate n p None None low
   nobody p (inr past) = get_or_past pages p None (let c : length pages ≡ n = count in omega (arith, c))
 
-pub nothing_half : (first n : ℕ) (bits : List Bool) (pages : List (Option ℕ)) (bytes : List ℕ) → IsClear (512 * n) bits → length pages ≡ n →
+pub nothing_half : (first n : ℕ) (bits : List Bool) (pages : List (Option ℕ)) (bytes : ℕ → ℕ) → IsClear (512 * n) bits → length pages ≡ n →
     half_of first bits pages bytes ≡ record { first = first; pages = n; held = empty; bytes = empty }
 nothing_half first n bits pages bytes clear count =
     let held : held_of first bits pages ≡ empty = same_maps _ _ (λ d. holder_at first bits pages d ∙ nobody d ∙ sym (get-empty nat_cmp d)) in
-    let none : bytes_of first bits pages bytes ≡ empty = same_maps _ _ (λ a. get-bytes_of first bits pages bytes a ∙ ap (λ o. cond (is_some o) (Some (get_or bytes (a - 8 * first) 0)) None) (nobody (a / 8)) ∙ sym (get-empty nat_cmp a)) in
+    let none : bytes_of first bits pages bytes ≡ empty = same_maps _ _ (λ a. get-bytes_of first bits pages bytes a ∙ ap (λ o. cond (is_some o) (Some (bytes (a - 8 * first))) None) (nobody (a / 8)) ∙ sym (get-empty nat_cmp a)) in
     λ i. record { first = first; pages = count i; held = held i; bytes = none i } where
       nobody : (d : ℕ) → shifted first (cell bits pages) d ≡ None
       nobody d = shifted_none first (cell bits pages) d (λ _. cell_none bits pages (d - first) (clear.each (d - first)))
 
 -- what is kept of a region makes what is seen of it sound
-pub half_sound : (first : ℕ) (bits : List Bool) (pages : List (Option ℕ)) (bytes : List ℕ) → IsHalf first bits pages bytes → IsSound (half_of first bits pages bytes)
+pub half_sound : (first : ℕ) (bits : List Bool) (pages : List (Option ℕ)) (bytes : ℕ → ℕ) → IsHalf first bits pages → IsSound (half_of first bits pages bytes)
 half_sound first bits pages bytes half = record {
   bounded = λ d t held.
       let at = holder_some first bits pages d t held in
@@ -68,13 +68,13 @@ half_sound first bits pages bytes half = record {
       let low_e : first ≤ e = there.0 in
       let page : (d - first) / 512 ≡ (e - first) / 512 = omega arith in
       same_Some s t (sym here.2 ∙ ap (owner_of pages) page ∙ there.2);
-  bytes = λ a. ap is_some (get-bytes_of first bits pages bytes a) ∙ both (shifted first (cell bits pages) (a / 8)) (get_or bytes (a - 8 * first) 0) ∙ sym (ap is_some (holder_at first bits pages (a / 8)));
+  bytes = λ a. ap is_some (get-bytes_of first bits pages bytes a) ∙ both (shifted first (cell bits pages) (a / 8)) (bytes (a - 8 * first)) ∙ sym (ap is_some (holder_at first bits pages (a / 8)));
 } where
   both : (o : Option ℕ) (x : ℕ) → is_some (cond (is_some o) (Some x) None) ≡ is_some o
   both None x = refl
   both (Some t) x = refl
 
-module _ (first : ℕ) (bits : List Bool) (pages : List (Option ℕ)) (bytes : List ℕ) (h : HalfState) (half : IsHalf first bits pages bytes) (is : half_of first bits pages bytes ≡ h) (s : ℕ) where
+module _ (first : ℕ) (bits : List Bool) (pages : List (Option ℕ)) (bytes : ℕ → ℕ) (h : HalfState) (half : IsHalf first bits pages) (is : half_of first bits pages bytes ≡ h) (s : ℕ) where
   -- the search finds the open places
   pub finds_best : (want : WantValue) (r : Option PlaceValue) → IsWant want → IfSome r (IsCandidate (may_take bits pages s) first want) →
       ((q : PlaceValue) → IsCandidate (may_take bits pages s) first want q → Beats r q.len) → BestIn h s want r
@@ -127,24 +127,24 @@ module _ (first : ℕ) (bits : List Bool) (pages : List (Option ℕ)) (bytes : L
         (inside.0, let high : p.addr + p.len ≤ 8 * first + 4096 * length pages = inside.1 in omega arith)
 
     module _ (bits' : List Bool) (pages' : List (Option ℕ)) (is_open : OpenIn h s p) (marked : IsMarked bits start end true bits') (assigned : IsAssigned pages (start / 512) ((end - 1) / 512 + 1) s pages') where
-      pub take_half : (bytes' : List ℕ) → length bytes' ≡ length bytes → IsHalf first bits' pages' bytes'
-      take_half bytes' size = record {
+      pub take_half : IsHalf first bits' pages'
+      take_half = record {
         exact = taken_exact start end s bits bits' pages pages' half.exact ordered (open_pass is_open) marked assigned;
         aligned = half.aligned;
         end = subst (λ n. 8 * (first + n) ≤ 2 ^ 31) (sym marked.sizes) half.end;
         one_side = subst (λ n. first < 2097152 → first + n ≤ 2097152) (sym marked.sizes) half.one_side;
-        sizes = size ∙ half.sizes ∙ ap (λ n. 8 * n) (sym marked.sizes);
       }
 
-      pub take_changes : (fill : ℕ) (bytes' : List ℕ) → IsFilled bytes (8 * start) (8 * end) fill bytes' → ChangedIn h p (Some s) (Some fill) (half_of first bits' pages' bytes')
-      take_changes fill bytes' filled =
+      pub take_changes : (fill : ℕ) (bytes' : ℕ → ℕ) → ((k : ℕ) → in_range (8 * start) (8 * end) k ≡ true → bytes' k ≡ fill) →
+          ((k t : ℕ) → in_range (8 * start) (8 * end) k ≡ false → cell bits pages (k / 8) ≡ Some t → bytes' k ≡ bytes k) → ChangedIn h p (Some s) (Some fill) (half_of first bits' pages' bytes')
+      take_changes fill bytes' inside outside =
           let low : 8 * first ≤ p.addr = (open_inside is_open).0 in
           let holders = cells_change first start end p (cell bits pages) (cell bits' pages') (Some s) (at_start low) long_is ordered (taken_cell start end s bits bits' pages pages' half.exact ordered (open_pass is_open) marked assigned) in
           subst (λ g. ChangedIn g p (Some s) (Some fill) (half_of first bits' pages' bytes')) is (record {
             first = refl;
             pages = assigned.sizes;
             held = holders_change first bits bits' pages pages' p (Some s) holders;
-            bytes = taken_bytes first bits bits' pages pages' start end s fill p bytes bytes' (at_start low) long_is ordered holders filled.each;
+            bytes = taken_bytes first bits bits' pages pages' start end s fill p bytes bytes' (at_start low) long_is ordered holders inside outside;
           })
 
     -- a place that is held lies in the region
@@ -159,23 +159,22 @@ module _ (first : ℕ) (bits : List Bool) (pages : List (Option ℕ)) (bytes : L
         (omega arith, omega arith)
 
     module _ (bits' : List Bool) (pages' : List (Option ℕ)) (marked : IsMarked bits start end false bits') (given : IsGivenUp bits' pages (start / 512) ((end - 1) / 512 + 1) pages') where
-      pub give_half : IsHalf first bits' pages' bytes
+      pub give_half : IsHalf first bits' pages'
       give_half = record {
         exact = given_exact start end bits bits' pages pages' half.exact ordered marked given;
         aligned = half.aligned;
         end = subst (λ n. 8 * (first + n) ≤ 2 ^ 31) (sym marked.sizes) half.end;
         one_side = subst (λ n. first < 2097152 → first + n ≤ 2097152) (sym marked.sizes) half.one_side;
-        sizes = half.sizes ∙ ap (λ n. 8 * n) (sym marked.sizes);
       }
 
-      pub give_changes : 8 * first ≤ p.addr → ChangedIn h p None None (half_of first bits' pages' bytes)
-      give_changes low =
+      pub give_changes : (bytes' : ℕ → ℕ) → ((k t : ℕ) → cell bits' pages' (k / 8) ≡ Some t → bytes' k ≡ bytes k) → 8 * first ≤ p.addr → ChangedIn h p None None (half_of first bits' pages' bytes')
+      give_changes bytes' stays low =
           let holders = cells_change first start end p (cell bits pages) (cell bits' pages') None (at_start low) long_is ordered (given_cell start end bits bits' pages pages' half.exact ordered marked given) in
-          subst (λ g. ChangedIn g p None None (half_of first bits' pages' bytes)) is (record {
+          subst (λ g. ChangedIn g p None None (half_of first bits' pages' bytes')) is (record {
             first = refl;
             pages = given.sizes;
             held = holders_change first bits bits' pages pages' p None holders;
-            bytes = given_bytes first bits bits' pages pages' p bytes on full holders;
+            bytes = given_bytes first bits bits' pages pages' p bytes bytes' on full stays holders;
           })
 
     -- the cells of the place are those of its doublewords
@@ -194,26 +193,25 @@ module _ (first : ℕ) (bits : List Bool) (pages : List (Option ℕ)) (bytes : L
 
   -- all that s holds goes
   module _ (bits' : List Bool) (pages' : List (Option ℕ)) (dropped : IsDropped s bits pages (length pages) bits' pages') where
-    pub drop_half : IsHalf first bits' pages' bytes
+    pub drop_half : IsHalf first bits' pages'
     drop_half = record {
       exact = dropped_exact s bits bits' pages pages' half.exact dropped;
       aligned = half.aligned;
       end = subst (λ n. 8 * (first + n) ≤ 2 ^ 31) (sym dropped.bits_size) half.end;
       one_side = subst (λ n. first < 2097152 → first + n ≤ 2097152) (sym dropped.bits_size) half.one_side;
-      sizes = half.sizes ∙ ap (λ n. 8 * n) (sym dropped.bits_size);
     }
 
-    pub drop_changes : DroppedIn h s (half_of first bits' pages' bytes)
-    drop_changes =
+    pub drop_changes : (bytes' : ℕ → ℕ) → ((k t : ℕ) → cell bits' pages' (k / 8) ≡ Some t → bytes' k ≡ bytes k) → DroppedIn h s (half_of first bits' pages' bytes')
+    drop_changes bytes' stays =
         let cells = dropped_cell s bits bits' pages pages' half.exact dropped in
-        subst (λ g. DroppedIn g s (half_of first bits' pages' bytes)) is (record {
+        subst (λ g. DroppedIn g s (half_of first bits' pages' bytes')) is (record {
           first = refl;
           pages = dropped.pages_size;
           held = dropped_holders first bits bits' pages pages' s cells;
-          bytes = dropped_bytes first bits bits' pages pages' s bytes cells;
+          bytes = dropped_bytes first bits bits' pages pages' s bytes bytes' stays cells;
         })
 
-module _ (first : ℕ) (bits : List Bool) (pages : List (Option ℕ)) (bytes : List ℕ) (h : HalfState) (is : half_of first bits pages bytes ≡ h) where
+module _ (first : ℕ) (bits : List Bool) (pages : List (Option ℕ)) (bytes : ℕ → ℕ) (h : HalfState) (is : half_of first bits pages bytes ≡ h) where
   -- who holds a doubleword, in the region and outside it
   pub holder_inside : (d : ℕ) → first ≤ d → cell bits pages (d - first) ≡ get h.held d
   holder_inside d low = sym (shifted_at first (cell bits pages) d low) ∙ sym (holder_at first bits pages d) ∙ ap (λ g. get g.held d) is
@@ -223,7 +221,7 @@ module _ (first : ℕ) (bits : List Bool) (pages : List (Option ℕ)) (bytes : L
       sym (shifted_none first (cell bits pages) d (λ low. cell_none bits pages (d - first) (get_or_past bits (d - first) false (out low)))) ∙ sym (holder_at first bits pages d) ∙ ap (λ g. get g.held d) is
 
   -- the byte at an address whose doubleword is held
-  pub byte_held : (a : ℕ) → IsSome (get h.held (a / 8)) → get h.bytes a ≡ Some (get_or bytes (a - 8 * first) 0)
+  pub byte_held : (a : ℕ) → IsSome (get h.held (a / 8)) → get h.bytes a ≡ Some (bytes (a - 8 * first))
   byte_held a held =
       sym (ap (λ g. get g.bytes a) is) ∙ get-bytes_of first bits pages bytes a
       ∙ cond-true _ _ _ (ap is_some (sym (holder_at first bits pages (a / 8)) ∙ ap (λ g. get g.held (a / 8)) is) ∙ held)
@@ -244,12 +242,12 @@ module _ (first : ℕ) (bits : List Bool) (pages : List (Option ℕ)) (bytes : L
           by (Some t) e _ = let there = holder_some first bits pages d t (ap (λ g. get g.held d) is ∙ e) in (there.0, set_within bits (d - first) there.1)
 
   -- the bytes of a place are read off the part of the bytes that is its own
-  pub part_bytes : (p : PlaceValue) (part : List ℕ) → 1 ≤ p.len → AllHeldIn h p → ((k : ℕ) → k < p.len → get_or part k 0 ≡ get_or bytes (p.addr - 8 * first + k) 0) →
+  pub part_bytes : (p : PlaceValue) (part : List ℕ) → 1 ≤ p.len → AllHeldIn h p → ((k : ℕ) → k < p.len → get_or part k 0 ≡ bytes (p.addr - 8 * first + k)) →
       (k : ℕ) → k < p.len → get h.bytes (p.addr + k) ≡ Some (get_or part k 0)
   part_bytes p part some held each k low =
       let inside : 8 * first ≤ p.addr = (all_inside p some held).0 in
       let at : p.addr + k - 8 * first ≡ p.addr - 8 * first + k = omega arith in
-      byte_held (p.addr + k) (held ((p.addr + k) / 8) (omega arith, omega arith)) ∙ ap Some (ap (λ i. get_or bytes i 0) at ∙ sym (each k low))
+      byte_held (p.addr + k) (held ((p.addr + k) / 8) (omega arith, omega arith)) ∙ ap Some (ap bytes at ∙ sym (each k low))
 
   -- the owner of a page
   pub no_page : (p : ℕ) → first % 512 ≡ 0 → length bits ≡ 512 * length pages → (first / 512 ≤ p → length pages ≤ p - first / 512) → OwnsPage h p None

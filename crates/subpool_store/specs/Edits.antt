@@ -1,5 +1,5 @@
 -- The doublewords of a region that are held, the owners of its pages, and changes of both.
-use Rattle.std.specs.Prelude.{◌≡◌, ℕ, ◌/◌, ◌<◌, ◌≤◌, ◌⊎◌, ◌&&◌, nat_lt, slice_index, Bool, true, false, Option, Some, None, List, length, slice_index_or, if◌then◌else◌}
+use Rattle.std.specs.Prelude.{◌≡◌, ℕ, ◌/◌, ◌<◌, ◌≤◌, ◌⊎◌, ◌&&◌, nat_lt, Bool, true, false, Option, Some, None, List, length, slice_index_or, if◌then◌else◌}
 use Rattle.page_map.specs.Owners.{owner_of, is_of}
 use Rattle.subpool_store.specs.Bits.{in_range}
 
@@ -47,8 +47,3 @@ pub record IsDropped (s : ℕ) (bits : List Bool) (pages : List (Option ℕ)) (n
   pub pages_size : length pages' ≡ length pages
   pub owners : (p : ℕ) → owner_of pages' p ≡ (if nat_lt p n && is_of s (owner_of pages p) then None else owner_of pages p)
   pub each : (i : ℕ) → slice_index_or bits' i false ≡ (if nat_lt (i / 512) n && is_of s (owner_of pages (i / 512)) then false else slice_index_or bits i false)
-
--- The bytes in the range have this value, and the others are as before.
-pub record IsFilled (old : List ℕ) (from to value : ℕ) (new : List ℕ) : Type 0 where
-  pub sizes : length new ≡ length old
-  pub each : (k : ℕ) → slice_index new k ≡ (if in_range from to k then value else slice_index old k)

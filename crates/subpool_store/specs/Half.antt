@@ -1,5 +1,5 @@
 -- One region: which of its doublewords are held, the owners of its pages, and its bytes.
-use Rattle.std.specs.Prelude.{◌≡◌, ℕ, ◌+◌, ◌-◌, ◌*◌, ◌/◌, ◌%◌, ◌^◌, ◌<◌, ◌≤◌, ◌==◌, not, Bool, false, Option, Some, None, List, length, is_some, nat_le, slice_index, slice_index_or, MatchOption, IsSome, if◌then◌else◌, refl}
+use Rattle.std.specs.Prelude.{◌≡◌, ℕ, ◌+◌, ◌-◌, ◌*◌, ◌/◌, ◌%◌, ◌^◌, ◌<◌, ◌≤◌, ◌==◌, not, Bool, false, Option, Some, None, List, length, is_some, nat_le, slice_index_or, unwrap_or, MatchOption, IsSome, if◌then◌else◌, refl}
 use Rattle.std.specs.Ordering.{nat_cmp}
 use Rattle.std.specs.FinMap.{FinMap, get, code}
 use Rattle.std.specs.Coded.{Coded, code_by, coded×, coded_ℕ}
@@ -9,6 +9,7 @@ use Rattle.mvs_model.specs.Storage.{Covers, IsLength, LiesIn, MayTake, Meets, Pa
 use Rattle.mvs_model.specs.Table.{table}
 use Rattle.mvs_model.specs.Want.{WantValue}
 use Rattle.page_map.specs.Owners.{owner_of}
+use Rattle.region_raw.specs.Pages.{Pages, byte_of, is_open}
 use Rattle.subpool_store.specs.Search.{IsExact}
 
 -- f moved up, so that it begins at a number
@@ -38,25 +39,37 @@ half_code =
 abbrev pub held_of : ℕ → List Bool → List (Option ℕ) → FinMap nat_cmp ℕ
 held_of first bits pages = table (first + length bits) (shifted first (cell bits pages))
 
+-- the value of the byte at an index of a region, where its page is open
+abbrev pub value_at : Pages → ℕ → ℕ
+value_at bytes k = unwrap_or (byte_of bytes k) 0
+
 -- the byte at an address, where its doubleword is held
-abbrev pub byte_at : ℕ → List Bool → List (Option ℕ) → List ℕ → ℕ → Option ℕ
-byte_at first bits pages bytes a = if is_some (shifted first (cell bits pages) (a / 8)) then Some (slice_index bytes (a - 8 * first)) else None
+abbrev pub byte_at : ℕ → List Bool → List (Option ℕ) → (ℕ → ℕ) → ℕ → Option ℕ
+byte_at first bits pages bytes a = if is_some (shifted first (cell bits pages) (a / 8)) then Some (bytes (a - 8 * first)) else None
 
 -- the bytes of what is held
-abbrev pub bytes_of : ℕ → List Bool → List (Option ℕ) → List ℕ → FinMap nat_cmp ℕ
+abbrev pub bytes_of : ℕ → List Bool → List (Option ℕ) → (ℕ → ℕ) → FinMap nat_cmp ℕ
 bytes_of first bits pages bytes = table (8 * (first + length bits)) (byte_at first bits pages bytes)
 
 -- what these are as one region
-abbrev pub half_of : ℕ → List Bool → List (Option ℕ) → List ℕ → HalfState
+abbrev pub half_of : ℕ → List Bool → List (Option ℕ) → (ℕ → ℕ) → HalfState
 half_of first bits pages bytes = record { first = first; pages = length pages; held = held_of first bits pages; bytes = bytes_of first bits pages bytes }
 
--- What is kept of one region.
-pub record IsHalf (first : ℕ) (bits : List Bool) (pages : List (Option ℕ)) (bytes : List ℕ) : Type 0 where
+-- A page is open exactly while it is assigned.
+pub record IsOpened (pages : List (Option ℕ)) (bytes : Pages) : Type 0 where
+  pub sizes : length bytes ≡ length pages
+  pub each : (p : ℕ) → is_open bytes p ≡ is_some (owner_of pages p)
+
+-- the bytes of one region are there in another one
+abbrev pub Stays : Pages → Pages → Type 0
+Stays old new = (k x : ℕ) → byte_of old k ≡ Some x → byte_of new k ≡ Some x
+
+-- What is kept of the doublewords and the pages of one region.
+pub record IsHalf (first : ℕ) (bits : List Bool) (pages : List (Option ℕ)) : Type 0 where
   pub exact : IsExact bits pages
   pub aligned : first % 512 ≡ 0
   pub end : 8 * (first + length bits) ≤ 2 ^ 31
   pub one_side : first < 2097152 → first + length bits ≤ 2097152
-  pub sizes : length bytes ≡ 8 * length bits
 
 -- What is held lies in the region, each page is of one subpool, and there are bytes just where something is held.
 pub record IsSound (h : HalfState) : Type 0 where

@@ -5,6 +5,5 @@ pub mod Joined
 pub mod Search
 pub mod Walk
 pub mod Written
-pub mod LendsData
 pub mod LendsHalf
 pub mod LendsBytes

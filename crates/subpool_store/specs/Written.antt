@@ -1,6 +1,5 @@
--- What a list of bytes and a map of bytes have once bytes were written over them.
-use Rattle.std.specs.Prelude.{◌≡◌, ℕ, ◌+◌, ◌-◌, ◌&&◌, min, List, map, Option, Some, length, is_some, nat_lt, slice_index, if◌then◌else◌}
-use Rattle.std.specs.List.{range_with_len}
+-- What a map of bytes has once bytes were written over it.
+use Rattle.std.specs.Prelude.{◌≡◌, ℕ, ◌+◌, ◌-◌, ◌&&◌, min, List, Option, Some, length, is_some, nat_lt, slice_index, if◌then◌else◌}
 use Rattle.std.specs.Ordering.{nat_cmp}
 use Rattle.std.specs.FinMap.{FinMap, get}
 use Rattle.mvs_model.specs.Place.{PlaceValue}
@@ -8,10 +7,6 @@ use Rattle.mvs_model.specs.Storage.{IsStorage, Storage, has_address}
 use Rattle.mvs_model.specs.Table.{table}
 use Rattle.subpool_store.specs.Bits.{in_range}
 use Rattle.subpool_store.specs.Half.{HalfState}
-
--- the list with the bytes written over it from an index on, as far as it goes
-unfoldable pub overlaid : List ℕ → ℕ → List ℕ → List ℕ
-overlaid xs at w = map (λ k. if in_range at (at + length w) k then slice_index w (k - at) else slice_index xs k) (range_with_len 0 (length xs))
 
 -- what is at a key, with the bytes written over those from one key up to another
 abbrev pub over : (ℕ → Option ℕ) → ℕ → ℕ → List ℕ → ℕ → Option ℕ

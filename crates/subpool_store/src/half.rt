@@ -1,6 +1,6 @@
 //! One region.
 
-ghost use Rattle.std.specs.Prelude.{◌≡◌, ◌<◌, ◌≤◌, ◌+◌, ◌-◌, ◌*◌, ◌/◌, ◌%◌, ◌^◌, ◌↔◌, Some, None, MatchBool, MatchOption, ℕ, length, Bool, true, false, ◌==◌, IfOk, IsTrue, slice_index, slice_index_or};
+ghost use Rattle.std.specs.Prelude.{◌≡◌, ◌<◌, ◌≤◌, ◌+◌, ◌-◌, ◌*◌, ◌/◌, ◌%◌, ◌^◌, ◌↔◌, ◌⊎◌, Some, None, MatchBool, MatchOption, ℕ, length, Bool, true, false, ◌==◌, IfOk, IsSome, IsTrue, slice_index, slice_index_or, slice_set};
 ghost use Rattle.std.specs.Borrow.{sem};
 ghost use Rattle.std.specs.FinMap.{get, empty};
 ghost use Rattle.mvs_model.specs.Finite.{count_below, has};
@@ -14,14 +14,15 @@ ghost use Rattle.subpool_store.specs.Half.{
   ChangedIn,
   DroppedIn,
   HeldIn,
+  IsOpened,
   IsSound,
   OpenIn,
   OwnsPage,
+  Stays,
   cell,
 };
 ghost use Rattle.subpool_store.specs.LendsHalf.{LendsHalf};
 
-use crate::data::Data;
 use crate::held_map::HeldMap;
 use crate::run::Run;
 use crate::search::{Found, find};
@@ -30,6 +31,7 @@ use mvs_model::place::{Addr, Place};
 use mvs_model::subpool::SubpoolId;
 use mvs_model::want::{Placement, Want};
 use page_map::PageMap;
+use region_raw::region::Region;
 use std::alloc::Global;
 use std::marker::Model;
 
@@ -46,31 +48,72 @@ fn run_of(first: u32, place: Place) -> Run
     }
 }
 
-// Assigns the pages of a range that are not assigned.
-fn assign_pages(pages: &mut PageMap, subpool: SubpoolId, from: usize, to: usize)
+// Assigns a page that the subpool may use to it, and opens it, if it is not assigned yet.
+fn open_page(pages: &mut PageMap, bytes: &mut Region, subpool: SubpoolId, page: usize, fill: u8)
+    requires within { page < length pages.old }
+    requires usable { is_usable subpool (owner_of pages.old page) ≡ true }
+    requires opened { IsOpened pages.old bytes.old }
+    ensures assigned { pages.new ≡ slice_set pages.old page (Some subpool) }
+    ensures opened { IsOpened pages.new bytes.new }
+    ensures stays { Stays bytes.old bytes.new }
+{
+    if pages.owner(page).is_some() {
+        return;
+    }
+    pages.assign(page, subpool);
+    bytes.open_page(page, fill);
+}
+
+// Assigns the pages of a range that are not assigned, and opens them.
+fn open_pages(
+    pages: &mut PageMap,
+    bytes: &mut Region,
+    subpool: SubpoolId,
+    from: usize,
+    to: usize,
+    fill: u8,
+)
     requires ordered { from ≤ to }
     requires within { to ≤ length pages.old }
     requires usable { (p : ℕ) → from ≤ p → p < to → is_usable subpool (owner_of pages.old p) ≡ true }
-    ensures { IsAssigned pages.old from to subpool pages.new }
+    requires opened { IsOpened pages.old bytes.old }
+    ensures assigned { IsAssigned pages.old from to subpool pages.new }
+    ensures opened { IsOpened pages.new bytes.new }
+    ensures stays { Stays bytes.old bytes.new }
 {
     for page in from..to {
-        if pages.owner(page).is_none() {
-            pages.assign(page, subpool);
-        }
+        open_page(pages, bytes, subpool, page, fill);
     }
 }
 
-// Gives up the pages of a range of which nothing is held.
-fn give_up_pages(held: &HeldMap, pages: &mut PageMap, from: usize, to: usize)
+// Gives up a page that is assigned, and closes it.
+fn close_page(pages: &mut PageMap, bytes: &mut Region, page: usize)
+    requires within { page < length pages.old }
+    requires assigned { IsSome (owner_of pages.old page) }
+    requires opened { IsOpened pages.old bytes.old }
+    ensures unassigned { pages.new ≡ slice_set pages.old page None }
+    ensures opened { IsOpened pages.new bytes.new }
+    ensures stays { Stays bytes.new bytes.old }
+{
+    pages.unassign(page);
+    bytes.close_page(page);
+}
+
+// Gives up the pages of a range of which nothing is held, and closes them.
+fn give_up_pages(held: &HeldMap, pages: &mut PageMap, bytes: &mut Region, from: usize, to: usize)
     requires ordered { from ≤ to }
     requires within { to ≤ length pages.old }
     requires few { length pages.old ≤ 8192 }
     requires sizes { length held.now ≡ 512 * length pages.old }
-    ensures { IsGivenUp held.now pages.old from to pages.new }
+    requires assigned { (p : ℕ) → from ≤ p → p < to → IsSome (owner_of pages.old p) }
+    requires opened { IsOpened pages.old bytes.old }
+    ensures given { IsGivenUp held.now pages.old from to pages.new }
+    ensures opened { IsOpened pages.new bytes.new }
+    ensures stays { Stays bytes.new bytes.old }
 {
     for page in from..to {
         if held.is_whole(page) {
-            pages.unassign(page);
+            close_page(pages, bytes, page);
         }
     }
 }
@@ -102,14 +145,17 @@ fn holds_run(held: &HeldMap, pages: &PageMap, subpool: SubpoolId, run: Run) -> b
     held.are_held(run)
 }
 
-// Gives up the pages of the subpool, and what is held of them.
-fn drop_pages(held: &mut HeldMap, pages: &mut PageMap, subpool: SubpoolId)
+// Gives up the pages of the subpool, and what is held of them, and closes them.
+fn drop_pages(held: &mut HeldMap, pages: &mut PageMap, bytes: &mut Region, subpool: SubpoolId)
     requires sizes { length held.old ≡ 512 * length pages.old }
-    ensures { IsDropped subpool held.old pages.old (length pages.old) held.new pages.new }
+    requires opened { IsOpened pages.old bytes.old }
+    ensures dropped { IsDropped subpool held.old pages.old (length pages.old) held.new pages.new }
+    ensures opened { IsOpened pages.new bytes.new }
+    ensures stays { Stays bytes.new bytes.old }
 {
     for page in 0..pages.pages() {
         if pages.owner(page) == Some(subpool) {
-            pages.unassign(page);
+            close_page(pages, bytes, page);
             held.start(page);
         }
     }
@@ -169,19 +215,19 @@ pub struct Half {
     first: u32,
     held: HeldMap,
     pages: PageMap,
-    bytes: Data,
+    bytes: Region,
 }
 
 impl Model for Half {
-    ghost use Rattle.subpool_store.specs.Half.{HalfState, half_code, half_of, IsHalf};
+    ghost use Rattle.subpool_store.specs.Half.{HalfState, half_code, half_of, value_at, IsHalf, IsOpened};
 
     ghost Value = { HalfState };
 
     ghost coded = { half_code };
 
-    ghost view = { λ h. half_of h.first h.held h.pages h.bytes };
+    ghost view = { λ h. half_of h.first h.held h.pages (value_at h.bytes) };
 
-    ghost invariant = { λ h. IsHalf h.first h.held h.pages h.bytes };
+    ghost invariant = { λ h. IsHalf h.first h.held h.pages × IsOpened h.pages h.bytes };
 }
 
 impl Half {
@@ -198,7 +244,7 @@ impl Half {
             first,
             held: HeldMap::new(alloc, pages)?,
             pages: PageMap::new(alloc, pages)?,
-            bytes: Data::new(alloc, pages)?,
+            bytes: Region::new(alloc, pages)?,
         })
     }
 
@@ -227,13 +273,16 @@ impl Half {
     {
         let run = run_of(self.first, place);
         self.held.take(run);
-        assign_pages(
+        open_pages(
             &mut self.pages,
+            &mut self.bytes,
             subpool,
             run.start / 512,
             (run.end - 1) / 512 + 1,
+            fill,
         );
-        self.bytes.fill(8 * run.start, 8 * run.end, fill);
+        self.bytes
+            .fill(8 * run.start, 8 * (run.end - run.start), fill);
     }
 
     // Whether the subpool holds each doubleword of the place.
@@ -265,6 +314,7 @@ impl Half {
         give_up_pages(
             &self.held,
             &mut self.pages,
+            &mut self.bytes,
             run.start / 512,
             (run.end - 1) / 512 + 1,
         );
@@ -275,7 +325,7 @@ impl Half {
         ensures dropped { DroppedIn self.old subpool self.new }
         ensures sound { IsSound self.new }
     {
-        drop_pages(&mut self.held, &mut self.pages, subpool);
+        drop_pages(&mut self.held, &mut self.pages, &mut self.bytes, subpool);
     }
 
     // Who holds the doubleword of an address.
@@ -323,7 +373,7 @@ impl Half {
     {
         let len = place.len() as usize;
         let from = (place.addr().get() - 8 * self.first) as usize;
-        self.bytes.part(from, from + len)
+        self.bytes.part(from, len)
     }
 
     // Lends the bytes of a place.
@@ -335,6 +385,23 @@ impl Half {
     {
         let len = place.len() as usize;
         let from = (place.addr().get() - 8 * self.first) as usize;
-        self.bytes.part_mut(from, from + len)
+        self.bytes.part_mut(from, len)
+    }
+
+    // Lends the bytes of one place to read, and those of another one to write.
+    pub fn two(&mut self, from: Place, to: Place) -> (&[u8], &mut [u8])
+        requires source { AllHeldIn self.old from }
+        requires target { AllHeldIn self.old to }
+        requires len { from.len ≡ to.len }
+        requires apart { (from.addr + from.len ≤ to.addr) ⊎ (to.addr + to.len ≤ from.addr) }
+        ensures* writes_back { sem 𝓛 (LendsHalf self.entry to result.1) }
+        ensures len { (length result.0.now ≡ from.len) × (length result.1.now ≡ to.len) }
+        ensures source_bytes { (k : ℕ) → k < from.len → get self.old.bytes (from.addr + k) ≡ Some (slice_index result.0.now k) }
+        ensures target_bytes { (k : ℕ) → k < to.len → get self.old.bytes (to.addr + k) ≡ Some (slice_index result.1.now k) }
+    {
+        let len = from.len() as usize;
+        let source = (from.addr().get() - 8 * self.first) as usize;
+        let target = (to.addr().get() - 8 * self.first) as usize;
+        self.bytes.two_parts(source, target, len)
     }
 }

@@ -2,7 +2,6 @@
 #![tactic(auto)]
 
 mod bit_list;
-mod data;
 mod half;
 mod held_map;
 mod run;

@@ -1,11 +1,12 @@
 //! Storage of both regions.
 
-ghost use Rattle.std.specs.Prelude.{◌≡◌, ◌<◌, ◌≤◌, ◌+◌, ◌*◌, ◌/◌, ◌%◌, ◌^◌, ◌↔◌, Some, None, MatchBool, MatchOption, MatchResult, IfOk, IsTrue, List, ℕ, length, slice_get};
+ghost use Rattle.std.specs.Prelude.{◌≡◌, ◌<◌, ◌≤◌, ◌+◌, ◌*◌, ◌/◌, ◌%◌, ◌^◌, ◌↔◌, ◌⊎◌, Some, None, MatchBool, MatchOption, MatchResult, IfOk, IsTrue, List, ℕ, length, slice_get};
 ghost use Rattle.std.specs.Borrow.{sem};
 ghost use Rattle.std.specs.FinMap.{get, empty};
 ghost use Rattle.mvs_model.specs.Storage.{
   AllHeld,
   Chosen,
+  Covers,
   Grant,
   HeldBy,
   IsPageOwner,
@@ -69,6 +70,26 @@ fn is_below(place: Place) -> bool
     ensures some { 1 ≤ place.len }
 {
     u64::from(place.addr().get()) + u64::from(place.len()) <= 0x100_0000
+}
+
+// Whether the place ends at the last address or before.
+fn has_addresses(place: Place) -> bool
+    ensures within { MatchBool result (place.addr + place.len ≤ 2 ^ 31) (2 ^ 31 < place.addr + place.len) }
+    ensures some { 1 ≤ place.len }
+{
+    place.addr().get() + place.len() <= 0x8000_0000
+}
+
+// The doublewords of which a byte lies in the place, as a place.
+fn whole_doublewords(place: Place) -> Place
+    requires { place.addr + place.len ≤ 2 ^ 31 }
+    ensures whole { IsWhole result }
+    ensures same { (d : ℕ) → Covers result d ↔ Covers place d }
+{
+    let first = place.addr().get() / 8 * 8;
+    let end = place.addr().get() + place.len();
+    let len = (end - first).div_ceil(8) * 8;
+    Place::new(Addr::new(first), len)
 }
 
 // The best place in the region above, if a place may be there.
@@ -174,7 +195,7 @@ impl Store {
             (λ _. (HeldBy self.old subpool place → ⊥) × (self.new ≡ self.old)) }
         ensures storage { IsStorage self.new }
     {
-        if !self.holds(subpool, place) {
+        if !self.holds_whole(subpool, place) {
             return Err(NotHeld);
         }
         self.give(subpool, place);
@@ -190,8 +211,20 @@ impl Store {
         self.above.release_all(subpool);
     }
 
-    /// Whether the subpool holds each doubleword of a place of whole doublewords.
+    /// Whether the subpool holds each doubleword of which a byte lies in the place.
     pub fn holds(&self, subpool: SubpoolId, place: Place) -> bool
+        ensures holds { IsTrue result ↔ HeldBy self.now subpool place }
+        ensures storage { IsStorage self.now }
+    {
+        let _ = &self.fill;
+        if !has_addresses(place) {
+            return false;
+        }
+        self.holds_whole(subpool, whole_doublewords(place))
+    }
+
+    // The same of a place of whole doublewords.
+    fn holds_whole(&self, subpool: SubpoolId, place: Place) -> bool
         requires { IsWhole place }
         ensures holds { IsTrue result ↔ HeldBy self.now subpool place }
         ensures storage { IsStorage self.now }
@@ -275,6 +308,100 @@ impl Store {
             self.below.part_mut(place)
         } else {
             self.above.part_mut(place)
+        }
+    }
+
+    // Both places lie below.
+    fn two_below(&mut self, from: Place, to: Place) -> (&[u8], &mut [u8])
+        requires source { AllHeld self.old from }
+        requires target { AllHeld self.old to }
+        requires len { from.len ≡ to.len }
+        requires from_below { from.addr < 0x1000000 }
+        requires to_below { to.addr < 0x1000000 }
+        requires apart { (from.addr + from.len ≤ to.addr) ⊎ (to.addr + to.len ≤ from.addr) }
+        ensures* writes_back { sem 𝓛 (LendsBytes self.entry to result.1) }
+        ensures written { (w : List ℕ) → length w ≡ to.len → Puts self.old to w (written self.old to w) }
+        ensures len { (length result.0.now ≡ from.len) × (length result.1.now ≡ to.len) }
+        ensures source_bytes { (k : ℕ) → k < from.len → slice_get result.0.now k ≡ get self.old.bytes (from.addr + k) }
+        ensures target_bytes { (k : ℕ) → k < to.len → slice_get result.1.now k ≡ get self.old.bytes (to.addr + k) }
+    {
+        self.below.two(from, to)
+    }
+
+    // Both places lie above.
+    fn two_above(&mut self, from: Place, to: Place) -> (&[u8], &mut [u8])
+        requires source { AllHeld self.old from }
+        requires target { AllHeld self.old to }
+        requires len { from.len ≡ to.len }
+        requires from_above { 0x1000000 ≤ from.addr }
+        requires to_above { 0x1000000 ≤ to.addr }
+        requires apart { (from.addr + from.len ≤ to.addr) ⊎ (to.addr + to.len ≤ from.addr) }
+        ensures* writes_back { sem 𝓛 (LendsBytes self.entry to result.1) }
+        ensures written { (w : List ℕ) → length w ≡ to.len → Puts self.old to w (written self.old to w) }
+        ensures len { (length result.0.now ≡ from.len) × (length result.1.now ≡ to.len) }
+        ensures source_bytes { (k : ℕ) → k < from.len → slice_get result.0.now k ≡ get self.old.bytes (from.addr + k) }
+        ensures target_bytes { (k : ℕ) → k < to.len → slice_get result.1.now k ≡ get self.old.bytes (to.addr + k) }
+    {
+        self.above.two(from, to)
+    }
+
+    // The bytes that are read lie below, and those that are written above.
+    fn two_up(&mut self, from: Place, to: Place) -> (&[u8], &mut [u8])
+        requires source { AllHeld self.old from }
+        requires target { AllHeld self.old to }
+        requires len { from.len ≡ to.len }
+        requires from_below { from.addr < 0x1000000 }
+        requires to_above { 0x1000000 ≤ to.addr }
+        ensures* writes_back { sem 𝓛 (LendsBytes self.entry to result.1) }
+        ensures written { (w : List ℕ) → length w ≡ to.len → Puts self.old to w (written self.old to w) }
+        ensures len { (length result.0.now ≡ from.len) × (length result.1.now ≡ to.len) }
+        ensures source_bytes { (k : ℕ) → k < from.len → slice_get result.0.now k ≡ get self.old.bytes (from.addr + k) }
+        ensures target_bytes { (k : ℕ) → k < to.len → slice_get result.1.now k ≡ get self.old.bytes (to.addr + k) }
+    {
+        (self.below.part(from), self.above.part_mut(to))
+    }
+
+    // The bytes that are read lie above, and those that are written below.
+    fn two_down(&mut self, from: Place, to: Place) -> (&[u8], &mut [u8])
+        requires source { AllHeld self.old from }
+        requires target { AllHeld self.old to }
+        requires len { from.len ≡ to.len }
+        requires from_above { 0x1000000 ≤ from.addr }
+        requires to_below { to.addr < 0x1000000 }
+        ensures* writes_back { sem 𝓛 (LendsBytes self.entry to result.1) }
+        ensures written { (w : List ℕ) → length w ≡ to.len → Puts self.old to w (written self.old to w) }
+        ensures len { (length result.0.now ≡ from.len) × (length result.1.now ≡ to.len) }
+        ensures source_bytes { (k : ℕ) → k < from.len → slice_get result.0.now k ≡ get self.old.bytes (from.addr + k) }
+        ensures target_bytes { (k : ℕ) → k < to.len → slice_get result.1.now k ≡ get self.old.bytes (to.addr + k) }
+    {
+        (self.above.part(from), self.below.part_mut(to))
+    }
+
+    /// Lends the bytes of one place to read, and those of another one to write: what is written back is what the
+    /// second place has then, and all else is as before. Both are held, are of one length and have no byte in common.
+    pub fn two(&mut self, from: Place, to: Place) -> (&[u8], &mut [u8])
+        requires source { AllHeld self.old from }
+        requires target { AllHeld self.old to }
+        requires len { from.len ≡ to.len }
+        requires apart { (from.addr + from.len ≤ to.addr) ⊎ (to.addr + to.len ≤ from.addr) }
+        ensures* writes_back { sem 𝓛 (LendsBytes self.entry to result.1) }
+
+        // What the storage is once the loan is over, where `w` was left behind the second result.
+        ensures written { (w : List ℕ) → length w ≡ to.len → Puts self.old to w (written self.old to w) }
+        ensures len { (length result.0.now ≡ from.len) × (length result.1.now ≡ to.len) }
+        ensures source_bytes { (k : ℕ) → k < from.len → slice_get result.0.now k ≡ get self.old.bytes (from.addr + k) }
+        ensures target_bytes { (k : ℕ) → k < to.len → slice_get result.1.now k ≡ get self.old.bytes (to.addr + k) }
+    {
+        if from.addr().get() < 0x100_0000 {
+            if to.addr().get() < 0x100_0000 {
+                self.two_below(from, to)
+            } else {
+                self.two_up(from, to)
+            }
+        } else if to.addr().get() < 0x100_0000 {
+            self.two_down(from, to)
+        } else {
+            self.two_above(from, to)
         }
     }
 }

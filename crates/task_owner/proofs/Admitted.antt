@@ -12,7 +12,8 @@ use Rattle.task_owner.specs.Seats.{item_at, number_of, entry_of, owner_name, dir
 use Rattle.task_owner.specs.Handing.{Leaves, Admits, taken, passed_on}
 use Rattle.task_owner.specs.declared.seat.Seat.{Seat}
 use Rattle.task_owner.specs.declared.seat.Owned.{Owned}
-use Rattle.task_owner.proofs.Reading.{the_seat, name_is, a_task, found, number_low, view-entry, view-owner}
+use Rattle.task_owner.proofs.Having.{gives_low}
+use Rattle.task_owner.proofs.Reading.{the_seat, name_is, a_task, found, view-entry, view-owner}
 use Rattle.task_owner.proofs.Entering.{owns_given}
 use Rattle.task_owner.proofs.Admitting.{admitted_sound, admits, named_here, nobody_before, others_named}
 
@@ -26,7 +27,7 @@ pub record AdmitsAt (d : TasksValue) (t name : Name) (gifts : GiftsValue) (resid
 
 module _ (old now next : Slab Seat) (owned left : List (Option Owned)) (d : TasksValue) (m id : ℕ) (e : directory old.slots owned ≡ d) (f : m ≡ id) (sound : IsSound old.slots owned) (active : IsTask d id)
     (name : Name) (gifts : GiftsValue) (residence : Residence) (numbers : List (Option ℕ)) (key : ℕ) (inactive : is_active d.owners name ≡ false) (owns : gives_shared d.owners (name_of d id) gifts ≡ false)
-    (takes : (x : Seat) → slot old m ≡ Some x → (n : ℕ) → n < 128 → item_at numbers n ≡ taken gifts x.numbers n)
+    (takes : (x : Seat) → slot old m ≡ Some x → (n : ℕ) → n < 133 → item_at numbers n ≡ taken gifts x.numbers n)
     (left_here : (x : Seat) → slot old m ≡ Some x → (y : Seat) × (slot now m ≡ Some y) × Leaves gifts x y)
     (others : (k : ℕ) → k ≢ m → slot now k ≡ slot old k) (vacant : slot now key ≡ None)
     (here : slot next key ≡ Some (record { name = name; mother = Some m; residence = residence; numbers = numbers })) (rest : (k : ℕ) → k ≢ key → slot next k ≡ slot now k)
@@ -47,7 +48,7 @@ module _ (old now next : Slab Seat) (owned left : List (Option Owned)) (d : Task
   own n r o g h q =
       let z = sound.owners r o q in
       let there : get (directory old.slots owned).owners.owner r ≡ Some x.0.name =
-      owns_given x.0.name gifts (directory old.slots owned).owners given n r (number_low x.0 n r h) g (view-entry old.slots owned x.0.name n ∙ ap (λ v. entry_of v n) (found old.slots m x.0 sound.distinct x.1) ∙ h) in
+      owns_given x.0.name gifts (directory old.slots owned).owners given n r (gives_low gifts n g) g (view-entry old.slots owned x.0.name n ∙ ap (λ v. entry_of v n) (found old.slots m x.0 sound.distinct x.1) ∙ h) in
       let same : Some z.0.name ≡ Some x.0.name = sym (view-owner old.slots owned r ∙ ap (owner_name old.slots) q ∙ ap (option_map (λ (v : Seat). v.name)) z.1) ∙ there in
       let alike : z.0.name ≡ x.0.name = cc in
       sound.distinct o.owner m z.0 x.0 z.1 x.1 alike

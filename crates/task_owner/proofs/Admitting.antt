@@ -11,12 +11,13 @@ use Rattle.mvs_model.specs.Finite.{has}
 use Rattle.mvs_model.specs.Owners.{entry, is_given}
 use Rattle.mvs_model.proofs.Orders.{same_name_is, same_name_self}
 use Rattle.task_owner.specs.Tasks.{name_at}
-use Rattle.task_owner.specs.Seats.{item_at, name_of_seat, number_of, seat_named, mother_of, task_of, entry_of, owner_name, directory, IsSound}
+use Rattle.task_owner.specs.Seats.{item_at, name_of_seat, number_of, seat_named, mother_of, task_of, entry_of, owner_name, directory, MayHave, IsSound}
 use Rattle.task_owner.specs.Handing.{Leaves, Admits, taken, is_handed, passed_on}
 use Rattle.task_owner.specs.declared.seat.Seat.{Seat}
 use Rattle.task_owner.specs.declared.seat.Owned.{Owned}
+use Rattle.task_owner.proofs.Having.{same_place, gives_low, shares_low}
 use Rattle.task_owner.proofs.Places.{same_or_not, number_cases, of_some}
-use Rattle.task_owner.proofs.Reading.{found, found_at, not_found, name_cases, number_low, view-task, view-entry, view-owner, view-name}
+use Rattle.task_owner.proofs.Reading.{found, found_at, not_found, name_cases, view-task, view-entry, view-owner, view-name}
 use Rattle.task_owner.proofs.Bools.{same_test, both_true}
 use Rattle.task_owner.proofs.AnyBelow.{found_below, passing_below}
 
@@ -30,7 +31,7 @@ record Stays (gifts : GiftsValue) (m k : ℕ) (old now : Seat) : Type 0 where
 module _ (seats mid next : List (Option Seat)) (owned left : List (Option Owned)) (m key : ℕ) (x : Seat) (name : Name) (residence : Residence) (numbers : List (Option ℕ)) (gifts : GiftsValue)
     (sound : IsSound seats owned) (at : item_at seats m ≡ Some x) (left_here : (y : Seat) × (item_at mid m ≡ Some y) × Leaves gifts x y) (others : (k : ℕ) → k ≢ m → item_at mid k ≡ item_at seats k)
     (vacant : item_at mid key ≡ None) (here : item_at next key ≡ Some (record { name = name; mother = Some m; residence = residence; numbers = numbers })) (rest : (k : ℕ) → k ≢ key → item_at next k ≡ item_at mid k)
-    (takes : (n : ℕ) → n < 128 → item_at numbers n ≡ taken gifts x.numbers n) (passed : (s : ℕ) → item_at left s ≡ passed_on gifts m key (item_at owned s))
+    (takes : (n : ℕ) → n < 133 → item_at numbers n ≡ taken gifts x.numbers n) (passed : (s : ℕ) → item_at left s ≡ passed_on gifts m key (item_at owned s))
     (new : (k : ℕ) (y : Seat) → item_at seats k ≡ Some y → y.name ≢ name)
     (own : (n r : ℕ) (o : Owned) → gives gifts n ≡ true → number_of x n ≡ Some r → item_at owned r ≡ Some o → o.owner ≡ m) where
   abbrev w : Seat
@@ -45,11 +46,11 @@ module _ (seats mid next : List (Option Seat)) (owned left : List (Option Owned)
   not_key : (k : ℕ) (y : Seat) → item_at seats k ≡ Some y → k ≢ key
   not_key k y h e = let f : None ≡ Some y = sym key_vacant ∙ ap (item_at seats) (sym e) ∙ h in cc
 
-  by_low : (n : ℕ) (o p : Option ℕ) (b : Bool) (v : Option ℕ) → (n < 128 → o ≡ cond b v p) → v ≡ None → cond (ltb n 128) o None ≡ cond b v (cond (ltb n 128) p None)
-  by_low n o p b v h e = let f : n < 128 → o ≡ cond b v p = h in grind (arith, nat_tests)
+  by_low : (n : ℕ) (o p : Option ℕ) (b : Bool) (v : Option ℕ) → (n < 133 → o ≡ cond b v p) → v ≡ None → cond (ltb n 133) o None ≡ cond b v (cond (ltb n 133) p None)
+  by_low n o p b v h e = let f : n < 133 → o ≡ cond b v p = h in grind (arith, nat_tests)
 
-  by_low_kept : (n : ℕ) (o p : Option ℕ) (b : Bool) → (n < 128 → o ≡ cond b p None) → cond (ltb n 128) o None ≡ cond b (cond (ltb n 128) p None) None
-  by_low_kept n o p b h = let f : n < 128 → o ≡ cond b p None = h in grind (arith, nat_tests)
+  by_low_kept : (n : ℕ) (o p : Option ℕ) (b : Bool) → (n < 133 → o ≡ cond b p None) → cond (ltb n 133) o None ≡ cond b (cond (ltb n 133) p None) None
+  by_low_kept n o p b h = let f : n < 133 → o ≡ cond b p None = h in grind (arith, nat_tests)
 
   w_numbers : (n : ℕ) → number_of w n ≡ cond (gives gifts n || shares gifts n) (number_of x n) None
   w_numbers n = by_low_kept n (item_at numbers n) (item_at x.numbers n) (gives gifts n || shares gifts n) (takes n)
@@ -116,6 +117,7 @@ module _ (seats mid next : List (Option Seat)) (owned left : List (Option Owned)
     ranked = (λ k. cond (eqb k key) (sound.ranked.0 m + 1) (sound.ranked.0 k), λ k n y h e. ranks k n y e (before k y h));
     first = λ j k y z hy hz e f. first j k y z e f (before j y hy) (before k z hz);
     entries = λ k n s y h e. entries k n s y e (before k y h);
+    places = λ k n s y h e. places k n s y e (before k y h);
     owners = λ s o h. owners s o h (item_at owned s) refl;
   } where
     distinct : (j k : ℕ) (y z : Seat) → y.name ≡ z.name → ((j ≡ key) × (y ≡ w)) ⊎ ((v : Seat) × (item_at seats j ≡ Some v) × Stays gifts m j v y) → ((k ≡ key) × (z ≡ w)) ⊎ ((v : Seat) × (item_at seats k ≡ Some v) × Stays gifts m k v z) → j ≡ k
@@ -170,6 +172,15 @@ module _ (seats mid next : List (Option Seat)) (owned left : List (Option Owned)
     entries : (k n s : ℕ) (y : Seat) → number_of y n ≡ Some s → ((k ≡ key) × (y ≡ w)) ⊎ ((v : Seat) × (item_at seats k ≡ Some v) × Stays gifts m k v y) → (o : Owned) × (item_at left s ≡ Some o) × (o.number ≡ n)
     entries k n s y e (inl p) = entry_left m n s x at (of_else_none (gives gifts n || shares gifts n) (number_of x n) s (sym (w_numbers n) ∙ ap (λ v. number_of v n) (sym p.1) ∙ e))
     entries k n s y e (inr p) = entry_left k n s p.0 p.1 (of_none_else (eqb k m && gives gifts n) (number_of p.0 n) s (sym (p.2.numbers n) ∙ e))
+
+    handed_low : (b c : Bool) (n : ℕ) (o : Option ℕ) (s : ℕ) → (b ≡ true → n < 128) → (c ≡ true → n < 128) → cond (b || c) o None ≡ Some s → n < 128
+    handed_low true c n o s f g e = f refl
+    handed_low false true n o s f g e = g refl
+    handed_low false false n o s f g e = absurd (let h : ◌≡◌ {A = Option ℕ} None (Some s) = e in cc)
+
+    places : (k n s : ℕ) (y : Seat) → number_of y n ≡ Some s → ((k ≡ key) × (y ≡ w)) ⊎ ((v : Seat) × (item_at seats k ≡ Some v) × Stays gifts m k v y) → MayHave y n
+    places k n s y e (inl p) = inl (handed_low (gives gifts n) (shares gifts n) n (number_of x n) s (gives_low gifts n) (shares_low gifts n) (sym (w_numbers n) ∙ ap (λ v. number_of v n) (sym p.1) ∙ e))
+    places k n s y e (inr p) = same_place p.0 y n (sym p.2.mother) (sound.places k n s p.0 p.1 (of_none_else (eqb k m && gives gifts n) (number_of p.0 n) s (sym (p.2.numbers n) ∙ e)))
 
     new_owner : (s : ℕ) (o : Owned) → item_at owned s ≡ Some o → (b : Bool) → is_handed gifts m o ≡ b
         → (y : Seat) × (item_at next (cond b (record { owner = key; number = o.number }) o).owner ≡ Some y) × (number_of y (cond b (record { owner = key; number = o.number }) o).number ≡ Some s)
@@ -303,7 +314,7 @@ module _ (seats mid next : List (Option Seat)) (owned left : List (Option Owned)
         let f : Some z.0 ≡ Some x = sym z.1 ∙ ap (item_at seats) (eqb-true o.owner m both.0) ∙ at in
         let same : z.0 ≡ x = cc in
         let number : number_of x o.number ≡ Some s = ap (λ (v : Seat). number_of v o.number) (sym same) ∙ z.2 in
-        found_below (λ n. gives gifts n && has (λ r. r == s) (entry (directory seats owned).owners x.name n)) o.number 128 (number_low x o.number s number)
+        found_below (λ n. gives gifts n && has (λ r. r == s) (entry (directory seats owned).owners x.name n)) o.number 128 (gives_low gifts o.number both.1)
         (λ i. both.1 i && (ap (has (λ r. r == s)) (mother_entry o.number ∙ number) ∙ eq-eqb s s refl) i)
 
     back : has (is_handed gifts m) (item_at owned s) ≡ true → is_given (directory seats owned).owners x.name gifts s ≡ true

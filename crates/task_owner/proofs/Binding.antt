@@ -7,9 +7,10 @@ use Rattle.mvs_model.specs.Name.{same_name}
 use Rattle.mvs_model.specs.Owners.{Binds}
 use Rattle.mvs_model.proofs.Orders.{name_cmp_total, name_cmp-IsAntisymmetric}
 use Rattle.task_owner.specs.Tasks.{TasksValue, name_at, name_of}
-use Rattle.task_owner.specs.Seats.{item_at, name_of_seat, number_of, seat_named, mother_of, task_of, entry_of, owner_name, directory, IsSound, Distinct}
+use Rattle.task_owner.specs.Seats.{item_at, name_of_seat, number_of, seat_named, mother_of, task_of, entry_of, owner_name, directory, MayHave, IsSound, Distinct}
 use Rattle.task_owner.specs.declared.seat.Seat.{Seat}
 use Rattle.task_owner.specs.declared.seat.Owned.{Owned}
+use Rattle.task_owner.proofs.Having.{same_place}
 use Rattle.task_owner.proofs.Places.{set_here, set_apart, same_or_not, number_cases}
 use Rattle.task_owner.proofs.Reading.{found, found_at, not_found, name_cases, low_number, view-task, view-entry, view-owner, view-name, name_is}
 
@@ -26,7 +27,7 @@ same_lookup seats next t d e there back = by (seat_named seats t) refl where
   by None h = not_found next t (λ k x g n. let f : None ≡ Some x = sym h ∙ ap (seat_named seats) (sym n) ∙ found seats k x d (back k x g n) in absurd (cc))
 
 module _ (seats next : List (Option Seat)) (owned : List (Option Owned)) (key n s : ℕ) (x : Seat)
-    (sound : IsSound seats owned) (at : item_at seats key ≡ Some x) (low : n < 128) (fits : n < length x.numbers) (free : number_of x n ≡ None)
+    (sound : IsSound seats owned) (at : item_at seats key ≡ Some x) (low : n < 133) (place : MayHave x n) (fits : n < length x.numbers) (free : number_of x n ≡ None)
     (in_range : s < length owned) (spare : item_at owned s ≡ None) where
   abbrev now : Seat
   now = record x { numbers = slice_set x.numbers n (Some s) }
@@ -38,10 +39,10 @@ module _ (seats next : List (Option Seat)) (owned : List (Option Owned)) (key n 
   owners_next = slice_set owned s (Some by_key)
 
   number_here : number_of now n ≡ Some s
-  number_here = ap (λ o. cond (ltb n 128) o None) (set_here x.numbers n (Some s) fits) ∙ low_number n (Some s) low
+  number_here = ap (λ o. cond (ltb n 133) o None) (set_here x.numbers n (Some s) fits) ∙ low_number n (Some s) low
 
   number_apart : (m : ℕ) → m ≢ n → number_of now m ≡ number_of x m
-  number_apart m h = ap (λ o. cond (ltb m 128) o None) (set_apart x.numbers n m (Some s) h)
+  number_apart m h = ap (λ o. cond (ltb m 133) o None) (set_apart x.numbers n m (Some s) h)
 
   module _ (entered : item_at next key ≡ Some now) (others : (k : ℕ) → k ≢ key → item_at next k ≡ item_at seats k) where
     -- a task after it is the task that got the subpool, or one as before
@@ -87,8 +88,15 @@ module _ (seats next : List (Option Seat)) (owned : List (Option Owned)) (key n 
       ranked = (sound.ranked.0, λ k m y h e. let a = before k y h in sound.ranked.1 k m a.0 a.1 (a.3 ∙ e));
       first = λ j k y z hy hz e f. let a = before j y hy in let b = before k z hz in sound.first j k a.0 b.0 a.1 b.1 (a.3 ∙ e) (b.3 ∙ f);
       entries = λ k m r y h e. entries k m r y e (split k y h) (same_or_not m n);
+      places = λ k m r y h e. places k m r y e (split k y h) (same_or_not m n);
       owners = λ r o h. owners r o h (same_or_not r s);
     } where
+      places : (k m r : ℕ) (y : Seat) → number_of y m ≡ Some r → ((k ≡ key) × (y ≡ now)) ⊎ ((k ≢ key) × (item_at seats k ≡ Some y)) → (m ≡ n) ⊎ (m ≢ n) → MayHave y m
+      places k m r y e (inl q) (inl p) = subst (λ v. MayHave y v) (sym p) (same_place x y n (ap (λ (z : Seat). z.mother) (sym q.1)) place)
+      places k m r y e (inl q) (inr d) =
+          same_place x y m (ap (λ (z : Seat). z.mother) (sym q.1)) (sound.places key m r x at (sym (number_apart m d) ∙ ap (λ z. number_of z m) (sym q.1) ∙ e))
+      places k m r y e (inr q) p = sound.places k m r y q.1 e
+
       old_entry : (k m r : ℕ) (y : Seat) → item_at seats k ≡ Some y → number_of y m ≡ Some r → (o : Owned) × (item_at owners_next r ≡ Some o) × (o.number ≡ m)
       old_entry k m r y h e = let o = sound.entries k m r y h e in (o.0, owned_kept r o.0 o.1, o.2)
 

@@ -5,7 +5,7 @@ use Rattle.slab.specs.Slab.{Slab, get as slot}
 use Rattle.mvs_model.specs.declared.name.Name.{Name}
 use Rattle.mvs_model.specs.Owners.{entry, Binds}
 use Rattle.task_owner.specs.Tasks.{TasksValue, name_at, IsTask, name_of}
-use Rattle.task_owner.specs.Seats.{item_at, number_of, directory, IsSound}
+use Rattle.task_owner.specs.Seats.{item_at, number_of, directory, MayHave, IsSound}
 use Rattle.task_owner.specs.declared.seat.Seat.{Seat}
 use Rattle.task_owner.specs.declared.seat.Owned.{Owned}
 use Rattle.task_owner.proofs.Reading.{the_seat, entry_is}
@@ -19,7 +19,7 @@ pub record BindsAt (d : TasksValue) (t : Name) (number s : ℕ) (next : List (Op
   pub names : (k : ℕ) → name_at (directory next left) k ≡ name_at d k
 
 module _ (old now : Slab Seat) (owned : List (Option Owned)) (d : TasksValue) (key id : ℕ) (e : directory old.slots owned ≡ d) (f : key ≡ id) (sound : IsSound old.slots owned) (active : IsTask d id)
-    (n number i s : ℕ) (same : n ≡ number) (low : n < 128) (here : i ≡ s) (in_range : i < length owned)
+    (n number i s : ℕ) (same : n ≡ number) (low : n < 133) (place : (x : Seat) → item_at old.slots key ≡ Some x → MayHave x n) (here : i ≡ s) (in_range : i < length owned)
     (none : entry d.owners (name_of d id) number ≡ None) (spare : get d.owners.owner s ≡ None)
     (entered : (x : Seat) → slot old key ≡ Some x → slot now key ≡ Some (record x { numbers = slice_set x.numbers n (Some s) }))
     (fits : (x : Seat) → slot old key ≡ Some x → n < length x.numbers) (others : (k : ℕ) → k ≢ key → slot now k ≡ slot old k) where
@@ -37,10 +37,14 @@ module _ (old now : Slab Seat) (owned : List (Option Owned)) (d : TasksValue) (k
 
   at_subpool : BindsAt d (name_of d id) number s now.slots (slice_set owned s (Some (record { owner = key; number = n })))
   at_subpool = record {
-    sound = bound_sound old.slots now.slots owned key n s x.0 sound x.1 low (fits x.0 x.1) free within unused (entered x.0 x.1) others;
-    binds = binds_at old.slots now.slots owned key n s x.0 sound x.1 low (fits x.0 x.1) free within unused (entered x.0 x.1) others d id number e f same;
-    names = λ k. names_at old.slots now.slots owned key n s x.0 sound x.1 low (fits x.0 x.1) free within unused (entered x.0 x.1) others k ∙ ap (λ v. name_at v k) e;
+    sound = bound_sound old.slots now.slots owned key n s x.0 sound x.1 low (place x.0 x.1) (fits x.0 x.1) free within unused (entered x.0 x.1) others;
+    binds = binds_at old.slots now.slots owned key n s x.0 sound x.1 low (place x.0 x.1) (fits x.0 x.1) free within unused (entered x.0 x.1) others d id number e f same;
+    names = λ k. names_at old.slots now.slots owned key n s x.0 sound x.1 low (place x.0 x.1) (fits x.0 x.1) free within unused (entered x.0 x.1) others k ∙ ap (λ v. name_at v k) e;
   }
 
   pub bound : BindsAt d (name_of d id) number s now.slots (slice_set owned i (Some (record { owner = key; number = n })))
   bound = subst (λ r. BindsAt d (name_of d id) number s now.slots (slice_set owned r (Some (record { owner = key; number = n })))) (sym here) at_subpool
+
+  -- the same by the task's name
+  pub bound_of : (t : Name) → name_of d id ≡ t → BindsAt d t number s now.slots (slice_set owned i (Some (record { owner = key; number = n })))
+  bound_of t q = subst (λ t. BindsAt d t number s now.slots (slice_set owned i (Some (record { owner = key; number = n })))) q bound

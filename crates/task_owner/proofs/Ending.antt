@@ -14,6 +14,7 @@ use Rattle.task_owner.proofs.Places.{of_some}
 use Rattle.task_owner.proofs.Reading.{found, found_at, not_found, view-task, view-entry, view-owner, view-name}
 use Rattle.task_owner.proofs.Bools.{kept_back, not_true, passing_kept, none_kept, all_kept}
 use Rattle.task_owner.proofs.Trimming.{numbers_kept}
+use Rattle.task_owner.proofs.Having.{same_place}
 
 module _ (seats mid next : List (Option Seat)) (owned left : List (Option Owned)) (t : Name) (fallen : List Name) (sound : IsSound seats owned)
     (out : Keeps (item_at seats) (λ _ (x : Seat). not (goes t fallen x.name)) (item_at mid))
@@ -54,6 +55,10 @@ module _ (seats mid next : List (Option Seat)) (owned left : List (Option Owned)
         let p = sound.entries k n s a.0 (from_mid k a.0 a.1).0 r.0 in
         let f : Some p.0 ≡ Some o.0 = sym p.1 ∙ (owner_back s o.0 o.1).0 in
         (p.0, o.1 ∙ sym f, p.2);
+    places = λ k n s w h e.
+        let a = before k w h in
+        let r = kept_back (has_owner left) (number_of a.0 n) s (sym (numbers_kept left a.0 w a.2 n) ∙ e) in
+        same_place a.0 w n (sym a.2.mother) (sound.places k n s a.0 (from_mid k a.0 a.1).0 r.0);
     owners = λ s o h.
         let b = owner_back s o h in
         let z = of_some (item_at mid o.owner) b.1 in

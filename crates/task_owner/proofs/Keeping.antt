@@ -1,5 +1,5 @@
 -- The fields of `Tasks` keep what callers rely on.
-use Rattle.std.proofs.Common.{◌≡◌, ℕ, zero, suc, ◌<◌, ◌≤◌, true, List, length, Option, Some, None, is_some, count_by, sym, ap, subst, refl, ◌∙◌, arith, ◌⊎◌, inl, inr}
+use Rattle.std.proofs.Common.{◌≡◌, ℕ, zero, suc, ◌<◌, ◌≤◌, true, false, List, length, Option, Some, None, is_some, count_by, sym, ap, subst, refl, ◌∙◌, arith, ◌⊎◌, inl, inr}
 use Rattle.std.proofs.lemmas.Bool.{cases_lt}
 use Rattle.std.specs.Option.{option_map}
 use Rattle.std.specs.FinMap.{get}
@@ -7,20 +7,23 @@ use Rattle.mvs_model.specs.declared.name.Name.{Name}
 use Rattle.mvs_model.specs.Owners.{Task, is_active, entry, IsMother, Descends, subtask, further}
 use Rattle.task_owner.specs.Tasks.{TasksValue}
 use Rattle.mvs_model.specs.Kept.{IsFirst, OwnersKept}
-use Rattle.task_owner.specs.Seats.{item_at, number_of, seat_named, mother_of, task_of, entry_of, owner_name, directory, IsSound}
+use Rattle.task_owner.specs.Seats.{item_at, number_of, seat_named, mother_of, task_of, entry_of, owner_name, directory, MayHave, IsSound}
 use Rattle.task_owner.specs.declared.seat.Seat.{Seat}
 use Rattle.task_owner.specs.declared.seat.Owned.{Owned}
 use Rattle.task_owner.proofs.Places.{of_some, of_mapped, past_end}
-use Rattle.task_owner.proofs.Reading.{found, found_at, number_low, view-task, view-entry, view-owner}
+use Rattle.task_owner.proofs.Reading.{found, found_at, view-task, view-entry, view-owner}
+use Rattle.mvs_model.proofs.Keepers.{not_of_step}
+use Rattle.mvs_model.specs.Subpool.{is_step_number}
+use Rattle.task_owner.proofs.Having.{is_number}
 use Rattle.task_owner.proofs.Count.{tasks_len}
 use Rattle.task_owner.proofs.Fallen.{is_mother, not_itself}
 
 module _ (seats : List (Option Seat)) (owned : List (Option Owned)) (sound : IsSound seats owned) where
-  at_name : (k : ℕ) (x : Seat) → item_at seats k ≡ Some x → get (directory seats owned).owners.tasks x.name ≡ Some (task_of seats x)
+  pub at_name : (k : ℕ) (x : Seat) → item_at seats k ≡ Some x → get (directory seats owned).owners.tasks x.name ≡ Some (task_of seats x)
   at_name k x h = view-task seats owned x.name ∙ ap (option_map (task_of seats)) (found seats k x sound.distinct h)
 
   -- the task of a name, at its key
-  key_of : (q : Name) (task : Task) → get (directory seats owned).owners.tasks q ≡ Some task → (k : ℕ) × (x : Seat) × (item_at seats k ≡ Some x) × (x.name ≡ q) × (task_of seats x ≡ task)
+  pub key_of : (q : Name) (task : Task) → get (directory seats owned).owners.tasks q ≡ Some task → (k : ℕ) × (x : Seat) × (item_at seats k ≡ Some x) × (x.name ≡ q) × (task_of seats x ≡ task)
   key_of q task h =
       let x = of_mapped (task_of seats) (seat_named seats q) task (sym (view-task seats owned q) ∙ h) in
       let r = found_at seats q x.0 x.1 in
@@ -37,7 +40,7 @@ module _ (seats : List (Option Seat)) (owned : List (Option Owned)) (sound : IsS
   is_there k x q h e = ap (λ t. is_some (get (directory seats owned).owners.tasks t)) (sym e) ∙ ap is_some (at_name k x h)
 
   -- a task without a mother has none at her key
-  no_mother : (k : ℕ) (x : Seat) → item_at seats k ≡ Some x → mother_of seats x.mother ≡ None → x.mother ≡ None
+  pub no_mother : (k : ℕ) (x : Seat) → item_at seats k ≡ Some x → mother_of seats x.mother ≡ None → x.mother ≡ None
   no_mother k x h e = by x.mother refl e where
     by : (o : Option ℕ) → x.mother ≡ o → mother_of seats o ≡ None → o ≡ None
     by None f g = refl
@@ -45,7 +48,7 @@ module _ (seats : List (Option Seat)) (owned : List (Option Owned)) (sound : IsS
         let z = of_some (item_at seats m) (sound.mothers k m x h f) in
         absurd (let i : Some z.0.name ≡ None = sym (ap (option_map (λ (v : Seat). v.name)) z.1) ∙ g in cc)
 
-  one_first : (t q : Name) → IsFirst (directory seats owned).owners t → IsFirst (directory seats owned).owners q → t ≡ q
+  pub one_first : (t q : Name) → IsFirst (directory seats owned).owners t → IsFirst (directory seats owned).owners q → t ≡ q
   one_first t q (a, ha, ea) (b, hb, eb) =
       let j = key_of t a ha in
       let k = key_of q b hb in
@@ -55,7 +58,7 @@ module _ (seats : List (Option Seat)) (owned : List (Option Owned)) (sound : IsS
       sym j.3 ∙ ap (λ (v : Seat). v.name) alike ∙ k.3
 
   -- up the mothers to the first, as the ranks fall
-  up : (bound k : ℕ) (x : Seat) → item_at seats k ≡ Some x → sound.ranked.0 k < bound
+  pub up : (bound k : ℕ) (x : Seat) → item_at seats k ≡ Some x → sound.ranked.0 k < bound
       → (t : Name) × IsFirst (directory seats owned).owners t × ((x.name ≡ t) ⊎ Descends (directory seats owned).owners t x.name)
   up zero k x h l = absurd (omega arith)
   up (suc bound) k x h l = by x.mother refl (up bound) where
@@ -77,7 +80,7 @@ module _ (seats : List (Option Seat)) (owned : List (Option Owned)) (sound : IsS
   descends_active t x (subtask m) = ap is_some m.1
   descends_active t x (further d m) = ap is_some m.1
 
-  pub keeps : length owned ≡ 4096 → count_by is_some seats ≤ 32 → OwnersKept (directory seats owned).owners
+  pub keeps : length owned ≡ 4098 → count_by is_some seats ≤ 32 → OwnersKept (directory seats owned).owners
   keeps long few = record {
     few = subst (λ n. n ≤ 32) (sym (tasks_len seats owned sound)) few;
     mothers = λ t x h. mothers t x h;
@@ -100,9 +103,14 @@ module _ (seats : List (Option Seat)) (owned : List (Option Owned)) (sound : IsS
         let same : a.0 ≡ b.0 = cc in
         sym a.2 ∙ ap (λ (o : Owned). o.number) same ∙ b.2;
     active = λ t n s h. let k = entry_key t n s h in is_there k.0 k.1 t k.2 k.3;
-    numbers = λ t n s h. let k = entry_key t n s h in number_low k.1 n s k.4;
+    numbers = λ t n s h. let k = entry_key t n s h in is_number k.1 n (sound.places k.0 n s k.1 k.2 k.4);
+    step_numbers = λ t n s h e. let k = entry_key t n s h in subst (IsFirst (directory seats owned).owners) k.3 (of_step k.0 k.1 n k.2 e (sound.places k.0 n s k.1 k.2 k.4));
     subpools = λ t s h. low t s (sym (view-owner seats owned s) ∙ h);
   } where
+    of_step : (k : ℕ) (x : Seat) (n : ℕ) → item_at seats k ≡ Some x → is_step_number n ≡ true → MayHave x n → IsFirst (directory seats owned).owners x.name
+    of_step k x n h e (inl low) = absurd (let f : false ≡ true = sym (not_of_step n low) ∙ e in cc)
+    of_step k x n h e (inr r) = (task_of seats x, at_name k x h, ap (mother_of seats) r.1)
+
     mothers : (t x : Name) → IsMother (directory seats owned).owners t x → is_active (directory seats owned).owners t ≡ true
     mothers t x (task, h, e) =
         let k = key_of x task h in
@@ -123,12 +131,12 @@ module _ (seats : List (Option Seat)) (owned : List (Option Owned)) (sound : IsS
         let same : z.0.name ≡ t = cc in
         (o.number, ap (λ q. entry (directory seats owned).owners q o.number) (sym same) ∙ view-entry seats owned z.0.name o.number ∙ ap (λ y. entry_of y o.number) (found seats o.owner z.0 sound.distinct z.1) ∙ z.2)
 
-    low : (t : Name) (s : ℕ) → owner_name seats (item_at owned s) ≡ Some t → s < 4096
-    low t s h = by (cases_lt s 4096) where
-      by : (s < 4096) ⊎ (4096 ≤ s) → s < 4096
+    low : (t : Name) (s : ℕ) → owner_name seats (item_at owned s) ≡ Some t → s < 4098
+    low t s h = by (cases_lt s 4098) where
+      by : (s < 4098) ⊎ (4098 ≤ s) → s < 4098
       by (inl l) = l
       by (inr l) = absurd (let f : None ≡ Some t = sym (ap (owner_name seats) (past_end owned s (omega (arith, long, l)))) ∙ h in cc)
 
 -- the same of the value of `Tasks`
-pub kept_at : (seats : List (Option Seat)) (owned : List (Option Owned)) (d : TasksValue) → directory seats owned ≡ d → IsSound seats owned → length owned ≡ 4096 → count_by is_some seats ≤ 32 → OwnersKept d.owners
+pub kept_at : (seats : List (Option Seat)) (owned : List (Option Owned)) (d : TasksValue) → directory seats owned ≡ d → IsSound seats owned → length owned ≡ 4098 → count_by is_some seats ≤ 32 → OwnersKept d.owners
 kept_at seats owned d e sound long few = subst (λ (v : TasksValue). OwnersKept v.owners) e (keeps seats owned sound long few)

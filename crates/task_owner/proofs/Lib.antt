@@ -1,5 +1,6 @@
 pub mod Bools
 pub mod Places
+pub mod Having
 pub mod Reading
 pub mod Labels
 pub mod Subtasks
@@ -21,3 +22,4 @@ pub mod Attaching
 pub mod Admitting
 pub mod Admitted
 pub mod Keeping
+pub mod Keepers

@@ -41,13 +41,13 @@ module _ (seats : List (Option Seat)) (owned : List (Option Owned)) where
   unfolding directory
   view-task t = get-keyed_all name_cmp_total name_cmp-IsAntisymmetric (names seats) (λ u. option_map (task_of seats) (seat_named seats u)) t (λ e. ap (option_map (task_of seats)) (none_named seats t e))
 
-  past : (o : Option Seat) (n : ℕ) → ltb n 128 ≡ false → entry_of o n ≡ None
+  past : (o : Option Seat) (n : ℕ) → ltb n 133 ≡ false → entry_of o n ≡ None
   past None n e = refl
   past (Some x) n e = ap (λ b. cond b (item_at x.numbers n) None) e
 
   pub view-entry : (t : Name) (n : ℕ) → entry (directory seats owned).owners t n ≡ entry_of (seat_named seats t) n
   unfolding directory
-  view-entry t n = get-keyed_all entry_cmp_total entry_cmp-IsAntisymmetric (pairs_below (names seats) 128) (λ e. entry_of (seat_named seats e.0) e.1) (t, n) (λ e. by (list_any (same_name t) (names seats)) (ltb n 128) (sym (any-pairs_below t n (names seats) 128) ∙ e) (none_named seats t) (past (seat_named seats t) n)) where
+  view-entry t n = get-keyed_all entry_cmp_total entry_cmp-IsAntisymmetric (pairs_below (names seats) 133) (λ e. entry_of (seat_named seats e.0) e.1) (t, n) (λ e. by (list_any (same_name t) (names seats)) (ltb n 133) (sym (any-pairs_below t n (names seats) 133) ∙ e) (none_named seats t) (past (seat_named seats t) n)) where
     by : (b c : Bool) → (b && c) ≡ false → (b ≡ false → seat_named seats t ≡ None) → (c ≡ false → entry_of (seat_named seats t) n ≡ None) → entry_of (seat_named seats t) n ≡ None
     by true true e f g = absurd (let h : true ≡ false = e in cc)
     by true false e f g = g refl
@@ -124,18 +124,18 @@ module _ (seats : List (Option Seat)) (owned : List (Option Owned)) (d : TasksVa
         ∙ subst (λ (v : TasksValue). entry v.owners x.name n ≡ number_of x n) e
         (view-entry seats owned x.name n ∙ ap (λ o. entry_of o n) (found seats key x sound.distinct h))
 
--- below 128 the number is what the array has
-pub low_number : (n : ℕ) (o : Option ℕ) → n < 128 → cond (ltb n 128) o None ≡ o
+-- below the bound the number is what the array has
+pub low_number : (n : ℕ) (o : Option ℕ) → n < 133 → cond (ltb n 133) o None ≡ o
 low_number n o h = grind (arith, nat_tests)
 
 -- the number at an index in range
-pub number_is : (x : Seat) (n : ℕ) (d : Option ℕ) → n < length x.numbers → n < 128 → slice_index_or x.numbers n d ≡ number_of x n
+pub number_is : (x : Seat) (n : ℕ) (d : Option ℕ) → n < length x.numbers → n < 133 → slice_index_or x.numbers n d ≡ number_of x n
 number_is x n d h b = same_default x.numbers n d None h ∙ sym (low_number n (item_at x.numbers n) b)
 
--- a number that has a subpool is below 128
-pub number_low : (x : Seat) (n s : ℕ) → number_of x n ≡ Some s → n < 128
-number_low x n s e = by (ltb n 128) refl e where
-  by : (b : Bool) → ltb n 128 ≡ b → cond b (item_at x.numbers n) None ≡ Some s → n < 128
+-- a number that has a subpool is below the bound
+pub number_low : (x : Seat) (n s : ℕ) → number_of x n ≡ Some s → n < 133
+number_low x n s e = by (ltb n 133) refl e where
+  by : (b : Bool) → ltb n 133 ≡ b → cond b (item_at x.numbers n) None ≡ Some s → n < 133
   by true t e = grind (arith, nat_tests)
   by false t e = absurd (let f : ◌≡◌ {A = Option ℕ} None (Some s) = e in cc)
 

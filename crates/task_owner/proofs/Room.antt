@@ -4,11 +4,11 @@ use Rattle.std.proofs.lemmas.Bool.Decides.{nat_tests}
 use Rattle.std.proofs.lemmas.List.Folds.{list_any-append}
 use Rattle.std.proofs.lemmas.List.Sums.{sum_by-cons}
 use Rattle.std.specs.List.{list_any}
-use Rattle.task_owner.specs.Seats.{item_at, number_of, IsSound}
+use Rattle.mvs_model.specs.Subpool.{is_step_number}
+use Rattle.task_owner.specs.Seats.{item_at, number_of, MayHave, IsSound}
 use Rattle.task_owner.specs.declared.seat.Seat.{Seat}
 use Rattle.task_owner.specs.declared.seat.Owned.{Owned}
 use Rattle.task_owner.proofs.Places.{of_some}
-use Rattle.task_owner.proofs.Reading.{number_low}
 
 without : ℕ → List ℕ → List ℕ
 without s [] = []
@@ -174,18 +174,129 @@ some_or_all {X} (suc n) f = by (some_or_all n f) (f n) refl where
     at s (inl p) = r s p
     at s (inr p) = ap is_some (ap f p ∙ e)
 
--- where a task has a number free, some subpool has no owner
-pub room : (seats : List (Option Seat)) (owned : List (Option Owned)) (k m : ℕ) (x : Seat) → IsSound seats owned → length owned ≡ 4096 → count_by is_some seats ≤ 32 → item_at seats k ≡ Some x → m < 128 → number_of x m ≡ None → (s : ℕ) × (s < length owned) × (item_at owned s ≡ None)
-room seats owned k m x sound long few h p e = by (some_or_all (length owned) (λ s. item_at owned s)) where
-  by : ((s : ℕ) × (s < length owned) × (item_at owned s ≡ None)) ⊎ ((s : ℕ) → s < length owned → IsSome (item_at owned s)) → (s : ℕ) × (s < length owned) × (item_at owned s ≡ None)
-  by (inl r) = r
-  by (inr all) =
-      let least : length owned ≤ length (everything 128 seats) = covered (length owned) (everything 128 seats) has in
-      let most : length (everything 128 seats) < 128 * count_by is_some seats = everything_gap 128 seats k m x h p e in
-      absurd (omega arith)
+-- what a task has under the two numbers of the job step task
+two : Seat → List ℕ
+two x = put (number_of x 131) (put (number_of x 132) [])
+
+two_length : (x : Seat) → length (two x) ≤ 2
+unfolding two
+two_length x =
+    let a = put_length (number_of x 131) (put (number_of x 132) []) in
+    let b = put_length (number_of x 132) [] in
+    omega arith
+
+-- a number of the job step task is one of the two
+one_of_two : (n : ℕ) → is_step_number n ≡ true → (n ≡ 131) ⊎ (n ≡ 132)
+one_of_two n h = by (eqb n 131) refl where
+  by : (b : Bool) → eqb n 131 ≡ b → (n ≡ 131) ⊎ (n ≡ 132)
+  by true e = inl (grind (arith, nat_tests))
+  by false e = inr (grind (arith, nat_tests))
+
+two_has : (x : Seat) (n s : ℕ) → is_step_number n ≡ true → number_of x n ≡ Some s → list_any (eqb s) (two x) ≡ true
+unfolding two
+two_has x n s h e = by (one_of_two n h) where
+  by : (n ≡ 131) ⊎ (n ≡ 132) → list_any (eqb s) (put (number_of x 131) (put (number_of x 132) [])) ≡ true
+  by (inl p) = put_some (number_of x 131) s _ (ap (number_of x) (sym p) ∙ e)
+  by (inr p) = put_has (number_of x 131) s _ (put_some (number_of x 132) s [] (ap (number_of x) (sym p) ∙ e))
+
+two_gap : (x : Seat) (n : ℕ) → is_step_number n ≡ true → number_of x n ≡ None → length (two x) < 2
+unfolding two
+two_gap x n h e = by (one_of_two n h) where
+  by : (n ≡ 131) ⊎ (n ≡ 132) → length (put (number_of x 131) (put (number_of x 132) [])) < 2
+  by (inl p) =
+      let same : length (put (number_of x 131) (put (number_of x 132) [])) ≡ length (put (number_of x 132) []) = ap length (put_none (number_of x 131) _ (ap (number_of x) (sym p) ∙ e)) in
+      let b = put_length (number_of x 132) [] in
+      omega arith
+  by (inr p) =
+      let same : length (put (number_of x 132) []) ≡ 0 = ap length (put_none (number_of x 132) [] (ap (number_of x) (sym p) ∙ e)) in
+      let a = put_length (number_of x 131) (put (number_of x 132) []) in
+      omega arith
+
+-- the first task without a mother
+else_next : Option ℕ → Seat → Option Seat → Option Seat
+else_next None x next = Some x
+else_next (Some m) x next = next
+
+first_seat : List (Option Seat) → Option Seat
+first_seat [] = None
+first_seat (None ∷ rest) = first_seat rest
+first_seat (Some x ∷ rest) = else_next x.mother x (first_seat rest)
+
+first_found : (seats : List (Option Seat)) (k : ℕ) (x : Seat) → item_at seats k ≡ Some x → x.mother ≡ None → (j : ℕ) × (y : Seat) × (item_at seats j ≡ Some y) × (y.mother ≡ None) × (first_seat seats ≡ Some y)
+unfolding first_seat else_next
+first_found [] k x h e = absurd (let f : ◌≡◌ {A = Option Seat} None (Some x) = h in cc)
+first_found (None ∷ rest) zero x h e = absurd (let f : ◌≡◌ {A = Option Seat} None (Some x) = h in cc)
+first_found (None ∷ rest) (suc k) x h e = let r = first_found rest k x h e in (suc r.0, r.1, r.2, r.3, r.4)
+first_found (Some y ∷ rest) zero x h e =
+    let same : y ≡ x = (let f : Some y ≡ Some x = h in cc) in
+    let none : y.mother ≡ None = ap (λ (z : Seat). z.mother) same ∙ e in
+    (0, y, refl, none, ap (λ m. else_next m y (first_seat rest)) none)
+first_found (Some y ∷ rest) (suc k) x h e = at y.mother refl (first_found rest k x h e) where
+  at : (m : Option ℕ) → y.mother ≡ m → ((j : ℕ) × (z : Seat) × (item_at rest j ≡ Some z) × (z.mother ≡ None) × (first_seat rest ≡ Some z))
+      → (j : ℕ) × (z : Seat) × (item_at (Some y ∷ rest) j ≡ Some z) × (z.mother ≡ None) × (else_next y.mother y (first_seat rest) ≡ Some z)
+  at None f r = (0, y, refl, f, ap (λ m. else_next m y (first_seat rest)) f)
+  at (Some m) f r = (suc r.0, r.1, r.2, r.3, ap (λ m. else_next m y (first_seat rest)) f ∙ r.4)
+
+-- what the first has under the two numbers
+of_first : Option Seat → List ℕ
+of_first None = []
+of_first (Some x) = two x
+
+of_first_length : (o : Option Seat) → length (of_first o) ≤ 2
+unfolding of_first
+of_first_length None = omega arith
+of_first_length (Some x) = two_length x
+
+module _ (seats : List (Option Seat)) (owned : List (Option Owned)) (sound : IsSound seats owned) where
+  the_first : (k : ℕ) (x : Seat) → item_at seats k ≡ Some x → x.mother ≡ None → first_seat seats ≡ Some x
+  the_first k x h e =
+      let r = first_found seats k x h e in
+      let same : r.0 ≡ k = sound.first r.0 k r.1 x r.2 h r.3 e in
+      let f : Some r.1 ≡ Some x = sym r.2 ∙ ap (item_at seats) same ∙ h in
+      r.4 ∙ f
+
+  all : List ℕ
+  all = everything 128 seats ++ of_first (first_seat seats)
+
+  all_length : length all ≡ length (everything 128 seats) + length (of_first (first_seat seats))
+  unfolding all
+  all_length = length-append (everything 128 seats) (of_first (first_seat seats))
+
+  -- each subpool with an owner is among them
+  all_has : (s : ℕ) → IsSome (item_at owned s) → list_any (eqb s) all ≡ true
+  unfolding all of_first
+  all_has s some_owner =
+      let o = of_some (item_at owned s) some_owner in
+      let y = sound.owners s o.0 o.1 in
+      list_any-append (eqb s) (everything 128 seats) (of_first (first_seat seats)) ∙ by y.0 o.0.owner o.0.number y.1 y.2 (sound.places o.0.owner o.0.number s y.0 y.1 y.2)
     where
-      has : (s : ℕ) → s < length owned → list_any (eqb s) (everything 128 seats) ≡ true
-      has s q =
-          let o = of_some (item_at owned s) (all s q) in
-          let y = sound.owners s o.0 o.1 in
-          everything_has 128 seats o.0.owner o.0.number s y.0 y.1 (number_low y.0 o.0.number s y.2) y.2
+      by : (y : Seat) (k n : ℕ) → item_at seats k ≡ Some y → number_of y n ≡ Some s → MayHave y n → (list_any (eqb s) (everything 128 seats) || list_any (eqb s) (of_first (first_seat seats))) ≡ true
+      by y k n h e (inl low) = ap (λ c. c || list_any (eqb s) (of_first (first_seat seats))) (everything_has 128 seats k n s y h low e)
+      by y k n h e (inr r) =
+          ap (λ c. list_any (eqb s) (everything 128 seats) || c) (ap (λ o. list_any (eqb s) (of_first o)) (the_first k y h r.1) ∙ two_has y n s r.0 e)
+          ∙ or_true (list_any (eqb s) (everything 128 seats))
+
+  -- where a task has none under a number under which it may have one, they are fewer than there could be
+  all_few : (k m : ℕ) (x : Seat) → count_by is_some seats ≤ 32 → item_at seats k ≡ Some x → MayHave x m → number_of x m ≡ None → length all < 4098
+  unfolding all of_first
+  all_few k m x few h (inl low) e =
+      let a : length (everything 128 seats) < 128 * count_by is_some seats = everything_gap 128 seats k m x h low e in
+      let b = of_first_length (first_seat seats) in
+      let sum = all_length in
+      omega arith
+  all_few k m x few h (inr r) e =
+      let a : length (everything 128 seats) ≤ 128 * count_by is_some seats = everything_length 128 seats in
+      let same : length (of_first (first_seat seats)) ≡ length (two x) = ap (λ o. length (of_first o)) (the_first k x h r.1) in
+      let b = two_gap x m r.0 e in
+      let sum = all_length in
+      omega arith
+
+  -- then some subpool has no owner
+  pub room : (k m : ℕ) (x : Seat) → length owned ≡ 4098 → count_by is_some seats ≤ 32 → item_at seats k ≡ Some x → MayHave x m → number_of x m ≡ None → (s : ℕ) × (s < length owned) × (item_at owned s ≡ None)
+  room k m x long few h place e = by (some_or_all (length owned) (λ s. item_at owned s)) where
+    by : ((s : ℕ) × (s < length owned) × (item_at owned s ≡ None)) ⊎ ((s : ℕ) → s < length owned → IsSome (item_at owned s)) → (s : ℕ) × (s < length owned) × (item_at owned s ≡ None)
+    by (inl r) = r
+    by (inr owns_all) =
+        let least : length owned ≤ length all = covered (length owned) all (λ s l. all_has s (owns_all s l)) in
+        let most = all_few k m x few h place e in
+        absurd (omega arith)

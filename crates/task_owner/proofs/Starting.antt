@@ -21,7 +21,7 @@ either_none true o e = e
 either_none false o e = refl
 
 pub no_numbers : (x : Seat) (m n : ℕ) → x.numbers ≡ replicate m None → number_of x n ≡ None
-no_numbers x m n e = either_none (ltb n 128) (item_at x.numbers n) (ap (λ xs. item_at xs n) e ∙ none_everywhere m None n refl)
+no_numbers x m n e = either_none (ltb n 133) (item_at x.numbers n) (ap (λ xs. item_at xs n) e ∙ none_everywhere m None n refl)
 
 -- one task alone, without subpools
 module _ (seats : List (Option Seat)) (owned : List (Option Owned)) (key : ℕ) (x : Seat) (h : item_at seats key ≡ Some x) (others : (k : ℕ) → k ≢ key → item_at seats k ≡ None)
@@ -42,6 +42,7 @@ module _ (seats : List (Option Seat)) (owned : List (Option Owned)) (key : ℕ) 
     ranked = (λ _. 0, λ k m y ey em. absurd (no_mother k m y ey em));
     first = λ j k y z ey ez a b. is_key j y ey ∙ sym (is_key k z ez);
     entries = λ k n s y ey en. absurd (let f : None ≡ Some s = sym (numbers n) ∙ ap (λ z. number_of z n) (sym (is_x k y ey)) ∙ en in cc);
+    places = λ k n s y ey en. absurd (let f : None ≡ Some s = sym (numbers n) ∙ ap (λ z. number_of z n) (sym (is_x k y ey)) ∙ en in cc);
     owners = λ s o e. absurd (let f : None ≡ Some o = sym (none s) ∙ e in cc);
   } where
     no_mother : (k m : ℕ) (y : Seat) → item_at seats k ≡ Some y → y.mother ≡ Some m → ⊥

@@ -7,7 +7,7 @@ use Rattle.task_owner.specs.declared.seat.Seat.{Seat}
 use Rattle.task_owner.specs.declared.seat.Owned.{Owned}
 
 pub numbers_kept : (owned : List (Option Owned)) (x w : Seat) → Trims owned x w → (n : ℕ) → number_of w n ≡ kept (has_owner owned) (number_of x n)
-numbers_kept owned x w r n = ap (λ o. cond (ltb n 128) o None) (r.numbers n) ∙ by (ltb n 128) where
+numbers_kept owned x w r n = ap (λ o. cond (ltb n 133) o None) (r.numbers n) ∙ by (ltb n 133) where
   by : (b : Bool) → cond b (kept (has_owner owned) (item_at x.numbers n)) None ≡ kept (has_owner owned) (cond b (item_at x.numbers n) None)
   by true = refl
   by false = refl

@@ -1,5 +1,5 @@
 -- How `Tasks` keeps its tasks. No public clause cites this module.
-use Rattle.std.specs.Prelude.{◌≡◌, ℕ, ◌<◌, List, [], ◌∷◌, map, length, Option, Some, None, IsSome, slice_index_or, nat_lt, if◌then◌else◌}
+use Rattle.std.specs.Prelude.{◌≡◌, ◌⊎◌, ℕ, ◌<◌, true, List, [], ◌∷◌, map, length, Option, Some, None, IsSome, slice_index_or, nat_lt, if◌then◌else◌}
 use Rattle.std.specs.Option.{option_map}
 use Rattle.mvs_model.specs.declared.name.Name.{Name}
 use Rattle.mvs_model.specs.Name.{name_cmp, same_name}
@@ -9,7 +9,8 @@ use Rattle.mvs_model.specs.Table.{table}
 use Rattle.task_owner.specs.Tasks.{TasksValue}
 use Rattle.task_owner.specs.declared.seat.Seat.{Seat}
 use Rattle.task_owner.specs.declared.seat.Owned.{Owned}
-use Rattle.mvs_model.specs.Numbers.{subpool_numbers}
+use Rattle.mvs_model.specs.Numbers.{subpool_numbers, task_numbers}
+use Rattle.mvs_model.specs.Subpool.{is_step_number}
 
 -- what the list has at a place, and nothing past its end
 abbrev pub item_at : {X : Type 0} → List (Option X) → ℕ → Option X
@@ -77,12 +78,19 @@ MothersActive seats = (k m : ℕ) (x : Seat) → item_at seats k ≡ Some x → 
 abbrev pub Ranks : List (Option Seat) → (ℕ → ℕ) → Type 0
 Ranks seats rank = (k m : ℕ) (x : Seat) → item_at seats k ≡ Some x → x.mother ≡ Some m → rank m < rank k
 
+-- The task may have a subpool under the number: under those that each task has for itself, and without a mother also under
+-- those of the job step task.
+abbrev pub MayHave : Seat → ℕ → Type 0
+MayHave x n = (n < task_numbers) ⊎ ((is_step_number n ≡ true) × (x.mother ≡ None))
+
 -- No two tasks have one name, each mother is active and no task descends from itself, one task at most has no mother, and
--- the subpools that the tasks have are those that have an owner: each stands under one number, and its owner has it there.
+-- the subpools that the tasks have are those that have an owner: each stands under one number that its owner and all who
+-- have it may have, and its owner has it there.
 pub record IsSound (seats : List (Option Seat)) (owned : List (Option Owned)) : Type 0 where
   pub distinct : Distinct seats
   pub mothers : MothersActive seats
   pub ranked : (rank : ℕ → ℕ) × Ranks seats rank
   pub first : (j k : ℕ) (x y : Seat) → item_at seats j ≡ Some x → item_at seats k ≡ Some y → x.mother ≡ None → y.mother ≡ None → j ≡ k
   pub entries : (k n s : ℕ) (x : Seat) → item_at seats k ≡ Some x → number_of x n ≡ Some s → (o : Owned) × (item_at owned s ≡ Some o) × (o.number ≡ n)
+  pub places : (k n s : ℕ) (x : Seat) → item_at seats k ≡ Some x → number_of x n ≡ Some s → MayHave x n
   pub owners : (s : ℕ) (o : Owned) → item_at owned s ≡ Some o → (x : Seat) × (item_at seats o.owner ≡ Some x) × (number_of x o.number ≡ Some s)

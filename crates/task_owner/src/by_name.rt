@@ -1,9 +1,9 @@
 //! The same by the names of the tasks, for callers that know no identifiers.
 
-ghost use Rattle.std.specs.Prelude.{◌≡◌, ◌↔◌, ℕ, true, Some, None, IfErr, OnOk, OnErr};
+ghost use Rattle.std.specs.Prelude.{◌≡◌, ◌↔◌, ℕ, true, Some, None, IfErr, MatchOption, OnOk, OnErr};
 ghost use Rattle.std.specs.FinMap.{get};
 ghost use Rattle.std.specs.List.{Contains};
-ghost use Rattle.mvs_model.specs.Owners.{Attach, Binds, Ends, IsFallen, IsSpare, attach_refusal, ends_with, entry, has_subtask, is_active};
+ghost use Rattle.mvs_model.specs.Owners.{Attach, Binds, Ends, IsFallen, IsSpare, attach_refusal, ends_with, has_subtask, is_active, keeper, subpool_meant};
 ghost use Rattle.task_owner.specs.Tasks.{name_at, residence_of};
 
 use crate::tasks::{Gone, TaskId, Tasks};
@@ -25,14 +25,24 @@ impl Tasks {
         t
     }
 
-    /// The subpool that a task has under a number; a task that is not active has none.
-    pub fn subpool_of(&self, name: Name, number: SubNo) -> Option<SubpoolId>
-        ensures { result ≡ entry self.now.owners name number }
+    // The keeper of a number for a task. Where there is none nobody has a subpool under the number.
+    fn keeper_of(&self, name: Name, number: SubNo) -> Option<TaskId>
+        ensures { MatchOption result (subpool_meant self.now.owners name number ≡ None) (λ id. name_at self.now id ≡ Some (keeper self.now.owners name number)) }
     {
-        let Some(t) = self.find(&name) else {
+        match self.common_keeper(number) {
+            Some(first) => Some(first),
+            None => self.find(&name),
+        }
+    }
+
+    /// The subpool that a task means by a number; a task that is not active has none of its own.
+    pub fn subpool_of(&self, name: Name, number: SubNo) -> Option<SubpoolId>
+        ensures { result ≡ subpool_meant self.now.owners name number }
+    {
+        let Some(t) = self.keeper_of(name, number) else {
             return None;
         };
-        self.subpool(t, number)
+        self.entry(t, number)
     }
 
     /// Where the task of the name resides.
@@ -43,21 +53,21 @@ impl Tasks {
         self.residence(self.task_of(name))
     }
 
-    /// The lowest subpool that no task owns, for a number under which the task has none.
+    /// The lowest subpool that no task owns, for a number by which the task means none.
     pub fn spare_for(&self, name: Name, number: SubNo) -> SubpoolId
         requires active { is_active self.now.owners name ≡ true }
-        requires none { entry self.now.owners name number ≡ None }
+        requires none { subpool_meant self.now.owners name number ≡ None }
         ensures { IsSpare self.now.owners result }
     {
         self.spare(self.task_of(name), number)
     }
 
-    /// Enters a subpool that no task owns under a number that the task does not have; the task then owns it.
+    /// Enters a subpool that no task owns under a number by which the task means none; the number's keeper then owns it.
     pub fn bind_to(&mut self, name: Name, number: SubNo, subpool: SubpoolId)
         requires active { is_active self.old.owners name ≡ true }
-        requires none { entry self.old.owners name number ≡ None }
+        requires none { subpool_meant self.old.owners name number ≡ None }
         requires spare { get self.old.owners.owner subpool ≡ None }
-        ensures { Binds self.old.owners name number subpool self.new.owners }
+        ensures { Binds self.old.owners (keeper self.old.owners name number) number subpool self.new.owners }
     {
         let t = self.task_of(name);
         self.bind(t, number, subpool);

@@ -3,6 +3,7 @@
 ghost use Rattle.std.specs.Prelude.{◌≡◌, ◌≢◌, ◌<◌, ◌↔◌, ℕ, length, replicate, IsTrue, IsSome, IfOk, MatchOption, Some, None, slice_set};
 ghost use Rattle.slab.specs.Slab.{get, slab_len};
 ghost use Rattle.mvs_model.specs.Numbers.{most_subpools, subpool_numbers};
+ghost use Rattle.mvs_model.specs.Subpool.{IsSubpoolNumber};
 ghost use Rattle.task_owner.specs.Seats.{item_at};
 ghost use Rattle.task_owner.specs.declared.seat.Seat.{Seat};
 ghost use Rattle.task_owner.specs.declared.seat.Owned.{Owned};
@@ -15,7 +16,7 @@ use mvs_model::want::Residence;
 use slab::Slab;
 use std::alloc::{AllocError, Global};
 
-// How many numbers a task has.
+// The places for a task's numbers; those from 128 to 130 are never taken.
 pub(crate) const SLOTS: usize = SUBPOOL_NUMBERS as usize;
 
 // The subpools under the numbers of a task.
@@ -42,7 +43,7 @@ pub(crate) struct Owned {
 
 // The subpool number of a value that is one.
 pub(crate) fn number_at(value: u8) -> SubNo
-    requires { value < subpool_numbers }
+    requires { IsSubpoolNumber value }
     ensures { result ≡ value }
 {
     match SubNo::new(value) {
@@ -92,6 +93,20 @@ pub(crate) fn find_key(active: &Slab<Seat>, name: Name) -> Option<usize>
     None
 }
 
+// The task without a mother.
+pub(crate) fn find_first(active: &Slab<Seat>) -> Option<usize>
+    ensures { MatchOption result ((k : ℕ) (x : Seat) → get active.now k ≡ Some x → x.mother ≢ None) (λ k. (x : Seat) × (get active.now k ≡ Some x) × (x.mother ≡ None)) }
+{
+    for key in 0..active.capacity() {
+        if let Some(seat) = active.get(key) {
+            if seat.mother.is_none() {
+                return Some(key);
+            }
+        }
+    }
+    None
+}
+
 // Whether a task has the mother at the key.
 pub(crate) fn has_child(active: &Slab<Seat>, mother: usize) -> bool
     ensures { IsTrue result ↔ ((k : ℕ) × (x : Seat) × (get active.now k ≡ Some x) × (x.mother ≡ Some mother)) }
@@ -121,7 +136,7 @@ pub(crate) fn first_spare(owned: &[Option<Owned>]) -> usize
     unreachable!()
 }
 
-// 4,096 subpools without an owner.
+// Subpools without an owner.
 pub(crate) fn no_owners(alloc: Global) -> Result<Vec<Option<Owned>>, AllocError>
     ensures { IfOk result (λ v. v.items ≡ replicate most_subpools None) }
 {

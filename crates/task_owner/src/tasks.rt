@@ -7,8 +7,9 @@ ghost use Rattle.std.specs.Ordering.{nat_cmp};
 ghost use Rattle.std.specs.FinMap.{get, len};
 ghost use Rattle.mvs_model.specs.Finite.{has, kept};
 ghost use Rattle.mvs_model.specs.Kept.{OwnersKept};
-ghost use Rattle.mvs_model.specs.Numbers.{most_subpools, most_tasks, subpool_numbers};
-ghost use Rattle.mvs_model.specs.Owners.{entry, is_active, has_subtask, owns, IsSpare, Binds, IsFallen, goes, ends_with, Ends, Attach, attach_refusal, gives_shared};
+ghost use Rattle.mvs_model.specs.Numbers.{most_subpools, most_tasks, task_numbers};
+ghost use Rattle.mvs_model.specs.Owners.{entry, keeper, subpool_meant, is_active, has_subtask, owns, IsSpare, Binds, IsFallen, goes, ends_with, Ends, Attach, attach_refusal, gives_shared};
+ghost use Rattle.mvs_model.specs.declared.name.Name.{Name as TheName};
 ghost use Rattle.mvs_model.specs.Start.{first_owners};
 ghost use Rattle.task_owner.specs.Handing.{GetsEntry, SharesBelow, Admits};
 ghost use Rattle.task_owner.specs.Tasks.{name_at, IsTask, name_of, residence_of};
@@ -16,14 +17,14 @@ ghost use Rattle.task_owner.specs.Tasks.{name_at, IsTask, name_of, residence_of}
 use crate::family::{drop_entries, free_subpools, remove_family};
 use crate::handing::{hand_over, pass_on};
 use crate::seat::{
-    Owned, SLOTS, Seat, Subpools, enter, find_key, first_spare, has_child, no_owners, number_at,
-    seat_at,
+    Owned, SLOTS, Seat, Subpools, enter, find_first, find_key, first_spare, has_child, no_owners,
+    number_at, seat_at,
 };
 use mvs_model::code::Code;
 use mvs_model::error::OutOfMemory;
 use mvs_model::gifts::Gifts;
 use mvs_model::name::Name;
-use mvs_model::numbers::{MOST_TASKS, SUBPOOL_NUMBERS};
+use mvs_model::numbers::{MOST_TASKS, TASK_NUMBERS};
 use mvs_model::request::Fallen;
 use mvs_model::subpool::{SubNo, SubpoolId};
 use mvs_model::want::Residence;
@@ -129,13 +130,46 @@ impl Tasks {
         seat_at(&self.active, t.key).residence
     }
 
+    // The task whose subpool a task means by a number: the job step task for 131 and 132, and else the task itself.
+    fn keeper(&self, t: TaskId, number: SubNo) -> TaskId
+        requires { IsTask self.now t }
+        ensures { name_at self.now result ≡ Some (keeper self.now.owners (name_of self.now t) number) }
+    {
+        match self.common_keeper(number) {
+            Some(first) => first,
+            None => t,
+        }
+    }
+
+    // The job step task, where each task means its subpool by the number.
+    pub(crate) fn common_keeper(&self, number: SubNo) -> Option<TaskId>
+        ensures { MatchOption result ((t : TheName) → keeper self.now.owners t number ≡ t) (λ id. (t : TheName) → name_at self.now id ≡ Some (keeper self.now.owners t number)) }
+    {
+        if !number.is_of_step() {
+            return None;
+        }
+        match find_first(&self.active) {
+            Some(first) => Some(TaskId { key: first }),
+            None => None,
+        }
+    }
+
     /// The subpool that the task has under the number, its own or one that it shares (Assembler Services Guide, owning and
     /// sharing subpools).
-    pub fn subpool(&self, t: TaskId, number: SubNo) -> Option<SubpoolId>
+    pub fn entry(&self, t: TaskId, number: SubNo) -> Option<SubpoolId>
         requires { IsTask self.now t }
         ensures { result ≡ entry self.now.owners (name_of self.now t) number }
     {
         seat_at(&self.active, t.key).numbers[number.get() as usize]
+    }
+
+    /// The subpool that the task means by the number: that of the job step task for 131 and 132, and else its own (this
+    /// project's choice).
+    pub fn subpool(&self, t: TaskId, number: SubNo) -> Option<SubpoolId>
+        requires { IsTask self.now t }
+        ensures { result ≡ subpool_meant self.now.owners (name_of self.now t) number }
+    {
+        self.entry(self.keeper(t, number), number)
     }
 
     /// Whether the task has a subpool under the number and owns it.
@@ -143,7 +177,7 @@ impl Tasks {
         requires { IsTask self.now t }
         ensures { result ≡ has (owns self.now.owners (name_of self.now t)) (entry self.now.owners (name_of self.now t) number) }
     {
-        match self.subpool(t, number) {
+        match self.entry(t, number) {
             Some(subpool) => self.is_owner(t, subpool),
             None => false,
         }
@@ -160,29 +194,31 @@ impl Tasks {
         }
     }
 
-    /// The lowest subpool that no task owns, for a number under which the task has none. That it is the lowest is this
+    /// The lowest subpool that no task owns, for a number by which the task means none. That it is the lowest is this
     /// project's choice.
     pub fn spare(&self, t: TaskId, number: SubNo) -> SubpoolId
         requires active { IsTask self.now t }
-        requires none { entry self.now.owners (name_of self.now t) number ≡ None }
+        requires none { subpool_meant self.now.owners (name_of self.now t) number ≡ None }
         ensures { IsSpare self.now.owners result }
     {
         let _number = number.get();
         SubpoolId::new(first_spare(self.owned.as_slice()) as u16)
     }
 
-    /// Enters a subpool that no task owns under a number that the task does not have; the task then owns it.
+    /// Enters a subpool that no task owns under a number by which the task means none; the number's keeper then has it
+    /// and owns it.
     pub fn bind(&mut self, t: TaskId, number: SubNo, subpool: SubpoolId)
         requires active { IsTask self.old t }
-        requires none { entry self.old.owners (name_of self.old t) number ≡ None }
+        requires none { subpool_meant self.old.owners (name_of self.old t) number ≡ None }
         requires spare { get self.old.owners.owner subpool ≡ None }
-        ensures binds { Binds self.old.owners (name_of self.old t) number subpool self.new.owners }
+        ensures binds { Binds self.old.owners (keeper self.old.owners (name_of self.old t) number) number subpool self.new.owners }
         ensures names { (id : ℕ) → name_at self.new id ≡ name_at self.old id }
     {
+        let keeper = self.keeper(t, number);
         let number = number.get();
-        enter(&mut self.active, t.key, number as usize, subpool);
+        enter(&mut self.active, keeper.key, number as usize, subpool);
         self.owned[subpool.get() as usize] = Some(Owned {
-            owner: t.key,
+            owner: keeper.key,
             number,
         });
     }
@@ -238,7 +274,7 @@ impl Tasks {
         requires { IsTask self.now mother }
         ensures { result ≡ gives_shared self.now.owners (name_of self.now mother) gifts.now }
     {
-        for n in 0..SUBPOOL_NUMBERS {
+        for n in 0..TASK_NUMBERS {
             if gifts.gives(n) && self.is_shared(mother, number_at(n)) {
                 return true;
             }
@@ -251,15 +287,16 @@ impl Tasks {
         requires { IsTask self.now t }
         ensures { result ≡ has (λ s. not (owns self.now.owners (name_of self.now t) s)) (entry self.now.owners (name_of self.now t) number) }
     {
-        match self.subpool(t, number) {
+        match self.entry(t, number) {
             Some(subpool) => !self.is_owner(t, subpool),
             None => false,
         }
     }
 
-    // Gives the task a subpool under a number, if it has none.
+    // Gives the task a subpool under a number that each task has for itself, if it has none.
     fn enter_one(&mut self, t: TaskId, number: SubNo)
-        requires { IsTask self.old t }
+        requires active { IsTask self.old t }
+        requires low { number < task_numbers }
         ensures entered { GetsEntry self.old.owners (name_of self.old t) number self.new.owners }
         ensures names { (id : ℕ) → name_at self.new id ≡ name_at self.old id }
     {
@@ -275,9 +312,9 @@ impl Tasks {
     // Gives the mother a subpool under each number that she shares and does not have, in rising order.
     fn enter_shared(&mut self, mother: TaskId, gifts: &Gifts)
         requires { IsTask self.old mother }
-        ensures { SharesBelow self.old mother gifts.now subpool_numbers self.new }
+        ensures { SharesBelow self.old mother gifts.now task_numbers self.new }
     {
-        for n in 0..SUBPOOL_NUMBERS {
+        for n in 0..TASK_NUMBERS {
             if gifts.shares(n) {
                 self.enter_one(mother, number_at(n));
             }

@@ -222,3 +222,21 @@ fn chains_and_families(rt: HostRuntime) {
         assert!(rt; tasks.find(&job_name).is_none());
     }
 }
+
+// What a subtask obtains under 131 is the job step task's.
+#[test]
+fn numbers_of_the_job_step_task(rt: HostRuntime) {
+    let job_name = name(&rt, b"JOB");
+    let a = name(&rt, b"A");
+    let mut tasks = job(&rt, rt.alloc());
+    let none = gifts(&rt, 0, 0);
+    assert_eq!(rt; attach(&rt, &mut tasks, &job_name, &a, &none), None);
+    let kept = obtain(&rt, &mut tasks, &a, 131);
+    assert_eq!(rt; subpool(&rt, &tasks, &a, 131), Some(kept));
+    assert_eq!(rt; subpool(&rt, &tasks, &job_name, 131), Some(kept));
+    assert!(rt; owns(&rt, &tasks, &job_name, 131));
+    assert!(rt; !owns(&rt, &tasks, &a, 131));
+    let t = task(&rt, &tasks, &a);
+    assert!(rt; tasks.end(t).freed.as_slice().is_empty());
+    assert_eq!(rt; subpool(&rt, &tasks, &job_name, 131), Some(kept));
+}

@@ -1,5 +1,4 @@
 mod codes;
-mod examples;
 mod lists;
 mod places;
 mod pools;

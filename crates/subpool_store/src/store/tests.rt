@@ -1,6 +1,6 @@
 //! Each call with ample memory, and what no clause says: which place is taken, and how much is looked at.
 
-ghost use Rattle.std.specs.Prelude.{◌≡◌, length};
+ghost use Rattle.std.specs.Prelude.{◌≡◌, ◌+◌, ◌≤◌, length};
 ghost use Rattle.mvs_model.specs.Storage.{AllHeld};
 ghost use Rattle.subpool_store.specs.Written.{Puts};
 
@@ -19,6 +19,38 @@ fn put(store: &mut Store, place: Place, bytes: &[u8])
 {
     let part = store.bytes_mut(place);
     part.copy_from_slice(bytes);
+}
+
+// Copies the bytes of one place over those of another one.
+fn copy(store: &mut Store, from: Place, to: Place)
+    requires source { AllHeld store.old from }
+    requires target { AllHeld store.old to }
+    requires len { from.len ≡ to.len }
+    requires apart { from.addr + from.len ≤ to.addr }
+{
+    let (source, target) = store.two(from, to);
+    target.copy_from_slice(source);
+}
+
+#[test]
+fn two_places(rt: HostRuntime) -> Result<(), Fail> {
+    let one = SubpoolId::new(1);
+    let mut store = Store::new(rt.alloc(), 1, 1, 0xAA, Placement::Low)?;
+    let below = Want::fixed(Length::new(16), Exponent::new(3), Side::Below);
+    let above = Want::fixed(Length::new(16), Exponent::new(3), Side::Either);
+    store.obtain(one, &below);
+    store.obtain(one, &above);
+    let low = Place::new(Addr::new(0x6000), 8);
+    let high = Place::new(Addr::new(0x1000008), 8);
+    assert!(rt; store.holds(one, low));
+    assert!(rt; store.holds(one, high));
+    put(&mut store, low, [7; 8].as_slice());
+    assert!(rt; store.holds(one, low));
+    assert!(rt; store.holds(one, high));
+    copy(&mut store, low, high);
+    assert!(rt; store.holds(one, high));
+    assert_eq!(rt; store.bytes(high), [7; 8].as_slice());
+    Ok(())
 }
 
 #[test]

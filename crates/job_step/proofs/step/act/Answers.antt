@@ -7,6 +7,9 @@ returns-in-Obtain-clause-answer c = rw c.in-Obtain.is c.obtain.ensures.answer
 pub returns-in-ObtainList-clause-answer : goal.returns-in-ObtainList-clause-answer
 returns-in-ObtainList-clause-answer c = rw c.in-ObtainList.is c.obtain_list.ensures.answer
 
+pub returns-in-ReleaseList-clause-answer : goal.returns-in-ReleaseList-clause-answer
+returns-in-ReleaseList-clause-answer c = rw c.in-ReleaseList.is c.release_list.ensures.answer
+
 pub returns-in-Build-clause-answer : goal.returns-in-Build-clause-answer
 returns-in-Build-clause-answer c = rw c.in-Build.is c.build.ensures.answer
 

@@ -20,4 +20,4 @@ lines-preserved g c = record {
 }
 
 pub returns-clause-bytes : goal.returns-clause-bytes
-returns-clause-bytes g c = rw (lines_none c.args.number c.args.step.now.state c.args.task.now c.lines.from 128 c.lines.invariant.low c.in_default.ensures) c.lines.invariant.so_far
+returns-clause-bytes g c = rw (lines_none c.args.number c.args.step.now.state c.args.task.now c.lines.from 133 c.lines.invariant.low c.in_default.ensures) c.lines.invariant.so_far

@@ -7,9 +7,9 @@ use Rattle.mvsjob.proofs.reports.print_numbers.Given as goal
 abbrev pub invariant-lines : goal.invariant-lines
 invariant-lines g l = record {
   so_far : Appends (g.W.Write.contents l.initial.writer.inner) (g.W.Write.contents l.writer.inner) (each_below l.from (number_line l.number l.step.state l.task));
-  low : l.from ≤ 128;
+  low : l.from ≤ 133;
   same : l.writer.failed ≡ l.initial.writer.failed;
 }
 
 abbrev pub decreases-lines : goal.decreases-lines
-decreases-lines g l = 128 - l.from
+decreases-lines g l = 133 - l.from

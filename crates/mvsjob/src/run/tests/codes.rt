@@ -163,12 +163,12 @@ fn subpool_133_is_invalid(rt: HostRuntime) -> Result<(), Fail> {
     Ok(())
 }
 
-// SP=131 is no number that a statement takes.
+// 131 is no number that a task gives.
 #[test]
-fn subpool_131_is_out_of_range(rt: HostRuntime) -> Result<(), Fail> {
+fn subpool_131_is_not_given(rt: HostRuntime) -> Result<(), Fail> {
     let lines = [
         ("JOB REGION BELOW=1", "JOB REGION BELOW 1 ABOVE 0"),
-        ("JOB GETMAIN RC,LV=8,A=X,SP=131", "JS06"),
+        ("JOB ATTACH TASK=T,GSPV=131", "JS06"),
     ];
     assert!(rt; prints(&rt, &lines, "JOB FAULT RC 12")?);
     Ok(())

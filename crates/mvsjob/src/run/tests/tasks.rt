@@ -69,6 +69,33 @@ fn subpool_numbers(rt: HostRuntime) -> Result<(), Fail> {
     Ok(())
 }
 
+// What a subtask obtains from 131 and 132 is the job step task's, and stays when the subtask ends.
+#[test]
+fn subpools_of_the_job_step_task(rt: HostRuntime) -> Result<(), Fail> {
+    let lines = [
+        ("JOB REGION BELOW=2", "JOB REGION BELOW 2 ABOVE 0"),
+        ("JOB ATTACH TASK=SUB,SZERO=NO", "JOB ATTACHED"),
+        ("SUB GETMAIN RU,LV=8,A=X,SP=131", "SUB RC 0"),
+        (
+            "SUB CPOOL BUILD,CPID=P,CSIZE=8,PCELLCT=1,SP=132",
+            "SUB RC 0",
+        ),
+        ("SUB PUT X,X'C3'", "SUB OK"),
+        ("SUB REPORT SP", "SUB SP NONE"),
+        ("SUB RETURN", "SUB ENDED"),
+        (
+            "JOB REPORT SP",
+            "JOB SP 131 OWNED PLAIN 8 POOL 0\nJOB SP 132 OWNED PLAIN 0 POOL 32",
+        ),
+        ("JOB SHOW X,1", "JOB DATA +0000 C3"),
+        ("JOB CPOOL GET,COND,CPID=P,CELL=C", "JOB CELL"),
+        ("JOB FREEMAIN RU,SP=131", "JOB RC 0"),
+        ("JOB SHOW X,1", "JOB ABEND S0C4"),
+    ];
+    assert!(rt; prints(&rt, &lines, "STEP ENDED RC 8")?);
+    Ok(())
+}
+
 // User code 77 ends a task and its subtask, and their page is free; the name is used again, and twice it is U4009.
 #[test]
 fn a_fork_of_subtasks(rt: HostRuntime) -> Result<(), Fail> {

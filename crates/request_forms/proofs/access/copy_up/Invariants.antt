@@ -1,6 +1,12 @@
-use Rattle.std.proofs.Common.{◌+◌, ◌-◌}
+use Rattle.std.proofs.Common.{◌≤◌, ◌+◌, ◌-◌}
 use Rattle.request_forms.specs.Access.{Copied}
 use Rattle.request_forms.proofs.access.copy_up.Given as goal
 
-abbrev pub invariant-loop-k : goal.invariant-loop-k
-invariant-loop-k l = Copied l.initial.store (l.to + l.k) (l.from + l.k) (l.len - l.k) l.store
+abbrev pub invariant-pieces : goal.invariant-pieces
+invariant-pieces l = record {
+  most : l.left ≤ l.len;
+  copied : Copied l.fn.store (l.to + l.left) (l.from + l.left) (l.len - l.left) l.store;
+}
+
+abbrev pub decreases-pieces : goal.decreases-pieces
+decreases-pieces l = l.left

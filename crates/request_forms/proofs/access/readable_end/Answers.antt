@@ -22,12 +22,12 @@ returns-in-Some c = λ o.
 pub returns-in_default-held : goal.returns-in_default-held
 returns-in_default-held c = λ o. free_denied c.args.pools.now c.args.store.now o c.requires c.args.addr (sym c.held.ensures.held ∙ c.in_default-held.is) (c.in_default.ensures o)
 
-pub returns-then-touches : goal.returns-then-touches
-returns-then-touches c = λ o.
+pub returns-then-not-is_outside_pools : goal.returns-then-not-is_outside_pools
+returns-then-not-is_outside_pools c = λ o.
     let st = c.args.store.now in
     let pools = pools_of c.args.pools.now st in
     let place : c.new-2.result ≡ place_at (c.args.addr / 8 * 8) 8 = c.new-2.ensures ∙ ap (λ a. place_at a 8) (c.new.ensures ∙ ap (λ n. n / 8 * 8) c.get-2.ensures.value) in
-    let touches = subst (λ p. Touches st pools c.in-Some-held.subpool p) place c.if-touches.ensures in
+    let touches = subst (λ p. Touches st pools c.in-Some-held.subpool p) place c.if-not-is_outside_pools.ensures in
     let same : touches.0 ≡ c.args.addr / 8 = one_doubleword c.args.addr touches.0 touches.1 in
     pooled_denied c.args.pools.now st o c.requires c.args.addr c.in-Some-held.subpool (ap (holding st pools) (sym same) ∙ touches.2) (c.in_default.ensures o)
 
@@ -36,7 +36,7 @@ returns c = λ o.
     let st = c.args.store.now in
     let pools = pools_of c.args.pools.now st in
     let place : c.new-2.result ≡ place_at (c.args.addr / 8 * 8) 8 = c.new-2.ensures ∙ ap (λ a. place_at a 8) (c.new.ensures ∙ ap (λ n. n / 8 * 8) c.get-2.ensures.value) in
-    let none = subst (λ p. TouchesNone st pools c.in-Some-held.subpool p) place c.if-touches.ensures in
+    let none = subst (λ p. TouchesNone st pools c.in-Some-held.subpool p) place c.if-not-is_outside_pools.ensures in
     let held : holder st (c.args.addr / 8) ≡ Some c.in-Some-held.subpool = sym c.held.ensures.held ∙ c.in-Some-held.is in
     let at : c.get-2.result ≡ c.args.addr = c.get-2.ensures.value in
     let plainly = plain_from c.args.pools.now st o c.requires c.in-Some-held.subpool (place_at (c.args.addr / 8 * 8) 8) (λ d covers. ap (holder st) (one_doubleword c.args.addr d covers) ∙ held) none in (

@@ -1,5 +1,5 @@
 use Rattle.std.proofs.Common.{◌≡◌, sym, ◌∙◌, true, false}
-use Rattle.request_forms.proofs.Bytes.{none_touched, touched_not}
+use Rattle.request_forms.proofs.Bytes.{outside, outside_back}
 use Rattle.request_forms.proofs.Places.{plain_from, plain_back, plain_not}
 use Rattle.request_forms.proofs.release.holds_plain.Goals as goal
 
@@ -11,6 +11,6 @@ returns-then-not-holds c = λ o. (
 
 pub returns : goal.returns
 returns c = λ o. (
-  λ yes. plain_from c.args.pools.now c.args.store.now o c.requires.agree c.args.subpool c.args.place (c.holds.ensures.holds.0 c.if-not-holds.false) (none_touched _ _ c.touches.result c.touches.ensures yes),
-  λ h. touched_not _ _ _ c.touches.result c.touches.ensures (plain_not c.args.pools.now c.args.store.now o c.requires.agree c.args.subpool c.args.place) h,
+  λ yes. plain_from c.args.pools.now c.args.store.now o c.requires.agree c.args.subpool c.args.place (c.holds.ensures.holds.0 c.if-not-holds.false) (outside _ _ c.is_outside_pools.result c.is_outside_pools.ensures yes),
+  λ h. outside_back _ _ _ c.is_outside_pools.result c.is_outside_pools.ensures (plain_not c.args.pools.now c.args.store.now o c.requires.agree c.args.subpool c.args.place) h,
 )

@@ -1,5 +1,6 @@
 use Rattle.std.proofs.Common.{subst}
 use Rattle.mvs_model.specs.Changes.{ListShort}
+use Rattle.mvs_model.specs.Owners.{keeper}
 use Rattle.request_forms.specs.Lists.{list_wants}
 use Rattle.request_forms.proofs.Listing.{invalid_list, short_list}
 use Rattle.request_forms.proofs.machine.Machine.obtain_list.Goals as goal
@@ -13,4 +14,4 @@ returns-in-None-clause-answer c =
     let t = c.args.name in
     let wants = list_wants c.args.lengths.now c.args.start in
     rw (c.in-None.ensures.1, c.refused.ensures, c.short.ensures)
-    (short_list old t c.args.form c.args.number wants c.in-Some.ensures.0 (subst (λ n. ListShort old t n wants) c.in-Some.ensures.1 c.in-None.ensures.0))
+    (short_list old t c.args.form c.args.number wants c.in-Some.ensures.0 (subst (λ n. ListShort old (keeper old.owners t n) n wants) c.in-Some.ensures.1 c.in-None.ensures.0))

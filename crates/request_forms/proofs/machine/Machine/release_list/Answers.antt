@@ -1,6 +1,6 @@
 use Rattle.std.proofs.Common.{map, ◌∙◌, sym, ap, subst}
 use Rattle.std.specs.List.{list_all}
-use Rattle.mvs_model.specs.Owners.{entry}
+use Rattle.mvs_model.specs.Owners.{subpool_meant}
 use Rattle.mvs_model.specs.State.{State}
 use Rattle.mvs_model.specs.Steps.{whole, on_doubleword, MayRelease}
 use Rattle.request_forms.proofs.Releasing.{invalid_release, misplaced_release, unheld_release}
@@ -22,5 +22,5 @@ returns-in-Err-clause-answer c =
     rw (areas.1, c.refused.ensures, c.not_held.ensures)
     (unheld_release old t c.args.form c.args.number c.args.places.now c.subpool_of-subpool.result c.in-Some.ensures.0
     (sym (c.are_on_doublewords.ensures ∙ ap (list_all on_doubleword) c.as_slice-places.ensures.items) ∙ c.if-not-are_on_doublewords.false)
-    (c.subpool_of-subpool.ensures ∙ ap (λ (st : State). entry st.owners t c.in-Some.number) c.self.view_is ∙ ap (entry old.owners t) c.in-Some.ensures.1)
+    (c.subpool_of-subpool.ensures ∙ ap (λ (st : State). subpool_meant st.owners t c.in-Some.number) c.self.view_is ∙ ap (subpool_meant old.owners t) c.in-Some.ensures.1)
     (subst (λ ps. MayRelease old c.subpool_of-subpool.result (map whole ps) → ⊥) c.as_slice-places.ensures.items areas.0))

@@ -1,5 +1,5 @@
 use Rattle.std.proofs.Common.{◌∙◌, ap}
-use Rattle.mvs_model.specs.Owners.{entry}
+use Rattle.mvs_model.specs.Owners.{subpool_meant}
 use Rattle.request_forms.specs.Machine.{machine_state}
 use Rattle.request_forms.proofs.Pooling.{subpool_agrees}
 use Rattle.request_forms.proofs.Releasing.{invalid_whole, done_whole, emptied_entry, no_entry, not_zero}
@@ -14,7 +14,7 @@ returns-clause-answer c =
     let pools = c.self.inside.pools in
     let st = c.self.inside.store in
     let o = c.self.inside.tasks.owners in
-    let is = c.subpool_of.ensures ∙ ap (entry o c.args.name) c.in-Some.ensures.1 in
+    let is = c.subpool_of.ensures ∙ ap (subpool_meant o c.args.name) c.in-Some.ensures.1 in
     let some = not_zero c.args.number c.get.result (c.get.ensures.value ∙ c.in-Some.ensures.1) c.if-get-eq0.false in
     elim c.match-subpool_of.branch [
       | in-Some-subpool_of w ↦ rw (w.self-is, ← c.self.view_is)

@@ -9,7 +9,7 @@ use Rattle.request_forms.proofs.machine.Machine.subpool_line.Goals as goal
 pub returns-in_default-first_entry : goal.returns-in_default-first_entry
 returns-in_default-first_entry c =
     let of_name = λ (v : Option Name). unwrap_or v [] in
-    rw (← c.self.view_is) (subst (λ (name : Name). HasNone c.self.inside.tasks.owners name c.args.from 128) (ap of_name c.in-Some.ensures.named) c.in_default-first_entry.ensures)
+    rw (← c.self.view_is) (subst (λ (name : Name). HasNone c.self.inside.tasks.owners name c.args.from 133) (ap of_name c.in-Some.ensures.named) c.in_default-first_entry.ensures)
 
 pub returns : goal.returns
 returns c =

@@ -1,10 +1,18 @@
-use Rattle.std.proofs.Common.{ap, ◌∙◌, length}
+use Rattle.std.proofs.Common.{None, replicate, subst, sym, ap, ◌∙◌, length}
 use Rattle.std.proofs.lemmas.List.{length-replicate}
+use Rattle.subpool_store.specs.Half.{IsOpened, value_at}
 use Rattle.subpool_store.proofs.Methods.{half_sound, nothing_kept, nothing_half}
+use Rattle.subpool_store.proofs.Opened.{opened_none}
 use Rattle.subpool_store.proofs.half.Half.new.Goals as goal
 
+pub invariant_of-result : goal.invariant_of-result
+invariant_of-result c = (
+  nothing_kept c.args.first c.args.pages _ _ c.requires.few c.requires.aligned c.requires.end c.requires.one_side c.in_ok-new.ensures c.in_ok-new-2.ensures,
+  subst (λ pages. IsOpened pages c.in_ok-new-3.field-0) (sym c.in_ok-new-2.ensures) (subst (IsOpened (replicate c.args.pages None)) (sym c.in_ok-new-3.ensures.blank) (opened_none c.args.pages)),
+)
+
 pub returns-clause-empty : goal.returns-clause-empty
-returns-clause-empty c = nothing_half c.args.first c.args.pages _ _ _ c.in_ok-new.ensures (ap length c.in_ok-new-2.ensures ∙ length-replicate c.args.pages _)
+returns-clause-empty c = nothing_half c.args.first c.args.pages _ _ (value_at c.in_ok-new-3.field-0) c.in_ok-new.ensures (ap length c.in_ok-new-2.ensures ∙ length-replicate c.args.pages _)
 
 pub returns-clause-sound : goal.returns-clause-sound
-returns-clause-sound c = half_sound c.args.first _ _ _ (nothing_kept c.args.first c.args.pages _ _ _ c.requires.few c.requires.aligned c.requires.end c.requires.one_side c.in_ok-new.ensures c.in_ok-new-2.ensures c.in_ok-new-3.ensures)
+returns-clause-sound c = half_sound c.args.first _ _ (value_at c.in_ok-new-3.field-0) (nothing_kept c.args.first c.args.pages _ _ c.requires.few c.requires.aligned c.requires.end c.requires.one_side c.in_ok-new.ensures c.in_ok-new-2.ensures)

@@ -1,28 +1,23 @@
-use Rattle.std.proofs.Common.{◌<◌, subst, arith}
+use Rattle.std.proofs.Common.{◌≡◌, ◌+◌, ◌-◌, ◌/◌, ◌<◌, ◌≤◌, false, true, subst, arith}
 use Rattle.mvs_model.specs.Storage.{IsStorage}
 use Rattle.subpool_store.proofs.Both.{storage_of}
-use Rattle.subpool_store.proofs.Choice.{above_from, some_held, held_below, held_above, below_held, above_held}
+use Rattle.subpool_store.proofs.Choice.{held_small}
 use Rattle.subpool_store.proofs.store.Store.holds.Goals as goal
 
-pub returns-then-is_below-clause-holds : goal.returns-then-is_below-clause-holds
-returns-then-is_below-clause-holds c =
-    let s = c.self.inside in
-    let low : c.args.place.addr < 0x1000000 = omega (arith, c.if-is_below.ensures.below) in (
-      λ hit. below_held s.below s.above s.fill c.args.self.now c.self.invariant c.self.view_is c.args.subpool c.args.place c.is_below.ensures.some (c.holds.ensures.0 hit),
-      λ held. c.holds.ensures.1 (held_below s.below s.above s.fill c.args.self.now c.self.invariant c.self.view_is c.args.subpool c.args.place c.is_below.ensures.some low held),
+pub returns-then-not-has_addresses-clause-holds : goal.returns-then-not-has_addresses-clause-holds
+returns-then-not-has_addresses-clause-holds c =
+    let s = c.self.inside in let p = c.args.place in let last = (p.addr + p.len - 1) / 8 in
+    let some : 1 ≤ p.len = c.has_addresses.ensures.some in
+    let past : 2147483648 < p.addr + p.len = c.if-not-has_addresses.ensures.within in (
+      λ yes. absurd (let e : false ≡ true = yes in cc),
+      λ held. absurd (let low : last < 268435456 = held_small s.below s.above s.fill c.args.self.now c.self.invariant c.self.view_is last c.args.subpool (held last (omega arith, omega arith)) in omega arith),
     )
 
-pub returns-then-is_below-clause-storage : goal.returns-then-is_below-clause-storage
-returns-then-is_below-clause-storage c = let s = c.self.inside in subst IsStorage c.self.view_is (storage_of s.below s.above s.fill c.self.invariant)
+pub returns-then-not-has_addresses-clause-storage : goal.returns-then-not-has_addresses-clause-storage
+returns-then-not-has_addresses-clause-storage c = let s = c.self.inside in subst IsStorage c.self.view_is (storage_of s.below s.above s.fill c.self.invariant)
 
-pub returns-else-is_below-clause-holds : goal.returns-else-is_below-clause-holds
-returns-else-is_below-clause-holds c =
-    let s = c.self.inside in (
-      λ hit. above_held s.below s.above s.fill c.args.self.now c.self.invariant c.self.view_is c.args.subpool c.args.place c.is_below.ensures.some (c.holds-else-is_below.ensures.0 hit),
-      λ held.
-          let high = above_from s.below s.above s.fill c.args.self.now c.self.invariant c.self.view_is c.args.place c.is_below.ensures.some (some_held s.below s.above s.fill c.args.self.now c.self.invariant c.self.view_is c.args.subpool c.args.place c.is_below.ensures.some held) c.if-is_below.ensures.below in
-          c.holds-else-is_below.ensures.1 (held_above s.below s.above s.fill c.args.self.now c.self.invariant c.self.view_is c.args.subpool c.args.place c.is_below.ensures.some high held),
-    )
-
-pub returns-else-is_below-clause-storage : goal.returns-else-is_below-clause-storage
-returns-else-is_below-clause-storage c = let s = c.self.inside in subst IsStorage c.self.view_is (storage_of s.below s.above s.fill c.self.invariant)
+pub returns-clause-holds : goal.returns-clause-holds
+returns-clause-holds c = (
+  λ yes d covered. c.holds_whole.ensures.holds.0 yes d ((c.whole_doublewords.ensures.same d).1 covered),
+  λ held. c.holds_whole.ensures.holds.1 (λ d covered. held d ((c.whole_doublewords.ensures.same d).0 covered)),
+)

@@ -2,7 +2,7 @@ use Rattle.std.proofs.Common.{◌<◌, length, ap, ◌∙◌, is_some, arith}
 use Rattle.mvs_model.specs.Owners.{entry}
 use Rattle.task_owner.proofs.tasks.Tasks.label.Goals as goal
 use Rattle.task_owner.proofs.Places.{read_at}
-use Rattle.task_owner.proofs.Reading.{number_low}
+use Rattle.task_owner.proofs.Having.{is_number}
 use Rattle.task_owner.proofs.Keeping.{kept_at}
 use Rattle.task_owner.proofs.Labels.{labelled, unlabelled}
 
@@ -11,7 +11,7 @@ number_at-requires c =
     let range : c.get.result < length c.self.inside.owned.items = omega (arith, c.self.invariant.1, c.get.ensures.low) in
     let o = read_at c.self.inside.owned.items c.get.result c.args.subpool c.index.result.now c.index.ensures c.get.ensures.value range ∙ c.in-Some.is in
     let x = c.self.invariant.0.owners c.args.subpool c.in-Some.owned o in
-    number_low x.0 c.in-Some.owned.number c.args.subpool x.2
+    is_number x.0 c.in-Some.owned.number (c.self.invariant.0.places c.in-Some.owned.owner c.in-Some.owned.number c.args.subpool x.0 x.1 x.2)
 
 pub seat_at-requires : goal.seat_at-requires
 seat_at-requires c =

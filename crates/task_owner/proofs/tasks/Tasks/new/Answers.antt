@@ -9,22 +9,22 @@ use Rattle.task_owner.proofs.Starting.{start_sound, starts, no_numbers}
 
 pub invariant_of-result : goal.invariant_of-result
 invariant_of-result c =
-    let x : Seat = record { name = c.args.name; mother = None; residence = c.args.residence; numbers = replicate 128 None } in
+    let x : Seat = record { name = c.args.name; mother = None; residence = c.args.residence; numbers = replicate 133 None } in
     let few : count_by is_some c.in-Ok.active.slots ≡ 0 = ap (count_by is_some) c.in-Ok.ensures.empty in
     let len = c.insert_reserved.ensures.len in
     let capacity = c.insert_reserved.ensures.capacity in
     let least = c.in-Ok.ensures.capacity in (
       start_sound c.insert_reserved.new.self.slots c.in-Ok-no_owners.owned.items c.insert_reserved.result x c.insert_reserved.ensures.updates.changed
           (λ k n. c.insert_reserved.ensures.updates.others k n ∙ ap (λ xs. item_at xs k) c.in-Ok.ensures.empty)
-          refl (λ n. no_numbers x 128 n refl) (λ s. ap (λ xs. item_at xs s) c.in-Ok-no_owners.ensures ∙ none_everywhere 4096 None s refl),
-      ap length c.in-Ok-no_owners.ensures ∙ length-replicate {A = Option Owned} 4096 None,
+          refl (λ n. no_numbers x 133 n refl) (λ s. ap (λ xs. item_at xs s) c.in-Ok-no_owners.ensures ∙ none_everywhere 4098 None s refl),
+      ap length c.in-Ok-no_owners.ensures ∙ length-replicate {A = Option Owned} 4098 None,
       omega arith,
       omega arith,
     )
 
 pub returns : goal.returns
 returns c =
-    let x : Seat = record { name = c.args.name; mother = None; residence = c.args.residence; numbers = replicate 128 None } in
+    let x : Seat = record { name = c.args.name; mother = None; residence = c.args.residence; numbers = replicate 133 None } in
     starts c.insert_reserved.new.self.slots c.in-Ok-no_owners.owned.items c.insert_reserved.result x c.insert_reserved.ensures.updates.changed
     (λ k n. c.insert_reserved.ensures.updates.others k n ∙ ap (λ xs. item_at xs k) c.in-Ok.ensures.empty)
-    refl (λ n. no_numbers x 128 n refl) (λ s. ap (λ xs. item_at xs s) c.in-Ok-no_owners.ensures ∙ none_everywhere 4096 None s refl)
+    refl (λ n. no_numbers x 133 n refl) (λ s. ap (λ xs. item_at xs s) c.in-Ok-no_owners.ensures ∙ none_everywhere 4098 None s refl)

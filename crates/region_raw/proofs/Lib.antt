@@ -1,0 +1,15 @@
+-- Rows of bytes and pages, which the region's proofs cite.
+mod Runs
+mod Overlays
+mod Masks
+mod PageRows
+mod PageBytes
+mod Parts
+-- Memory, which the walks of the functions with raw pointers cite.
+mod Walks
+mod Starts
+mod Cuts
+mod Readers
+mod LendTwo
+mod LendOne
+mod Blocks

@@ -1,0 +1,52 @@
+-- `slice` reads a run of bytes. Assumes `Logic`.
+use Rattle.region_raw.proofs.Walks.{◌≡◌, ℕ, ◌+◌, ◌*◌, ◌^◌, List, [], ◌∷◌, length, refl, sym, ◌∙◌, arith, w64, proved, full_share, id⊢, never, emp, ftrue, fat, flft, named, Val, fact, fact_i, tables, ‵, raw, ◌⊛◌, at_ret, ◌$◌, ◌∵◌, !, qed, by, move, keep, use1, split, join, fsplit, fjoin, feq_i, flt_l, flt_i, rewrite, suffices, frame, whole, sub, agg, enter, of_opd, bin, stop, fld, no_more, and_then, first, blocks, exec, returns, alloc_all, pass_all, free_all, look_at, get, get_in, sets, sets_last, take_at, give_at, env, u8, usize, yes, layout, uint_vals, uint_Tells, owns, Ptr, in_a_block, plain, slice_val, nothing, heard, Stays, walk_of, stay_dropped, Goes-dropped, ends_at}
+use denote.Builtin.{RefOf}
+use denote.Opens.{hide, unhide}
+use denote.Memory.{mem}
+use denote.Ref.{Bor, ShrRef, shr_vals, shr_Tells}
+use denote.Slice.{elements_shared}
+use Rattle.region_raw.specs.Rows.{IsRun, run}
+use Rattle.region_raw.specs.Ownership.{seen}
+use Rattle.region_raw.specs.contracts.raw.RawBytes.slice as f
+use Rattle.region_raw.proofs.Runs.{length-run}
+use Rattle.region_raw.proofs.Starts.{Bs, word, word_tells, good}
+use Rattle.region_raw.proofs.Readers.{run_seen}
+use Rattle.region_raw.proofs.LendTwo.{Cr}
+use Rattle.region_raw.proofs.raw.RawBytes.slice.Statement.{statement}
+use Rattle.region_raw.proofs.raw.RawBytes.slice.Code as code
+
+abbrev stayed : Stays f.ended.signature.params f.ended.kept
+stayed = (stay_dropped (RefOf (0 ∷ []) tt (plain (λ _. Cr)) (λ _. tt)) yes, (stay_dropped (plain (λ _. Bs)) yes, (stay_dropped (plain (λ _. usize)) yes, (stay_dropped (plain (λ _. usize)) yes, tt))))
+
+pub slice_spec : {M : Type 1} → statement M
+slice_spec 𝓤 𝓛 𝓜 𝓡 wired =
+    let c = f.clauses 𝓛 𝓜.mem 𝓡.returns in let W = walk_of 𝓛 f.ended stayed c in let 𝓣 = tables 𝓤 𝓛.H 𝓜 𝓡 𝓡.env in
+    let number = Goes-dropped 𝓛 1 (plain (λ _. usize)) yes (λ κs x w. refl) in
+    proved 𝓛 f.ended stayed c 𝓜 𝓡 (Goes-dropped 𝓛 1 (RefOf (0 ∷ []) tt (plain (λ _. Cr)) (λ _. tt)) yes (λ κs x w. refl), (Goes-dropped 𝓛 1 (plain (λ _. Bs)) yes (λ κs x w. refl), (number, (number, tt))))
+    f.Key.name code.function (code.unfolded 𝓤 𝓛.H 𝓜 𝓡 wired)
+    (λ κs. (shr_vals, ((λ x. word x ∷ []), (uint_vals w64, (uint_vals w64, tt))))) (λ κs. (shr_Tells (named 0) κs.0 Cr, (word_tells, (uint_Tells w64, (uint_Tells w64, tt))))) (λ κs qs bounds a g are.
+    let κ = κs.0 in let q = qs.0 in let rb = a.0.ref_ptr.0 in let ro = a.0.ref_ptr.1 in let d = a.0.now in let cs = d.bytes in
+    let i = a.1.1.0 in let n = a.1.1.1.0 in let vs = shr_vals a.0 in
+    let y : W.Ghost = ((κs, qs, bounds, a, (vs, (word a.1.0 ∷ [], (uint_vals w64 i, (uint_vals w64 n, tt))))), tt) in
+    qed 𝓛 (((‵ (flft κ q) ⊛ ‵ ftrue) ⊛ (‵ ((ShrRef (named 0) κ Cr).own_val a.0 vs) ⊛ ‵ (owns (Bs ∷ usize ∷ usize ∷ []) a.1 y.0.4.1)))
+    ∷ (raw (fact 𝓤 (a.1.0.ptr ≡ d.at)) ⊛ raw (fact 𝓤 (IsRun cs i n))) ∷ []) ∵
+    split ! $ split ! $ move ! (2 ∷ []) $ split ! $ move ! (4 ∷ []) $ split ! $ heard ! _ (λ same. heard ! _ (λ filled. keep ! (0 ∷ 2 ∷ []) $
+    enter ! _ _ _ _ _ $ alloc_all ! (λ l. pass_all ! refl ((tt, tt), (good a.1.0.ptr, ((tt, record { fits = are.1.1.0.1 }), ((tt, record { fits = are.1.1.1.0.1 }), tt)))) $
+    fsplit ! $ move ! (1 ∷ []) $ unhide ! $ fsplit ! $ move ! (1 ∷ []) $
+    in_a_block ! d.at (λ p. seen p cs κ) (id⊢ 𝓤 (never 𝓤)) (λ b o e. fsplit ! $ flt_l ! (λ small.
+    take_at ! 2 $ rewrite ! 0 (λ (p : Ptr). ‵ (fat full_share (layout Bs) (l 2) 0 (word (record { ptr = p })))) (same ∙ e) refl $ give_at ! 2 $ first ! $ blocks ! $
+    sets ! (bin ! (get_in ! (fld ! refl (stop !)) (sub ! 0 refl (whole !))) (get ! refl) tt) refl (tt, tt) $
+    sets_last ! (agg ! (and_then ! (get ! refl) (and_then ! (get ! refl) (no_more !)))) refl (tt, (tt, (record { fits = are.1.1.1.0.1 }, tt))) $
+    exec ! 𝓣.C 𝓣.Λ (env code.Mir.locals l) code.Mir.t-2 (at_ret _ (W.post y)) $
+    sets ! (of_opd ! (get ! refl)) refl (tt, (tt, (record { fits = are.1.1.1.0.1 }, tt))) $
+    let xs = run cs i n in let long = length-run cs i n filled in let at_i : i + o ≡ o + i = omega arith in
+    let read : Bor (List ℕ) = record { ref_ptr = (b, o + i); now = xs } in
+    let v : Val = slice_val (b, i + o) n in
+    use1 𝓛 (‵ (elements_shared u8 xs b (o + i) κ)) (run_seen 𝓛 κ b cs o i n xs (omega arith) filled.1) $ hide ! $
+    flt_i ! (length xs * (mem u8).size) (2 ^ 63) (omega arith) $ flt_i ! (length xs) (2 ^ 64) (omega arith) $ fjoin ! $
+    feq_i ! (List Val) (v ∷ []) (slice_val (b, o + i) (length xs) ∷ []) (λ k. slice_val (b, at_i k) (sym long k) ∷ []) $ fjoin ! $ fjoin ! $
+    -- [the slice; the fields; the pointer; the token]
+    returns ! (look_at ! 0 refl) $ free_all ! refl $ keep ! (0 ∷ 3 ∷ []) $
+    suffices ! _ (ends_at 𝓛 f.ended stayed c y v read (tt, (tt, (tt, (tt, tt)))) (tt, (tt, (tt, (tt, tt))))) $
+    nothing ! $ nothing ! $ fjoin ! $ nothing ! $ fjoin ! $ nothing ! $ fjoin ! $ nothing ! $ fjoin ! $ join ! $ nothing ! $ move ! (2 ∷ 0 ∷ []) $ join ! $ join ! $ frame ! $
+    by ! (fact_i 𝓤 (xs ≡ xs) (emp 𝓤) refl)))))))

@@ -1,0 +1,8 @@
+-- Rows of bytes, and pages cut from them.
+pub mod Rows
+pub mod Pages
+pub mod LendsRegion
+-- What stands below the region.
+pub mod Ownership
+pub mod LendsRaw
+pub mod LendsBlock
