@@ -32,11 +32,17 @@ fn each_call(rt: HostRuntime) -> Result<(), Fail> {
     let Some(line) = step.subpool_line(&job, 0) else {
         panic!(rt; "a line");
     };
-    assert_eq!(rt; (line.number.get(), line.owned, line.plain, line.pool), (5, true, 8, 0));
+    assert_eq!(rt;
+        (line.number.get(), line.owned, line.plain, line.pool),
+        (5, true, 8, 0)
+    );
     let Some(run) = step.map_run(Addr::new(0x7000)) else {
         panic!(rt; "a run");
     };
-    assert_eq!(rt; (run.addr, run.len, run.holder), (Addr::new(0x7000), 4096, None));
+    assert_eq!(rt;
+        (run.addr, run.len, run.holder),
+        (Addr::new(0x7000), 4096, None)
+    );
     assert!(rt; !step.abended());
     let Reply::Abended(code, fallen) = step.request(&job, &Request::Abend(UserCode::new(7))) else {
         panic!(rt; "an abend");
