@@ -1,6 +1,6 @@
 -- The label machine prints one text.
-use Rattle.std.proofs.Common.{◌≡◌, ℕ, zero, suc, ◌+◌, ◌/◌, ◌⊎◌, inl, inr, Bool, true, false, cond, List, [], ◌∷◌, ◌++◌, map, length, Option, Some, None, Result, Ok, Err, refl, sym, ap, ◌∙◌, subst}
-use Rattle.std.specs.Prelude.{is_some, not, ◌&&◌, MatchOption, codes, slice_get, ◌==◌}
+use Rattle.std.proofs.Common.{◌≡◌, ℕ, ◌+◌, inl, inr, Bool, true, false, List, [], ◌∷◌, ◌++◌, map, length, Option, Some, None, Result, Ok, Err, sym, ap, ◌∙◌, subst}
+use Rattle.std.specs.Prelude.{is_some, not, ◌&&◌, MatchOption, codes, ◌==◌}
 use Rattle.std.specs.Bool.{MatchBool}
 use Rattle.std.specs.List.{list_all}
 use Rattle.std.specs.FinMap.{get}
@@ -17,14 +17,14 @@ use Rattle.mvs_model.specs.declared.line.Written.{Written}
 use Rattle.mvs_model.specs.declared.line.Written.TheVariants as written
 use Rattle.mvs_model.specs.declared.line.Fault.{Fault}
 use Rattle.mvs_model.specs.Gifts.{GiftsValue}
-use Rattle.mvs_model.specs.Place.{place_at, round8}
-use Rattle.mvs_model.specs.Owners.{Owners, is_active, keeper, subpool_meant, Enters, Attach, attach_refusal, has_subtask, IsFallen, Ends, ends_with}
+use Rattle.mvs_model.specs.Place.{round8}
+use Rattle.mvs_model.specs.Owners.{Owners, is_active, keeper, subpool_meant, Enters, attach_refusal, has_subtask, Ends, ends_with}
 use Rattle.mvs_model.specs.Codes.{is_conditional}
 use Rattle.mvs_model.specs.Steps.{is_invalid, on_doubleword}
 use Rattle.mvs_model.specs.Texts.{abend_lines, fault_text}
 use Rattle.mvs_model.specs.Lines.{Reader, lines_of}
 use Rattle.mvs_model.specs.Runs.{Faults}
-use Rattle.mvs_model.specs.Labels.{Labels, Spot, rounded, is_there, without, with_area, may_free, all_named, spot_of, spots_of, area_of, Leaves, Tells, Abends, Fails, Grants, GrantsEach, Obtains, Releases, Empties, Attaches, Returns, Asks, Says, Does, Begins, Serves, ServesRead, Closes, Prints}
+use Rattle.mvs_model.specs.Labels.{Labels, Spot, rounded, is_there, without, with_area, may_free, all_named, spot_of, spots_of, area_of, Leaves, Tells, Abends, Fails, Grants, GrantsEach, Obtains, Releases, Empties, Attaches, Returns, Asks, Says, Does, Begins, ServesRead, Prints}
 use Rattle.mvs_model.specs.Tidy.{OneLabelText, PlacesDoNotMatter}
 use Rattle.mvs_model.proofs.TidySteps.{tidy_text}
 use Rattle.mvs_model.proofs.OneOwners.{one_subpool, one_enters, one_attach, one_fallen, one_ends}

@@ -1,27 +1,26 @@
 -- A given subpool that ends while a sibling shares it, on the label machine.
-use Rattle.std.proofs.Common.{◌≡◌, ℕ, zero, suc, ◌+◌, ◌*◌, ◌/◌, ◌%◌, ◌^◌, ◌<◌, ◌≤◌, ◌⊎◌, inl, inr, Bool, true, false, cond, List, [], ◌∷◌, ◌++◌, Option, Some, None, ltb, arith, refl, sym, ap, ◌∙◌, subst}
+use Rattle.std.proofs.Common.{◌≡◌, ℕ, zero, suc, ◌+◌, ◌%◌, ◌^◌, ◌<◌, ◌≤◌, ◌⊎◌, inl, inr, Bool, true, false, cond, List, [], ◌∷◌, ◌++◌, Option, Some, None, ltb, arith, refl, sym, ap, ◌∙◌, subst}
 use Rattle.std.specs.Prelude.{is_some, IsSome, not, ◌&&◌, ◌||◌, ◌==◌, nat_le, MatchOption, codes, decimal}
-use Rattle.std.specs.List.{list_any, Contains}
 use Rattle.std.specs.List.Sorted.{IsStrictlySortedBy}
 use Rattle.std.specs.Fmt.{digits}
-use Rattle.std.proofs.Math.Nat.{zero-div, div-eq_of_lt}
+use Rattle.std.proofs.Math.Nat.{div-eq_of_lt}
 use Rattle.std.proofs.Math.Pow.{pow-lt}
 use Rattle.std.proofs.lemmas.Bool.{cases_lt}
 use Rattle.std.proofs.lemmas.Bool.Decides.{nat_tests}
-use Rattle.std.specs.FinMap.{FinMap, get, empty, insert, len, keys, same_map, get-insert, get-empty, len-insert, len-empty}
+use Rattle.std.specs.FinMap.{get, empty, insert, len, keys, same_map, get-insert, get-empty, len-insert, len-empty}
 use Rattle.std.specs.Ordering.{nat_cmp}
 use Rattle.std.specs.Cmp.{nat_cmp_total}
 use Rattle.mvs_model.specs.declared.name.Name.{Name}
 use Rattle.mvs_model.specs.declared.want.Residence.TheVariants.{Below}
-use Rattle.mvs_model.specs.declared.code.Code.TheVariants.{System, User}
+use Rattle.mvs_model.specs.declared.code.Code.TheVariants.{User}
 use Rattle.mvs_model.specs.declared.code.Form.TheVariants as form
 use Rattle.mvs_model.specs.Name.{name_cmp, same_name}
 use Rattle.mvs_model.specs.Finite.{has, any_below, count_below, kept, total_below}
-use Rattle.mvs_model.specs.Gifts.{GiftsValue, has_bit, gives, shares}
+use Rattle.mvs_model.specs.Gifts.{has_bit, gives, shares}
 use Rattle.mvs_model.specs.Owners.{Owners, Task, entry_cmp, entry, is_active, IsMother, has_subtask, owns, IsSpare, SubpoolOf, Binds, Enters, EntersBelow, none, passed, entered, handed, is_given, gives_shared, attach_refusal, Attach, Descends, subtask, further, IsFallen, goes, ends_with, Ends}
 use Rattle.mvs_model.specs.Texts.{reply_line, region_text, last_digits}
 use Rattle.mvs_model.specs.Reports.{each_below, or_none}
-use Rattle.mvs_model.specs.Labels.{Labels, first_labels, with_area, without, bytes_there, entry_line, subpools_text, Tells, Does, Leaves, Abends, Attaches, Returns}
+use Rattle.mvs_model.specs.Labels.{Labels, with_area, without, bytes_there, entry_line, subpools_text, Tells, Does, Leaves, Attaches}
 use Rattle.mvs_model.specs.Rows.{area_x, area_y, fixed, GivenEnds, job, task_a, task_b, five_shared, five_given}
 use Rattle.mvs_model.proofs.Orders.{name_cmp_total, name_cmp-IsAntisymmetric, entry_cmp_total, same_entry_is, same_name_self, same_name_sym}
 use Rattle.mvs_model.proofs.Tables.{eq_by_cmp_is}

@@ -1,7 +1,6 @@
 -- Some scripts are tidy, and what the label machine prints for them is computed.
-use Rattle.std.proofs.Common.{◌≡◌, ℕ, zero, suc, ◌+◌, ◌<◌, Bool, true, false, cond, List, [], ◌∷◌, ◌++◌, length, Option, Some, None, Result, Ok, Err, inl, inr, arith, refl, sym, ap, ◌∙◌, subst}
-use Rattle.std.specs.Prelude.{is_some, IsSome, not, ◌&&◌, ◌||◌, ◌==◌, MatchOption, codes, slice_get}
-use Rattle.std.specs.Bool.{MatchBool}
+use Rattle.std.proofs.Common.{◌≡◌, ℕ, ◌+◌, Bool, true, false, cond, List, [], ◌∷◌, ◌++◌, Option, Some, None, Ok, inr, arith, refl, sym, ap, ◌∙◌, subst}
+use Rattle.std.specs.Prelude.{is_some, not, ◌&&◌, ◌||◌, MatchOption, codes, slice_get}
 use Rattle.std.specs.Fmt.{digits}
 use Rattle.std.specs.FinMap.{FinMap, get, empty, insert, get-insert, get-empty}
 use Rattle.std.specs.Ordering.{nat_cmp}
@@ -17,19 +16,18 @@ use Rattle.mvs_model.specs.declared.line.Location.TheVariants.{Named}
 use Rattle.mvs_model.specs.declared.code.Form.TheVariants as form
 use Rattle.mvs_model.specs.Texts.{reply_line, region_text}
 use Rattle.std.specs.Option.{option_map}
-use Rattle.mvs_model.specs.Name.{name_cmp, same_name}
+use Rattle.mvs_model.specs.Name.{name_cmp}
 use Rattle.mvs_model.specs.Finite.{all_below, has}
-use Rattle.mvs_model.specs.Card.{CardValue}
 use Rattle.mvs_model.specs.Start.{first_owners}
-use Rattle.mvs_model.specs.Owners.{Owners, Task, entry_cmp, entry, is_active, IsSpare, SubpoolOf, Binds, Enters}
+use Rattle.mvs_model.specs.Owners.{Owners, entry_cmp, entry, is_active, IsSpare, SubpoolOf, Binds, Enters}
 use Rattle.mvs_model.specs.Texts.{last_digits, data_lines}
 use Rattle.mvs_model.specs.Lines.{Reader, lines_of, card_of}
-use Rattle.mvs_model.specs.Labels.{Labels, Spot, spot, first_labels, with_area, with_bytes, bytes_in, Tells, Says, Does, Serves, ServesRead, Closes, Prints, Grants, is_there}
+use Rattle.mvs_model.specs.Labels.{Labels, spot, first_labels, with_area, with_bytes, bytes_in, Tells, Says, Does, Serves, ServesRead, Closes, Prints, is_there}
 use Rattle.mvs_model.specs.Tidy.{TidyLine, TidyLines, tidy_statement}
 use Rattle.mvs_model.specs.Rows.{ReadsAs, ShowsTidy, job, area_x, fixed, MovesOverlap}
 use Rattle.mvs_model.proofs.Orders.{name_cmp_total, entry_cmp_total, same_entry_is}
 use Rattle.mvs_model.proofs.Tables.{eq_by_cmp_is}
-use Rattle.mvs_model.proofs.TidyCases.{taken, passed}
+use Rattle.mvs_model.proofs.TidyCases.{passed}
 use Rattle.mvs_model.proofs.OneLabels.{serves_one}
 
 -- The statements are tidy one after another, and the label machine prints the text.

@@ -1,9 +1,9 @@
 -- A tidy statement that is granted in full prints the same on both machines, and so does a tidy script.
-use Rattle.std.proofs.Common.{◌≡◌, ℕ, zero, suc, ◌+◌, ◌*◌, ◌/◌, ◌<◌, ◌≤◌, ◌⊎◌, inl, inr, Bool, true, false, cond, List, [], ◌∷◌, ◌++◌, Option, Some, None, Result, Ok, Err, arith, refl, sym, ap, ◌∙◌, subst}
+use Rattle.std.proofs.Common.{◌≡◌, ℕ, ◌+◌, inl, inr, Bool, true, false, cond, List, [], ◌∷◌, ◌++◌, Option, Some, None, Result, Ok, Err, refl, sym, ap, ◌∙◌, subst}
 use Rattle.std.specs.Prelude.{is_some, not, codes, decimal, MatchOption}
 use Rattle.std.specs.Bool.{MatchBool}
 use Rattle.std.specs.Option.{option_map}
-use Rattle.std.specs.FinMap.{get, empty, get-empty}
+use Rattle.std.specs.FinMap.{get, get-empty}
 use Rattle.std.specs.Ordering.{nat_cmp}
 use Rattle.mvs_model.specs.declared.name.Name.{Name}
 use Rattle.mvs_model.specs.declared.line.Line.{Line}
@@ -17,18 +17,17 @@ use Rattle.mvs_model.specs.declared.outcome.Outcome.{Outcome}
 use Rattle.mvs_model.specs.Place.{place_at}
 use Rattle.mvs_model.specs.Card.{CardValue}
 use Rattle.mvs_model.specs.Name.{name_cmp}
-use Rattle.mvs_model.specs.Owners.{Owners, is_active, entry, owns}
+use Rattle.mvs_model.specs.Owners.{is_active, entry, owns}
 use Rattle.mvs_model.specs.Texts.{reply_line}
-use Rattle.mvs_model.specs.Reports.{each_below, or_none, subpools_text, entry_line, bytes_held}
+use Rattle.mvs_model.specs.Reports.{each_below, or_none, subpools_text, entry_line}
 use Rattle.mvs_model.specs.Job.{JobValue, first_job}
-use Rattle.mvs_model.specs.Lines.{card_of, Reader, IsReader, IsLine, lines_of}
+use Rattle.mvs_model.specs.Lines.{card_of, Reader, IsReader, lines_of}
 use Rattle.mvs_model.specs.Replies.{where_text}
 use Rattle.mvs_model.specs.Resolving.{resolved}
-use Rattle.mvs_model.specs.Runs.{Stage, Before, In, is_before, Tells, Makes, Asks, Says, Does, Serves, ServesRead, Prints, Closes, Faults}
-use Rattle.mvs_model.specs.Laws.{IsRunning}
+use Rattle.mvs_model.specs.Runs.{Stage, Before, In, is_before, Tells, Asks, Says, Serves, ServesRead, Closes, Faults}
 use Rattle.mvs_model.specs.Labels as labels
 use Rattle.mvs_model.specs.Labels.{Labels, first_labels, bytes_there, IsLabelText}
-use Rattle.mvs_model.specs.Tidy.{Link, AsksInFull, SaysInFull, DoesInFull, ServesInFull, PrintsInFull, IsPrintingInFull, TidyLine, TidyLines, tidy_statement, Tidy, TidyStep, TidyText}
+use Rattle.mvs_model.specs.Tidy.{Link, AsksInFull, SaysInFull, DoesInFull, ServesInFull, PrintsInFull, TidyLine, TidyLines, tidy_statement, TidyStep, TidyText}
 use Rattle.mvs_model.proofs.Going.{Holds, reads_keep, runs_keep}
 use Rattle.mvs_model.proofs.WithinKept.{Placed, placed_closed, start_placed}
 use Rattle.mvs_model.proofs.Counting.{Within, plain_same, pool_none}

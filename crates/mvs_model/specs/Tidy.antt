@@ -1,11 +1,10 @@
 -- Tidy scripts, runs that are granted in full, and how a state and the labels are linked.
-use Rattle.std.specs.Prelude.{◌≡◌, ◌≢◌, ◌⊎◌, ℕ, ◌+◌, ◌*◌, ◌/◌, ◌%◌, ◌<◌, Bool, true, false, not, ◌&&◌, ◌||◌, List, [], ◌∷◌, ◌++◌, length, map, Option, Some, None, Result, Ok, Err, is_some, IsSome, codes}
+use Rattle.std.specs.Prelude.{◌≡◌, ◌≢◌, ◌⊎◌, ℕ, ◌+◌, ◌*◌, ◌/◌, ◌%◌, ◌<◌, Bool, true, false, not, ◌||◌, List, [], ◌∷◌, ◌++◌, length, map, Option, Some, None, Result, Ok, is_some, IsSome, codes}
 use Rattle.std.specs.Bool.{MatchBool}
 use Rattle.std.specs.List.{list_all, zip}
 use Rattle.std.specs.Option.{option_map, unwrap_or}
 use Rattle.std.specs.FinMap.{get, empty}
 use Rattle.mvs_model.specs.declared.name.Name.{Name}
-use Rattle.mvs_model.specs.declared.code.Code.{Code}
 use Rattle.mvs_model.specs.declared.code.Family.{Family}
 use Rattle.mvs_model.specs.declared.line.Line.{Line}
 use Rattle.mvs_model.specs.declared.line.Line.TheVariants as line
@@ -30,7 +29,7 @@ use Rattle.mvs_model.specs.Codes.{short}
 use Rattle.mvs_model.specs.Job.{JobValue}
 use Rattle.mvs_model.specs.Lines.{Reader, lines_of, IsReader}
 use Rattle.mvs_model.specs.Resolving.{resolved}
-use Rattle.mvs_model.specs.Runs.{Stage, Before, In, is_before, Makes, Tells, Says, Does, Serves, ServesRead, Faults, Closes, Prints}
+use Rattle.mvs_model.specs.Runs.{Stage, Before, In, is_before, Makes, Tells, Says, ServesRead, Faults, Closes}
 use Rattle.mvs_model.specs.Laws.{IsRunning}
 use Rattle.mvs_model.specs.Labels as labels
 use Rattle.mvs_model.specs.Labels.{Labels, spot, is_there, IsLabelText}
