@@ -5,7 +5,6 @@ ghost use Rattle.std.specs.Prelude.{◌≡◌, ◌==◌, ◌&&◌, nat_le};
 ghost use Rattle.std.specs.List.{list_all};
 ghost use Rattle.mvs_model.specs.Lines.{IsLine};
 ghost use Rattle.mvs_model.specs.Reading.{IsReading, says_nothing};
-ghost use Rattle.job_script.specs.Lines.{line_of};
 ghost use Rattle.job_script.specs.Operations.{operation_text};
 ghost use Rattle.job_script.specs.Stated.{is_in_place, field_of, StatementReading};
 
@@ -61,11 +60,11 @@ fn says_nothing(line: &[u8]) -> bool
     }
 }
 
-// Whether the operation may be the first statement, or a later one.
+// Whether the operation may stand there: the first statement is REGION.
 fn is_in_place(first: bool, operation: Operation) -> bool
     ensures { result ≡ is_in_place first (operation_text operation) }
 {
-    first == matches!(operation, Operation::Region)
+    !first || matches!(operation, Operation::Region)
 }
 
 // The field of operands behind an operation. What follows RETURN is a remark.
@@ -119,7 +118,6 @@ fn read(line: &[u8], first: bool) -> Result<Line, Fault>
 /// long any front of more than 255 bytes serves. The notation is this project's own.
 pub fn read_line(line: &[u8], first: bool) -> Result<Line, Fault>
     ensures reading { IsReading first line.now result }
-    ensures line { result ≡ line_of line.now first }
     ensures in_range { IsLine first result }
 {
     read(line, first)

@@ -20,7 +20,25 @@ use Rattle.mvs_model.proofs.LinkGrant.{Comes, link_area, link_area_base, same_se
 
 -- the job in another state
 abbrev pub at_state : JobValue → State → JobValue
-at_state job st = record { state = st; names = job.names; abended = job.abended }
+at_state job st = record { state = st; names = job.names; abended = job.abended; former = job.former }
+
+-- the job behind other steps is linked as well
+pub link_behind : (job : JobValue) (m : Labels) (former : Bool) → Link job m → Link (record job { former = former }) m
+link_behind job m former k = record {
+  base = k.base;
+  on_doubleword = k.on_doubleword;
+  apart = k.apart;
+  held = k.held;
+  all_held = k.all_held;
+  bytes = k.bytes;
+  all_bytes = k.all_bytes;
+  names = k.names;
+  pools = k.pools;
+  owners = k.owners;
+  fill = k.fill;
+  abended = k.abended;
+  labels = k.labels;
+}
 
 -- Labels that were there are as before.
 abbrev pub Stays : (job new : JobValue) (m mid : Labels) → Link job m → Link new mid → Type 0

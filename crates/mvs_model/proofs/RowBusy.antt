@@ -201,7 +201,7 @@ abbrev text_4 : List ℕ
 text_4 = reply_line 4 sub (codes "NOT RUN") ++ text_5
 
 walk_4 : Walks 4 (Some busy_2) asks_4 text_4
-walk_4 = on 4 busy_2 busy_2 sub (says.Request (written.Obtain form.Ru 0 (fixed 8) false area_x)) [] (reply_line 4 sub (codes "NOT RUN")) text_5 refl not_run_does walk_5
+walk_4 = on 4 busy_2 busy_2 sub (says.Request (written.Obtain form.Ru 0 (fixed 8) false area_x)) [] (reply_line 4 sub (codes "NOT RUN")) text_5 refl (busy_2, refl, not_run_does) walk_5
 
 abbrev asks_3 : List (Name × Statement)
 asks_3 = (job, says.Request written.Return) ∷ asks_4
@@ -210,7 +210,7 @@ abbrev text_3 : List ℕ
 text_3 = abend_lines 3 job (System 0xA03) (sub ∷ []) ++ text_4
 
 walk_3 : Walks 3 (Some busy_1) asks_3 text_3
-walk_3 = on 3 busy_1 busy_2 job (says.Request written.Return) asks_4 (abend_lines 3 job (System 0xA03) (sub ∷ [])) text_4 refl return_does walk_4
+walk_3 = on 3 busy_1 busy_2 job (says.Request written.Return) asks_4 (abend_lines 3 job (System 0xA03) (sub ∷ [])) text_4 refl (busy_2, refl, return_does) walk_4
 
 abbrev asks_2 : List (Name × Statement)
 asks_2 = (job, says.Request (written.Attach sub zero_shared Below)) ∷ asks_3
@@ -219,7 +219,7 @@ abbrev text_2 : List ℕ
 text_2 = reply_line 2 job (codes "ATTACHED") ++ text_3
 
 walk_2 : Walks 2 (Some moves_start) asks_2 text_2
-walk_2 = on 2 moves_start busy_1 job (says.Request (written.Attach sub zero_shared Below)) asks_3 (reply_line 2 job (codes "ATTACHED")) text_3 refl attach_does walk_3
+walk_2 = on 2 moves_start busy_1 job (says.Request (written.Attach sub zero_shared Below)) asks_3 (reply_line 2 job (codes "ATTACHED")) text_3 refl (busy_1, refl, attach_does) walk_3
 
 pub busy_return : BusyReturn
 unfolding digits last_digits

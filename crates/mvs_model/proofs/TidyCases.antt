@@ -25,7 +25,7 @@ use Rattle.mvs_model.specs.Labels.{Labels, Spot, rounded, has_offset, is_there, 
 use Rattle.mvs_model.specs.Tidy.{Link, InFull}
 use Rattle.mvs_model.proofs.LinkLess.{link_less}
 use Rattle.mvs_model.proofs.LinkGone.{goes_dropped}
-use Rattle.mvs_model.proofs.LinkNames.{at_state, grant_one, grant_each, AllFixed, Placed, Agrees, agrees_all, link_named}
+use Rattle.mvs_model.proofs.LinkNames.{at_state, link_behind, grant_one, grant_each, AllFixed, Placed, Agrees, agrees_all, link_named}
 
 -- by cases on a test
 pub by_test : {P Q R : Type 0} (b : Bool) → MatchBool b P Q → (b ≡ true → P → R) → (b ≡ false → Q → R) → R
@@ -74,7 +74,7 @@ module _ (number : ℕ) (job new : JobValue) (m : Labels) (k : Link job m) (t : 
 
   -- nothing changes
   pub link_same : new.state ≡ job.state → new.names ≡ job.names → new.abended ≡ job.abended → Link new m
-  link_same st names abended = subst (λ j. Link j m) (λ i. record { state = sym st i; names = sym names i; abended = sym abended i }) k
+  link_same st names abended = subst (λ j. Link j m) (λ i. record { state = sym st i; names = sym names i; abended = sym abended i; former = new.former }) (link_behind job m new.former k)
 
   -- a task ends, by an abend or by its return
   pub ends : (code : Bool) → End job.state t new.state → new.names ≡ job.names → (a : Bool) → new.abended ≡ a → (e : End job.state t new.state)

@@ -26,7 +26,7 @@ use Rattle.mvs_model.specs.Tidy.{Link}
 use Rattle.mvs_model.proofs.Operands.{whole_places}
 use Rattle.mvs_model.proofs.LinkLess.{link_less}
 use Rattle.mvs_model.proofs.LinkGone.{goes_freed, goes_dropped}
-use Rattle.mvs_model.proofs.LinkNames.{link_owners}
+use Rattle.mvs_model.proofs.LinkNames.{link_behind, link_owners}
 use Rattle.mvs_model.proofs.LinkFree.{free_may, may_be_free}
 use Rattle.mvs_model.proofs.Spots.{span_of}
 use Rattle.mvs_model.proofs.TidyCases.{by_test, taken, passed, Linked, Answer, turned, abends, fails, same_names, ends}
@@ -93,7 +93,7 @@ module _ (number : ℕ) (job new : JobValue) (m : Labels) (k : Link job m) (t : 
 
   -- the whole of a subpool
   emptied : (o : Option ℕ) → EmptiesEntry job.state o new.state → new.names ≡ job.names → new.abended ≡ job.abended → Link new (without m (λ l i. has (λ s. m.subpool l == s) o))
-  emptied None h names abended = subst (λ j. Link j m) (λ i. record { state = sym h i; names = sym names i; abended = sym abended i }) k
+  emptied None h names abended = subst (λ j. Link j m) (λ i. record { state = sym h i; names = sym names i; abended = sym abended i; former = new.former }) (link_behind job m new.former k)
   emptied (Some s) h names abended = link_less job new m k (λ l i. m.subpool l == s) (goes_dropped job m k (λ u. u == s) new.state h.drops) names m.owners (h.owners ∙ k.owners) m.abended (abended ∙ k.abended)
 
   pub releases_whole : (form : Form) (n : ℕ) (reply : Reply) → Answer number job new m k t a text reply → ReleaseWholeStep job.state t form n reply new.state → Linked number job new m k t a text (labels.Empties number m t form n text)

@@ -1,6 +1,5 @@
-use Rattle.std.proofs.Common.{ℕ, ◌≡◌, ◌<◌, length, arith, ◌∙◌, ◌++◌, append-nil, subst, sym, ap, rules}
+use Rattle.std.proofs.Common.{◌≡◌, ◌<◌, length, arith, ◌∙◌, ◌++◌, append-nil, sym, ap, rules}
 use Rattle.std.proofs.lemmas.Result.{err_from_is_err_and}
-use Rattle.std.specs.Io.KnownBytes.{Appends}
 use Rattle.mvsjob.proofs.Showing.{cut_front, cut_back, data_front, data_more, lines_done}
 use Rattle.mvsjob.proofs.print.print_data.Goals as goal
 
