@@ -1,6 +1,6 @@
 //! A job: from the lines of a script to the printed lines.
 
-ghost use Rattle.std.specs.Prelude.{◌≡◌, ◌++◌, [], List, ℕ, Bool, true, IfOk, IfSome, OnOk, OnErr, IsErrOf, MatchResult};
+ghost use Rattle.std.specs.Prelude.{◌≡◌, ◌++◌, [], List, ℕ, Bool, Some, true, IfOk, IfSome, OnOk, OnErr, IsErrOf, MatchResult};
 ghost use Rattle.std.specs.Io.KnownBytes.{Appends};
 ghost use Rattle.mvs_model.specs.Card.{IsCard};
 ghost use Rattle.mvs_model.specs.Job.{job_at};
@@ -97,6 +97,13 @@ fn end_step<W: Write>(
     Ok(former)
 }
 
+// The step that runs from now on.
+fn start_step(stage: &mut Option<Job>, job: Job)
+    ensures { stage.new ≡ Some job }
+{
+    *stage = Some(job);
+}
+
 // Begins the step of a card.
 fn begin_step<W: Write>(
     stage: &mut Option<Job>,
@@ -116,7 +123,7 @@ fn begin_step<W: Write>(
     let Ok(job) = Job::new(alloc, card, placement, former) else {
         return Err(Stop::Memory);
     };
-    *stage = Some(job);
+    start_step(stage, job);
     let said = region_said(card.below(), card.above());
     print_line(writer, number, &card.name(), said.as_slice())?;
     Ok(())
