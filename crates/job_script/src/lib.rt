@@ -5,6 +5,7 @@ ghost use Rattle.std.specs.Prelude.{◌≡◌, ◌==◌, ◌&&◌, nat_le};
 ghost use Rattle.std.specs.List.{list_all};
 ghost use Rattle.mvs_model.specs.Lines.{IsLine};
 ghost use Rattle.mvs_model.specs.Reading.{IsReading, says_nothing};
+ghost use Rattle.mvs_model.specs.declared.line.Line.TheVariants.{Nothing};
 ghost use Rattle.job_script.specs.Lines.{line_of};
 ghost use Rattle.job_script.specs.Operations.{operation_text};
 ghost use Rattle.job_script.specs.Said.{filled};
@@ -104,8 +105,9 @@ fn read_statement(line: &[u8], first: bool, read: &mut Line) -> Result<(), Fault
     read_operands(name(task), operation, field_of(operation, rest), read)
 }
 
-// Reads a line, and answers the first fault that applies.
+// Reads a line in the place of one that says nothing, and answers the first fault that applies.
 fn read_into(line: &[u8], first: bool, read: &mut Line) -> Result<(), Fault>
+    requires { read.old ≡ Nothing }
     ensures { IsReading first line.now (filled read.new result) }
 {
     if line.len() > LONGEST {
@@ -115,7 +117,6 @@ fn read_into(line: &[u8], first: bool, read: &mut Line) -> Result<(), Fault>
         return Err(Fault::InvalidByte);
     }
     if says_nothing(line) {
-        *read = Line::Nothing;
         return Ok(());
     }
     read_statement(line, first, read)
