@@ -154,7 +154,7 @@ fn push_bytes(text: &mut Text, bytes: &[u8])
     ensures len { length text.new ≡ length text.old + 2 * length bytes.now }
 {
     for byte in bytes {
-        text.push_last(16, 2, u32::from(*byte));
+        text.push_byte(*byte);
     }
 }
 

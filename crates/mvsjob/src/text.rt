@@ -1,7 +1,7 @@
 //! A line of text in a fixed array.
 
 ghost use Rattle.std.specs.Prelude.{◌≡◌, ◌<◌, ◌≤◌, ◌+◌, ◌++◌, ◌∷◌, [], List, ℕ, length, take, decimal};
-ghost use Rattle.mvs_model.specs.Texts.{last_digits, glyph};
+ghost use Rattle.mvs_model.specs.Texts.{last_digits, hex, glyph};
 
 use std::marker::Model;
 
@@ -53,9 +53,19 @@ impl Text {
         ensures text { self.new ≡ self.old ++ bytes.now }
         ensures len { length self.new ≡ length self.old + length bytes.now }
     {
-        for byte in bytes {
-            self.push(*byte);
-        }
+        let end = self.len + bytes.len();
+        self.bytes[self.len..end].copy_from_slice(bytes);
+        self.len = end;
+    }
+
+    /// The two hexadecimal digits of a byte.
+    pub fn push_byte(&mut self, byte: u8)
+        requires { length self.old + 2 ≤ 160 }
+        ensures text { self.new ≡ self.old ++ hex 2 byte }
+        ensures len { length self.new ≡ length self.old + 2 }
+    {
+        self.push(digit_glyph(byte / 16));
+        self.push(digit_glyph(byte % 16));
     }
 
     /// A number in decimal, without leading zeros.
