@@ -130,10 +130,10 @@ pub fn read_line(line: &[u8], first: bool) -> Result<Line, Fault>
     ensures in_range { IsLine first result }
 {
     let mut read = Line::Nothing;
-    match read_into(line, first, &mut read) {
-        Ok(()) => Ok(read),
-        Err(fault) => Err(fault),
+    if let Err(fault) = read_into(line, first, &mut read) {
+        return Err(fault);
     }
+    Ok(read)
 }
 
 #[cfg(test)]

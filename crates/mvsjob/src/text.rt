@@ -8,6 +8,9 @@ use std::marker::Model;
 /// The most bytes that a printed line has.
 pub const ROOM: usize = 160;
 
+/// The glyphs of the digits below sixteen.
+const GLYPHS: [u8; 16] = *b"0123456789ABCDEF";
+
 /// Text of at most 160 bytes.
 #[derive(Drop)]
 pub struct Text {
@@ -108,9 +111,5 @@ fn digit_glyph(digit: u8) -> u8
     requires { digit < 16 }
     ensures { result ≡ glyph digit }
 {
-    if digit < 10 {
-        b'0' + digit
-    } else {
-        b'A' + (digit - 10)
-    }
+    GLYPHS[usize::from(digit)]
 }
