@@ -11,4 +11,3 @@ pub mod Said
 pub mod Rowed
 pub mod Stated
 pub mod LineBuffers
-pub mod Lines

@@ -1,5 +1,5 @@
 -- What a statement is read as.
-use Rattle.std.specs.Prelude.{◌≡◌, ℕ, List, [], Bool, not, if◌then◌else◌, Some, None, Result, Ok, Err, bytes_eq, codes, slice_get, unwrap_or}
+use Rattle.std.specs.Prelude.{◌≡◌, ℕ, List, [], Bool, not, ◌&&◌, Some, None, Result, Ok, Err, bytes_eq, codes, slice_get, unwrap_or}
 use Rattle.mvs_model.specs.declared.line.Fault.{Fault}
 use Rattle.mvs_model.specs.declared.line.Line.{Line}
 use Rattle.mvs_model.specs.Name.{padded}
@@ -10,7 +10,7 @@ use Rattle.job_script.specs.Rowed.{said_by}
 
 -- whether an operation may stand where it stands
 abbrev pub is_in_place : Bool → List ℕ → Bool
-is_in_place first word = not (if first then not (bytes_eq word (codes "REGION")) else bytes_eq word (codes "REGION"))
+is_in_place first word = not (first && not (bytes_eq word (codes "REGION")))
 
 -- the field behind an operation, where it has one: the first word there
 abbrev pub field_of : Operation → List ℕ → List ℕ

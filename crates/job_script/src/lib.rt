@@ -6,7 +6,6 @@ ghost use Rattle.std.specs.List.{list_all};
 ghost use Rattle.mvs_model.specs.Lines.{IsLine};
 ghost use Rattle.mvs_model.specs.Reading.{IsReading, says_nothing};
 ghost use Rattle.mvs_model.specs.declared.line.Line.TheVariants.{Nothing};
-ghost use Rattle.job_script.specs.Lines.{line_of};
 ghost use Rattle.job_script.specs.Operations.{operation_text};
 ghost use Rattle.job_script.specs.Said.{filled};
 ghost use Rattle.job_script.specs.Stated.{is_in_place, field_of, StatementReading};
@@ -67,11 +66,11 @@ fn says_nothing(line: &[u8]) -> bool
     }
 }
 
-// Whether the operation may be the first statement, or a later one.
+// Whether the operation may stand there: the first statement is REGION.
 fn is_in_place(first: bool, operation: Operation) -> bool
     ensures { result ≡ is_in_place first (operation_text operation) }
 {
-    first == matches!(operation, Operation::Region)
+    !first || matches!(operation, Operation::Region)
 }
 
 // The field of operands behind an operation. What follows RETURN is a remark.
@@ -126,7 +125,6 @@ fn read_into(line: &[u8], first: bool, read: &mut Line) -> Result<(), Fault>
 /// long any front of more than 255 bytes serves. The notation is this project's own.
 pub fn read_line(line: &[u8], first: bool) -> Result<Line, Fault>
     ensures reading { IsReading first line.now result }
-    ensures line { result ≡ line_of line.now first }
     ensures in_range { IsLine first result }
 {
     let mut read = Line::Nothing;

@@ -71,14 +71,7 @@ fn a_statement_has_a_task_and_a_known_operation(rt: HostRuntime) {
 }
 
 #[test]
-fn region_comes_first_and_only_there(rt: HostRuntime) {
-    let later: [&[u8]; 4] = [
-        b"JOB REGION BELOW=1",
-        b"JOB REGION",
-        b"JOB REGION BELOW=0",
-        b"JOB REGION X,,=",
-    ];
-    assert_eq!(rt; exception(&later, false, Fault::OutOfPlace), None);
+fn region_comes_first(rt: HostRuntime) {
     let first: [&[u8]; 4] = [
         b"JOB WHERE X",
         b"JOB GETMAIN",

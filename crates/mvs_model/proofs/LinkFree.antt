@@ -1,18 +1,17 @@
 -- Whether places may be released is decided on labels and offsets as it is on addresses.
 use Rattle.std.proofs.Common.{◌≡◌, ℕ, zero, suc, ◌+◌, ◌-◌, ◌*◌, ◌/◌, ◌%◌, ◌<◌, ◌≤◌, ◌⊎◌, inl, inr, Bool, true, false, cond, List, [], ◌∷◌, map, Option, Some, None, arith, refl, sym, ap, ◌∙◌, subst}
-use Rattle.std.specs.Prelude.{IsSome, is_some, not, ◌||◌, ◌&&◌, ◌==◌}
+use Rattle.std.specs.Prelude.{is_some, not, ◌||◌, ◌&&◌, ◌==◌}
 use Rattle.std.specs.List.{list_any, list_all, AllByRecursion}
 use Rattle.std.proofs.lemmas.Bool.{cases_lt}
 use Rattle.std.proofs.lemmas.Bool.Decides.{nat_tests}
 use Rattle.std.specs.FinMap.{get}
-use Rattle.mvs_model.specs.Place.{PlaceValue, place_at, round8}
-use Rattle.mvs_model.specs.Finite.{all_below, any_below, has}
+use Rattle.mvs_model.specs.Finite.{all_below, any_below}
 use Rattle.mvs_model.specs.Storage.{IsWhole, Covers}
-use Rattle.mvs_model.specs.State.{State, Holding, plain}
-use Rattle.mvs_model.specs.Changes.{HeldPlain, Misses, Disjoint, Releasable}
-use Rattle.mvs_model.specs.Steps.{whole, on_doubleword, MayRelease}
+use Rattle.mvs_model.specs.State.{Holding, plain}
+use Rattle.mvs_model.specs.Changes.{HeldPlain, Misses, Disjoint}
+use Rattle.mvs_model.specs.Steps.{MayRelease}
 use Rattle.mvs_model.specs.Job.{JobValue}
-use Rattle.mvs_model.specs.Labels.{Labels, Spot, rounded, has_offset, meets, some_meet, is_there, is_held, may_free}
+use Rattle.mvs_model.specs.Labels.{Labels, Spot, has_offset, meets, some_meet, is_there, is_held, may_free}
 use Rattle.mvs_model.specs.Tidy.{Link}
 use Rattle.mvs_model.proofs.SeenAccess.{below_each}
 use Rattle.mvs_model.proofs.Spots.{span_of, there_at, offset_is, offset_yes, first, second, both}

@@ -1,15 +1,14 @@
 -- What a release and the end of a task take from the state they take from its labels.
-use Rattle.std.proofs.Common.{◌≡◌, ℕ, ◌+◌, ◌-◌, ◌*◌, ◌/◌, ◌%◌, ◌<◌, ◌≤◌, Bool, true, false, cond, List, [], ◌∷◌, map, Option, Some, None, arith, refl, sym, ap, ◌∙◌, subst}
-use Rattle.std.specs.Prelude.{IsSome, is_some, not, ◌||◌, ◌&&◌}
+use Rattle.std.proofs.Common.{◌≡◌, ℕ, ◌+◌, ◌/◌, Bool, true, false, cond, List, [], ◌∷◌, map, Option, Some, None, refl, sym, ap, ◌∙◌}
+use Rattle.std.specs.Prelude.{not, ◌||◌}
 use Rattle.std.specs.List.{list_any, list_all, AllByRecursion}
 use Rattle.std.specs.FinMap.{get, empty, keys, get-empty, same_map}
 use Rattle.mvs_model.specs.declared.name.Name.{Name}
-use Rattle.mvs_model.specs.Place.{PlaceValue, place_at}
 use Rattle.mvs_model.specs.Name.{name_cmp}
 use Rattle.mvs_model.specs.Finite.{kept, has}
-use Rattle.mvs_model.specs.Storage.{IsWhole, has_address}
+use Rattle.mvs_model.specs.Storage.{IsWhole}
 use Rattle.mvs_model.specs.Pools.{Pool, in_taken}
-use Rattle.mvs_model.specs.State.{State, Holding, plain, is_plain, in_cell, granted}
+use Rattle.mvs_model.specs.State.{State, plain, is_plain, in_cell, granted}
 use Rattle.mvs_model.specs.Changes.{any_has, any_covers, Frees, Drops}
 use Rattle.mvs_model.specs.Job.{JobValue}
 use Rattle.mvs_model.specs.Labels.{Labels, Spot, has_offset, is_there}

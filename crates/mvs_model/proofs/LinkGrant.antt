@@ -1,10 +1,9 @@
 -- A granted area and its label.
-use Rattle.std.proofs.Common.{◌≡◌, ℕ, ◌+◌, ◌-◌, ◌*◌, ◌/◌, ◌%◌, ◌<◌, ◌≤◌, Bool, true, false, cond, List, Option, Some, None, ltb, eqb, arith, refl, sym, ap, ◌∙◌, subst}
-use Rattle.std.specs.Prelude.{IsSome, is_some, ◌==◌, nat_lt}
+use Rattle.std.proofs.Common.{◌≡◌, ℕ, ◌+◌, ◌-◌, ◌*◌, ◌/◌, ◌%◌, ◌<◌, ◌≤◌, Bool, true, false, cond, Option, Some, None, ltb, arith, refl, sym, ap, ◌∙◌, subst}
+use Rattle.std.specs.Prelude.{IsSome, is_some, ◌==◌}
 use Rattle.std.specs.Option.{option_map}
 use Rattle.std.proofs.lemmas.Bool.Decides.{nat_tests}
-use Rattle.std.specs.FinMap.{get, empty, insert}
-use Rattle.mvs_model.specs.declared.name.Name.{Name}
+use Rattle.std.specs.FinMap.{get, empty}
 use Rattle.mvs_model.specs.Place.{PlaceValue, place_at}
 use Rattle.mvs_model.specs.Finite.{Changes}
 use Rattle.mvs_model.specs.Storage.{Covers, covers, has_address}
@@ -12,8 +11,8 @@ use Rattle.mvs_model.specs.Owners.{Owners}
 use Rattle.mvs_model.specs.State.{State, Holding, plain}
 use Rattle.mvs_model.specs.Job.{JobValue}
 use Rattle.mvs_model.specs.Labels.{Labels, with_area}
-use Rattle.mvs_model.specs.Tidy.{IsLabels, Link}
-use Rattle.mvs_model.proofs.LinkLess.{some_there, there_some}
+use Rattle.mvs_model.specs.Tidy.{Link}
+use Rattle.mvs_model.proofs.LinkLess.{some_there}
 
 -- A place of whole doublewords where nothing was held is now of a subpool and full of fill bytes.
 pub record Comes (job : JobValue) (s : ℕ) (p : PlaceValue) (new : State) : Type 0 where

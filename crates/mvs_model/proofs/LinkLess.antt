@@ -1,12 +1,12 @@
 -- What goes from a state goes from its labels.
-use Rattle.std.proofs.Common.{◌≡◌, ℕ, ◌+◌, ◌*◌, ◌/◌, ◌%◌, ◌<◌, Bool, true, false, cond, List, Option, Some, None, arith, refl, sym, ap, ◌∙◌, subst}
-use Rattle.std.specs.Prelude.{IsSome, is_some}
+use Rattle.std.proofs.Common.{◌≡◌, ℕ, ◌+◌, ◌*◌, ◌/◌, ◌<◌, Bool, true, false, cond, Option, Some, None, arith, refl, sym, ap, ◌∙◌}
+use Rattle.std.specs.Prelude.{IsSome}
 use Rattle.std.specs.FinMap.{get, empty}
 use Rattle.mvs_model.specs.Owners.{Owners}
 use Rattle.mvs_model.specs.State.{State, Holding, plain}
 use Rattle.mvs_model.specs.Job.{JobValue}
 use Rattle.mvs_model.specs.Labels.{Labels, without}
-use Rattle.mvs_model.specs.Tidy.{IsLabels, Link}
+use Rattle.mvs_model.specs.Tidy.{Link}
 
 pub still : (c : Bool) (v : Option ℕ) (b : ℕ) → cond c None v ≡ Some b → (c ≡ false) × (v ≡ Some b)
 still true v b e = absurd (let f : None ≡ Some b = e in cc)

@@ -1,26 +1,44 @@
 -- Grants one after another, and the names that they set.
-use Rattle.std.proofs.Common.{◌≡◌, ℕ, ◌+◌, ◌-◌, ◌*◌, ◌/◌, ◌%◌, ◌<◌, ◌≤◌, Bool, true, false, cond, List, [], ◌∷◌, map, Option, Some, None, arith, refl, sym, ap, ◌∙◌, subst}
-use Rattle.std.specs.Prelude.{IsSome, is_some, ◌==◌}
+use Rattle.std.proofs.Common.{◌≡◌, ℕ, ◌+◌, ◌/◌, ◌<◌, ◌≤◌, Bool, true, false, cond, List, [], ◌∷◌, map, Option, Some, None, arith, refl, sym, ap, ◌∙◌, subst}
+use Rattle.std.specs.Prelude.{◌==◌}
 use Rattle.std.specs.Option.{option_map}
-use Rattle.std.specs.FinMap.{FinMap, get, empty, insert, get-insert}
+use Rattle.std.specs.FinMap.{FinMap, get, insert, get-insert}
 use Rattle.mvs_model.specs.declared.name.Name.{Name}
 use Rattle.mvs_model.specs.declared.want.Side.TheVariants.{Below}
 use Rattle.mvs_model.specs.Place.{PlaceValue, place_at, round8}
 use Rattle.mvs_model.specs.Want.{WantValue, fixed_want}
 use Rattle.mvs_model.specs.Name.{name_cmp, same_name}
 use Rattle.mvs_model.specs.Owners.{Owners, SubpoolOf, Enters}
-use Rattle.mvs_model.specs.State.{State, Holding, subpool_in, holder}
+use Rattle.mvs_model.specs.State.{State, Holding, subpool_in}
 use Rattle.mvs_model.specs.Changes.{GrantTo, ListGrant}
 use Rattle.mvs_model.specs.Job.{JobValue}
 use Rattle.mvs_model.specs.Resolving.{all_set}
 use Rattle.mvs_model.specs.Labels.{Labels, with_area, Grants, GrantsEach, all_named}
-use Rattle.mvs_model.specs.Tidy.{IsLabels, Link}
-use Rattle.mvs_model.proofs.Orders.{name_cmp_total, same_name_is}
+use Rattle.mvs_model.specs.Tidy.{Link}
+use Rattle.mvs_model.proofs.Orders.{name_cmp_total}
 use Rattle.mvs_model.proofs.LinkGrant.{Comes, link_area, link_area_base, same_self, less_other}
 
 -- the job in another state
 abbrev pub at_state : JobValue → State → JobValue
-at_state job st = record { state = st; names = job.names; abended = job.abended }
+at_state job st = record { state = st; names = job.names; abended = job.abended; former = job.former }
+
+-- the job behind other steps is linked as well
+pub link_behind : (job : JobValue) (m : Labels) (former : Bool) → Link job m → Link (record job { former = former }) m
+link_behind job m former k = record {
+  base = k.base;
+  on_doubleword = k.on_doubleword;
+  apart = k.apart;
+  held = k.held;
+  all_held = k.all_held;
+  bytes = k.bytes;
+  all_bytes = k.all_bytes;
+  names = k.names;
+  pools = k.pools;
+  owners = k.owners;
+  fill = k.fill;
+  abended = k.abended;
+  labels = k.labels;
+}
 
 -- Labels that were there are as before.
 abbrev pub Stays : (job new : JobValue) (m mid : Labels) → Link job m → Link new mid → Type 0

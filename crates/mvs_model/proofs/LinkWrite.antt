@@ -1,16 +1,13 @@
 -- Bytes that are written in a place of an area.
-use Rattle.std.proofs.Common.{◌≡◌, ℕ, ◌+◌, ◌-◌, ◌*◌, ◌/◌, ◌%◌, ◌<◌, ◌≤◌, Bool, true, false, cond, List, Option, Some, None, arith, refl, sym, ap, ◌∙◌, subst}
-use Rattle.std.specs.Prelude.{IsSome, is_some}
-use Rattle.std.specs.FinMap.{get, empty}
-use Rattle.mvs_model.specs.Place.{PlaceValue, place_at}
+use Rattle.std.proofs.Common.{◌≡◌, ℕ, ◌+◌, ◌-◌, ◌/◌, ◌<◌, ◌≤◌, Bool, true, false, cond, Option, Some, arith, refl, sym, ap, ◌∙◌, subst}
+use Rattle.std.specs.Prelude.{IsSome}
+use Rattle.std.specs.FinMap.{get}
 use Rattle.mvs_model.specs.Storage.{has_address}
-use Rattle.mvs_model.specs.State.{State, Holding, plain}
 use Rattle.mvs_model.specs.Changes.{Writes}
 use Rattle.mvs_model.specs.Job.{JobValue}
 use Rattle.mvs_model.specs.Labels.{Labels, Spot, has_offset, is_there, with_bytes}
-use Rattle.mvs_model.specs.Tidy.{IsLabels, Link}
-use Rattle.mvs_model.proofs.LinkLess.{some_there, there_some}
-use Rattle.mvs_model.proofs.Spots.{offset_is, offset_yes, address_is, address_yes, there_at, span_of, has_same}
+use Rattle.mvs_model.specs.Tidy.{Link}
+use Rattle.mvs_model.proofs.Spots.{offset_is, offset_yes, address_is, there_at, span_of, has_same}
 
 module _ (job new : JobValue) (m : Labels) (k : Link job m) (q : Spot) (there : is_there m q ≡ true) (f value : ℕ → Option ℕ)
     (same : (j : ℕ) → j < q.place.len → value (k.base q.label + q.place.addr + j) ≡ f j) (some : (j : ℕ) → j < q.place.len → IsSome (f j))

@@ -1,6 +1,6 @@
 -- The label machine prints one text.
-use Rattle.std.proofs.Common.{◌≡◌, ℕ, zero, suc, ◌+◌, ◌/◌, ◌⊎◌, inl, inr, Bool, true, false, cond, List, [], ◌∷◌, ◌++◌, map, length, Option, Some, None, Result, Ok, Err, refl, sym, ap, ◌∙◌, subst}
-use Rattle.std.specs.Prelude.{is_some, not, ◌&&◌, MatchOption, codes, slice_get, ◌==◌}
+use Rattle.std.proofs.Common.{◌≡◌, ℕ, ◌+◌, inl, inr, Bool, true, false, List, [], ◌∷◌, ◌++◌, map, length, Option, Some, None, sym, ap, ◌∙◌, subst}
+use Rattle.std.specs.Prelude.{is_some, not, ◌&&◌, MatchOption, codes, ◌==◌}
 use Rattle.std.specs.Bool.{MatchBool}
 use Rattle.std.specs.List.{list_all}
 use Rattle.std.specs.FinMap.{get}
@@ -15,18 +15,18 @@ use Rattle.mvs_model.specs.declared.line.Statement.{Statement}
 use Rattle.mvs_model.specs.declared.line.Statement.TheVariants as says
 use Rattle.mvs_model.specs.declared.line.Written.{Written}
 use Rattle.mvs_model.specs.declared.line.Written.TheVariants as written
-use Rattle.mvs_model.specs.declared.line.Fault.{Fault}
 use Rattle.mvs_model.specs.Gifts.{GiftsValue}
-use Rattle.mvs_model.specs.Place.{place_at, round8}
-use Rattle.mvs_model.specs.Owners.{Owners, is_active, keeper, subpool_meant, Enters, Attach, attach_refusal, has_subtask, IsFallen, Ends, ends_with}
+use Rattle.mvs_model.specs.Place.{round8}
+use Rattle.mvs_model.specs.Owners.{Owners, is_active, keeper, subpool_meant, Enters, attach_refusal, has_subtask, Ends, ends_with}
 use Rattle.mvs_model.specs.Codes.{is_conditional}
 use Rattle.mvs_model.specs.Steps.{is_invalid, on_doubleword}
 use Rattle.mvs_model.specs.Texts.{abend_lines, fault_text}
-use Rattle.mvs_model.specs.Lines.{Reader, lines_of}
+use Rattle.mvs_model.specs.Lines.{lines_of}
 use Rattle.mvs_model.specs.Runs.{Faults}
-use Rattle.mvs_model.specs.Labels.{Labels, Spot, rounded, is_there, without, with_area, may_free, all_named, spot_of, spots_of, area_of, Leaves, Tells, Abends, Fails, Grants, GrantsEach, Obtains, Releases, Empties, Attaches, Returns, Asks, Says, Does, Begins, Serves, ServesRead, Closes, Prints}
+use Rattle.mvs_model.specs.Labels.{Labels, Spot, rounded, is_there, without, with_area, may_free, all_named, spot_of, spots_of, area_of, Leaves, Tells, Abends, Fails, Grants, GrantsEach, Obtains, Releases, Empties, Attaches, Returns, Asks, Says, Does, Begins, Follows, Serves, ServesLine, Prints}
 use Rattle.mvs_model.specs.Tidy.{OneLabelText, PlacesDoNotMatter}
 use Rattle.mvs_model.proofs.TidySteps.{tidy_text}
+use Rattle.mvs_model.proofs.Reading.{one_reading}
 use Rattle.mvs_model.proofs.OneOwners.{one_subpool, one_enters, one_attach, one_fallen, one_ends}
 
 by_two : {P Q S U R : Type 0} (b : Bool) → MatchBool b P Q → MatchBool b S U → (P → S → R) → (Q → U → R) → R
@@ -133,34 +133,47 @@ begins_one number t (says.Where name) text other a b x y = absurd x
 begins_one number t says.ReportSubpools text other a b x y = absurd x
 begins_one number t says.ReportMap text other a b x y = absurd x
 
-pub serves_one : (number : ℕ) (old : Option Labels) (r : Result Line Fault) (text other : List ℕ) (a b : Option Labels) → ServesRead number old r text a → ServesRead number old r other b → (text ≡ other) × (a ≡ b)
-serves_one number old (Err fault) text other a b x y = absurd x
-serves_one number old (Ok line.Nothing) text other a b x y = (x.0 ∙ sym y.0, x.1 ∙ sym y.1)
-serves_one number None (Ok (line.Statement t s)) text other a b x y = begins_one number t s text other a b x y
-serves_one number (Some m) (Ok (line.Statement t s)) text other a b x y =
-    let d = does_one number m t text other x.0 y.0 s x.2 y.2 in (d.0, x.1 ∙ ap Some d.1 ∙ sym y.1)
+follows_one : (number : ℕ) (m : Labels) (t : Name) (s : Statement) (text other : List ℕ) (a b : Option Labels) → Follows number m t s text a → Follows number m t s other b → (text ≡ other) × (a ≡ b)
+follows_one number m t s text other a b x y = at s x y where
+  done : (s : Statement) (later last : Labels) → a ≡ Some later → b ≡ Some last → Does number m t s text later → Does number m t s other last → (text ≡ other) × (a ≡ b)
+  done s later last e f x y = let d = does_one number m t text other later last s x y in (d.0, e ∙ ap Some d.1 ∙ sym f)
 
-faults_one : (number : ℕ) (r : Result Line Fault) (text other : List ℕ) → Faults number r text → Faults number r other → text ≡ other
-faults_one number r text other x y = x.2 ∙ ap (fault_text number) (same (x.0) (y.0) (sym x.1 ∙ y.1)) ∙ sym y.2 where
-  same : (f g : Fault) → (let r : Result Line Fault = Err f in r) ≡ Err g → f ≡ g
-  same f g e = cc
+  at : (s : Statement) → Follows number m t s text a → Follows number m t s other b → (text ≡ other) × (a ≡ b)
+  at (says.Region below above fill residence) x y = (x.0 ∙ sym y.0, x.1 ∙ sym y.1)
+  at (says.Request k) x y = done (says.Request k) x.0 y.0 x.1 y.1 x.2 y.2
+  at (says.Where name) x y = done (says.Where name) x.0 y.0 x.1 y.1 x.2 y.2
+  at says.ReportSubpools x y = done says.ReportSubpools x.0 y.0 x.1 y.1 x.2 y.2
+  at says.ReportMap x y = done says.ReportMap x.0 y.0 x.1 y.1 x.2 y.2
 
-no_fault : (number : ℕ) (old : Option Labels) (r : Result Line Fault) (text other : List ℕ) (b : Option Labels) → Faults number r text → ServesRead number old r other b → ⊥
-no_fault number old r text other b x y = subst (λ r. ServesRead number old r other b) x.1 y
+serves_one : (number : ℕ) (old : Option Labels) (l : Line) (text other : List ℕ) (a b : Option Labels) → Serves number old l text a → Serves number old l other b → (text ≡ other) × (a ≡ b)
+serves_one number old line.Nothing text other a b x y = (x.0 ∙ sym y.0, x.1 ∙ sym y.1)
+serves_one number None (line.Statement t s) text other a b x y = begins_one number t s text other a b x y
+serves_one number (Some m) (line.Statement t s) text other a b x y = follows_one number m t s text other a b x y
 
-prints_one : (read : Reader) (lines : List (List ℕ)) (number : ℕ) (old : Option Labels) (text other : List ℕ) → Prints read number old lines text → Prints read number old lines other → text ≡ other
-prints_one read [] number None text other x y = x ∙ sym y
-prints_one read [] number (Some m) text other x y = x ∙ sym y
-prints_one read (l ∷ lines) number old text other (inl x) (inl y) = faults_one number (read l (not (is_some old))) text other x y
-prints_one read (l ∷ lines) number old text other (inl x) (inr y) = absurd (no_fault number old (read l (not (is_some old))) text y.1 y.0 x y.3)
-prints_one read (l ∷ lines) number old text other (inr x) (inl y) = absurd (no_fault number old (read l (not (is_some old))) other x.1 x.0 y x.3)
-prints_one read (l ∷ lines) number old text other (inr x) (inr y) =
-    let s = serves_one number old (read l (not (is_some old))) x.1 y.1 x.0 y.0 x.3 y.3 in
-    let rest = prints_one read lines (number + 1) y.0 x.2 y.2 (subst (λ m. Prints read (number + 1) m lines x.2) s.1 x.5) y.5 in
+-- a line says one thing or has one fault
+pub line_one : (number : ℕ) (old : Option Labels) (l : List ℕ) (text other : List ℕ) (a b : Option Labels) → ServesLine number old l text a → ServesLine number old l other b → (text ≡ other) × (a ≡ b)
+line_one number old l text other a b x y =
+    serves_one number old y.0 text other a b (subst (λ said. Serves number old said text a) (one_reading.one_line (not (is_some old)) l x.0 y.0 x.1 y.1) x.2) y.2
+
+faults_one : (number : ℕ) (first : Bool) (l : List ℕ) (text other : List ℕ) → Faults number first l text → Faults number first l other → text ≡ other
+faults_one number first l text other x y = x.2 ∙ ap (fault_text number) (one_reading.one_fault first l x.0 y.0 x.1 y.1) ∙ sym y.2
+
+no_fault : (number : ℕ) (old : Option Labels) (l : List ℕ) (text other : List ℕ) (b : Option Labels) → Faults number (not (is_some old)) l text → ServesLine number old l other b → ⊥
+no_fault number old l text other b x y = one_reading.not_both (not (is_some old)) l y.0 x.0 y.1 x.1
+
+prints_one : (lines : List (List ℕ)) (number : ℕ) (old : Option Labels) (text other : List ℕ) → Prints number old lines text → Prints number old lines other → text ≡ other
+prints_one [] number None text other x y = x ∙ sym y
+prints_one [] number (Some m) text other x y = x ∙ sym y
+prints_one (l ∷ lines) number old text other (inl x) (inl y) = faults_one number (not (is_some old)) l text other x y
+prints_one (l ∷ lines) number old text other (inl x) (inr y) = absurd (no_fault number old l text y.1 y.0 x y.3)
+prints_one (l ∷ lines) number old text other (inr x) (inl y) = absurd (no_fault number old l other x.1 x.0 y x.3)
+prints_one (l ∷ lines) number old text other (inr x) (inr y) =
+    let s = line_one number old l x.1 y.1 x.0 y.0 x.3 y.3 in
+    let rest = prints_one lines (number + 1) y.0 x.2 y.2 (subst (λ m. Prints (number + 1) m lines x.2) s.1 x.5) y.5 in
     x.4 ∙ (λ i. s.0 i ++ rest i) ∙ sym y.4
 
 pub one_label_text : OneLabelText
-one_label_text read script one other x y = prints_one read (lines_of script) 1 None one other x y
+one_label_text script one other x y = prints_one (lines_of script) 1 None one other x y
 
 pub places_do_not_matter : PlacesDoNotMatter
-places_do_not_matter read script one other o p is tidy x y = one_label_text read script one other (tidy_text read script one o is tidy x) (tidy_text read script other p is tidy y)
+places_do_not_matter script one other o p tidy x y = one_label_text script one other (tidy_text script one o tidy x) (tidy_text script other p tidy y)

@@ -105,4 +105,4 @@ module _ (card : CardValue) where
 
 -- In every state of a run the parts of pools keep apart, and there are bytes just where they may be read.
 pub parts_apart : PartsApart
-parts_apart job is = (runs_keep StaysApart apart_closed (λ card is. (start_apart card, start_sized card)) is.read is.is_reader 1 is.lines Before (In job) is.runs tt).0
+parts_apart job is = (runs_keep StaysApart apart_closed (λ card is. (start_apart card, start_sized card)) 1 is.lines Before (In job) is.runs tt).0

@@ -4,7 +4,7 @@ use Rattle.std.specs.Fmt.{digits}
 use Rattle.mvs_model.specs.ReadingLaws.{FaultExamples, MoreFaults, LineExamples, SpellingExamples}
 
 pub fault_examples : FaultExamples
-fault_examples = record { range = refl; missing = refl; twice = refl; both = refl; not_taken = refl; unknown = refl; no_number = refl; again = refl }
+fault_examples = record { range = refl; missing = refl; twice = refl; both = refl; not_taken = refl; unknown = refl; no_number = refl; first_statement = refl }
 
 pub more_faults : MoreFaults
 more_faults = record {
@@ -28,8 +28,8 @@ more_faults = record {
   not_ordered = refl;
   empty_word = refl;
   half = refl;
+  next_step = refl;
   lists = refl;
-  first_statement = refl;
   blank_first = refl;
   abend_high = refl;
   show_high = refl;
@@ -80,7 +80,7 @@ line_examples = record {
   storage_read = (refl, (refl, (refl, (refl, (refl, (refl, (refl, tt)))))));
   freemain_read = (refl, (refl, (refl, (refl, (refl, (refl, (refl, (refl, (refl, (refl, (refl, (refl, tt))))))))))));
   cpool_read = (refl, (refl, (refl, (refl, (refl, (refl, (refl, (refl, (refl, (refl, tt))))))))));
-  others_read = (refl, (refl, (refl, (refl, (refl, (refl, (refl, (refl, (refl, (refl, (refl, (refl, (refl, (refl, (refl, (refl, tt))))))))))))))));
+  others_read = (refl, (refl, (refl, (refl, (refl, (refl, (refl, (refl, (refl, (refl, (refl, (refl, (refl, (refl, (refl, (refl, (refl, tt)))))))))))))))));
 }
 
 pub spelling_examples : SpellingExamples

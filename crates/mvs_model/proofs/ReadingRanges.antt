@@ -140,16 +140,12 @@ asking_fits n os fit start within = record {
 abbrev IsRanged : Row → Type 0
 IsRanged row =
     (first : Bool) (t form : List ℕ) (os : List (List ℕ)) (s : Statement)
-    → (if first then not (bytes_eq row.operation (codes "REGION")) else bytes_eq row.operation (codes "REGION")) ≡ false
+    → (first && not (bytes_eq row.operation (codes "REGION"))) ≡ false
     → AreTaken row os → list_any (is_conflict (by_key os)) row.rules ≡ false → statement_of row.meaning form (by_key os) ≡ Some s → IsStatement first t s
 
-is_later : (first : Bool) → (if first then true else false) ≡ false → first ≡ false
+is_later : (first : Bool) → (first && true) ≡ false → first ≡ false
 is_later true e = e
 is_later false e = refl
-
-is_first : (first : Bool) → (if first then false else true) ≡ false → first ≡ true
-is_first true e = refl
-is_first false e = absurd (let g : true ≡ false = e in cc)
 
 none_given : (row : Row) (os : List (List ℕ)) → AreTaken row os → (key : List ℕ) → keyed row key ≡ None → (text : List ℕ) → value_of key os ≡ Some text → ⊥
 none_given row os ok key none text e =
@@ -261,7 +257,7 @@ ranged_region first t form os s place ok rules e =
     bind_has (IsStatement first t) (value_of (codes "BELOW") os) _ s e (λ below eb e.
     let b = bounds 1 2048 below (under_key region os ok (codes "BELOW") below eb).within in
     let a = number_fits 0 8192 0 (value_of (codes "ABOVE") os) (omega arith) (omega arith) (λ text g. (under_key region os ok (codes "ABOVE") text g).within) in
-    some_has (IsStatement first t) _ s e (is_first first place, record { below_some = b.0; below_most = b.1; above_most = a.1 }))
+    some_has (IsStatement first t) _ s e record { below_some = b.0; below_most = b.1; above_most = a.1 })
 
 ranged_build : IsRanged cpool_build
 ranged_build first t form os s place ok rules e =
@@ -366,7 +362,7 @@ row_found operation operands row e = (
 )
 
 row_ranged : (first : Bool) (t form operation : List ℕ) (operands : List (List ℕ)) (row : Row) (s : Statement) → IsRow row operation
-    → (if first then not (bytes_eq operation (codes "REGION")) else bytes_eq operation (codes "REGION")) ≡ false
+    → (first && not (bytes_eq operation (codes "REGION"))) ≡ false
     → first_of (row_checks operands (Some row)) ≡ None → statement_of row.meaning form (by_key (behind_form row operands)) ≡ Some s → IsStatement first t s
 row_ranged first t form operation operands row s is place e says =
     let os = behind_form row operands in
@@ -375,16 +371,16 @@ row_ranged first t form operation operands row s is place e says =
     let front : List (Fault × Bool) = flat_map (operand_checks row) (with_left os) in
     let taken : first_of front ≡ None = none_in_front front (missing ∷ last) e in
     let none : list_any (is_conflict (by_key os)) row.rules ≡ false = first_fails last (none_first missing last (none_behind front (missing ∷ last) e)).1 in
-    let here = subst (λ operation. (if first then not (bytes_eq operation (codes "REGION")) else bytes_eq operation (codes "REGION")) ≡ false) (sym is.1) place in
+    let here = subst (λ operation. (first && not (bytes_eq operation (codes "REGION"))) ≡ false) (sym is.1) place in
     is.0 first t form os s here taken none says
 
 statement_ranged : (first : Bool) (task operation : List ℕ) (operands : List (List ℕ)) (l : Line) → first_of (statement_checks first task operation operands) ≡ None
     → said_with task (form_in operation operands) operands (row_of operation operands) ≡ Some l → IsLine first (Ok l)
 statement_ranged first task operation operands l e says =
     let all = statement_checks first task operation operands in
-    let place : (if first then not (bytes_eq operation (codes "REGION")) else bytes_eq operation (codes "REGION")) ≡ false = first_fails (drop 2 all) (none_later 2 all e) in
+    let place : (first && not (bytes_eq operation (codes "REGION"))) ≡ false = first_fails (drop 2 all) (none_later 2 all e) in
     at place (none_later 5 all e) (row_of operation operands) refl says where
-      at : (if first then not (bytes_eq operation (codes "REGION")) else bytes_eq operation (codes "REGION")) ≡ false → first_of (row_checks operands (row_of operation operands)) ≡ None
+      at : (first && not (bytes_eq operation (codes "REGION"))) ≡ false → first_of (row_checks operands (row_of operation operands)) ≡ None
           → (o : Option Row) → row_of operation operands ≡ o → said_with task (form_in operation operands) operands o ≡ Some l → IsLine first (Ok l)
       at place rest None found says = absurd (let g : None ≡ Some l = says in cc)
       at place rest (Some row) found says =

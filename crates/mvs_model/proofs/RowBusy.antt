@@ -1,14 +1,13 @@
 -- A return with a subtask, on the label machine.
-use Rattle.std.proofs.Common.{◌≡◌, ℕ, zero, suc, ◌+◌, ◌/◌, ◌%◌, ◌^◌, ◌<◌, ◌⊎◌, inl, inr, Bool, true, false, cond, ltb, List, [], ◌∷◌, ◌++◌, Option, Some, None, arith, refl, sym, ap, ◌∙◌, subst}
-use Rattle.std.specs.Prelude.{is_some, IsSome, not, ◌&&◌, ◌||◌, ◌==◌, nat_le, MatchOption, codes}
-use Rattle.std.specs.List.{list_any, Contains}
+use Rattle.std.proofs.Common.{◌≡◌, ℕ, zero, suc, ◌+◌, ◌%◌, ◌^◌, ◌<◌, inl, inr, Bool, true, false, cond, ltb, List, [], ◌∷◌, ◌++◌, Option, Some, None, arith, refl, sym, ap, ◌∙◌, subst}
+use Rattle.std.specs.Prelude.{is_some, not, ◌&&◌, ◌||◌, ◌==◌, nat_le, codes}
+use Rattle.std.specs.List.{Contains}
 use Rattle.std.specs.List.Sorted.{IsStrictlySortedBy}
 use Rattle.std.specs.Fmt.{digits}
 use Rattle.std.proofs.Math.Nat.{zero-div}
 use Rattle.std.proofs.lemmas.Bool.Decides.{nat_tests}
 use Rattle.std.proofs.lemmas.Map.Views.{Contains-from_any}
-use Rattle.std.specs.FinMap.{FinMap, get, empty, insert, len, keys, contains_key-keys, get-insert, get-empty, len-insert, len-empty}
-use Rattle.std.specs.Ordering.{nat_cmp}
+use Rattle.std.specs.FinMap.{get, empty, insert, len, keys, contains_key-keys, get-insert, get-empty, len-insert, len-empty}
 use Rattle.mvs_model.specs.declared.name.Name.{Name}
 use Rattle.mvs_model.specs.declared.want.Residence.TheVariants.{Below}
 use Rattle.mvs_model.specs.declared.code.Code.TheVariants.{System, User}
@@ -18,17 +17,17 @@ use Rattle.mvs_model.specs.declared.line.Statement.TheVariants as says
 use Rattle.mvs_model.specs.declared.line.Written.TheVariants as written
 use Rattle.mvs_model.specs.Name.{name_cmp, same_name}
 use Rattle.mvs_model.specs.Finite.{has, any_below, kept}
-use Rattle.mvs_model.specs.Gifts.{GiftsValue, has_bit, gives, shares}
-use Rattle.mvs_model.specs.Owners.{Owners, Task, entry_cmp, entry, is_active, IsMother, has_subtask, owns, SubpoolOf, Enters, EntersBelow, none, passed, entered, handed, is_given, gives_shared, attach_refusal, Attach, Descends, subtask, further, IsFallen, goes, ends_with, Ends}
+use Rattle.mvs_model.specs.Gifts.{has_bit, gives, shares}
+use Rattle.mvs_model.specs.Owners.{Owners, Task, entry_cmp, entry, is_active, IsMother, has_subtask, owns, EntersBelow, none, passed, entered, handed, gives_shared, attach_refusal, Attach, Descends, subtask, further, IsFallen, goes, ends_with, Ends}
 use Rattle.mvs_model.specs.Texts.{reply_line, region_text, abend_lines, last_digits}
 use Rattle.mvs_model.specs.Lines.{card_of}
-use Rattle.mvs_model.specs.Labels.{Labels, first_labels, without, Tells, Does, Leaves, Abends, Attaches}
+use Rattle.mvs_model.specs.Labels.{Labels, without, Tells, Does, Abends, Attaches}
 use Rattle.mvs_model.specs.Rows.{job, sub, area_x, zero_shared, fixed, BusyReturn}
 use Rattle.mvs_model.proofs.Orders.{name_cmp_total, entry_cmp_total, same_entry_is, same_name_is, same_name_sym}
 use Rattle.mvs_model.proofs.Elements.{any_from, first_or_later}
 use Rattle.mvs_model.proofs.Owning.{ends_some}
 use Rattle.mvs_model.proofs.TidyCases.{taken}
-use Rattle.mvs_model.proofs.Rows.{Walks, shows, active_does, on, alone, zero_owned, moves_start, job_active, no_entry, zero_subpool, zero_enters}
+use Rattle.mvs_model.proofs.Rows.{Walks, shows, active_does, on, alone, zero_owned, moves_start, job_active, zero_subpool, zero_enters}
 
 pub no_bit : (n : ℕ) → has_bit 0 n ≡ false
 no_bit n = ap (λ x. x % 2 == 1) (zero-div (2 ^ n))
@@ -202,7 +201,7 @@ abbrev text_4 : List ℕ
 text_4 = reply_line 4 sub (codes "NOT RUN") ++ text_5
 
 walk_4 : Walks 4 (Some busy_2) asks_4 text_4
-walk_4 = on 4 busy_2 busy_2 sub (says.Request (written.Obtain form.Ru 0 (fixed 8) false area_x)) [] (reply_line 4 sub (codes "NOT RUN")) text_5 refl not_run_does walk_5
+walk_4 = on 4 busy_2 busy_2 sub (says.Request (written.Obtain form.Ru 0 (fixed 8) false area_x)) [] (reply_line 4 sub (codes "NOT RUN")) text_5 refl (busy_2, refl, not_run_does) walk_5
 
 abbrev asks_3 : List (Name × Statement)
 asks_3 = (job, says.Request written.Return) ∷ asks_4
@@ -211,7 +210,7 @@ abbrev text_3 : List ℕ
 text_3 = abend_lines 3 job (System 0xA03) (sub ∷ []) ++ text_4
 
 walk_3 : Walks 3 (Some busy_1) asks_3 text_3
-walk_3 = on 3 busy_1 busy_2 job (says.Request written.Return) asks_4 (abend_lines 3 job (System 0xA03) (sub ∷ [])) text_4 refl return_does walk_4
+walk_3 = on 3 busy_1 busy_2 job (says.Request written.Return) asks_4 (abend_lines 3 job (System 0xA03) (sub ∷ [])) text_4 refl (busy_2, refl, return_does) walk_4
 
 abbrev asks_2 : List (Name × Statement)
 asks_2 = (job, says.Request (written.Attach sub zero_shared Below)) ∷ asks_3
@@ -220,7 +219,7 @@ abbrev text_2 : List ℕ
 text_2 = reply_line 2 job (codes "ATTACHED") ++ text_3
 
 walk_2 : Walks 2 (Some moves_start) asks_2 text_2
-walk_2 = on 2 moves_start busy_1 job (says.Request (written.Attach sub zero_shared Below)) asks_3 (reply_line 2 job (codes "ATTACHED")) text_3 refl attach_does walk_3
+walk_2 = on 2 moves_start busy_1 job (says.Request (written.Attach sub zero_shared Below)) asks_3 (reply_line 2 job (codes "ATTACHED")) text_3 refl (busy_1, refl, attach_does) walk_3
 
 pub busy_return : BusyReturn
 unfolding digits last_digits

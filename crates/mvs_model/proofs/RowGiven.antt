@@ -1,27 +1,26 @@
 -- A given subpool that ends while a sibling shares it, on the label machine.
-use Rattle.std.proofs.Common.{◌≡◌, ℕ, zero, suc, ◌+◌, ◌*◌, ◌/◌, ◌%◌, ◌^◌, ◌<◌, ◌≤◌, ◌⊎◌, inl, inr, Bool, true, false, cond, List, [], ◌∷◌, ◌++◌, Option, Some, None, ltb, arith, refl, sym, ap, ◌∙◌, subst}
+use Rattle.std.proofs.Common.{◌≡◌, ℕ, zero, suc, ◌+◌, ◌%◌, ◌^◌, ◌<◌, ◌≤◌, ◌⊎◌, inl, inr, Bool, true, false, cond, List, [], ◌∷◌, ◌++◌, Option, Some, None, ltb, arith, refl, sym, ap, ◌∙◌, subst}
 use Rattle.std.specs.Prelude.{is_some, IsSome, not, ◌&&◌, ◌||◌, ◌==◌, nat_le, MatchOption, codes, decimal}
-use Rattle.std.specs.List.{list_any, Contains}
 use Rattle.std.specs.List.Sorted.{IsStrictlySortedBy}
 use Rattle.std.specs.Fmt.{digits}
-use Rattle.std.proofs.Math.Nat.{zero-div, div-eq_of_lt}
+use Rattle.std.proofs.Math.Nat.{div-eq_of_lt}
 use Rattle.std.proofs.Math.Pow.{pow-lt}
 use Rattle.std.proofs.lemmas.Bool.{cases_lt}
 use Rattle.std.proofs.lemmas.Bool.Decides.{nat_tests}
-use Rattle.std.specs.FinMap.{FinMap, get, empty, insert, len, keys, same_map, get-insert, get-empty, len-insert, len-empty}
+use Rattle.std.specs.FinMap.{get, empty, insert, len, keys, same_map, get-insert, get-empty, len-insert, len-empty}
 use Rattle.std.specs.Ordering.{nat_cmp}
 use Rattle.std.specs.Cmp.{nat_cmp_total}
 use Rattle.mvs_model.specs.declared.name.Name.{Name}
 use Rattle.mvs_model.specs.declared.want.Residence.TheVariants.{Below}
-use Rattle.mvs_model.specs.declared.code.Code.TheVariants.{System, User}
+use Rattle.mvs_model.specs.declared.code.Code.TheVariants.{User}
 use Rattle.mvs_model.specs.declared.code.Form.TheVariants as form
 use Rattle.mvs_model.specs.Name.{name_cmp, same_name}
 use Rattle.mvs_model.specs.Finite.{has, any_below, count_below, kept, total_below}
-use Rattle.mvs_model.specs.Gifts.{GiftsValue, has_bit, gives, shares}
+use Rattle.mvs_model.specs.Gifts.{has_bit, gives, shares}
 use Rattle.mvs_model.specs.Owners.{Owners, Task, entry_cmp, entry, is_active, IsMother, has_subtask, owns, IsSpare, SubpoolOf, Binds, Enters, EntersBelow, none, passed, entered, handed, is_given, gives_shared, attach_refusal, Attach, Descends, subtask, further, IsFallen, goes, ends_with, Ends}
 use Rattle.mvs_model.specs.Texts.{reply_line, region_text, last_digits}
 use Rattle.mvs_model.specs.Reports.{each_below, or_none}
-use Rattle.mvs_model.specs.Labels.{Labels, first_labels, with_area, without, bytes_there, entry_line, subpools_text, Tells, Does, Leaves, Abends, Attaches, Returns}
+use Rattle.mvs_model.specs.Labels.{Labels, with_area, without, bytes_there, entry_line, subpools_text, Tells, Does, Leaves, Attaches}
 use Rattle.mvs_model.specs.Rows.{area_x, area_y, fixed, GivenEnds, job, task_a, task_b, five_shared, five_given}
 use Rattle.mvs_model.proofs.Orders.{name_cmp_total, name_cmp-IsAntisymmetric, entry_cmp_total, same_entry_is, same_name_self, same_name_sym}
 use Rattle.mvs_model.proofs.Tables.{eq_by_cmp_is}
@@ -524,7 +523,7 @@ abbrev text_9 : List ℕ
 text_9 = report_5 ++ text_10
 
 walk_9 : Walks 9 (Some given_5) asks_9 text_9
-walk_9 = on 9 given_5 given_5 task_a (says.ReportSubpools) asks_10 (report_5) text_10 refl report_5_does walk_10
+walk_9 = on 9 given_5 given_5 task_a (says.ReportSubpools) asks_10 (report_5) text_10 refl (given_5, refl, report_5_does) walk_10
 
 abbrev asks_8 : List (Name × Statement)
 asks_8 = (task_a, says.Request (written.Obtain form.Rc 5 (fixed 4096) false area_y)) ∷ asks_9
@@ -533,7 +532,7 @@ abbrev text_8 : List ℕ
 text_8 = reply_line 8 task_a (codes "RC 0") ++ text_9
 
 walk_8 : Walks 8 (Some given_4) asks_8 text_8
-walk_8 = on 8 given_4 given_5 task_a (says.Request (written.Obtain form.Rc 5 (fixed 4096) false area_y)) asks_9 (reply_line 8 task_a (codes "RC 0")) text_9 refl obtain_again_does walk_9
+walk_8 = on 8 given_4 given_5 task_a (says.Request (written.Obtain form.Rc 5 (fixed 4096) false area_y)) asks_9 (reply_line 8 task_a (codes "RC 0")) text_9 refl (given_5, refl, obtain_again_does) walk_9
 
 abbrev asks_7 : List (Name × Statement)
 asks_7 = (task_a, says.ReportSubpools) ∷ asks_8
@@ -542,7 +541,7 @@ abbrev text_7 : List ℕ
 text_7 = report_4 ++ text_8
 
 walk_7 : Walks 7 (Some given_4) asks_7 text_7
-walk_7 = on 7 given_4 given_4 task_a (says.ReportSubpools) asks_8 (report_4) text_8 refl report_4_does walk_8
+walk_7 = on 7 given_4 given_4 task_a (says.ReportSubpools) asks_8 (report_4) text_8 refl (given_4, refl, report_4_does) walk_8
 
 abbrev asks_6 : List (Name × Statement)
 asks_6 = (task_b, says.Request written.Return) ∷ asks_7
@@ -551,7 +550,7 @@ abbrev text_6 : List ℕ
 text_6 = reply_line 6 task_b (codes "ENDED") ++ text_7
 
 walk_6 : Walks 6 (Some given_3) asks_6 text_6
-walk_6 = on 6 given_3 given_4 task_b (says.Request written.Return) asks_7 (reply_line 6 task_b (codes "ENDED")) text_7 refl return_does walk_7
+walk_6 = on 6 given_3 given_4 task_b (says.Request written.Return) asks_7 (reply_line 6 task_b (codes "ENDED")) text_7 refl (given_4, refl, return_does) walk_7
 
 abbrev asks_5 : List (Name × Statement)
 asks_5 = (task_a, says.ReportSubpools) ∷ asks_6
@@ -560,7 +559,7 @@ abbrev text_5 : List ℕ
 text_5 = report_3 ++ text_6
 
 walk_5 : Walks 5 (Some given_3) asks_5 text_5
-walk_5 = on 5 given_3 given_3 task_a (says.ReportSubpools) asks_6 (report_3) text_6 refl report_3_does walk_6
+walk_5 = on 5 given_3 given_3 task_a (says.ReportSubpools) asks_6 (report_3) text_6 refl (given_3, refl, report_3_does) walk_6
 
 abbrev asks_4 : List (Name × Statement)
 asks_4 = (job, says.Request (written.Attach task_b five_given Below)) ∷ asks_5
@@ -569,7 +568,7 @@ abbrev text_4 : List ℕ
 text_4 = reply_line 4 job (codes "ATTACHED") ++ text_5
 
 walk_4 : Walks 4 (Some given_2) asks_4 text_4
-walk_4 = on 4 given_2 given_3 job (says.Request (written.Attach task_b five_given Below)) asks_5 (reply_line 4 job (codes "ATTACHED")) text_5 refl attach_b_does walk_5
+walk_4 = on 4 given_2 given_3 job (says.Request (written.Attach task_b five_given Below)) asks_5 (reply_line 4 job (codes "ATTACHED")) text_5 refl (given_3, refl, attach_b_does) walk_5
 
 abbrev asks_3 : List (Name × Statement)
 asks_3 = (job, says.Request (written.Attach task_a five_shared Below)) ∷ asks_4
@@ -578,7 +577,7 @@ abbrev text_3 : List ℕ
 text_3 = reply_line 3 job (codes "ATTACHED") ++ text_4
 
 walk_3 : Walks 3 (Some given_1) asks_3 text_3
-walk_3 = on 3 given_1 given_2 job (says.Request (written.Attach task_a five_shared Below)) asks_4 (reply_line 3 job (codes "ATTACHED")) text_4 refl attach_a_does walk_4
+walk_3 = on 3 given_1 given_2 job (says.Request (written.Attach task_a five_shared Below)) asks_4 (reply_line 3 job (codes "ATTACHED")) text_4 refl (given_2, refl, attach_a_does) walk_4
 
 abbrev asks_2 : List (Name × Statement)
 asks_2 = (job, says.Request (written.Obtain form.Ru 5 (fixed 8) false area_x)) ∷ asks_3
@@ -587,7 +586,7 @@ abbrev text_2 : List ℕ
 text_2 = reply_line 2 job (codes "RC 0") ++ text_3
 
 walk_2 : Walks 2 (Some moves_start) asks_2 text_2
-walk_2 = on 2 moves_start given_1 job (says.Request (written.Obtain form.Ru 5 (fixed 8) false area_x)) asks_3 (reply_line 2 job (codes "RC 0")) text_3 refl obtain_does walk_3
+walk_2 = on 2 moves_start given_1 job (says.Request (written.Obtain form.Ru 5 (fixed 8) false area_x)) asks_3 (reply_line 2 job (codes "RC 0")) text_3 refl (given_1, refl, obtain_does) walk_3
 
 pub given_ends : GivenEnds
 unfolding digits last_digits each_below

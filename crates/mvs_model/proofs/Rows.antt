@@ -1,13 +1,13 @@
 -- Some scripts are tidy, and what the label machine prints for them is computed.
-use Rattle.std.proofs.Common.{◌≡◌, ℕ, zero, suc, ◌+◌, ◌<◌, Bool, true, false, cond, List, [], ◌∷◌, ◌++◌, length, Option, Some, None, Result, Ok, Err, inl, inr, arith, refl, sym, ap, ◌∙◌, subst}
-use Rattle.std.specs.Prelude.{is_some, IsSome, not, ◌&&◌, ◌||◌, ◌==◌, MatchOption, codes, slice_get}
-use Rattle.std.specs.Bool.{MatchBool}
+use Rattle.std.proofs.Common.{◌≡◌, ℕ, ◌+◌, Bool, true, false, cond, List, [], ◌∷◌, ◌++◌, Option, Some, None, inr, arith, refl, sym, ap, ◌∙◌, subst}
+use Rattle.std.specs.Prelude.{is_some, not, ◌&&◌, ◌||◌, MatchOption, codes, slice_get}
 use Rattle.std.specs.Fmt.{digits}
 use Rattle.std.specs.FinMap.{FinMap, get, empty, insert, get-insert, get-empty}
 use Rattle.std.specs.Ordering.{nat_cmp}
 use Rattle.std.specs.Cmp.{nat_cmp_total}
 use Rattle.mvs_model.specs.declared.name.Name.{Name}
 use Rattle.mvs_model.specs.declared.want.Residence.TheVariants.{Below}
+use Rattle.mvs_model.specs.declared.line.Line.{Line}
 use Rattle.mvs_model.specs.declared.line.Line.TheVariants as line
 use Rattle.mvs_model.specs.declared.line.Statement.{Statement}
 use Rattle.mvs_model.specs.declared.line.Statement.TheVariants as says
@@ -17,26 +17,32 @@ use Rattle.mvs_model.specs.declared.line.Location.TheVariants.{Named}
 use Rattle.mvs_model.specs.declared.code.Form.TheVariants as form
 use Rattle.mvs_model.specs.Texts.{reply_line, region_text}
 use Rattle.std.specs.Option.{option_map}
-use Rattle.mvs_model.specs.Name.{name_cmp, same_name}
+use Rattle.mvs_model.specs.Name.{name_cmp}
 use Rattle.mvs_model.specs.Finite.{all_below, has}
-use Rattle.mvs_model.specs.Card.{CardValue}
 use Rattle.mvs_model.specs.Start.{first_owners}
-use Rattle.mvs_model.specs.Owners.{Owners, Task, entry_cmp, entry, is_active, IsSpare, SubpoolOf, Binds, Enters}
+use Rattle.mvs_model.specs.Owners.{Owners, entry_cmp, entry, is_active, IsSpare, SubpoolOf, Binds, Enters}
 use Rattle.mvs_model.specs.Texts.{last_digits, data_lines}
-use Rattle.mvs_model.specs.Lines.{Reader, lines_of, card_of}
-use Rattle.mvs_model.specs.Labels.{Labels, Spot, spot, first_labels, with_area, with_bytes, bytes_in, Tells, Says, Does, Serves, ServesRead, Closes, Prints, Grants, is_there}
-use Rattle.mvs_model.specs.Tidy.{TidyLine, TidyLines, tidy_statement}
+use Rattle.mvs_model.specs.Lines.{lines_of, card_of}
+use Rattle.mvs_model.specs.Reading.{LineOf}
+use Rattle.mvs_model.specs.Labels.{Labels, spot, first_labels, with_area, with_bytes, bytes_in, Tells, Says, Does, Follows, Serves, ServesLine, Closes, Prints, is_there}
+use Rattle.mvs_model.specs.Tidy.{IsTidy, TidyLine, TidyLines, tidy_statement}
 use Rattle.mvs_model.specs.Rows.{ReadsAs, ShowsTidy, job, area_x, fixed, MovesOverlap}
 use Rattle.mvs_model.proofs.Orders.{name_cmp_total, entry_cmp_total, same_entry_is}
 use Rattle.mvs_model.proofs.Tables.{eq_by_cmp_is}
-use Rattle.mvs_model.proofs.TidyCases.{taken, passed}
-use Rattle.mvs_model.proofs.OneLabels.{serves_one}
+use Rattle.mvs_model.proofs.TidyCases.{passed}
+use Rattle.mvs_model.proofs.OneLabels.{line_one}
+use Rattle.mvs_model.proofs.Reading.{one_reading}
+
+-- A statement in a step is tidy.
+abbrev pub IsTidyIn : Option Labels → Name → Statement → Type 0
+IsTidyIn None t s = Unit {0}
+IsTidyIn (Some m) t s = IsTidy m t s
 
 -- The statements are tidy one after another, and the label machine prints the text.
 abbrev pub Walks : ℕ → Option Labels → List (Name × Statement) → List ℕ → Type 0
 Walks number old [] text = Closes number old text
 Walks number old (s ∷ ss) text =
-    TidyLine old (Ok (line.Statement s.0 s.1))
+    IsTidyIn old s.0 s.1
     × ((mid : Option Labels) × (first : List ℕ) × (rest : List ℕ) × Serves number old (line.Statement s.0 s.1) first mid × (text ≡ first ++ rest) × Walks (number + 1) mid ss rest)
 
 -- behind a statement the step has begun
@@ -46,22 +52,43 @@ begun number None mid t (says.Request a) text h = absurd h
 begun number None mid t (says.Where name) text h = absurd h
 begun number None mid t says.ReportSubpools text h = absurd h
 begun number None mid t says.ReportMap text h = absurd h
-begun number (Some m) mid t s text h = ap (λ m. not (is_some m)) h.1
+begun number (Some m) mid t (says.Region below above fill residence) text h = ap (λ m. not (is_some m)) h.1
+begun number (Some m) mid t (says.Request a) text h = ap (λ m. not (is_some m)) h.1
+begun number (Some m) mid t (says.Where name) text h = ap (λ m. not (is_some m)) h.1
+begun number (Some m) mid t says.ReportSubpools text h = ap (λ m. not (is_some m)) h.1
+begun number (Some m) mid t says.ReportMap text h = ap (λ m. not (is_some m)) h.1
 
-walked : (read : Reader) (lines : List (List ℕ)) (ss : List (Name × Statement)) (number : ℕ) (old : Option Labels) (first : Bool) (text : List ℕ) → not (is_some old) ≡ first → ReadsAs read first lines ss → Walks number old ss text → TidyLines read number old lines × Prints read number old lines text
-walked read [] [] number old first text e r w = (tt, w)
-walked read [] (s ∷ ss) number old first text e r w = absurd r
-walked read (l ∷ ls) [] number old first text e r w = absurd r
-walked read (l ∷ ls) (s ∷ ss) number old first text e r w =
-    let is : read l (not (is_some old)) ≡ Ok (line.Statement s.0 s.1) = ap (read l) e ∙ r.0 in
-    let serves = subst (λ x. ServesRead number old x w.1.1 w.1.0) (sym is) w.1.3 in
-    let rest = walked read ls ss (number + 1) w.1.0 false w.1.2 (begun number old w.1.0 s.0 s.1 w.1.1 w.1.3) r.1 w.1.5 in (
-      (subst (TidyLine old) (sym is) w.0, λ text new h. subst (λ m. TidyLines read (number + 1) m ls) (serves_one number old (read l (not (is_some old))) w.1.1 text w.1.0 new serves h).1 rest.0),
+same_statement : (t u : Name) (s r : Statement) → line.Statement t s ≡ line.Statement u r → (t ≡ u) × (s ≡ r)
+same_statement t u s r e = (ap (told_task t) e, ap (told_statement s) e) where
+  told_task : Name → Line → Name
+  told_task t line.Nothing = t
+  told_task t (line.Statement u r) = u
+
+  told_statement : Statement → Line → Statement
+  told_statement s line.Nothing = s
+  told_statement s (line.Statement u r) = r
+
+-- what a line says that is read so is tidy
+line_tidy : (old : Option Labels) (l : List ℕ) (t : Name) (s : Statement) → LineOf (not (is_some old)) l (line.Statement t s) → IsTidyIn old t s → TidyLine old l
+line_tidy None l t s is tidy = tt
+line_tidy (Some m) l t s is tidy = λ u r other.
+    let same = same_statement t u s r (one_reading.one_line false l (line.Statement t s) (line.Statement u r) is other) in
+    subst (λ u. IsTidy m u r) same.0 (subst (λ r. IsTidy m t r) same.1 tidy)
+
+walked : (lines : List (List ℕ)) (ss : List (Name × Statement)) (number : ℕ) (old : Option Labels) (first : Bool) (text : List ℕ) → not (is_some old) ≡ first → ReadsAs first lines ss → Walks number old ss text → TidyLines number old lines × Prints number old lines text
+walked [] [] number old first text e r w = (tt, w)
+walked [] (s ∷ ss) number old first text e r w = absurd r
+walked (l ∷ ls) [] number old first text e r w = absurd r
+walked (l ∷ ls) (s ∷ ss) number old first text e r w =
+    let is = subst (λ first. LineOf first l (line.Statement s.0 s.1)) (sym e) r.0 in
+    let serves : ServesLine number old l w.1.1 w.1.0 = (line.Statement s.0 s.1, is, w.1.3) in
+    let rest = walked ls ss (number + 1) w.1.0 false w.1.2 (begun number old w.1.0 s.0 s.1 w.1.1 w.1.3) r.1 w.1.5 in (
+      (line_tidy old l s.0 s.1 is w.0, λ text new h. subst (λ m. TidyLines (number + 1) m ls) (line_one number old l w.1.1 text w.1.0 new serves h).1 rest.0),
       inr (w.1.0, w.1.1, w.1.2, serves, w.1.4, rest.1),
     )
 
 pub shows : (ss : List (Name × Statement)) (text : List ℕ) → Walks 1 None ss text → ShowsTidy ss text
-shows ss text w read script r = walked read (lines_of script) ss 1 None true text refl r w
+shows ss text w script r = walked (lines_of script) ss 1 None true text refl r w
 
 -- a statement of the step, of a task that is active
 pub active_does : (number : ℕ) (m later : Labels) (t : Name) (s : Statement) (text : List ℕ) → is_active m.owners t ≡ true → Says number m t s text later → Does number m t s text later
@@ -184,8 +211,8 @@ unfolding all_below
 second_show_tidy = one_good (λ l. is_there moves_4 (spot l 0 8)) refl (get x_names area_x) x_set
 
 -- one statement after another
-pub on : (number : ℕ) (m later : Labels) (t : Name) (s : Statement) (ss : List (Name × Statement)) (first rest : List ℕ) → tidy_statement m s ≡ true → Does number m t s first later → Walks (number + 1) (Some later) ss rest → Walks number (Some m) ((t, s) ∷ ss) (first ++ rest)
-on number m later t s ss first rest tidy does w = ((λ _. tidy), (Some later, first, rest, (later, refl, does), refl, w))
+pub on : (number : ℕ) (m later : Labels) (t : Name) (s : Statement) (ss : List (Name × Statement)) (first rest : List ℕ) → tidy_statement m s ≡ true → Follows number m t s first (Some later) → Walks (number + 1) (Some later) ss rest → Walks number (Some m) ((t, s) ∷ ss) (first ++ rest)
+on number m later t s ss first rest tidy does w = ((λ _. tidy), (Some later, first, rest, does, refl, w))
 
 -- what is left of the script of moves, and of its text, from each line on
 abbrev asks_8 : List (Name × Statement)
@@ -204,7 +231,7 @@ abbrev text_7 : List ℕ
 text_7 = data_lines 7 job 1 0 (bytes_in moves_4 0 0 8) ++ text_8
 
 walk_7 : Walks 7 (Some moves_4) asks_7 text_7
-walk_7 = on 7 moves_4 moves_4 job (says.Request (written.Show (Named area_x 0) 8)) asks_8 (data_lines 7 job 1 0 (bytes_in moves_4 0 0 8)) text_8 second_show_tidy second_show_does walk_8
+walk_7 = on 7 moves_4 moves_4 job (says.Request (written.Show (Named area_x 0) 8)) asks_8 (data_lines 7 job 1 0 (bytes_in moves_4 0 0 8)) text_8 second_show_tidy (moves_4, refl, second_show_does) walk_8
 
 abbrev asks_6 : List (Name × Statement)
 asks_6 = (job, says.Request (written.Move (Named area_x 0) (Named area_x 2) 6)) ∷ asks_7
@@ -213,7 +240,7 @@ abbrev text_6 : List ℕ
 text_6 = reply_line 6 job (codes "OK") ++ text_7
 
 walk_6 : Walks 6 (Some moves_3) asks_6 text_6
-walk_6 = on 6 moves_3 moves_4 job (says.Request (written.Move (Named area_x 0) (Named area_x 2) 6)) asks_7 (reply_line 6 job (codes "OK")) text_7 second_move_tidy second_move_does walk_7
+walk_6 = on 6 moves_3 moves_4 job (says.Request (written.Move (Named area_x 0) (Named area_x 2) 6)) asks_7 (reply_line 6 job (codes "OK")) text_7 second_move_tidy (moves_4, refl, second_move_does) walk_7
 
 abbrev asks_5 : List (Name × Statement)
 asks_5 = (job, says.Request (written.Show (Named area_x 0) 8)) ∷ asks_6
@@ -222,7 +249,7 @@ abbrev text_5 : List ℕ
 text_5 = data_lines 5 job 1 0 (bytes_in moves_3 0 0 8) ++ text_6
 
 walk_5 : Walks 5 (Some moves_3) asks_5 text_5
-walk_5 = on 5 moves_3 moves_3 job (says.Request (written.Show (Named area_x 0) 8)) asks_6 (data_lines 5 job 1 0 (bytes_in moves_3 0 0 8)) text_6 first_show_tidy first_show_does walk_6
+walk_5 = on 5 moves_3 moves_3 job (says.Request (written.Show (Named area_x 0) 8)) asks_6 (data_lines 5 job 1 0 (bytes_in moves_3 0 0 8)) text_6 first_show_tidy (moves_3, refl, first_show_does) walk_6
 
 abbrev asks_4 : List (Name × Statement)
 asks_4 = (job, says.Request (written.Move (Named area_x 1) (Named area_x 0) 7)) ∷ asks_5
@@ -231,7 +258,7 @@ abbrev text_4 : List ℕ
 text_4 = reply_line 4 job (codes "OK") ++ text_5
 
 walk_4 : Walks 4 (Some moves_2) asks_4 text_4
-walk_4 = on 4 moves_2 moves_3 job (says.Request (written.Move (Named area_x 1) (Named area_x 0) 7)) asks_5 (reply_line 4 job (codes "OK")) text_5 first_move_tidy first_move_does walk_5
+walk_4 = on 4 moves_2 moves_3 job (says.Request (written.Move (Named area_x 1) (Named area_x 0) 7)) asks_5 (reply_line 4 job (codes "OK")) text_5 first_move_tidy (moves_3, refl, first_move_does) walk_5
 
 abbrev asks_3 : List (Name × Statement)
 asks_3 = (job, says.Request (written.Put (Named area_x 0) eight_bytes)) ∷ asks_4
@@ -240,7 +267,7 @@ abbrev text_3 : List ℕ
 text_3 = reply_line 3 job (codes "OK") ++ text_4
 
 walk_3 : Walks 3 (Some moves_1) asks_3 text_3
-walk_3 = on 3 moves_1 moves_2 job (says.Request (written.Put (Named area_x 0) eight_bytes)) asks_4 (reply_line 3 job (codes "OK")) text_4 put_tidy put_does walk_4
+walk_3 = on 3 moves_1 moves_2 job (says.Request (written.Put (Named area_x 0) eight_bytes)) asks_4 (reply_line 3 job (codes "OK")) text_4 put_tidy (moves_2, refl, put_does) walk_4
 
 abbrev asks_2 : List (Name × Statement)
 asks_2 = (job, says.Request (written.Obtain form.Ru 0 (fixed 8) false area_x)) ∷ asks_3
@@ -249,7 +276,7 @@ abbrev text_2 : List ℕ
 text_2 = reply_line 2 job (codes "RC 0") ++ text_3
 
 walk_2 : Walks 2 (Some moves_start) asks_2 text_2
-walk_2 = on 2 moves_start moves_1 job (says.Request (written.Obtain form.Ru 0 (fixed 8) false area_x)) asks_3 (reply_line 2 job (codes "RC 0")) text_3 refl obtain_does walk_3
+walk_2 = on 2 moves_start moves_1 job (says.Request (written.Obtain form.Ru 0 (fixed 8) false area_x)) asks_3 (reply_line 2 job (codes "RC 0")) text_3 refl (moves_1, refl, obtain_does) walk_3
 
 pub moves_overlap : MovesOverlap
 unfolding digits last_digits data_lines bytes_in

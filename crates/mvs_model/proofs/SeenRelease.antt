@@ -1,6 +1,6 @@
 -- What is released from a store is released from the machine.
-use Rattle.std.proofs.Common.{◌≡◌, ℕ, ◌/◌, Bool, true, false, cond, List, [], ◌∷◌, Option, Some, None, refl, sym, ap, ◌∙◌, subst}
-use Rattle.std.specs.Prelude.{is_some, not, ◌==◌, ◌||◌}
+use Rattle.std.proofs.Common.{◌≡◌, ℕ, ◌/◌, Bool, true, false, cond, List, Option, Some, None, refl, sym, ap, ◌∙◌}
+use Rattle.std.specs.Prelude.{is_some, not, ◌||◌}
 use Rattle.std.specs.List.{AllByRecursion}
 use Rattle.std.specs.Option.{option_map}
 use Rattle.std.specs.FinMap.{FinMap, get}
@@ -10,14 +10,14 @@ use Rattle.mvs_model.specs.Name.{name_cmp}
 use Rattle.mvs_model.specs.Finite.{Changes, Keeps, kept, has}
 use Rattle.mvs_model.specs.Storage.{Storage, holder as held_by, IsStorage, IsWhole, HeldBy, Covers}
 use Rattle.mvs_model.specs.Owners.{Owners}
-use Rattle.mvs_model.specs.Pools.{Pool, in_taken}
+use Rattle.mvs_model.specs.Pools.{Pool}
 use Rattle.mvs_model.specs.State.{Holding, plain, subpool_in, is_plain, in_cell, granted}
-use Rattle.mvs_model.specs.View.{in_pools, holding, state_of}
+use Rattle.mvs_model.specs.View.{in_pools, state_of}
 use Rattle.mvs_model.specs.Changes.{any_covers, any_has, HeldPlain, Frees, Drops}
 use Rattle.mvs_model.proofs.PartsFreed.{any_whole_has}
-use Rattle.mvs_model.proofs.TakenCells.{InCell, in_cell_is, in_cell_from, same_test}
+use Rattle.mvs_model.proofs.TakenCells.{in_cell_is, in_cell_from, same_test}
 use Rattle.mvs_model.proofs.Seen.{held_as, granted_alike}
-use Rattle.mvs_model.proofs.Stand.{Stand, held_state, bytes_state, granted_held, pooled_found, pooled_from, pooled_held, part_of_pool}
+use Rattle.mvs_model.proofs.Stand.{Stand, held_state, bytes_state, granted_held, pooled_found, pooled_from, part_of_pool}
 
 -- what a subpool holds in the store outside of pools it holds so in the machine, and the other way round
 pub held_plain : (st : Storage) (o : Owners) (pools : FinMap name_cmp Pool) (s : ℕ) (p : PlaceValue) → IsStorage st → HeldBy st s p → ((d : ℕ) → Covers p d → in_pools pools d ≡ false) → HeldPlain (state_of st o pools) s p

@@ -1,19 +1,14 @@
 -- What the reports say of a store and the owners.
-use Rattle.std.proofs.Common.{◌≡◌, ℕ, zero, suc, ◌+◌, ◌*◌, ◌<◌, ◌≤◌, inl, inr, Bool, true, false, cond, Option, Some, None, refl, sym, ap, ◌∙◌, arith}
-use Rattle.std.specs.Prelude.{◌==◌, ◌&&◌, not}
-use Rattle.std.specs.Option.{option_map}
-use Rattle.std.specs.FinMap.{get}
+use Rattle.std.proofs.Common.{◌≡◌, ℕ, zero, suc, ◌+◌, ◌<◌, ◌≤◌, inl, inr, Bool, true, false, cond, Option, Some, None, refl, sym, ap, ◌∙◌, arith}
+use Rattle.std.specs.Prelude.{◌==◌}
 use Rattle.std.proofs.lemmas.Bool.{cases_lt}
 use Rattle.std.proofs.lemmas.Bool.Decides.{nat_tests}
 use Rattle.mvs_model.specs.declared.name.Name.{Name}
-use Rattle.mvs_model.specs.Finite.{has, count_below}
-use Rattle.mvs_model.specs.Storage.{Storage, holder as held_by, IsStorage, end_of, holds, held_bytes}
+use Rattle.mvs_model.specs.Finite.{has}
 use Rattle.mvs_model.specs.Owners.{Owners, entry}
 use Rattle.mvs_model.specs.Kept.{OwnersKept}
-use Rattle.mvs_model.specs.State.{Holding, plain}
-use Rattle.mvs_model.specs.View.{seen}
 use Rattle.mvs_model.proofs.Keepers.{number_low}
-use Rattle.mvs_model.specs.Reports.{bytes_held, first_from, number_of}
+use Rattle.mvs_model.specs.Reports.{first_from, number_of}
 
 -- the first of the values that a function has
 module _ {X : Type 0} where

@@ -1,25 +1,21 @@
 -- What storage is as a state at the start of a step, where there are no pools.
-use Rattle.std.proofs.Common.{◌≡◌, ℕ, ◌/◌, ◌≤◌, inl, inr, Bool, true, false, cond, List, [], get_or, Option, Some, None, refl, sym, ap, ◌∙◌, subst, arith}
-use Rattle.std.specs.Prelude.{is_some, ◌||◌}
+use Rattle.std.proofs.Common.{◌≡◌, ℕ, Bool, true, false, cond, List, [], get_or, Option, None, refl, sym, ap, ◌∙◌}
 use Rattle.std.specs.List.{list_any}
 use Rattle.std.specs.Option.{option_map}
 use Rattle.std.proofs.lemmas.List.Folds.{list_any_none}
 use Rattle.std.proofs.lemmas.List.Elements.{All-from_get_or}
-use Rattle.std.specs.FinMap.{get, empty, keys, get-empty, nat_cmp-IsAntisymmetric}
+use Rattle.std.specs.FinMap.{empty, keys, get-empty, nat_cmp-IsAntisymmetric}
 use Rattle.std.specs.Ordering.{nat_cmp}
 use Rattle.mvs_model.specs.declared.name.Name.{Name}
-use Rattle.mvs_model.specs.Place.{PlaceValue}
-use Rattle.mvs_model.specs.Want.{WantValue}
 use Rattle.mvs_model.specs.Name.{name_cmp}
 use Rattle.mvs_model.specs.Finite.{has}
-use Rattle.mvs_model.specs.Storage.{Storage, Regions, holder as held_by, IsStorage, Chosen, NoPlace, covers, has_address, Grant}
-use Rattle.mvs_model.specs.Owners.{Owners, SubpoolOf, Enters}
+use Rattle.mvs_model.specs.Storage.{Storage, Regions}
+use Rattle.mvs_model.specs.Owners.{Owners}
 use Rattle.mvs_model.specs.Pools.{Pool, in_parts, in_taken}
-use Rattle.mvs_model.specs.State.{plain, subpool_in, holder, is_plain, in_cell, granted}
+use Rattle.mvs_model.specs.State.{in_cell, granted}
 use Rattle.mvs_model.specs.Card.{CardValue}
 use Rattle.mvs_model.specs.Start.{regions_of, first_owners, start}
 use Rattle.mvs_model.specs.View.{in_pools, behind, holding, without_bytes, seen}
-use Rattle.mvs_model.specs.Changes.{GrantTo}
 use Rattle.mvs_model.proofs.Tables.{get-table_all, same_maps}
 use Rattle.mvs_model.proofs.Made.{get-retained}
 

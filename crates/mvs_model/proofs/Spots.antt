@@ -1,17 +1,14 @@
 -- The places of a label and their addresses.
-use Rattle.std.proofs.Common.{◌≡◌, ℕ, zero, suc, ◌+◌, ◌-◌, ◌*◌, ◌/◌, ◌%◌, ◌<◌, ◌≤◌, Bool, true, false, cond, List, [], ◌∷◌, map, Option, Some, None, ltb, leb, eqb, arith, refl, sym, ap, ◌∙◌, subst}
-use Rattle.std.specs.Prelude.{IsSome, is_some, ◌==◌, ◌&&◌, ◌||◌, nat_lt, nat_le}
-use Rattle.std.specs.List.{list_any, list_all}
+use Rattle.std.proofs.Common.{◌≡◌, ℕ, ◌+◌, ◌-◌, ◌<◌, ◌≤◌, Bool, true, false, Some, arith, refl, sym, ap, subst}
+use Rattle.std.specs.Prelude.{is_some, ◌==◌, ◌&&◌}
 use Rattle.std.proofs.lemmas.Bool.Decides.{nat_tests}
-use Rattle.std.specs.FinMap.{get}
 use Rattle.mvs_model.specs.Place.{PlaceValue, place_at}
-use Rattle.mvs_model.specs.Finite.{all_below}
-use Rattle.mvs_model.specs.Storage.{Covers, covers, has_address, IsWhole}
+use Rattle.mvs_model.specs.Storage.{has_address}
 use Rattle.mvs_model.specs.Job.{JobValue}
 use Rattle.mvs_model.specs.Labels.{Labels, Spot, has_offset, is_there}
 use Rattle.mvs_model.specs.Tidy.{Link}
 use Rattle.mvs_model.proofs.SeenAccess.{below_each}
-use Rattle.mvs_model.proofs.LinkLess.{some_there, there_some}
+use Rattle.mvs_model.proofs.LinkLess.{some_there}
 
 pub same_test : (a b : Bool) → (a ≡ true → b ≡ true) → (b ≡ true → a ≡ true) → a ≡ b
 same_test true b f g = sym (f refl)

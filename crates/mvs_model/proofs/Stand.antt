@@ -1,27 +1,27 @@
 -- The parts of the pools in storage, and in the state that it is.
-use Rattle.std.proofs.Common.{◌≡◌, ◌≢◌, ℕ, ◌+◌, ◌/◌, ◌<◌, ◌≤◌, inl, inr, Bool, true, false, cond, List, map, Option, Some, None, refl, sym, ap, ◌∙◌, arith}
+use Rattle.std.proofs.Common.{◌≡◌, ◌≢◌, ℕ, ◌/◌, ◌≤◌, inl, inr, Bool, true, false, cond, map, Option, Some, None, refl, sym, ap, ◌∙◌, arith}
 use Rattle.std.specs.Prelude.{is_some, ◌||◌}
-use Rattle.std.specs.List.{list_any, Contains}
+use Rattle.std.specs.List.{Contains}
 use Rattle.std.specs.Option.{option_map}
-use Rattle.std.proofs.lemmas.Map.Views.{Contains-from_any, list_any-from_Contains}
+use Rattle.std.proofs.lemmas.Map.Views.{Contains-from_any}
 use Rattle.std.specs.FinMap.{FinMap, get, keys, contains_key-keys, nat_cmp-IsAntisymmetric}
 use Rattle.std.specs.FinSet as set
 use Rattle.mvs_model.specs.declared.name.Name.{Name}
 use Rattle.mvs_model.specs.Name.{name_cmp}
 use Rattle.mvs_model.specs.Finite.{has}
-use Rattle.mvs_model.specs.Storage.{Storage, holder as held_by, IsStorage, IsWhole, HeldBy, Covers, covers}
+use Rattle.mvs_model.specs.Storage.{Storage, holder as held_by, IsStorage, IsWhole, HeldBy, Covers}
 use Rattle.mvs_model.specs.Owners.{Owners}
 use Rattle.mvs_model.specs.Pools.{Pool, Part, part_length, IsCell, in_parts, cell_at}
-use Rattle.mvs_model.specs.State.{State, Holding, plain, pooled, subpool_in, is_plain, in_cell, granted}
+use Rattle.mvs_model.specs.State.{pooled, subpool_in, is_plain, in_cell, granted}
 use Rattle.mvs_model.specs.View.{in_pools, holding, behind, without_bytes, state_of}
 use Rattle.mvs_model.specs.Changes.{Misses, Disjoint}
-use Rattle.mvs_model.specs.WellFormed.{Apart, IsPart}
+use Rattle.mvs_model.specs.WellFormed.{Apart}
 use Rattle.mvs_model.proofs.Orders.{same_name_is}
 use Rattle.mvs_model.proofs.Elements.{any_found, any_from}
 use Rattle.mvs_model.proofs.Tables.{get-table_all}
 use Rattle.mvs_model.proofs.Made.{get-retained}
 use Rattle.mvs_model.proofs.CellPlaces.{has_is, cell_inside}
-use Rattle.mvs_model.proofs.TakenCells.{InCell, in_cell_is, part_found, part_from}
+use Rattle.mvs_model.proofs.TakenCells.{in_cell_is, part_found, part_from}
 
 -- a doubleword in a part of a pool
 pub pooled_found : (pools : FinMap name_cmp Pool) (d : ℕ) → in_pools pools d ≡ true → (name : Name) × (pool : Pool) × (get pools name ≡ Some pool) × (in_parts pool d ≡ true)

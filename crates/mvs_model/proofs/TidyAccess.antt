@@ -1,36 +1,24 @@
 -- Reading and writing bytes on both machines, and the places that a request names.
-use Rattle.std.proofs.Common.{◌≡◌, ℕ, zero, suc, ◌+◌, ◌-◌, ◌*◌, ◌/◌, ◌%◌, ◌<◌, ◌≤◌, ◌⊎◌, inl, inr, Bool, true, false, cond, List, [], ◌∷◌, map, length, Option, Some, None, arith, refl, sym, ap, ◌∙◌, subst}
-use Rattle.std.specs.Prelude.{IsSome, is_some, not, ◌||◌, ◌&&◌, codes, slice_get, MatchOption}
-use Rattle.std.specs.Bool.{MatchBool}
+use Rattle.std.proofs.Common.{◌≡◌, ℕ, zero, suc, ◌+◌, ◌/◌, ◌<◌, ◌≤◌, Bool, true, false, List, [], ◌∷◌, map, Option, Some, None, arith, refl, sym, ap, ◌∙◌}
+use Rattle.std.specs.Prelude.{is_some, ◌&&◌}
 use Rattle.std.specs.List.{list_all, zip}
 use Rattle.std.specs.Option.{option_map, option_and_then, unwrap_or}
-use Rattle.std.proofs.lemmas.Option.{slice_get-get_or}
-use Rattle.std.specs.FinMap.{get, empty}
+use Rattle.std.specs.FinMap.{get}
 use Rattle.mvs_model.specs.declared.name.Name.{Name}
-use Rattle.mvs_model.specs.declared.code.Code.TheVariants.{System}
-use Rattle.mvs_model.specs.declared.line.Written.{Written}
 use Rattle.mvs_model.specs.declared.line.Location.{Location}
 use Rattle.mvs_model.specs.declared.line.Location.TheVariants.{Absolute, Named}
-use Rattle.mvs_model.specs.declared.request.Reply.{Reply}
-use Rattle.mvs_model.specs.declared.request.Reply.TheVariants.{Done}
 use Rattle.mvs_model.specs.Place.{PlaceValue, place_at, round8}
 use Rattle.mvs_model.specs.Finite.{has}
-use Rattle.mvs_model.specs.State.{State, plain, is_plain, granted}
-use Rattle.mvs_model.specs.Changes.{Writes}
-use Rattle.mvs_model.specs.Steps.{Abends, all_granted, Accesses, bytes_from, moved_from}
-use Rattle.mvs_model.specs.Texts.{data_lines}
+use Rattle.mvs_model.specs.State.{is_plain, granted}
+use Rattle.mvs_model.specs.Steps.{all_granted}
 use Rattle.mvs_model.specs.Job.{JobValue}
 use Rattle.mvs_model.specs.Replies.{bytes_at}
 use Rattle.mvs_model.specs.Resolving.{address_of, places_of}
-use Rattle.mvs_model.specs.Runs.{Tells}
-use Rattle.mvs_model.specs.Labels as labels
-use Rattle.mvs_model.specs.Labels.{Labels, Spot, spot, rounded, is_there, spot_of, spots_of, with_bytes, bytes_in}
+use Rattle.mvs_model.specs.Labels.{Labels, Spot, spot, rounded, is_there, spot_of, spots_of, bytes_in}
 use Rattle.mvs_model.specs.Tidy.{Link, is_set, is_good}
 use Rattle.mvs_model.proofs.LinkGone.{granted_is}
 use Rattle.mvs_model.proofs.LinkFree.{each_below}
-use Rattle.mvs_model.proofs.LinkWrite.{link_write}
-use Rattle.mvs_model.proofs.Spots.{span_of, there_at, first, second, both}
-use Rattle.mvs_model.proofs.TidyCases.{by_test, Made, Linked, Answer, turned, same_names, link_same}
+use Rattle.mvs_model.proofs.Spots.{span_of, there_at, both}
 
 module _ (job : JobValue) (m : Labels) (k : Link job m) where
   -- what is there may be read and written

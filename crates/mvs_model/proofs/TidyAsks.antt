@@ -1,11 +1,10 @@
 -- Each tidy request does the same on both machines.
-use Rattle.std.proofs.Common.{◌≡◌, ℕ, zero, suc, ◌+◌, ◌-◌, ◌*◌, ◌/◌, ◌%◌, ◌<◌, ◌≤◌, ◌⊎◌, inl, inr, Bool, true, false, cond, List, [], ◌∷◌, map, length, Option, Some, None, arith, refl, sym, ap, ◌∙◌, subst}
+use Rattle.std.proofs.Common.{◌≡◌, ℕ, ◌+◌, ◌-◌, ◌/◌, ◌<◌, Bool, true, false, List, [], ◌∷◌, map, length, Option, Some, None, arith, refl, sym, ap, ◌∙◌, subst}
 use Rattle.std.specs.Prelude.{IsSome, is_some, not, ◌||◌, ◌&&◌, ◌++◌, codes, slice_get, MatchOption}
-use Rattle.std.specs.Bool.{MatchBool}
 use Rattle.std.specs.List.{list_all, zip}
 use Rattle.std.specs.Option.{option_map, option_and_then, unwrap_or}
 use Rattle.std.proofs.lemmas.Option.{slice_get-get_or}
-use Rattle.std.specs.FinMap.{get, empty}
+use Rattle.std.specs.FinMap.{get}
 use Rattle.mvs_model.specs.declared.name.Name.{Name}
 use Rattle.mvs_model.specs.declared.code.Form.{Form}
 use Rattle.mvs_model.specs.declared.code.Code.TheVariants.{System, User}
@@ -15,7 +14,7 @@ use Rattle.mvs_model.specs.declared.line.Location.{Location}
 use Rattle.mvs_model.specs.declared.request.Request.{Request}
 use Rattle.mvs_model.specs.declared.request.Request.TheVariants as request
 use Rattle.mvs_model.specs.declared.request.Reply.{Reply}
-use Rattle.mvs_model.specs.declared.request.Reply.TheVariants.{NotRun, Granted, Listed, Done}
+use Rattle.mvs_model.specs.declared.request.Reply.TheVariants.{Done}
 use Rattle.mvs_model.specs.Place.{PlaceValue, place_at, round8}
 use Rattle.mvs_model.specs.Want.{AskValue, want_of, fixed_want}
 use Rattle.mvs_model.specs.Gifts.{GiftsValue}
@@ -24,20 +23,19 @@ use Rattle.mvs_model.specs.declared.want.Side.TheVariants.{Below}
 use Rattle.mvs_model.specs.Finite.{has}
 use Rattle.mvs_model.specs.Owners.{is_active, attach_refusal}
 use Rattle.mvs_model.specs.Changes.{Writes}
-use Rattle.mvs_model.specs.Steps.{Abends, Refuses, Acts, Step, all_granted, Accesses, bytes_from, moved_from, AttachCase, side_for}
+use Rattle.mvs_model.specs.Steps.{Acts, Step, all_granted, Accesses, bytes_from, moved_from, AttachCase, side_for}
 use Rattle.mvs_model.specs.Texts.{reply_line, data_lines, hex}
 use Rattle.mvs_model.specs.Job.{JobValue}
-use Rattle.mvs_model.specs.Replies.{bytes_at, grant_text, shown}
-use Rattle.mvs_model.specs.Resolving.{address_of, places_of, resolved}
+use Rattle.mvs_model.specs.Replies.{grant_text, shown}
+use Rattle.mvs_model.specs.Resolving.{address_of, resolved}
 use Rattle.mvs_model.specs.Runs.{Tells, Makes}
 use Rattle.mvs_model.specs.Labels as labels
 use Rattle.mvs_model.specs.Labels.{Labels, Spot, spot, rounded, is_there, spot_of, spots_of, area_of, with_bytes, bytes_in}
-use Rattle.mvs_model.specs.Tidy.{Link, InFull, AsksInFull, places_used, is_set, is_good, tidy_written}
-use Rattle.mvs_model.proofs.LinkLess.{there_some}
+use Rattle.mvs_model.specs.Tidy.{Link, InFull, AsksInFull, is_set, is_good, tidy_written}
 use Rattle.mvs_model.proofs.LinkNames.{fixed_all}
 use Rattle.mvs_model.proofs.LinkWrite.{link_write}
-use Rattle.mvs_model.proofs.Spots.{span_of, there_at, first, second, both}
-use Rattle.mvs_model.proofs.TidyCases.{by_test, passed, Made, made_of, Linked, Answer, turned, same_names, link_same, abends, obtains, obtains_list}
+use Rattle.mvs_model.proofs.Spots.{span_of, there_at, first, both}
+use Rattle.mvs_model.proofs.TidyCases.{by_test, passed, made_of, Linked, Answer, turned, same_names, link_same, abends, obtains, obtains_list}
 use Rattle.mvs_model.proofs.TidyReleases.{releases, releases_whole, attaches, returns}
 use Rattle.mvs_model.proofs.TidyAccess.{there_granted, shown_same, Found, unset, nameless, found, look, FoundAll, some_unset, some_nameless, all_found, look_all}
 

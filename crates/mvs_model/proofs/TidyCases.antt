@@ -1,45 +1,31 @@
 -- One request on both machines, from what is linked.
-use Rattle.std.proofs.Common.{◌≡◌, ℕ, zero, suc, ◌+◌, ◌-◌, ◌*◌, ◌/◌, ◌%◌, ◌<◌, ◌≤◌, ◌⊎◌, inl, inr, Bool, true, false, cond, List, [], ◌∷◌, map, Option, Some, None, arith, refl, sym, ap, ◌∙◌, subst}
-use Rattle.std.specs.Prelude.{IsSome, is_some, not, ◌||◌, ◌&&◌, ◌==◌, codes}
+use Rattle.std.proofs.Common.{◌≡◌, ℕ, ◌+◌, inl, inr, Bool, true, false, List, [], ◌∷◌, arith, refl, sym, ap, ◌∙◌, subst}
+use Rattle.std.specs.Prelude.{◌||◌, codes}
 use Rattle.std.specs.Bool.{MatchBool}
-use Rattle.std.specs.List.{list_any, list_all, AllByRecursion}
-use Rattle.std.specs.Option.{option_map}
-use Rattle.std.specs.FinMap.{get, empty}
 use Rattle.mvs_model.specs.declared.name.Name.{Name}
-use Rattle.mvs_model.specs.declared.want.Residence.{Residence}
 use Rattle.mvs_model.specs.declared.code.Form.{Form}
 use Rattle.mvs_model.specs.declared.code.Code.{Code}
-use Rattle.mvs_model.specs.declared.code.Code.TheVariants.{System, User}
 use Rattle.mvs_model.specs.declared.line.Written.{Written}
-use Rattle.mvs_model.specs.declared.line.Written.TheVariants as written
 use Rattle.mvs_model.specs.declared.request.Request.{Request}
-use Rattle.mvs_model.specs.declared.request.Request.TheVariants as request
 use Rattle.mvs_model.specs.declared.request.Reply.{Reply}
-use Rattle.mvs_model.specs.declared.request.Reply.TheVariants.{NotRun, Rc0, Rc4, Granted, Listed, Attached, Ended, Done, Abended}
-use Rattle.mvs_model.specs.Place.{PlaceValue, place_at, round8}
-use Rattle.mvs_model.specs.Gifts.{GiftsValue}
-use Rattle.mvs_model.specs.Want.{WantValue, fixed_want}
-use Rattle.mvs_model.specs.Finite.{has}
-use Rattle.mvs_model.specs.Storage.{IsWhole}
-use Rattle.mvs_model.specs.Owners.{Owners, keeper, attach_refusal, has_subtask, IsFallen, Ends, ends_with, Attach}
-use Rattle.mvs_model.specs.State.{State}
-use Rattle.mvs_model.specs.Codes.{family, is_conditional, short, bad_subpool, bad_address, not_held}
-use Rattle.mvs_model.specs.Changes.{GrantTo, ShortOf, ListGrant, ListShort, Frees, Drops, Empties, End}
-use Rattle.mvs_model.specs.Steps.{Abends, Refuses, Fails, is_invalid, ObtainStep, ObtainListStep, whole, on_doubleword, MayRelease, ReleaseStep, EmptiesEntry, ReleaseWholeStep, Attaches, AttachCase, ReturnStep}
+use Rattle.mvs_model.specs.declared.request.Reply.TheVariants.{Rc4, Granted, Listed, Abended}
+use Rattle.mvs_model.specs.Place.{PlaceValue, round8}
+use Rattle.mvs_model.specs.Want.{WantValue}
+use Rattle.mvs_model.specs.Owners.{keeper, IsFallen, Ends, ends_with}
+use Rattle.mvs_model.specs.Codes.{family, is_conditional, short, bad_subpool}
+use Rattle.mvs_model.specs.Changes.{GrantTo, ListGrant, Drops, End}
+use Rattle.mvs_model.specs.Steps.{Abends, Refuses, Fails, is_invalid, ObtainStep, ObtainListStep}
 use Rattle.mvs_model.specs.Texts.{reply_line}
 use Rattle.mvs_model.specs.Job.{JobValue}
-use Rattle.mvs_model.specs.Replies.{is_abend, reply_text, grant_text}
+use Rattle.mvs_model.specs.Replies.{is_abend, reply_text}
 use Rattle.mvs_model.specs.Resolving.{all_set, names_set, places_in}
 use Rattle.mvs_model.specs.Runs.{Makes}
 use Rattle.mvs_model.specs.Labels as labels
 use Rattle.mvs_model.specs.Labels.{Labels, Spot, rounded, has_offset, is_there, may_free, without, with_area, Grants, GrantsEach, all_named, Leaves}
 use Rattle.mvs_model.specs.Tidy.{Link, InFull}
-use Rattle.mvs_model.proofs.Operands.{whole_places}
-use Rattle.mvs_model.proofs.LinkLess.{Goes, link_less}
-use Rattle.mvs_model.proofs.LinkGone.{goes_freed, goes_dropped}
-use Rattle.mvs_model.proofs.LinkNames.{at_state, grant_one, grant_each, AllFixed, Placed, Agrees, agrees_all, link_named, link_owners}
-use Rattle.mvs_model.proofs.LinkFree.{AllWhole, free_may, may_be_free}
-use Rattle.mvs_model.proofs.Spots.{span_of, first, second}
+use Rattle.mvs_model.proofs.LinkLess.{link_less}
+use Rattle.mvs_model.proofs.LinkGone.{goes_dropped}
+use Rattle.mvs_model.proofs.LinkNames.{at_state, link_behind, grant_one, grant_each, AllFixed, Placed, Agrees, agrees_all, link_named}
 
 -- by cases on a test
 pub by_test : {P Q R : Type 0} (b : Bool) → MatchBool b P Q → (b ≡ true → P → R) → (b ≡ false → Q → R) → R
@@ -88,7 +74,7 @@ module _ (number : ℕ) (job new : JobValue) (m : Labels) (k : Link job m) (t : 
 
   -- nothing changes
   pub link_same : new.state ≡ job.state → new.names ≡ job.names → new.abended ≡ job.abended → Link new m
-  link_same st names abended = subst (λ j. Link j m) (λ i. record { state = sym st i; names = sym names i; abended = sym abended i }) k
+  link_same st names abended = subst (λ j. Link j m) (λ i. record { state = sym st i; names = sym names i; abended = sym abended i; former = new.former }) (link_behind job m new.former k)
 
   -- a task ends, by an abend or by its return
   pub ends : (code : Bool) → End job.state t new.state → new.names ≡ job.names → (a : Bool) → new.abended ≡ a → (e : End job.state t new.state)

@@ -1,10 +1,8 @@
 -- Releases, attaching and returns on both machines.
-use Rattle.std.proofs.Common.{◌≡◌, ℕ, zero, suc, ◌+◌, ◌-◌, ◌*◌, ◌/◌, ◌%◌, ◌<◌, ◌≤◌, ◌⊎◌, inl, inr, Bool, true, false, cond, List, [], ◌∷◌, map, Option, Some, None, arith, refl, sym, ap, ◌∙◌, subst}
-use Rattle.std.specs.Prelude.{IsSome, is_some, not, ◌||◌, ◌&&◌, ◌==◌, codes}
+use Rattle.std.proofs.Common.{◌≡◌, ℕ, ◌+◌, ◌%◌, ◌⊎◌, inl, inr, Bool, true, false, List, [], ◌∷◌, map, Option, Some, None, arith, refl, sym, ap, ◌∙◌, subst}
+use Rattle.std.specs.Prelude.{not, ◌&&◌, ◌==◌, codes}
 use Rattle.std.specs.Bool.{MatchBool}
 use Rattle.std.specs.List.{list_any, list_all, AllByRecursion}
-use Rattle.std.specs.Option.{option_map}
-use Rattle.std.specs.FinMap.{get, empty}
 use Rattle.mvs_model.specs.declared.name.Name.{Name}
 use Rattle.mvs_model.specs.declared.want.Residence.{Residence}
 use Rattle.mvs_model.specs.declared.code.Form.{Form}
@@ -12,27 +10,26 @@ use Rattle.mvs_model.specs.declared.code.Code.{Code}
 use Rattle.mvs_model.specs.declared.code.Code.TheVariants.{System, User}
 use Rattle.mvs_model.specs.declared.line.Written.{Written}
 use Rattle.mvs_model.specs.declared.request.Reply.{Reply}
-use Rattle.mvs_model.specs.declared.request.Reply.TheVariants.{NotRun, Rc0, Rc4, Granted, Listed, Attached, Ended, Done, Abended}
+use Rattle.mvs_model.specs.declared.request.Reply.TheVariants.{Rc0, Attached, Ended}
 use Rattle.mvs_model.specs.Place.{PlaceValue, place_at, round8}
 use Rattle.mvs_model.specs.Gifts.{GiftsValue}
 use Rattle.mvs_model.specs.Finite.{has}
 use Rattle.mvs_model.specs.Storage.{IsWhole}
-use Rattle.mvs_model.specs.Owners.{Owners, subpool_meant, attach_refusal, has_subtask, Attach}
-use Rattle.mvs_model.specs.State.{State}
+use Rattle.mvs_model.specs.Owners.{Owners, subpool_meant, has_subtask, Attach}
 use Rattle.mvs_model.specs.Codes.{family, is_conditional, bad_subpool, bad_address, not_held}
-use Rattle.mvs_model.specs.Changes.{Frees, Drops, Empties, End}
+use Rattle.mvs_model.specs.Changes.{Frees}
 use Rattle.mvs_model.specs.Steps.{Fails, is_invalid, whole, on_doubleword, MayRelease, ReleaseStep, EmptiesEntry, ReleaseWholeStep, AttachCase, ReturnStep}
 use Rattle.mvs_model.specs.Job.{JobValue}
 use Rattle.mvs_model.specs.Labels as labels
 use Rattle.mvs_model.specs.Labels.{Labels, Spot, rounded, has_offset, is_there, may_free, without, Leaves}
 use Rattle.mvs_model.specs.Tidy.{Link}
 use Rattle.mvs_model.proofs.Operands.{whole_places}
-use Rattle.mvs_model.proofs.LinkLess.{Goes, link_less}
+use Rattle.mvs_model.proofs.LinkLess.{link_less}
 use Rattle.mvs_model.proofs.LinkGone.{goes_freed, goes_dropped}
-use Rattle.mvs_model.proofs.LinkNames.{link_owners}
-use Rattle.mvs_model.proofs.LinkFree.{AllWhole, free_may, may_be_free}
-use Rattle.mvs_model.proofs.Spots.{span_of, first, second}
-use Rattle.mvs_model.proofs.TidyCases.{by_test, taken, passed, Made, Linked, Answer, turned, abends, fails, same_names, ends}
+use Rattle.mvs_model.proofs.LinkNames.{link_behind, link_owners}
+use Rattle.mvs_model.proofs.LinkFree.{free_may, may_be_free}
+use Rattle.mvs_model.proofs.Spots.{span_of}
+use Rattle.mvs_model.proofs.TidyCases.{by_test, taken, passed, Linked, Answer, turned, abends, fails, same_names, ends}
 
 so : (b : Bool) → not b ≡ false → b ≡ true
 so true e = refl
@@ -96,7 +93,7 @@ module _ (number : ℕ) (job new : JobValue) (m : Labels) (k : Link job m) (t : 
 
   -- the whole of a subpool
   emptied : (o : Option ℕ) → EmptiesEntry job.state o new.state → new.names ≡ job.names → new.abended ≡ job.abended → Link new (without m (λ l i. has (λ s. m.subpool l == s) o))
-  emptied None h names abended = subst (λ j. Link j m) (λ i. record { state = sym h i; names = sym names i; abended = sym abended i }) k
+  emptied None h names abended = subst (λ j. Link j m) (λ i. record { state = sym h i; names = sym names i; abended = sym abended i; former = new.former }) (link_behind job m new.former k)
   emptied (Some s) h names abended = link_less job new m k (λ l i. m.subpool l == s) (goes_dropped job m k (λ u. u == s) new.state h.drops) names m.owners (h.owners ∙ k.owners) m.abended (abended ∙ k.abended)
 
   pub releases_whole : (form : Form) (n : ℕ) (reply : Reply) → Answer number job new m k t a text reply → ReleaseWholeStep job.state t form n reply new.state → Linked number job new m k t a text (labels.Empties number m t form n text)

@@ -1,5 +1,5 @@
 -- A step as it stands between two lines.
-use Rattle.std.specs.Prelude.{Bool, false}
+use Rattle.std.specs.Prelude.{Bool, false, ◌||◌}
 use Rattle.std.specs.FinMap.{FinMap, empty}
 use Rattle.mvs_model.specs.Place.{PlaceValue}
 use Rattle.mvs_model.specs.Card.{CardValue}
@@ -7,12 +7,22 @@ use Rattle.mvs_model.specs.Name.{name_cmp}
 use Rattle.mvs_model.specs.State.{State}
 use Rattle.mvs_model.specs.Start.{start}
 
--- A step between two lines: the state of the machine, the places of the names that are set, and whether a task has abended.
+-- A step between two lines: the state of the machine, the places of the names that are set, whether a task of it has abended, and
+-- whether one of a former step has.
 pub record JobValue : Type 0 where
   pub state : State
   pub names : FinMap name_cmp PlaceValue
   pub abended : Bool
+  pub former : Bool
 
--- the step that begins with a card
+-- the step that begins with a card, behind steps of which a task has abended or not
+abbrev pub job_at : CardValue → Bool → JobValue
+job_at card former = record { state = start card; names = empty; abended = false; former = former }
+
+-- the first step
 abbrev pub first_job : CardValue → JobValue
-first_job card = record { state = start card; names = empty; abended = false }
+first_job card = job_at card false
+
+-- the step behind one that ends
+abbrev pub next_job : JobValue → CardValue → JobValue
+next_job old card = job_at card (old.abended || old.former)

@@ -1,5 +1,5 @@
 -- The label machine: areas without addresses, each granted in full. What it prints depends on no place.
-use Rattle.std.specs.Prelude.{◌≡◌, ◌⊎◌, ℕ, zero, suc, ◌+◌, ◌-◌, Bool, true, false, not, ◌&&◌, ◌==◌, nat_lt, List, [], ◌∷◌, ◌++◌, length, map, Option, Some, None, Result, Ok, Err, is_some, slice_get, if◌then◌else◌, MatchOption}
+use Rattle.std.specs.Prelude.{◌≡◌, ◌⊎◌, ℕ, zero, suc, ◌+◌, ◌-◌, Bool, true, false, not, ◌&&◌, ◌==◌, nat_lt, List, [], ◌∷◌, ◌++◌, length, map, Option, Some, None, is_some, slice_get, if◌then◌else◌, MatchOption}
 use Rattle.std.specs.Bool.{MatchBool}
 use Rattle.std.specs.List.{list_all, list_any}
 use Rattle.std.specs.Option.{option_map, option_and_then, unwrap_or}
@@ -17,7 +17,6 @@ use Rattle.mvs_model.specs.declared.line.Location.{Location}
 use Rattle.mvs_model.specs.declared.line.Location.TheVariants.{Absolute, Named}
 use Rattle.mvs_model.specs.declared.line.Written.{Written}
 use Rattle.mvs_model.specs.declared.line.Written.TheVariants as written
-use Rattle.mvs_model.specs.declared.line.Fault.{Fault}
 use Rattle.mvs_model.specs.declared.line.Fault.TheVariants.{OutOfPlace}
 use Rattle.mvs_model.specs.Place.{PlaceValue, place_at, round8}
 use Rattle.mvs_model.specs.Gifts.{GiftsValue}
@@ -31,7 +30,8 @@ use Rattle.mvs_model.specs.Codes.{family, is_conditional, bad_subpool, bad_addre
 use Rattle.mvs_model.specs.Steps.{is_invalid, on_doubleword, whole}
 use Rattle.mvs_model.specs.Texts.{reply_line, abend_lines, data_lines, line_count, region_text, fault_text, rc_0, rc_4, attached, ended, no_name, not_run, ok, step_ended}
 use Rattle.mvs_model.specs.Reports.{line_of_entry, subpools_lines}
-use Rattle.mvs_model.specs.Lines.{Reader, lines_of, card_of}
+use Rattle.mvs_model.specs.Lines.{lines_of, card_of}
+use Rattle.mvs_model.specs.Reading.{LineOf}
 use Rattle.mvs_model.specs.Replies.{grant_text}
 use Rattle.mvs_model.specs.Runs.{Faults}
 
@@ -264,22 +264,27 @@ Does number old t s text new = MatchBool (not (is_active old.owners t)) (Tells n
 abbrev pub first_labels : CardValue → Labels
 first_labels card = record { fill = card.fill; count = 0; subpool = λ l. 0; len = λ l. 0; byte = λ l i. None; owners = first_owners card.name card.residence; names = empty; abended = false }
 
--- a REGION statement begins the step
+-- a REGION statement begins the first step
 abbrev pub Begins : ℕ → Name → Statement → List ℕ → Option Labels → Type 0
 Begins number t (says.Region below above fill residence) text new =
     (text ≡ region_text number (card_of t below above fill residence)) × (new ≡ Some (first_labels (card_of t below above fill residence)))
 Begins number t _ text new = ⊥
 
--- what a line does, before the REGION statement or in the step
+-- a later one ends the step and begins the next, and the other statements are of the step
+abbrev pub Follows : ℕ → Labels → Name → Statement → List ℕ → Option Labels → Type 0
+Follows number old t (says.Region below above fill residence) text new =
+    (text ≡ step_ended old.abended ++ region_text number (card_of t below above fill residence)) × (new ≡ Some (first_labels (card_of t below above fill residence)))
+Follows number old t s text new = (later : Labels) × (new ≡ Some later) × Does number old t s text later
+
+-- what a line does, before the first step or in a step
 abbrev pub Serves : ℕ → Option Labels → Line → List ℕ → Option Labels → Type 0
 Serves number old line.Nothing text new = (text ≡ []) × (new ≡ old)
 Serves number None (line.Statement t s) text new = Begins number t s text new
-Serves number (Some m) (line.Statement t s) text new = (later : Labels) × (new ≡ Some later) × Does number m t s text later
+Serves number (Some m) (line.Statement t s) text new = Follows number m t s text new
 
--- what a line that is read so does; a fault lets nothing go on
-abbrev pub ServesRead : ℕ → Option Labels → Result Line Fault → List ℕ → Option Labels → Type 0
-ServesRead number old (Ok l) text new = Serves number old l text new
-ServesRead number old (Err fault) text new = ⊥
+-- what a line without a fault does
+abbrev pub ServesLine : ℕ → Option Labels → List ℕ → List ℕ → Option Labels → Type 0
+ServesLine number old bytes text new = (l : Line) × LineOf (not (is_some old)) bytes l × Serves number old l text new
 
 -- what is printed at the end of a script without a fault
 abbrev pub Closes : ℕ → Option Labels → List ℕ → Type 0
@@ -287,12 +292,12 @@ Closes number None text = text ≡ fault_text number OutOfPlace
 Closes number (Some m) text = text ≡ step_ended m.abended
 
 -- what the lines from this number on print
-abbrev pub Prints : Reader → ℕ → Option Labels → List (List ℕ) → List ℕ → Type 0
-Prints read number old [] text = Closes number old text
-Prints read number old (l ∷ lines) text =
-    Faults number (read l (not (is_some old))) text
-    ⊎ ((mid : Option Labels) × (first : List ℕ) × (rest : List ℕ) × ServesRead number old (read l (not (is_some old))) first mid × (text ≡ first ++ rest) × Prints read (number + 1) mid lines rest)
+abbrev pub Prints : ℕ → Option Labels → List (List ℕ) → List ℕ → Type 0
+Prints number old [] text = Closes number old text
+Prints number old (l ∷ lines) text =
+    Faults number (not (is_some old)) l text
+    ⊎ ((mid : Option Labels) × (first : List ℕ) × (rest : List ℕ) × ServesLine number old l first mid × (text ≡ first ++ rest) × Prints (number + 1) mid lines rest)
 
 -- The text is what the label machine prints for a script.
-abbrev pub IsLabelText : Reader → List ℕ → List ℕ → Type 0
-IsLabelText read script text = Prints read 1 None (lines_of script) text
+abbrev pub IsLabelText : List ℕ → List ℕ → Type 0
+IsLabelText script text = Prints 1 None (lines_of script) text

@@ -8,15 +8,12 @@ use Rattle.mvs_model.specs.State.{State, holder}
 use Rattle.mvs_model.specs.Steps.{Step, IsRequest}
 use Rattle.mvs_model.specs.WellFormed.{Apart}
 use Rattle.mvs_model.specs.Job.{JobValue}
-use Rattle.mvs_model.specs.Lines.{Reader, IsReader}
 use Rattle.mvs_model.specs.Runs.{Before, In, Runs}
 
--- The job is in a run of some lines, by some reader.
+-- The job is in a step of a run of some lines.
 pub record IsRunning (job : JobValue) : Type 0 where
-  pub read : Reader
-  pub is_reader : IsReader read
   pub lines : List (List ℕ)
-  pub runs : Runs read 1 Before lines (In job)
+  pub runs : Runs 1 Before lines (In job)
 
 -- In every state of a run each page is of one subpool.
 abbrev pub PagesKept : Type 0

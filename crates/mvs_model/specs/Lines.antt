@@ -1,5 +1,5 @@
--- The lines of a script, and how a reader reads them.
-use Rattle.std.specs.Prelude.{◌≡◌, ℕ, ◌≤◌, Bool, true, false, List, [], ◌∷◌, ◌==◌, Result, Ok, if◌then◌else◌}
+-- The lines of a script, and the ranges of what they say.
+use Rattle.std.specs.Prelude.{◌≡◌, ℕ, ◌≤◌, Bool, false, List, [], ◌∷◌, ◌==◌, Result, Ok, if◌then◌else◌}
 use Rattle.std.specs.List.{onto_first}
 use Rattle.mvs_model.specs.declared.name.Name.{Name}
 use Rattle.mvs_model.specs.declared.line.Line.{Line}
@@ -23,10 +23,6 @@ lines_of (b ∷ bs) = if b == 10 then [] ∷ lines_of bs else onto_first b (line
 abbrev pub card_of : Name → ℕ → ℕ → ℕ → Residence → CardValue
 card_of t below above fill residence = record { name = t; below = below; above = above; fill = fill; residence = residence }
 
--- How a line is read: as the first statement, or as a later one.
-abbrev pub Reader : Type 0
-Reader = List ℕ → Bool → Result Line Fault
-
 -- The operands of a statement are in their ranges.
 abbrev pub IsWritten : Written → Type 0
 IsWritten (written.Obtain form number ask variable area) = IsAsk ask
@@ -34,9 +30,9 @@ IsWritten (written.Build pool number size primary secondary loc) = (4 ≤ size) 
 IsWritten (written.Attach name gifts residence) = IsGifts gifts
 IsWritten _ = Unit {0}
 
--- Only the first statement is REGION, and its card is in its ranges.
+-- The first statement is REGION, the card of each is in its ranges, and so are the operands of a request.
 abbrev pub IsStatement : Bool → Name → Statement → Type 0
-IsStatement first t (says.Region below above fill residence) = (first ≡ true) × IsCard (card_of t below above fill residence)
+IsStatement first t (says.Region below above fill residence) = IsCard (card_of t below above fill residence)
 IsStatement first t (says.Request a) = (first ≡ false) × IsWritten a
 IsStatement first t (says.Where name) = first ≡ false
 IsStatement first t says.ReportSubpools = first ≡ false
@@ -46,7 +42,3 @@ IsStatement first t says.ReportMap = first ≡ false
 abbrev pub IsLine : Bool → Result Line Fault → Type 0
 IsLine first (Ok (line.Statement t s)) = IsStatement first t s
 IsLine first _ = Unit {0}
-
--- The reader takes a REGION statement first and only there, and answers operands in their ranges.
-abbrev pub IsReader : Reader → Type 0
-IsReader read = (l : List ℕ) (first : Bool) → IsLine first (read l first)

@@ -324,7 +324,7 @@ abbrev pub statement_checks : Bool → List ℕ → List ℕ → List (List ℕ)
 statement_checks first task operation operands =
     UnknownOperation when not (is_name task)
     ∷ UnknownOperation when is_empty (rows_of operation)
-    ∷ OutOfPlace when (if first then not (bytes_eq operation (codes "REGION")) else bytes_eq operation (codes "REGION"))
+    ∷ OutOfPlace when (first && not (bytes_eq operation (codes "REGION")))
     ∷ MissingOperand when (takes_form operation && (is_empty operands || has_key (form_in operation operands)))
     ∷ UnknownOperation when not (is_some (row_of operation operands))
     ∷ row_checks operands (row_of operation operands)

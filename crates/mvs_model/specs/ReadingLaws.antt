@@ -30,7 +30,7 @@ pub record OneReading : Type 0 where
   pub one_line : (first : Bool) (bytes : List ℕ) (l m : Line) → LineOf first bytes l → LineOf first bytes m → l ≡ m
   pub one_fault : (first : Bool) (bytes : List ℕ) (f g : Fault) → FaultOf first bytes f → FaultOf first bytes g → f ≡ g
 
--- one line for each fault, behind a REGION statement
+-- one line for each fault, behind a REGION statement but for the last
 pub record FaultExamples : Type 0 where
   pub range : FaultOf false (codes "JOB GETMAIN R,LV=0,A=X") OutOfRange
   pub missing : FaultOf false (codes "JOB GETMAIN R,LV=8") MissingOperand
@@ -39,7 +39,7 @@ pub record FaultExamples : Type 0 where
   pub not_taken : FaultOf false (codes "JOB GETMAIN R,LV=8,A=X,LOC=ANY") InvalidOperand
   pub unknown : FaultOf false (codes "JOB GETMAIN XX,LV=8,A=X") UnknownOperation
   pub no_number : FaultOf false (codes "JOB ATTACH TASK=T,GSPV=0") OutOfRange
-  pub again : FaultOf false (codes "JOB REGION BELOW=1") OutOfPlace
+  pub first_statement : FaultOf true (codes "JOB RETURN") OutOfPlace
 
 -- Each of these lines has this fault, behind a REGION statement.
 abbrev pub Have : Fault → List (List ℕ) → Type 0
@@ -73,8 +73,8 @@ pub record MoreFaults : Type 0 where
   pub not_ordered : FaultOf false (codes "JOB GETMAIN VC,LV=(9,10),A=X") OutOfRange
   pub empty_word : FaultOf false (codes "JOB CPOOL GET,,CPID=P,CELL=C") InvalidOperand
   pub half : FaultOf false (codes "JOB FREEMAIN R,LV=8") MissingOperand
+  pub next_step : FaultOf false (codes "JOB REGION BELOW=0") OutOfRange
   pub lists : FaultOf false (codes "JOB GETMAIN LC,LA=(8,8),A=(X)") Conflicting
-  pub first_statement : FaultOf true (codes "JOB RETURN") OutOfPlace
   pub blank_first : FaultOf false (codes " JOB RETURN") UnknownOperation
   pub abend_high : FaultOf false (codes "JOB ABEND 4096") OutOfRange
   pub show_high : FaultOf false (codes "JOB SHOW X,4097") OutOfRange
@@ -335,6 +335,7 @@ pub record LineExamples : Type 0 where
       codes "J CPOOL DELETE,CPID=P" ∷
       [])
   pub others_read : AreRead false (
+      codes "J REGION BELOW=1" ∷
       codes "J ATTACH TASK=T" ∷
       codes "J ATTACH TASK=T,GSPV=1,SHSPV=127,SZERO=YES,RES=BELOW" ∷
       codes "J ATTACH TASK=T,GSPV=127,SHSPV=1,SZERO=NO,RES=ABOVE" ∷

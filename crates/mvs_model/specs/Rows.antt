@@ -1,7 +1,6 @@
 -- Scripts that are tidy, and what the label machine prints for them.
-use Rattle.std.specs.Prelude.{◌≡◌, ℕ, ◌+◌, ◌^◌, Bool, true, false, List, [], ◌∷◌, ◌++◌, None, Ok, codes}
+use Rattle.std.specs.Prelude.{ℕ, Bool, true, false, List, [], ◌∷◌, None, codes}
 use Rattle.mvs_model.specs.declared.name.Name.{Name}
-use Rattle.mvs_model.specs.declared.code.Form.{Form}
 use Rattle.mvs_model.specs.declared.code.Form.TheVariants as form
 use Rattle.mvs_model.specs.declared.want.Loc.TheVariants as loc
 use Rattle.mvs_model.specs.declared.want.Residence.TheVariants.{Below}
@@ -13,20 +12,21 @@ use Rattle.mvs_model.specs.declared.line.Written.TheVariants.{Obtain, Attach, Re
 use Rattle.mvs_model.specs.Name.{padded}
 use Rattle.mvs_model.specs.Want.{AskValue}
 use Rattle.mvs_model.specs.Gifts.{GiftsValue}
-use Rattle.mvs_model.specs.Lines.{Reader, lines_of}
+use Rattle.mvs_model.specs.Lines.{lines_of}
+use Rattle.mvs_model.specs.Reading.{LineOf}
 use Rattle.mvs_model.specs.Labels.{IsLabelText}
 use Rattle.mvs_model.specs.Tidy.{Tidy}
 
 -- The lines are read as these statements.
-abbrev pub ReadsAs : Reader → Bool → List (List ℕ) → List (Name × Statement) → Type 0
-ReadsAs read first [] [] = Unit {0}
-ReadsAs read first [] (s ∷ ss) = ⊥
-ReadsAs read first (l ∷ ls) [] = ⊥
-ReadsAs read first (l ∷ ls) (s ∷ ss) = (read l first ≡ Ok (line.Statement s.0 s.1)) × ReadsAs read false ls ss
+abbrev pub ReadsAs : Bool → List (List ℕ) → List (Name × Statement) → Type 0
+ReadsAs first [] [] = Unit {0}
+ReadsAs first [] (s ∷ ss) = ⊥
+ReadsAs first (l ∷ ls) [] = ⊥
+ReadsAs first (l ∷ ls) (s ∷ ss) = LineOf first l (line.Statement s.0 s.1) × ReadsAs false ls ss
 
 -- Each script of these statements is tidy, and the label machine prints this text for it.
 abbrev pub ShowsTidy : List (Name × Statement) → List ℕ → Type 0
-ShowsTidy statements text = (read : Reader) (script : List ℕ) → ReadsAs read true (lines_of script) statements → Tidy read script × IsLabelText read script text
+ShowsTidy statements text = (script : List ℕ) → ReadsAs true (lines_of script) statements → Tidy script × IsLabelText script text
 
 -- the name of a text
 abbrev pub job : Name

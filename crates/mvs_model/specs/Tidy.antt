@@ -1,11 +1,10 @@
 -- Tidy scripts, runs that are granted in full, and how a state and the labels are linked.
-use Rattle.std.specs.Prelude.{◌≡◌, ◌≢◌, ◌⊎◌, ℕ, ◌+◌, ◌*◌, ◌/◌, ◌%◌, ◌<◌, Bool, true, false, not, ◌&&◌, ◌||◌, List, [], ◌∷◌, ◌++◌, length, map, Option, Some, None, Result, Ok, Err, is_some, IsSome, codes}
+use Rattle.std.specs.Prelude.{◌≡◌, ◌≢◌, ◌⊎◌, ℕ, ◌+◌, ◌*◌, ◌/◌, ◌%◌, ◌<◌, Bool, true, false, not, ◌||◌, List, [], ◌∷◌, ◌++◌, length, map, Option, Some, None, is_some, IsSome, codes}
 use Rattle.std.specs.Bool.{MatchBool}
 use Rattle.std.specs.List.{list_all, zip}
 use Rattle.std.specs.Option.{option_map, unwrap_or}
 use Rattle.std.specs.FinMap.{get, empty}
 use Rattle.mvs_model.specs.declared.name.Name.{Name}
-use Rattle.mvs_model.specs.declared.code.Code.{Code}
 use Rattle.mvs_model.specs.declared.code.Family.{Family}
 use Rattle.mvs_model.specs.declared.line.Line.{Line}
 use Rattle.mvs_model.specs.declared.line.Line.TheVariants as line
@@ -15,7 +14,6 @@ use Rattle.mvs_model.specs.declared.line.Location.{Location}
 use Rattle.mvs_model.specs.declared.line.Location.TheVariants.{Absolute, Named}
 use Rattle.mvs_model.specs.declared.line.Written.{Written}
 use Rattle.mvs_model.specs.declared.line.Written.TheVariants as written
-use Rattle.mvs_model.specs.declared.line.Fault.{Fault}
 use Rattle.mvs_model.specs.declared.outcome.Outcome.{Outcome}
 use Rattle.mvs_model.specs.declared.outcome.Outcome.TheVariants.{ScriptFault}
 use Rattle.mvs_model.specs.declared.request.Request.{Request}
@@ -28,9 +26,10 @@ use Rattle.mvs_model.specs.Owners.{is_active}
 use Rattle.mvs_model.specs.State.{Holding, plain}
 use Rattle.mvs_model.specs.Codes.{short}
 use Rattle.mvs_model.specs.Job.{JobValue}
-use Rattle.mvs_model.specs.Lines.{Reader, lines_of, IsReader}
+use Rattle.mvs_model.specs.Lines.{lines_of}
+use Rattle.mvs_model.specs.Reading.{LineOf}
 use Rattle.mvs_model.specs.Resolving.{resolved}
-use Rattle.mvs_model.specs.Runs.{Stage, Before, In, is_before, Makes, Tells, Says, Does, Serves, ServesRead, Faults, Closes, Prints}
+use Rattle.mvs_model.specs.Runs.{Stage, Before, In, is_before, Makes, Tells, Says, Follows, Serves, Faults, Closes}
 use Rattle.mvs_model.specs.Laws.{IsRunning}
 use Rattle.mvs_model.specs.Labels as labels
 use Rattle.mvs_model.specs.Labels.{Labels, spot, is_there, IsLabelText}
@@ -71,21 +70,24 @@ tidy_statement m (says.Where name) = not (is_some (get m.names name))
 tidy_statement m says.ReportSubpools = true
 tidy_statement m says.ReportMap = false
 
--- A line is tidy, where its task is active.
-abbrev pub TidyLine : Option Labels → Result Line Fault → Type 0
-TidyLine (Some m) (Ok (line.Statement t s)) = is_active m.owners t ≡ true → tidy_statement m s ≡ true
-TidyLine _ _ = Unit {0}
+-- A statement in a step is tidy, where its task is active.
+abbrev pub IsTidy : Labels → Name → Statement → Type 0
+IsTidy m t s = is_active m.owners t ≡ true → tidy_statement m s ≡ true
+
+-- A line is tidy, where it says such a statement.
+abbrev pub TidyLine : Option Labels → List ℕ → Type 0
+TidyLine None bytes = Unit {0}
+TidyLine (Some m) bytes = (t : Name) (s : Statement) → LineOf false bytes (line.Statement t s) → IsTidy m t s
 
 -- Each of the lines is tidy where the label machine comes to it.
-abbrev pub TidyLines : Reader → ℕ → Option Labels → List (List ℕ) → Type 0
-TidyLines read number old [] = Unit {0}
-TidyLines read number old (l ∷ lines) =
-    TidyLine old (read l (not (is_some old)))
-    × ((text : List ℕ) (new : Option Labels) → labels.ServesRead number old (read l (not (is_some old))) text new → TidyLines read (number + 1) new lines)
+abbrev pub TidyLines : ℕ → Option Labels → List (List ℕ) → Type 0
+TidyLines number old [] = Unit {0}
+TidyLines number old (l ∷ lines) =
+    TidyLine old l × ((text : List ℕ) (new : Option Labels) → labels.ServesLine number old l text new → TidyLines (number + 1) new lines)
 
 -- A script that uses no cell pools, no addresses, and of its areas only what is there.
-abbrev pub Tidy : Reader → List ℕ → Type 0
-Tidy read script = TidyLines read 1 None (lines_of script)
+abbrev pub Tidy : List ℕ → Type 0
+Tidy script = TidyLines 1 None (lines_of script)
 
 -- whether a request obtains areas
 abbrev pub is_obtain : Request → Bool
@@ -117,21 +119,29 @@ SaysInFull number old t s text new = Says number old t s text new
 abbrev pub DoesInFull : ℕ → JobValue → Name → Statement → List ℕ → JobValue → Type 0
 DoesInFull number old t s text new = MatchBool (not (is_active old.state.owners t)) (Tells number old t (codes "NOT RUN") text new) (SaysInFull number old t s text new)
 
+-- the same where it may also end the step
+abbrev pub FollowsInFull : ℕ → JobValue → Name → Statement → List ℕ → Stage → Type 0
+FollowsInFull number old t (says.Region below above fill residence) text new = Follows number old t (says.Region below above fill residence) text new
+FollowsInFull number old t s text new = (later : JobValue) × (new ≡ In later) × DoesInFull number old t s text later
+
 -- the same of a line
-abbrev pub ServesInFull : ℕ → Stage → Result Line Fault → List ℕ → Stage → Type 0
-ServesInFull number (In job) (Ok (line.Statement t s)) text new = (later : JobValue) × (new ≡ In later) × DoesInFull number job t s text later
-ServesInFull number old read text new = ServesRead number old read text new
+abbrev pub ServesInFull : ℕ → Stage → Line → List ℕ → Stage → Type 0
+ServesInFull number (In job) (line.Statement t s) text new = FollowsInFull number job t s text new
+ServesInFull number old l text new = Serves number old l text new
+
+abbrev pub ServesLineInFull : ℕ → Stage → List ℕ → List ℕ → Stage → Type 0
+ServesLineInFull number old bytes text new = (l : Line) × LineOf (is_before old) bytes l × ServesInFull number old l text new
 
 -- The lines from this number on may print this text, each request granted in full.
-abbrev pub PrintsInFull : Reader → ℕ → Stage → List (List ℕ) → List ℕ → Outcome → Type 0
-PrintsInFull read number old [] text outcome = Closes number old text outcome
-PrintsInFull read number old (l ∷ lines) text outcome =
-    (Faults number (read l (is_before old)) text × (outcome ≡ ScriptFault))
-    ⊎ ((mid : Stage) × (first : List ℕ) × (rest : List ℕ) × ServesInFull number old (read l (is_before old)) first mid × (text ≡ first ++ rest) × PrintsInFull read (number + 1) mid lines rest outcome)
+abbrev pub PrintsInFull : ℕ → Stage → List (List ℕ) → List ℕ → Outcome → Type 0
+PrintsInFull number old [] text outcome = Closes number old text outcome
+PrintsInFull number old (l ∷ lines) text outcome =
+    (Faults number (is_before old) l text × (outcome ≡ ScriptFault))
+    ⊎ ((mid : Stage) × (first : List ℕ) × (rest : List ℕ) × ServesLineInFull number old l first mid × (text ≡ first ++ rest) × PrintsInFull (number + 1) mid lines rest outcome)
 
 -- The text is the printing of a run of the script that was granted in full.
-abbrev pub IsPrintingInFull : Reader → List ℕ → List ℕ → Outcome → Type 0
-IsPrintingInFull read script text outcome = PrintsInFull read 1 Before (lines_of script) text outcome
+abbrev pub IsPrintingInFull : List ℕ → List ℕ → Outcome → Type 0
+IsPrintingInFull script text outcome = PrintsInFull 1 Before (lines_of script) text outcome
 
 -- Areas have whole doublewords; there are bytes only inside of areas, and names only of areas.
 pub record IsLabels (m : Labels) : Type 0 where
@@ -162,19 +172,18 @@ pub record Link (job : JobValue) (m : Labels) : Type 0 where
 abbrev pub TidyStep : Type 0
 TidyStep =
     (number : ℕ) (job : JobValue) (m : Labels) (t : Name) (s : Statement) (text : List ℕ) (new : JobValue)
-    → IsRunning job → Link job m → TidyLine (Some m) (Ok (line.Statement t s)) → DoesInFull number job t s text new
+    → IsRunning job → Link job m → IsTidy m t s → DoesInFull number job t s text new
     → (later : Labels) × labels.Does number m t s text later × Link new later
 
 -- Each run of a tidy script that is granted in full prints what the label machine prints.
 abbrev pub TidyText : Type 0
-TidyText = (read : Reader) (script text : List ℕ) (outcome : Outcome) → IsReader read → Tidy read script → IsPrintingInFull read script text outcome → IsLabelText read script text
+TidyText = (script text : List ℕ) (outcome : Outcome) → Tidy script → IsPrintingInFull script text outcome → IsLabelText script text
 
 -- The label machine prints one text.
 abbrev pub OneLabelText : Type 0
-OneLabelText = (read : Reader) (script one other : List ℕ) → IsLabelText read script one → IsLabelText read script other → one ≡ other
+OneLabelText = (script one other : List ℕ) → IsLabelText script one → IsLabelText script other → one ≡ other
 
 -- Two runs of a tidy script that are granted in full print the same, wherever their areas lie.
 abbrev pub PlacesDoNotMatter : Type 0
 PlacesDoNotMatter =
-    (read : Reader) (script one other : List ℕ) (o p : Outcome) → IsReader read → Tidy read script
-    → IsPrintingInFull read script one o → IsPrintingInFull read script other p → one ≡ other
+    (script one other : List ℕ) (o p : Outcome) → Tidy script → IsPrintingInFull script one o → IsPrintingInFull script other p → one ≡ other

@@ -1,31 +1,30 @@
 -- Bytes of a script that come in pieces.
-use Rattle.std.proofs.Common.{◌≡◌, ◌≢◌, ℕ, ◌+◌, ◌≤◌, ◌<◌, List, [], ◌∷◌, ◌++◌, length, take, drop, arith, ap, refl, ◌∙◌, sym, append_assoc, append-nil, true, false, Bool, Result, Ok, Err, Option, Some, None, ltb, lt-ltb, length-append, IfOk, IfErr, MatchResult, MatchBool, MatchOption, add-one, get_or, inl, inr, subst, zero, suc}
+use Rattle.std.proofs.Common.{◌≡◌, ◌≢◌, ℕ, ◌+◌, ◌≤◌, ◌<◌, List, [], ◌∷◌, ◌++◌, length, take, drop, arith, ap, refl, ◌∙◌, sym, append_assoc, append-nil, true, false, Bool, Result, Ok, Err, Option, Some, None, lt-ltb, length-append, IfOk, IfErr, MatchResult, add-one, get_or, inl, inr, subst, zero, suc}
 use Rattle.std.specs.List.{onto_first, AllByRecursion}
-use Rattle.std.specs.Io.KnownBytes.{Appends, Consumes, Keeps}
+use Rattle.std.specs.Io.KnownBytes.{Consumes, Keeps}
 use Rattle.std.proofs.KnownBytes.{Appends-kept, Consumes-kept, Consumes-nil, Consumes-trans, Keeps-refl}
 use Rattle.std.proofs.lemmas.List.{take-append-drop, length-take-le, take_more}
 use Rattle.std.proofs.Math.Seq.{drop-cons, take-add}
-use Rattle.mvs_model.specs.declared.line.Fault.{Fault}
 use Rattle.mvs_model.specs.declared.line.Fault.TheVariants.{TooLong}
-use Rattle.mvs_model.specs.declared.line.Line.{Line}
 use Rattle.mvs_model.specs.declared.outcome.Outcome.{Outcome}
 use Rattle.mvs_model.specs.declared.outcome.Outcome.TheVariants.{ScriptFault}
 use Rattle.mvs_model.specs.Lines.{lines_of}
-use Rattle.mvs_model.specs.Runs.{Stage, Before, IsPrinting, is_before}
-use Rattle.job_script.specs.Lines.{line_of}
+use Rattle.mvs_model.specs.Runs.{Stage, Before, IsPrinting, is_before, ServesLine, Faults}
+use Rattle.mvs_model.specs.Reading.{FaultOf}
+use Rattle.mvs_model.specs.Texts.{fault_text}
+use Rattle.mvs_model.proofs.Reading.{one_reading}
 use Rattle.mvsjob.specs.declared.job.Stop.{Stop}
 use Rattle.mvsjob.specs.Serving.{RunsLine}
 use Rattle.mvs_model.specs.Labels.{IsLabelText}
 use Rattle.mvs_model.specs.Tidy.{Tidy, IsPrintingInFull}
 use Rattle.mvs_model.proofs.TidySteps.{tidy_text}
-use Rattle.job_script.proofs.InRanges.{line_of-IsReader}
 use Rattle.mvsjob.specs.declared.job.Stop.TheVariants as why
 use Rattle.mvsjob.specs.declared.run.RunFault.{RunFault}
 use Rattle.mvsjob.specs.declared.run.RunFault.TheVariants.{Write, Memory, ReadTooLong}
 use Rattle.mvsjob.specs.Streams.{Progress, Printed, PrintedFront, Stands, Feeds, FeedsSome, Finishes, IsUnderWay, HasEnded, HasBroken, HasGivenUp, fault_of}
 use Rattle.mvsjob.specs.Writing.{Exchanges}
-use Rattle.mvsjob.proofs.FirstLine.{lines_at_feed, lines_at_other}
-use Rattle.mvsjob.proofs.Running.{progress_start, progress_next, progress_fault, progress_stopped, progress_end, progress_in_end, progress_front}
+use Rattle.mvsjob.proofs.FirstLine.{lines_at_other}
+use Rattle.mvsjob.proofs.Running.{progress_start, progress_next, progress_fault, progress_stopped, progress_front}
 
 -- ---- lines
 
@@ -68,14 +67,23 @@ all_before (b ∷ bytes) (suc end) none fits = (none 0 (omega arith), all_before
 split_at : (bytes : List ℕ) (end : ℕ) → end < length bytes → get_or bytes end 0 ≡ 10 → bytes ≡ take end bytes ++ 10 ∷ drop (end + 1) bytes
 split_at bytes end h e = sym (rw (← e, add-one, ← drop-cons bytes end 0 h) (take-append-drop end bytes))
 
--- a line that is too long is read as one, however it goes on
-line_of_long : (line : List ℕ) (first : Bool) → 255 < length line → line_of line first ≡ Err TooLong
-line_of_long line first long = rw (lt-ltb 255 (length line) long) refl
+-- a line that is too long has that fault, however it goes on
+is_too_long : (line : List ℕ) (first : Bool) → 255 < length line → FaultOf first line TooLong
+is_too_long line first long = rw (lt-ltb 255 (length line) long) refl
 
-longer_same : (line rest : List ℕ) (first : Bool) → 255 < length line → line_of line first ≡ line_of (line ++ rest) first
-longer_same line rest first long =
+long_faults : (number : ℕ) (first : Bool) (line rest text : List ℕ) → 255 < length line → Faults number first line text → Faults number first (line ++ rest) text
+long_faults number first line rest text long f =
     let longer : 255 < length (line ++ rest) = rw (length-append line rest) (omega arith) in
-    line_of_long line first long ∙ sym (line_of_long (line ++ rest) first longer)
+    (TooLong, is_too_long (line ++ rest) first longer, f.2 ∙ ap (fault_text number) (one_reading.one_fault first line f.0 TooLong f.1 (is_too_long line first long)))
+
+not_served : (number : ℕ) (s s' : Stage) (line text : List ℕ) → 255 < length line → ServesLine number s line text s' → ⊥
+not_served number s s' line text long h = one_reading.not_both (is_before s) line h.0 TooLong h.1 (is_too_long line (is_before s) long)
+
+-- so what is run of its front is run of the whole
+long_stopped : (before after : Option (List ℕ)) (number : ℕ) (s s' : Stage) (line rest : List ℕ) (stop : Stop) → 255 < length line → RunsLine before after number s line s' (Err stop) → RunsLine before after number s (line ++ rest) s' (Err stop)
+long_stopped before after number s s' line rest stop long (inl kept) = inl kept
+long_stopped before after number s s' line rest stop long (inr (text, inl serves, front)) = absurd (not_served number s serves.0 line text long serves.1)
+long_stopped before after number s s' line rest stop long (inr (text, inr faults, front)) = inr (text, inr (long_faults number (is_before s) line rest text long faults), front)
 
 -- ---- a piece
 
@@ -90,7 +98,7 @@ stands_many start now told n s kept line st none = record {
 }
 
 -- a line feed ends the line that is kept
-pub feeds_line : (before after : Option (List ℕ)) (n : ℕ) (s s' : Stage) (k : List ℕ) (r : Result Bool Stop) → RunsLine before after n s (line_of k (is_before s)) s' r → Feeds before after (10 ∷ []) n s k (n + 1) s' [] r
+pub feeds_line : (before after : Option (List ℕ)) (n : ℕ) (s s' : Stage) (k : List ℕ) (r : Result Bool Stop) → RunsLine before after n s k s' r → Feeds before after (10 ∷ []) n s k (n + 1) s' [] r
 feeds_line before after n s s' k (Ok true) h = λ start told st. record {
   progress = λ more. rw (append_assoc told (10 ∷ []) more) (progress_next start before after (told ++ 10 ∷ more) n s (lines_of (k ++ 10 ∷ more)) (st.progress (10 ∷ more)) s' k (lines_of more) (lines_ended k more st.one_line) h);
   one_line = tt;
@@ -101,24 +109,24 @@ feeds_line before after n s s' k (Err stop) h = λ start told st more.
     progress_stopped start before after (told ++ 10 ∷ more) n s (lines_of (k ++ 10 ∷ more)) (st.progress (10 ∷ more)) s' k (lines_of more) stop (lines_ended k more st.one_line) h
 
 -- the 256th byte of a line
-pub feeds_full : (before after : Option (List ℕ)) (n : ℕ) (s s' : Stage) (b : ℕ) (k : List ℕ) (r : Result Bool Stop) → RunsLine before after n s (line_of (k ++ b ∷ []) (is_before s)) s' r → 255 < length (k ++ b ∷ []) → b ≢ 10 → Feeds before after (b ∷ []) n s k (n + 1) s' [] r
-feeds_full before after n s s' b k (Ok true) h long ne = absurd (subst (λ read. RunsLine before after n s read s' (Ok true)) (line_of_long (k ++ b ∷ []) (is_before s) long) h).2
+pub feeds_full : (before after : Option (List ℕ)) (n : ℕ) (s s' : Stage) (b : ℕ) (k : List ℕ) (r : Result Bool Stop) → RunsLine before after n s (k ++ b ∷ []) s' r → 255 < length (k ++ b ∷ []) → b ≢ 10 → Feeds before after (b ∷ []) n s k (n + 1) s' [] r
+feeds_full before after n s s' b k (Ok true) h long ne = absurd (not_served n s s' (k ++ b ∷ []) h.0 long h.2)
 feeds_full before after n s s' b k (Ok false) h long ne = λ start told st more.
     let line = k ++ b ∷ [] in
     let x = begins line more long (all_both k (b ∷ []) st.one_line (ne, tt)) in
-    let ran = subst (λ read. RunsLine before after n s read s' (Ok false)) (longer_same line x.0 (is_before s) long) h in
+    let ran : RunsLine before after n s (line ++ x.0) s' (Ok false) = (h.0, h.1, long_faults n (is_before s) line x.0 h.0 long h.2) in
     progress_fault start before after (told ++ b ∷ more) n s (lines_of (k ++ b ∷ more)) (st.progress (b ∷ more)) s' (line ++ x.0) x.1 (ap lines_of (sym (append_assoc k (b ∷ []) more)) ∙ x.2) ran
 feeds_full before after n s s' b k (Err stop) h long ne = λ start told st more.
     let line = k ++ b ∷ [] in
     let x = begins line more long (all_both k (b ∷ []) st.one_line (ne, tt)) in
-    let ran = subst (λ read. RunsLine before after n s read s' (Err stop)) (longer_same line x.0 (is_before s) long) h in
+    let ran = long_stopped before after n s s' line x.0 stop long h in
     progress_stopped start before after (told ++ b ∷ more) n s (lines_of (k ++ b ∷ more)) (st.progress (b ∷ more)) s' (line ++ x.0) x.1 stop (ap lines_of (sym (append_assoc k (b ∷ []) more)) ∙ x.2) ran
 
 -- the same two, as a call of end_line leaves the job
-pub fed_line : (before after : Option (List ℕ)) (n n' : ℕ) (s s' : Stage) (b : ℕ) (k line k' : List ℕ) (r : Result Bool Stop) → RunsLine before after n s (line_of line (is_before s)) s' r → (b ≡ 10) × (line ≡ k) → n' ≡ n + 1 → k' ≡ [] → Feeds before after (b ∷ []) n s k n' s' k' r
+pub fed_line : (before after : Option (List ℕ)) (n n' : ℕ) (s s' : Stage) (b : ℕ) (k line k' : List ℕ) (r : Result Bool Stop) → RunsLine before after n s line s' r → (b ≡ 10) × (line ≡ k) → n' ≡ n + 1 → k' ≡ [] → Feeds before after (b ∷ []) n s k n' s' k' r
 fed_line before after n n' s s' b k line k' r h pushed e f = rw (pushed.0, e, f) (feeds_line before after n s s' k r (rw (pushed.1) at h))
 
-pub fed_full : (before after : Option (List ℕ)) (n n' : ℕ) (s s' : Stage) (b : ℕ) (k line k' : List ℕ) (r : Result Bool Stop) → RunsLine before after n s (line_of line (is_before s)) s' r → (b ≢ 10) × (line ≡ k ++ b ∷ []) × (length line ≡ 256) → n' ≡ n + 1 → k' ≡ [] → Feeds before after (b ∷ []) n s k n' s' k' r
+pub fed_full : (before after : Option (List ℕ)) (n n' : ℕ) (s s' : Stage) (b : ℕ) (k line k' : List ℕ) (r : Result Bool Stop) → RunsLine before after n s line s' r → (b ≢ 10) × (line ≡ k ++ b ∷ []) × (length line ≡ 256) → n' ≡ n + 1 → k' ≡ [] → Feeds before after (b ∷ []) n s k n' s' k' r
 fed_full before after n n' s s' b k line k' r h pushed e f =
     let long : 255 < length (k ++ b ∷ []) = rw (← pushed.1) (omega arith) in
     rw (e, f) (feeds_full before after n s s' b k r (rw (pushed.1) at h) long pushed.0)
@@ -153,16 +161,16 @@ module _ (before after : Option (List ℕ)) (bytes : List ℕ) (end n : ℕ) (s 
   line_stands : Stands start before (told ++ take end bytes) n s (take end bytes)
   line_stands = stands_many start before told n s [] (take end bytes) st (all_before bytes end none (omega arith))
 
-  pub whole_on : RunsLine before after n s (line_of (take end bytes) (is_before s)) s' (Ok true) → Stands start after (told ++ take (end + 1) bytes) (n + 1) s' []
+  pub whole_on : RunsLine before after n s (take end bytes) s' (Ok true) → Stands start after (told ++ take (end + 1) bytes) (n + 1) s' []
   whole_on h =
       let taken : (told ++ take end bytes) ++ 10 ∷ [] ≡ told ++ take (end + 1) bytes = append_assoc told (take end bytes) (10 ∷ []) ∙ ap (λ x. told ++ x) (ap (λ b. take end bytes ++ b ∷ []) (sym found) ∙ sym (take_more bytes end 0 fits)) in
       subst (λ x. Stands start after x (n + 1) s' []) taken (feeds_line before after n s s' (take end bytes) (Ok true) h start (told ++ take end bytes) line_stands)
 
-  pub whole_fault : RunsLine before after n s (line_of (take end bytes) (is_before s)) s' (Ok false) → (more : List ℕ) → Printed start after (told ++ (bytes ++ more)) ScriptFault
+  pub whole_fault : RunsLine before after n s (take end bytes) s' (Ok false) → (more : List ℕ) → Printed start after (told ++ (bytes ++ more)) ScriptFault
   whole_fault h more =
       subst (λ x. Printed start after x ScriptFault) (feed_split told bytes more end fits found) (feeds_line before after n s s' (take end bytes) (Ok false) h start (told ++ take end bytes) line_stands (drop (end + 1) bytes ++ more))
 
-  pub whole_stopped : (stop : Stop) → RunsLine before after n s (line_of (take end bytes) (is_before s)) s' (Err stop) → (more : List ℕ) → PrintedFront start after (told ++ (bytes ++ more))
+  pub whole_stopped : (stop : Stop) → RunsLine before after n s (take end bytes) s' (Err stop) → (more : List ℕ) → PrintedFront start after (told ++ (bytes ++ more))
   whole_stopped stop h more =
       subst (λ x. PrintedFront start after x) (feed_split told bytes more end fits found) (feeds_line before after n s s' (take end bytes) (Err stop) h start (told ++ take end bytes) line_stands (drop (end + 1) bytes ++ more))
 
@@ -181,15 +189,15 @@ module _ (before after : Option (List ℕ)) (bytes : List ℕ) (n n' : ℕ) (s s
 -- the same, as a call leaves the job
 module _ (before after : Option (List ℕ)) (bytes : List ℕ) (end n n' : ℕ) (s s' : Stage) (k k' : List ℕ)
     (at : (end < length bytes) × (get_or bytes end 0 ≡ 10) × ((j : ℕ) → j < end → get_or bytes j 0 ≢ 10)) (empty : k ≡ []) (next : n' ≡ n + 1) (cleared : k' ≡ []) where
-  pub fed_whole_on : (b : Bool) → b ≡ true → RunsLine before after n s (line_of (take end bytes) (is_before s)) s' (Ok b) → FeedsSome before after bytes n s k n' s' k' (Ok (Some (end + 1)))
+  pub fed_whole_on : (b : Bool) → b ≡ true → RunsLine before after n s (take end bytes) s' (Ok b) → FeedsSome before after bytes n s k n' s' k' (Ok (Some (end + 1)))
   fed_whole_on b is h = λ start told st.
-      rw (next, cleared) (whole_on before after bytes end n s s' at.0 at.1 at.2 start told (rw empty at st) (subst (λ b. RunsLine before after n s (line_of (take end bytes) (is_before s)) s' (Ok b)) is h))
+      rw (next, cleared) (whole_on before after bytes end n s s' at.0 at.1 at.2 start told (rw empty at st) (subst (λ b. RunsLine before after n s (take end bytes) s' (Ok b)) is h))
 
-  pub fed_whole_fault : (b : Bool) → b ≡ false → RunsLine before after n s (line_of (take end bytes) (is_before s)) s' (Ok b) → FeedsSome before after bytes n s k n' s' k' (Ok None)
+  pub fed_whole_fault : (b : Bool) → b ≡ false → RunsLine before after n s (take end bytes) s' (Ok b) → FeedsSome before after bytes n s k n' s' k' (Ok None)
   fed_whole_fault b is h = λ start told st.
-      whole_fault before after bytes end n s s' at.0 at.1 at.2 start told (rw empty at st) (subst (λ b. RunsLine before after n s (line_of (take end bytes) (is_before s)) s' (Ok b)) is h)
+      whole_fault before after bytes end n s s' at.0 at.1 at.2 start told (rw empty at st) (subst (λ b. RunsLine before after n s (take end bytes) s' (Ok b)) is h)
 
-  pub fed_whole_stopped : (stop : Stop) → RunsLine before after n s (line_of (take end bytes) (is_before s)) s' (Err stop) → FeedsSome before after bytes n s k n' s' k' (Err stop)
+  pub fed_whole_stopped : (stop : Stop) → RunsLine before after n s (take end bytes) s' (Err stop) → FeedsSome before after bytes n s k n' s' k' (Err stop)
   fed_whole_stopped stop h = λ start told st.
       whole_stopped before after bytes end n s s' at.0 at.1 at.2 start told (rw empty at st) stop h
 
@@ -232,15 +240,15 @@ last_one start now told n s (b ∷ k) st some = rw (append-nil told, append-nil 
 
 -- the last line, as a call leaves the job
 module _ (start now later : Option (List ℕ)) (told : List ℕ) (n n' : ℕ) (s s' : Stage) (k : List ℕ) (st : Stands start now told n s k) (some : length k ≡ 0 → ⊥) where
-  pub last_line : (b : Bool) → b ≡ true → n' ≡ n + 1 → RunsLine now later n s (line_of k (is_before s)) s' (Ok b) → Progress start later told n' s' []
+  pub last_line : (b : Bool) → b ≡ true → n' ≡ n + 1 → RunsLine now later n s k s' (Ok b) → Progress start later told n' s' []
   last_line b is next h =
-      rw next (progress_next start now later told n s (k ∷ []) (last_one start now told n s k st some) s' k [] refl (subst (λ b. RunsLine now later n s (line_of k (is_before s)) s' (Ok b)) is h))
+      rw next (progress_next start now later told n s (k ∷ []) (last_one start now told n s k st some) s' k [] refl (subst (λ b. RunsLine now later n s k s' (Ok b)) is h))
 
-  pub last_fault : (b : Bool) → b ≡ false → RunsLine now later n s (line_of k (is_before s)) s' (Ok b) → Printed start later told ScriptFault
+  pub last_fault : (b : Bool) → b ≡ false → RunsLine now later n s k s' (Ok b) → Printed start later told ScriptFault
   last_fault b is h =
-      progress_fault start now later told n s (k ∷ []) (last_one start now told n s k st some) s' k [] refl (subst (λ b. RunsLine now later n s (line_of k (is_before s)) s' (Ok b)) is h)
+      progress_fault start now later told n s (k ∷ []) (last_one start now told n s k st some) s' k [] refl (subst (λ b. RunsLine now later n s k s' (Ok b)) is h)
 
-  pub last_stopped : (stop : Stop) → RunsLine now later n s (line_of k (is_before s)) s' (Err stop) → PrintedFront start later told
+  pub last_stopped : (stop : Stop) → RunsLine now later n s k s' (Err stop) → PrintedFront start later told
   last_stopped stop h = progress_stopped start now later told n s (k ∷ []) (last_one start now told n s k st some) s' k [] stop refl h
 
 -- ---- a read
@@ -324,8 +332,8 @@ pub ended_within : (unread left start now : Option (List ℕ)) (most : ℕ) (out
 ended_within unread left start now most outcome h enough = (h.0, h.1, h.2, h.3, (omega (arith, h.4.0, enough), h.4.1))
 
 pub ended_tidy : (unread left start now : Option (List ℕ)) (most : ℕ) (outcome : Outcome) → HasEnded unread left start now most outcome
-    → Exchanges unread left start now (λ told written. IsPrinting line_of told written outcome × (Tidy line_of told → IsPrintingInFull line_of told written outcome → IsLabelText line_of told written))
-ended_tidy unread left start now most outcome h = (h.0, h.1, h.2, h.3, (h.4.1, λ tidy full. tidy_text line_of h.0 h.1 outcome line_of-IsReader tidy full))
+    → Exchanges unread left start now (λ told written. IsPrinting told written outcome × (Tidy told → IsPrintingInFull told written outcome → IsLabelText told written))
+ended_tidy unread left start now most outcome h = (h.0, h.1, h.2, h.3, (h.4.1, λ tidy full. tidy_text h.0 h.1 outcome tidy full))
 
 pub given_up_within : (unread left start now : Option (List ℕ)) (count : ℕ) (fault : RunFault) → HasGivenUp unread left start now count fault → count ≡ 16777215 → HasGivenUp unread left start now 16777215 fault
 given_up_within unread left start now count fault h e = subst (λ n. HasGivenUp unread left start now n fault) e h

@@ -1,6 +1,6 @@
 -- The lines of the map, one after another.
 use Rattle.std.proofs.Common.{◌≡◌, ◌≢◌, ◌⊎◌, ℕ, zero, suc, ◌+◌, ◌-◌, ◌*◌, ◌<◌, ◌≤◌, ◌++◌, List, [], ◌∷◌, Bool, true, false, cond, inl, inr, Option, None, Some, codes, refl, ap, sym, subst, ◌∙◌, append_assoc, append-nil, ne_eqb, arith}
-use Rattle.std.specs.Prelude.{◌==◌, decimal}
+use Rattle.std.specs.Prelude.{◌==◌}
 use Rattle.std.proofs.lemmas.Bool.{cases_lt}
 use Rattle.std.proofs.lemmas.Bool.Decides.{nat_tests}
 use Rattle.std.specs.FinMap.{get}

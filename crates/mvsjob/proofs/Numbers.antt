@@ -1,15 +1,15 @@
 -- The lines of the numbers that a task has, one after another.
-use Rattle.std.proofs.Common.{◌≡◌, ℕ, zero, suc, ◌+◌, ◌<◌, ◌≤◌, ◌⊎◌, ◌++◌, List, [], ◌∷◌, Bool, true, false, inl, inr, Option, None, Some, codes, decimal, length, length-append, refl, ap, sym, ◌∙◌, add-one, append_assoc, append-nil, subst, arith}
+use Rattle.std.proofs.Common.{◌≡◌, ℕ, zero, suc, ◌+◌, ◌<◌, ◌≤◌, ◌⊎◌, ◌++◌, List, [], ◌∷◌, inl, inr, Option, codes, decimal, length, length-append, refl, ap, sym, ◌∙◌, add-one, append_assoc, append-nil, subst, arith}
 use Rattle.std.proofs.lemmas.Bool.{cases_lt}
 use Rattle.std.specs.Io.KnownBytes.{Appends}
 use Rattle.std.proofs.KnownBytes.{Appends-trans}
 use Rattle.mvs_model.specs.declared.name.Name.{Name}
 use Rattle.mvs_model.specs.declared.report.SubpoolLine.{SubpoolLine}
 use Rattle.mvs_model.specs.Name.{trimmed}
-use Rattle.mvs_model.specs.Owners.{entry, owns}
+use Rattle.mvs_model.specs.Owners.{entry}
 use Rattle.mvs_model.specs.State.{State}
 use Rattle.mvs_model.specs.Texts.{reply_line}
-use Rattle.mvs_model.specs.Reports.{each_below, entry_line, or_none, bytes_held, subpools_text}
+use Rattle.mvs_model.specs.Reports.{each_below, entry_line, or_none, subpools_text}
 use Rattle.request_forms.specs.Reports.{HasNone, IsSubpoolLine}
 use Rattle.mvsjob.specs.Reports.{subpool_said}
 use Rattle.mvsjob.specs.Writing.{AppendsFront}

@@ -1,5 +1,5 @@
 -- Requests as they are written, and what they mean.
-use Rattle.std.proofs.Common.{◌≡◌, ℕ, ◌+◌, ◌-◌, ◌*◌, ◌/◌, ◌<◌, ◌≤◌, ◌⊎◌, inl, inr, Bool, true, false, List, [], ◌∷◌, Option, Some, None, refl, ap, sym, subst, ◌∙◌, arith, codes, length, suc, add-zero}
+use Rattle.std.proofs.Common.{◌≡◌, ℕ, ◌+◌, ◌-◌, ◌/◌, ◌<◌, inl, inr, Bool, true, false, List, [], ◌∷◌, Option, Some, None, refl, ap, sym, subst, ◌∙◌, arith, codes, length, suc, add-zero}
 use Rattle.std.specs.Prelude.{All, IfSome, not, slice_get, unwrap_or}
 use Rattle.std.specs.Bool.{MatchBool}
 use Rattle.std.specs.Option.{option_map, option_and_then}
@@ -15,7 +15,7 @@ use Rattle.mvs_model.specs.declared.line.Written.TheVariants as written
 use Rattle.mvs_model.specs.declared.request.Request.{Request}
 use Rattle.mvs_model.specs.declared.request.Request.TheVariants as request
 use Rattle.mvs_model.specs.declared.request.Reply.{Reply}
-use Rattle.mvs_model.specs.declared.request.Reply.TheVariants.{NotRun, Rc0, Rc4, Granted, Listed, Cell, NoCell, Attached, Ended, Done, Abended}
+use Rattle.mvs_model.specs.declared.request.Reply.TheVariants.{NotRun, Rc4, NoCell, Done, Abended}
 use Rattle.mvs_model.specs.Name.{name_cmp}
 use Rattle.mvs_model.specs.Place.{PlaceValue, place_at}
 use Rattle.mvs_model.specs.Want.{WantValue}
@@ -24,7 +24,7 @@ use Rattle.mvs_model.specs.State.{State, granted}
 use Rattle.mvs_model.specs.Changes as changes
 use Rattle.mvs_model.specs.Changes.{GrantTo, ListGrant, ListShort, ShortOf}
 use Rattle.mvs_model.specs.Pools.{Pool, cell_at}
-use Rattle.mvs_model.specs.Steps.{Step, Acts, Abends, Fails, Refuses, ObtainStep, ObtainListStep, Gets, GetsNone, GetStep, all_granted, Accesses, is_invalid}
+use Rattle.mvs_model.specs.Steps.{Step, Abends, Fails, ObtainStep, ObtainListStep, Gets, GetsNone, GetStep, all_granted, Accesses, is_invalid}
 use Rattle.mvs_model.specs.Codes.{is_conditional}
 use Rattle.mvs_model.specs.Owners.{is_active, keeper}
 use Rattle.mvs_model.specs.Texts.{reply_line, data_lines}

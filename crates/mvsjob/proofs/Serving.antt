@@ -1,6 +1,9 @@
 -- A statement that is served.
-use Rattle.std.proofs.Common.{◌≡◌, ℕ, ◌||◌, Bool, true, false, not, MatchBool, Option, Some, List, Result, Ok, Err, inl, inr, codes, sym, subst, refl, ap, None, ◌++◌, ◌∙◌, []}
+use Rattle.std.proofs.Common.{◌≡◌, ℕ, ◌||◌, Bool, true, false, not, MatchBool, Option, Some, List, Result, Ok, Err, inl, inr, codes, sym, subst, refl, ap, None, ◌++◌, ◌∙◌, [], append_assoc, append-nil}
 use Rattle.std.specs.Option.{is_some}
+use Rattle.std.proofs.KnownBytes.{Appends-trans}
+use Rattle.std.specs.Io.KnownBytes.{Appends}
+use Rattle.mvsjob.proofs.Appending.{Appends-kept}
 use Rattle.mvsjob.specs.Writing.{AppendsFront}
 use Rattle.std.specs.Prelude.{decimal}
 use Rattle.mvs_model.specs.Card.{CardValue}
@@ -21,16 +24,18 @@ use Rattle.mvs_model.specs.State.{State}
 use Rattle.mvs_model.specs.Reports.{map_text, subpools_text}
 use Rattle.mvs_model.specs.Owners.{is_active}
 use Rattle.mvsjob.specs.declared.job.Stop.{Stop}
-use Rattle.mvsjob.specs.Serving.{Performs, RunsLine, stage_of}
-use Rattle.mvs_model.specs.Job.{JobValue, first_job}
+use Rattle.mvsjob.specs.Serving.{Performs, RunsLine, stage_of, card_said}
+use Rattle.mvs_model.specs.Job.{JobValue, job_at}
+use Rattle.mvs_model.specs.Lines.{card_of}
+use Rattle.mvs_model.specs.Reading.{LineOf, FaultOf, IsReading}
 use Rattle.mvs_model.specs.Replies.{where_text, is_abend, reply_text}
 use Rattle.mvs_model.specs.Resolving.{resolved, all_set, names_set, places_in}
-use Rattle.mvs_model.specs.Runs.{Stage, In, Begins, Serves, ServesRead, Does, Says, Tells, Asks, is_before}
+use Rattle.mvs_model.specs.Runs.{Stage, In, Serves, ServesLine, Follows, Faults, Does, Says, Tells, Asks, is_before}
 
 -- A request that is made, and whose names are set.
-pub made : (number : ℕ) (old : JobValue) (t : Name) (a : Written) (r : Request) (reply : Reply) (new : JobValue) → resolved old.names a ≡ Some r → Step old.state t r reply new.state → new.names ≡ all_set old.names (names_set a) (places_in reply) → new.abended ≡ (old.abended || is_abend reply)
+pub made : (number : ℕ) (old : JobValue) (t : Name) (a : Written) (r : Request) (reply : Reply) (new : JobValue) → resolved old.names a ≡ Some r → Step old.state t r reply new.state → new.names ≡ all_set old.names (names_set a) (places_in reply) → new.abended ≡ (old.abended || is_abend reply) → new.former ≡ old.former
     → Asks number old t a (resolved old.names a) (reply_text number t old a reply) new
-made number old t a r reply new is step names abended = subst (λ o. Asks number old t a o (reply_text number t old a reply) new) (sym is) (record { reply = reply; step = step; names = names; abended = abended; text_is = refl })
+made number old t a r reply new is step names abended former = subst (λ o. Asks number old t a o (reply_text number t old a reply) new) (sym is) (record { reply = reply; step = step; names = names; abended = abended; former = former; text_is = refl })
 
 -- A task that is not active is told so.
 pub told_inactive : (number : ℕ) (old : JobValue) (t : Name) (s : Statement) → is_active old.state.owners t ≡ false → Does number old t s (reply_line number t (codes "NOT RUN")) old
@@ -63,25 +68,30 @@ subpools_does number old t s st same is active = subst (λ s. Does number old t 
 pub map_does : (number : ℕ) (old : JobValue) (t : Name) (s : Statement) (st : State) → st ≡ old.state → s ≡ says.ReportMap → is_active old.state.owners t ≡ true → Does number old t s (map_text number st t) old
 map_does number old t s st same is active = subst (λ s. Does number old t s (map_text number st t) old) (sym is) (does_said number old t says.ReportMap _ old active (ap (λ x. map_text number x t) same, refl))
 
--- What is said of a region is what its statement prints.
-pub begins_said : (number : ℕ) (t : Name) (s : Statement) (card : CardValue) (said : List ℕ) (job : JobValue) → Begins number t s (region_text number card) (In (first_job card))
-    → card.name ≡ t → said ≡ codes "REGION BELOW " ++ decimal card.below ++ codes " ABOVE " ++ decimal card.above → job ≡ first_job card → Begins number t s (reply_line number t said) (In job)
-begins_said number t s card said job begins name is start =
-    subst (λ j. Begins number t s (reply_line number t said) (In j)) (sym start)
-    (subst (λ text. Begins number t s text (In (first_job card))) (λ i. reply_line number (name i) (sym is i)) begins)
+-- What is said of a region is the text of its card.
+pub said_region : (number : ℕ) (t : Name) (card : CardValue) (said : List ℕ) → t ≡ card.name → said ≡ codes "REGION BELOW " ++ decimal card.below ++ codes " ABOVE " ++ decimal card.above → reply_line number t said ≡ region_text number card
+said_region number t card said name is = λ i. reply_line number (name i) (is i)
 
--- In a step a statement is served as it says.
-pub serves_in : (number : ℕ) (old : Option JobValue) (job : JobValue) (t : Name) (s : Statement) (text : List ℕ) (new : JobValue) → old ≡ Some job → Does number job t s text new → Serves number (stage_of old) (line.Statement t s) text (In new)
-serves_in number old job t s text new is does = subst (λ o. Serves number (stage_of o) (line.Statement t s) text (In new)) (sym is) (new, refl, does)
+-- Another statement is of the step that runs.
+follows_in : (number : ℕ) (job : JobValue) (t : Name) (s : Statement) (text : List ℕ) (new : JobValue) → card_said t s ≡ None → Does number job t s text new → Follows number job t s text (In new)
+follows_in number job t (says.Region below above fill residence) text new is does = absurd (let f : Some (card_of t below above fill residence) ≡ None = is in cc)
+follows_in number job t (says.Request a) text new is does = (new, refl, does)
+follows_in number job t (says.Where name) text new is does = (new, refl, does)
+follows_in number job t says.ReportSubpools text new is does = (new, refl, does)
+follows_in number job t says.ReportMap text new is does = (new, refl, does)
 
--- Before the step it begins it.
-pub serves_before : (number : ℕ) (old : Option JobValue) (t : Name) (s : Statement) (text : List ℕ) (new : Stage) → old ≡ None → Begins number t s text new → Serves number (stage_of old) (line.Statement t s) text new
-serves_before number old t s text new is begins = subst (λ o. Serves number (stage_of o) (line.Statement t s) text new) (sym is) begins
+pub serves_in : (number : ℕ) (old : Option JobValue) (job : JobValue) (t : Name) (s : Statement) (text : List ℕ) (new : JobValue) → old ≡ Some job → card_said t s ≡ None → Does number job t s text new → Serves number (stage_of old) (line.Statement t s) text (In new)
+serves_in number old job t s text new is of_step does = subst (λ o. Serves number (stage_of o) (line.Statement t s) text (In new)) (sym is) (follows_in number job t s text new of_step does)
 
--- A line whose statement is served, or whose serving stops, is run.
-pub runs_stopped : (before after : Option (List ℕ)) (number : ℕ) (old new : Stage) (read : Result Line Fault) (l : Line) (stop : Stop) → read ≡ Ok l → Performs (Serves number old l) before after new (Err stop) → RunsLine before after number old read new (Err stop)
-runs_stopped before after number old new read l stop is (inl kept) = inl kept
-runs_stopped before after number old new read l stop is (inr h) = inr (h.0, inl (h.1, subst (λ r. ServesRead number old r h.0 h.1) (sym is) h.2), h.3)
+-- What a line says is served.
+pub line_served : (number : ℕ) (old new : Stage) (first : Bool) (bytes : List ℕ) (read : Result Line Fault) (l : Line) (text : List ℕ) → first ≡ is_before old → IsReading first bytes read → read ≡ Ok l → Serves number old l text new → ServesLine number old bytes text new
+line_served number old new first bytes read l text same reading is serves = (l, subst (λ first. LineOf first bytes l) same (subst (IsReading first bytes) is reading), serves)
+
+-- A line whose serving stops is run.
+pub runs_stopped : (before after : Option (List ℕ)) (number : ℕ) (old new : Stage) (first : Bool) (bytes : List ℕ) (read : Result Line Fault) (l : Line) (stop : Stop) → first ≡ is_before old → IsReading first bytes read → read ≡ Ok l
+    → Performs (Serves number old l) before after new (Err stop) → RunsLine before after number old bytes new (Err stop)
+runs_stopped before after number old new first bytes read l stop same reading is (inl kept) = inl kept
+runs_stopped before after number old new first bytes read l stop same reading is (inr h) = inr (h.0, inl (h.1, line_served number old h.1 first bytes read l h.0 same reading is h.2), h.3)
 
 -- whether no statement came before
 pub first_is : (o : Option JobValue) (b : Bool) → is_some o ≡ not b → b ≡ is_before (stage_of o)
@@ -91,9 +101,41 @@ first_is (Some job) true e = absurd (let f : true ≡ false = e in cc)
 first_is (Some job) false e = refl
 
 -- A line that says nothing is served.
-pub nothing_served : (number : ℕ) (old : Stage) (read : Result Line Fault) (l : Line) → read ≡ Ok l → l ≡ line.Nothing → ServesRead number old read [] old
-nothing_served number old read l is nothing = subst (λ r. ServesRead number old r [] old) (sym (is ∙ ap (λ x. Ok x) nothing)) (refl, refl)
+pub nothing_served : (number : ℕ) (old : Stage) (first : Bool) (bytes : List ℕ) (read : Result Line Fault) (l : Line) → first ≡ is_before old → IsReading first bytes read → read ≡ Ok l → l ≡ line.Nothing → ServesLine number old bytes [] old
+nothing_served number old first bytes read l same reading is nothing = line_served number old old first bytes read line.Nothing [] same reading (is ∙ ap (λ x. Ok x) nothing) (refl, refl)
+
+-- A fault that is printed.
+pub line_faults : (number : ℕ) (old : Stage) (first : Bool) (bytes : List ℕ) (read : Result Line Fault) (fault : Fault) → first ≡ is_before old → IsReading first bytes read → read ≡ Err fault → Faults number (is_before old) bytes (fault_text number fault)
+line_faults number old first bytes read fault same reading is = (fault, subst (λ first. FaultOf first bytes fault) same (subst (IsReading first bytes) is reading), refl)
 
 -- A fault of which a front was printed.
-pub faults_in_front : (before after : Option (List ℕ)) (number : ℕ) (old new : Stage) (read : Result Line Fault) (fault : Fault) (stop : Stop) → read ≡ Err fault → AppendsFront before after (fault_text number fault) → RunsLine before after number old read new (Err stop)
-faults_in_front before after number old new read fault stop is front = inr (fault_text number fault, inr (fault, is, refl), front)
+pub faults_in_front : (before after : Option (List ℕ)) (number : ℕ) (old new : Stage) (bytes : List ℕ) (fault : Fault) (stop : Stop) → Faults number (is_before old) bytes (fault_text number fault) → AppendsFront before after (fault_text number fault) → RunsLine before after number old bytes new (Err stop)
+faults_in_front before after number old new bytes fault stop faults front = inr (fault_text number fault, inr faults, front)
+
+-- The end of a step and the beginning of the next are one text.
+pub both_written : (before mid after : Option (List ℕ)) (first second : List ℕ) → Appends before mid first → AppendsFront mid after second → AppendsFront before after (first ++ second)
+both_written before mid after first second a f =
+    (first ++ f.0, f.1, ap (λ x. first ++ x) f.2 ∙ sym (append_assoc first f.0 f.1), Appends-trans before mid after first f.0 a f.3)
+
+pub front_written : (before after : Option (List ℕ)) (first second : List ℕ) → AppendsFront before after first → AppendsFront before after (first ++ second)
+front_written before after first second f = (f.0, f.1 ++ second, ap (λ x. x ++ second) f.2 ∙ append_assoc f.0 f.1 second, f.3)
+
+-- what one call begins that another has ended
+abbrev Begun : ℕ → CardValue → Bool → List ℕ → Stage → Type 0
+Begun number card former text new = (text ≡ region_text number card) × (new ≡ In (job_at card former))
+
+abbrev pub Turned : ℕ → CardValue → List ℕ → Bool → List ℕ → Stage → Type 0
+Turned number card first former text new = (text ≡ first ++ region_text number card) × (new ≡ In (job_at card former))
+
+pub turned : (before mid after : Option (List ℕ)) (number : ℕ) (card : CardValue) (former so_far : Bool) (first : List ℕ) (new : Stage) (result : Result Unit Stop) → former ≡ so_far → Appends before mid first
+    → Performs (Begun number card former) mid after new result → Performs (Turned number card first so_far) before after new result
+turned before mid after number card former so_far first new (Ok u) same a p =
+    (first ++ p.0, Appends-trans before mid after first p.0 a p.1, (ap (λ x. first ++ x) p.2.0, p.2.1 ∙ ap (λ b. In (job_at card b)) same))
+turned before mid after number card former so_far first new (Err stop) same a (inl kept) =
+    inr (first ++ region_text number card, In (job_at card so_far), (refl, refl), front_written before after first (region_text number card) (first, [], sym (append-nil first), Appends-kept before mid after first a kept))
+turned before mid after number card former so_far first new (Err stop) same a (inr h) =
+    inr (first ++ h.0, In (job_at card so_far), (ap (λ x. first ++ x) h.2.0, refl), both_written before mid after first h.0 a h.3)
+
+-- or has not ended
+pub not_turned : (before after : Option (List ℕ)) (number : ℕ) (card : CardValue) (so_far : Bool) (first : List ℕ) (new : Stage) (stop : Stop) → AppendsFront before after first → Performs (Turned number card first so_far) before after new (Err stop)
+not_turned before after number card so_far first new stop front = inr (first ++ region_text number card, In (job_at card so_far), (refl, refl), front_written before after first (region_text number card) front)

@@ -1,5 +1,5 @@
 -- What the words of the command line say, the program's name first. (this project's choice)
-use Rattle.std.specs.Prelude.{◌≡◌, ℕ, List, [], ◌∷◌, codes, map, Option, Some, true}
+use Rattle.std.specs.Prelude.{◌≡◌, List, [], ◌∷◌, codes, map, Option, Some, true}
 use Rattle.clap.specs.Words.{App, Text, first_of, matches_of, new_app, new_rule, takes, with_rule}
 use Rattle.clap.specs.Walk.{Rule}
 use Rattle.clap.specs.declared.builder.value_parser.ValueParser.{ValueParser}

@@ -1,5 +1,5 @@
 -- A job that takes its script as it comes.
-use Rattle.std.specs.Prelude.{◌≡◌, ◌≢◌, ℕ, ◌+◌, ◌≤◌, List, [], ◌∷◌, ◌++◌, length, take, ◌<◌, Option, Result, Bool, MatchBool, MatchOption, MatchResult}
+use Rattle.std.specs.Prelude.{◌≡◌, ◌≢◌, ℕ, ◌+◌, ◌≤◌, List, ◌++◌, length, take, ◌<◌, Option, Result, Bool, MatchBool, MatchOption, MatchResult}
 use Rattle.std.specs.List.{AllByRecursion}
 use Rattle.std.specs.Io.KnownBytes.{Appends, Consumes}
 use Rattle.mvs_model.specs.declared.outcome.Outcome.{Outcome}
@@ -7,7 +7,6 @@ use Rattle.mvs_model.specs.declared.outcome.Outcome.TheVariants.{ScriptFault}
 use Rattle.mvs_model.specs.Lines.{lines_of}
 use Rattle.mvs_model.specs.Runs.{Stage, IsPrinting, IsPrintingFront}
 use Rattle.mvs_model.proofs.Going.{Reaches}
-use Rattle.job_script.specs.Lines.{line_of}
 use Rattle.mvsjob.specs.declared.job.Stop.{Stop}
 use Rattle.mvsjob.specs.declared.job.Stop.TheVariants as stop
 use Rattle.mvsjob.specs.declared.run.RunFault.{RunFault}
@@ -20,14 +19,14 @@ use Rattle.mvsjob.specs.Writing.{Exchanges}
 pub record Progress (start now : Option (List ℕ)) (script : List ℕ) (number : ℕ) (stage : Stage) (left : List (List ℕ)) : Type 0 where
   pub written : List ℕ
   pub appended : Appends start now written
-  pub reached : Reaches line_of (lines_of script) written number stage left
+  pub reached : Reaches (lines_of script) written number stage left
 
 -- the whole printing, or a front of one
 abbrev pub Printed : Option (List ℕ) → Option (List ℕ) → List ℕ → Outcome → Type 0
-Printed start now script outcome = (written : List ℕ) × Appends start now written × IsPrinting line_of script written outcome
+Printed start now script outcome = (written : List ℕ) × Appends start now written × IsPrinting script written outcome
 
 abbrev pub PrintedFront : Option (List ℕ) → Option (List ℕ) → List ℕ → Type 0
-PrintedFront start now script = (written : List ℕ) × Appends start now written × IsPrintingFront line_of script written
+PrintedFront start now script = (written : List ℕ) × Appends start now written × IsPrintingFront script written
 
 -- After the bytes that were told the job stands here, with these bytes kept of a line that has not ended: however the script goes on,
 -- what stands between the two moments of the writer is the printing of a run up to here.
@@ -61,10 +60,10 @@ IsUnderWay unread left start now count number stage kept =
 
 -- The job ended so, or broke off, when at most so many bytes were told.
 abbrev pub HasEnded : Option (List ℕ) → Option (List ℕ) → Option (List ℕ) → Option (List ℕ) → ℕ → Outcome → Type 0
-HasEnded unread left start now most outcome = Exchanges unread left start now (λ told written. (length told ≤ most) × IsPrinting line_of told written outcome)
+HasEnded unread left start now most outcome = Exchanges unread left start now (λ told written. (length told ≤ most) × IsPrinting told written outcome)
 
 abbrev pub HasBroken : Option (List ℕ) → Option (List ℕ) → Option (List ℕ) → Option (List ℕ) → ℕ → Type 0
-HasBroken unread left start now most = Exchanges unread left start now (λ told written. (length told ≤ most) × IsPrintingFront line_of told written)
+HasBroken unread left start now most = Exchanges unread left start now (λ told written. (length told ≤ most) × IsPrintingFront told written)
 
 -- What one read of at most so many bytes and what it told did, to a job that had been told count bytes.
 abbrev pub Takes : Option (List ℕ) → Option (List ℕ) → Option (List ℕ) → Option (List ℕ) → ℕ → ℕ → ℕ → Stage → List ℕ → Turn → Type 0
@@ -73,7 +72,7 @@ Takes unread left start now count room number stage kept (Ended outcome) = HasEn
 
 -- The job gave up behind so many bytes that were told, or behind one more, which made the script too long.
 abbrev pub HasGivenUp : Option (List ℕ) → Option (List ℕ) → Option (List ℕ) → Option (List ℕ) → ℕ → RunFault → Type 0
-HasGivenUp unread left start now count fault = Exchanges unread left start now (λ told written. (length told ≤ count + 1) × IsPrintingFront line_of told written × (fault ≡ ReadTooLong → count < length told))
+HasGivenUp unread left start now count fault = Exchanges unread left start now (λ told written. (length told ≤ count + 1) × IsPrintingFront told written × (fault ≡ ReadTooLong → count < length told))
 
 -- why a job gives up that stops
 abbrev pub fault_of : Stop → RunFault

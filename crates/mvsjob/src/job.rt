@@ -1,16 +1,15 @@
 //! A job: from the lines of a script to the printed lines.
 
-ghost use Rattle.std.specs.Prelude.{◌≡◌, ◌≢◌, ◌<◌, ◌≤◌, ◌∷◌, ◌^◌, List, ℕ, length, slice_index, true, OnOk, OnErr, IsErrOf, MatchResult};
+ghost use Rattle.std.specs.Prelude.{◌≡◌, ◌++◌, List, ℕ, Bool, true, IfOk, IfSome, OnOk, OnErr, IsErrOf, MatchResult};
 ghost use Rattle.std.specs.Io.KnownBytes.{Appends};
 ghost use Rattle.mvs_model.specs.Card.{IsCard};
-ghost use Rattle.mvs_model.specs.Job.{first_job};
-ghost use Rattle.mvs_model.specs.Lines.{IsStatement, lines_of};
-ghost use Rattle.mvs_model.specs.Runs.{Begins, Closes, In, IsPrinting, IsPrintingFront, Serves, is_before};
+ghost use Rattle.mvs_model.specs.Job.{job_at};
+ghost use Rattle.mvs_model.specs.Lines.{IsStatement};
+ghost use Rattle.mvs_model.specs.Runs.{Closes, In, Serves, end_text, is_before};
 ghost use Rattle.mvs_model.specs.Texts.{region_text};
 ghost use Rattle.mvs_model.specs.declared.line.Line.TheVariants as line;
-ghost use Rattle.job_script.specs.Lines.{line_of};
-ghost use Rattle.mvsjob.specs.Serving.{Performs, RunsLine, stage_of};
-ghost use Rattle.mvsjob.specs.Writing.{AppendsFront};
+ghost use Rattle.mvsjob.specs.Serving.{Performs, RunsLine, card_said, ending, has_abended, stage_of};
+ghost use Rattle.mvsjob.specs.Writing.{AppendsFront, WritesAll};
 
 use crate::print::{print_fault, print_line, region_said, write_all};
 use crate::serve::Job;
@@ -39,12 +38,11 @@ impl From<Failed> for Stop {
     }
 }
 
-// The card that a REGION statement of a task makes.
-fn card(task: &Name, statement: &Statement) -> Card
-    requires { IsStatement true task.now statement.now }
-    ensures begins { (number : ℕ) → Begins number task.now statement.now (region_text number result) (In (first_job result)) }
-    ensures name { result.name ≡ task.now }
-    ensures in_range { IsCard result }
+// The card of a REGION statement of a task; the other statements have none.
+fn card_said(task: &Name, statement: &Statement) -> Option<Card>
+    requires { (first : Bool) × IsStatement first task.now statement.now }
+    ensures card { result ≡ card_said task.now statement.now }
+    ensures in_range { IfSome result IsCard }
 {
     let Statement::Region {
         below,
@@ -53,40 +51,91 @@ fn card(task: &Name, statement: &Statement) -> Card
         residence,
     } = statement
     else {
-        unreachable!()
+        return None;
     };
     match Card::new(*task, below.get(), above.get(), *fill, *residence) {
-        Some(card) => card,
+        Some(card) => Some(card),
         None => unreachable!(),
     }
 }
 
-// Begins the step of a REGION statement.
-fn begin<W: Write>(
+// Prints the end of a step.
+fn print_end<W: Write>(job: &Job, writer: &mut Watched<W>) -> Result<(), Failed>
+    ensures bytes { WritesAll (W.contents writer.old.inner) (W.contents writer.new.inner) result (end_text job.now) }
+    ensures ok { OnOk result (writer.new.failed ≡ writer.old.failed) }
+    ensures err { OnErr result (writer.new.failed ≡ true) }
+{
+    if job.abended() {
+        write_all(writer, b"STEP ENDED RC 8\n")
+    } else {
+        write_all(writer, b"STEP ENDED RC 0\n")
+    }
+}
+
+// Ends the step that runs, if one does: its storage and its names are given up. Answers whether a task has abended so far.
+fn end_step<W: Write>(
+    stage: &mut Option<Job>,
+    writer: &mut Watched<W>,
+) -> Result<bool, Failed>
+    ensures bytes { WritesAll (W.contents writer.old.inner) (W.contents writer.new.inner) result (ending stage.old) }
+    ensures so_far { IfOk result (λ former. former ≡ has_abended stage.old) }
+    ensures ok { OnOk result (writer.new.failed ≡ writer.old.failed) }
+    ensures err { OnErr result (writer.new.failed ≡ true) }
+{
+    let Some(job) = stage else {
+        return Ok(false);
+    };
+    print_end(job, writer)?;
+    let former = job.any_abended();
+    *stage = None;
+    Ok(former)
+}
+
+// Begins the step of a card.
+fn begin_step<W: Write>(
     stage: &mut Option<Job>,
     alloc: Global,
     placement: Placement,
     number: u32,
-    task: &Name,
-    statement: &Statement,
+    card: &Card,
+    former: bool,
     writer: &mut Watched<W>,
 ) -> Result<(), Stop>
-    requires { IsStatement true task.now statement.now }
-    ensures served { Performs (Begins number task.now statement.now) (W.contents writer.old.inner) (W.contents writer.new.inner) (stage_of stage.new) result }
+    requires { IsCard card.now }
+    ensures begun { Performs (λ text new. (text ≡ region_text number card.now) × (new ≡ In (job_at card.now former)))
+        (W.contents writer.old.inner) (W.contents writer.new.inner) (stage_of stage.new) result }
     ensures ok { OnOk result (writer.new.failed ≡ writer.old.failed) }
     ensures write { IsErrOf result Stop.Write → writer.new.failed ≡ true }
 {
-    let card = card(task, statement);
-    let Ok(running) = Job::new(alloc, &card, placement) else {
+    let Ok(job) = Job::new(alloc, card, placement, former) else {
         return Err(Stop::Memory);
     };
-    *stage = Some(running);
+    *stage = Some(job);
     let said = region_said(card.below(), card.above());
-    print_line(writer, number, task, said.as_slice())?;
+    print_line(writer, number, &card.name(), said.as_slice())?;
     Ok(())
 }
 
-// Serves a statement of a task: before the step it begins the step.
+// Serves a REGION statement: the step that runs ends, and that of the card begins.
+fn turn_step<W: Write>(
+    stage: &mut Option<Job>,
+    alloc: Global,
+    placement: Placement,
+    number: u32,
+    card: &Card,
+    writer: &mut Watched<W>,
+) -> Result<(), Stop>
+    requires { IsCard card.now }
+    ensures turned { Performs (λ text new. (text ≡ ending stage.old ++ region_text number card.now) × (new ≡ In (job_at card.now (has_abended stage.old))))
+        (W.contents writer.old.inner) (W.contents writer.new.inner) (stage_of stage.new) result }
+    ensures ok { OnOk result (writer.new.failed ≡ writer.old.failed) }
+    ensures write { IsErrOf result Stop.Write → writer.new.failed ≡ true }
+{
+    let former = end_step(stage, writer)?;
+    begin_step(stage, alloc, placement, number, card, former, writer)
+}
+
+// Serves a statement of a task.
 fn run_statement<W: Write>(
     stage: &mut Option<Job>,
     alloc: Global,
@@ -101,9 +150,12 @@ fn run_statement<W: Write>(
     ensures ok { OnOk result (writer.new.failed ≡ writer.old.failed) }
     ensures write { IsErrOf result Stop.Write → writer.new.failed ≡ true }
 {
+    if let Some(card) = card_said(task, statement) {
+        return turn_step(stage, alloc, placement, number, &card, writer);
+    }
     match stage {
-        Some(running) => running.serve(number, task, statement, writer),
-        None => begin(stage, alloc, placement, number, task, statement, writer),
+        Some(job) => job.serve(number, task, statement, writer),
+        None => unreachable!(),
     }
 }
 
@@ -116,7 +168,7 @@ pub fn run_line<W: Write>(
     line: &[u8],
     writer: &mut Watched<W>,
 ) -> Result<bool, Stop>
-    ensures ran { RunsLine (W.contents writer.old.inner) (W.contents writer.new.inner) number (stage_of stage.old) (line_of line.now (is_before (stage_of stage.old))) (stage_of stage.new) result }
+    ensures ran { RunsLine (W.contents writer.old.inner) (W.contents writer.new.inner) number (stage_of stage.old) line.now (stage_of stage.new) result }
     ensures ok { OnOk result (writer.new.failed ≡ writer.old.failed) }
     ensures write { IsErrOf result Stop.Write → writer.new.failed ≡ true }
 {
@@ -156,12 +208,11 @@ pub fn close<W: Write>(
             print_fault(writer, number, Fault::OutOfPlace)?;
             Ok(Outcome::ScriptFault)
         }
-        Some(running) => {
-            if running.abended() {
-                write_all(writer, b"STEP ENDED RC 8\n")?;
+        Some(job) => {
+            print_end(job, writer)?;
+            if job.any_abended() {
                 Ok(Outcome::SomeAbend)
             } else {
-                write_all(writer, b"STEP ENDED RC 0\n")?;
                 Ok(Outcome::Clean)
             }
         }

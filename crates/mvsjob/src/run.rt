@@ -6,7 +6,6 @@ ghost use Rattle.mvs_model.specs.Runs.{IsPrinting, IsPrintingFront};
 ghost use Rattle.mvs_model.specs.Labels.{IsLabelText};
 ghost use Rattle.mvs_model.specs.Numbers.{most_script_bytes};
 ghost use Rattle.mvs_model.specs.Tidy.{Tidy, IsPrintingInFull};
-ghost use Rattle.job_script.specs.Lines.{line_of};
 ghost use Rattle.mvsjob.specs.Writing.{Exchanges};
 
 use crate::stream::{Stream, Turn};
@@ -51,18 +50,18 @@ pub fn run_job<R: Read, W: Write>(
     // What is written is the printing of a run of what was read.
     ensures ok { IfOk result (λ outcome.
         Exchanges (R.remaining reader.old.inner) (R.remaining reader.new.inner) (W.contents writer.old.inner) (W.contents writer.new.inner)
-        (λ told written. (length told ≤ most_script_bytes) × IsPrinting line_of told written outcome)) }
+        (λ told written. (length told ≤ most_script_bytes) × IsPrinting told written outcome)) }
     // Where a tidy script was granted in full, it is what the label machine prints, wherever the areas lie.
     ensures tidy { IfOk result (λ outcome.
         Exchanges (R.remaining reader.old.inner) (R.remaining reader.new.inner) (W.contents writer.old.inner) (W.contents writer.new.inner)
-        (λ told written. IsPrinting line_of told written outcome × (Tidy line_of told → IsPrintingInFull line_of told written outcome → IsLabelText line_of told written))) }
+        (λ told written. IsPrinting told written outcome × (Tidy told → IsPrintingInFull told written outcome → IsLabelText told written))) }
     // All was read, or the script has a fault.
     ensures end { IfOk result (λ outcome. outcome ≢ Outcome.ScriptFault → IsAtEnd (R.remaining reader.new.inner)) }
     ensures healthy { OnOk result ((reader.new.failed ≡ false) × (writer.new.failed ≡ false)) }
     // Else it is a front of such a printing.
     ensures fault { IfErr result (λ fault.
         Exchanges (R.remaining reader.old.inner) (R.remaining reader.new.inner) (W.contents writer.old.inner) (W.contents writer.new.inner)
-        (λ told written. (length told ≤ most_script_bytes + 1) × IsPrintingFront line_of told written
+        (λ told written. (length told ≤ most_script_bytes + 1) × IsPrintingFront told written
         × (fault ≡ RunFault.ReadTooLong → most_script_bytes < length told))) }
     ensures read { IsErrOf result RunFault.Read → reader.new.failed ≡ true }
     ensures write { IsErrOf result RunFault.Write → writer.new.failed ≡ true }

@@ -1,9 +1,9 @@
 //! Serves the statements of a step.
 
-ghost use Rattle.std.specs.Prelude.{◌≡◌, ◌+◌, ◌/◌, ◌≤◌, true, false, None, Some, IfOk, IfSome, OnOk, OnErr, IsErrOf};
+ghost use Rattle.std.specs.Prelude.{◌≡◌, ◌||◌, ◌+◌, ◌/◌, ◌≤◌, true, false, None, Some, IfOk, IfSome, OnOk, OnErr, IsErrOf};
 ghost use Rattle.mvs_model.specs.Card.{IsCard};
 ghost use Rattle.mvs_model.specs.Changes.{Granted};
-ghost use Rattle.mvs_model.specs.Job.{JobValue, first_job};
+ghost use Rattle.mvs_model.specs.Job.{JobValue, job_at};
 ghost use Rattle.mvs_model.specs.Lines.{IsStatement, IsWritten};
 ghost use Rattle.mvs_model.specs.Replies.{bytes_at, where_text, reply_text};
 ghost use Rattle.mvs_model.specs.Resolving.{resolved};
@@ -12,7 +12,7 @@ ghost use Rattle.mvs_model.specs.Numbers.{most_shown};
 ghost use Rattle.mvs_model.specs.Texts.{data_lines, line_count, reply_line};
 ghost use Rattle.mvs_model.specs.declared.request.Reply.TheVariants.{Done};
 ghost use Rattle.mvsjob.specs.Resolving.{place_shown, shows};
-ghost use Rattle.mvsjob.specs.Serving.{Performs};
+ghost use Rattle.mvsjob.specs.Serving.{Performs, card_said};
 ghost use Rattle.mvsjob.specs.Writing.{WritesAll};
 
 use crate::job::Stop;
@@ -33,11 +33,12 @@ use std::alloc::Global;
 use std::io::Write;
 use std::marker::Model;
 
-/// A step with the names that it has set.
+/// A step with the names that it has set, and what became of the former steps.
 #[derive(Drop)]
 pub struct Job {
     step: Step,
     names: Names,
+    former: bool,
 }
 
 impl Model for Job {
@@ -49,7 +50,7 @@ impl Model for Job {
 
     ghost coded = { job_code };
 
-    ghost view = { λ r. record { state = r.step.state; names = r.names; abended = r.step.abended } };
+    ghost view = { λ r. record { state = r.step.state; names = r.names; abended = r.step.abended; former = r.former } };
 
     ghost invariant = { λ r. IsSteady r.step.state };
 }
@@ -148,23 +149,36 @@ fn print_where<W: Write>(
 }
 
 impl Job {
-    /// A step at its start.
-    pub fn new(alloc: Global, card: &Card, placement: Placement) -> Result<Job, OutOfMemory>
+    /// A step at its start; `former` says whether a task of a former step has abended.
+    pub fn new(
+        alloc: Global,
+        card: &Card,
+        placement: Placement,
+        former: bool,
+    ) -> Result<Job, OutOfMemory>
         requires { IsCard card.now }
-        ensures { IfOk result (λ job. job ≡ first_job card.now) }
+        ensures { IfOk result (λ job. job ≡ job_at card.now former) }
     {
         let step = Step::new(alloc, card, placement)?;
         Ok(Job {
             step,
             names: Names::new(alloc),
+            former,
         })
     }
 
-    /// Whether a task has abended.
+    /// Whether a task of the step has abended.
     pub fn abended(&self) -> bool
         ensures { result ≡ self.now.abended }
     {
         self.step.abended()
+    }
+
+    /// Whether a task of this step or of a former one has abended.
+    pub fn any_abended(&self) -> bool
+        ensures { result ≡ (self.now.abended || self.now.former) }
+    {
+        self.abended() || self.former
     }
 
     // Serves a request of an active task.
@@ -192,7 +206,7 @@ impl Job {
         Ok(())
     }
 
-    /// Serves a statement, which is not REGION.
+    /// Serves a statement of the step, which is not REGION.
     pub fn serve<W: Write>(
         &mut self,
         number: u32,
@@ -200,7 +214,8 @@ impl Job {
         statement: &Statement,
         writer: &mut Watched<W>,
     ) -> Result<(), Stop>
-        requires { IsStatement false task.now statement.now }
+        requires in_range { IsStatement false task.now statement.now }
+        requires of_step { card_said task.now statement.now ≡ None }
         ensures served { Performs (Does number self.old task.now statement.now) (W.contents writer.old.inner) (W.contents writer.new.inner) self.new result }
         ensures ok { OnOk result (writer.new.failed ≡ writer.old.failed) }
         ensures write { IsErrOf result Stop.Write → writer.new.failed ≡ true }

@@ -2,8 +2,7 @@
 
 ghost use Rattle.std.specs.Prelude.{◌≡◌, ◌≢◌, ◌<◌, ◌≤◌, ◌+◌, ◌^◌, ◌++◌, ◌∷◌, [], List, ℕ, Option, length, take, slice_index, true, IfOk, IfSome, OnOk, IsErrOf, MatchResult};
 ghost use Rattle.std.specs.Io.KnownBytes.{Consumes, IsAtEnd, Keeps};
-ghost use Rattle.mvs_model.specs.Runs.{Before, is_before};
-ghost use Rattle.job_script.specs.Lines.{line_of};
+ghost use Rattle.mvs_model.specs.Runs.{Before};
 ghost use Rattle.mvsjob.specs.Serving.{RunsLine, stage_of};
 ghost use Rattle.mvsjob.specs.Streams.{Feeds, FeedsSome, Finishes, HasBroken, HasEnded, HasGivenUp, IsUnderWay, Printed, PrintedFront, Progress, Takes, fault_of};
 
@@ -94,7 +93,7 @@ impl Stream {
     fn run_whole<W: Write>(&mut self, line: &[u8], writer: &mut Watched<W>) -> Result<bool, Stop>
         requires { self.old.number + 1 < 2 ^ 32 }
         ensures ran { RunsLine (W.contents writer.old.inner) (W.contents writer.new.inner) self.old.number (stage_of self.old.stage)
-            (line_of line.now (is_before (stage_of self.old.stage))) (stage_of self.new.stage) result }
+            line.now (stage_of self.new.stage) result }
         ensures line { self.new.line ≡ self.old.line }
         ensures number { self.new.number ≡ self.old.number + 1 }
         ensures ok { OnOk result (writer.new.failed ≡ writer.old.failed) }
@@ -109,7 +108,7 @@ impl Stream {
     fn end_line<W: Write>(&mut self, writer: &mut Watched<W>) -> Result<bool, Stop>
         requires { self.old.number + 1 < 2 ^ 32 }
         ensures ran { RunsLine (W.contents writer.old.inner) (W.contents writer.new.inner) self.old.number (stage_of self.old.stage)
-            (line_of self.old.line (is_before (stage_of self.old.stage))) (stage_of self.new.stage) result }
+            self.old.line (stage_of self.new.stage) result }
         ensures line { self.new.line ≡ [] }
         ensures number { self.new.number ≡ self.old.number + 1 }
         ensures ok { OnOk result (writer.new.failed ≡ writer.old.failed) }

@@ -1,4 +1,4 @@
-use Rattle.std.proofs.Common.{◌≡◌, sym, ap, ◌∙◌, Some}
+use Rattle.std.proofs.Common.{sym, ap, ◌∙◌}
 use Rattle.std.specs.Prelude.{flat_map}
 use Rattle.mvs_model.specs.Reading.{operands_in, first_of, operand_checks, with_left}
 use Rattle.job_script.specs.Given.{option_now}

@@ -1,4 +1,4 @@
-use Rattle.std.proofs.Common.{◌≡◌, ℕ, ◌+◌, ◌<◌, ◌≤◌, arith, ap, refl, ◌∙◌}
+use Rattle.std.proofs.Common.{◌+◌, arith, ap, refl, ◌∙◌}
 use Rattle.std.proofs.lemmas.Result.{err_from_is_err_and}
 use Rattle.mvsjob.proofs.Mapping.{map_start, map_more, map_front, map_done}
 use Rattle.mvsjob.proofs.reports.print_map.Goals as goal

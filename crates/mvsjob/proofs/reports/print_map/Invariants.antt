@@ -1,4 +1,4 @@
-use Rattle.std.proofs.Common.{◌≡◌, ℕ, ◌-◌, ◌≤◌}
+use Rattle.std.proofs.Common.{◌≡◌, ◌-◌, ◌≤◌}
 use Rattle.mvsjob.proofs.Mapping.{SoFar}
 use Rattle.mvsjob.proofs.reports.print_map.Given as goal
 

@@ -1,4 +1,4 @@
-use Rattle.std.proofs.Common.{◌≡◌, ℕ, ◌<◌, ◌≤◌, arith, refl, ◌∙◌}
+use Rattle.std.proofs.Common.{arith, refl, ◌∙◌}
 use Rattle.std.proofs.lemmas.Result.{err_from_is_err_and}
 use Rattle.std.proofs.KnownBytes.{Appends-nil}
 use Rattle.mvsjob.proofs.Numbers.{each_none, lines_none, number_line, numbers_front, numbers_more}

@@ -1,11 +1,9 @@
-use Rattle.std.proofs.Common.{◌≡◌, ◌∙◌, ◌++◌, sym, ap, Ok, Err, refl, length, arith}
+use Rattle.std.proofs.Common.{◌≡◌, ◌∙◌, sym, ap, Ok, Err, refl, length, arith}
 use Rattle.std.proofs.lemmas.Grind.{common_steps}
 use Rattle.std.proofs.lemmas.Result.{err_from_is_err_and}
-use Rattle.std.specs.Io.KnownBytes.{Consumes}
 use Rattle.mvs_model.specs.Runs.{IsPrinting}
 use Rattle.mvs_model.specs.Labels.{IsLabelText}
 use Rattle.mvs_model.specs.Tidy.{Tidy, IsPrintingInFull}
-use Rattle.job_script.specs.Lines.{line_of}
 use Rattle.mvsjob.specs.Streams.{HasEnded, HasGivenUp}
 use Rattle.mvsjob.specs.Writing.{Exchanges}
 use Rattle.mvsjob.proofs.Feeding.{under_way_start, given_up, given_up_within, ended_within, ended_tidy, if_ok, if_err}
@@ -53,7 +51,7 @@ returns-clause-ok g c =
 pub returns-clause-tidy : goal.returns-clause-tidy
 returns-clause-tidy g c =
     if_ok c.last_turn.result _ (λ o. Exchanges (g.R.Read.remaining c.args.reader.now.inner) (g.R.Read.remaining c.last_turn.new.reader.inner) (g.W.Write.contents c.args.writer.now.inner) (g.W.Write.contents c.last_turn.new.writer.inner)
-    (λ told written. IsPrinting line_of told written o × (Tidy line_of told → IsPrintingInFull line_of told written o → IsLabelText line_of told written))) _
+    (λ told written. IsPrinting told written o × (Tidy told → IsPrintingInFull told written o → IsLabelText told written))) _
     (c.last_turn.ensures.turn _ _ _ c.reading.invariant.under_way) (λ o h. ended_tidy _ _ _ _ _ o h)
 
 pub returns-clause-fault : goal.returns-clause-fault

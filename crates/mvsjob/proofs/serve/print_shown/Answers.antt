@@ -1,4 +1,3 @@
-use Rattle.std.proofs.Common.{sym}
 use Rattle.mvsjob.proofs.Resolved.{lines_read}
 use Rattle.mvsjob.proofs.serve.print_shown.Goals as goal
 

@@ -1,4 +1,4 @@
-use Rattle.std.proofs.Common.{◌≡◌, ap, sym, subst}
+use Rattle.std.proofs.Common.{sym, subst}
 use Rattle.std.specs.FinMap as map
 use Rattle.mvsjob.specs.Areas.{AreAreas}
 use Rattle.mvsjob.proofs.Named.{set_entries, areas_set}

@@ -1,4 +1,4 @@
-use Rattle.std.proofs.Common.{◌∙◌, arith, ap, sym, Err}
+use Rattle.std.proofs.Common.{arith, ap, Err}
 use Rattle.mvsjob.proofs.Feeding.{read_failed, read_end, read_end_stopped, read_too_many, given_up, stop_not_long}
 use Rattle.mvsjob.proofs.stream.Stream.last_turn.Goals as goal
 
