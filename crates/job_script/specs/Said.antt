@@ -16,6 +16,11 @@ abbrev pub said_line : Name → Option Statement → Result Line Fault
 said_line task None = Err MissingOperand
 said_line task (Some s) = Ok (line.Statement task s)
 
+-- what is answered with a line that is filled where there is no fault
+abbrev pub filled : {X : Type 0} → Line → Result X Fault → Result Line Fault
+filled l (Ok x) = Ok l
+filled l (Err fault) = Err fault
+
 -- What holds of a text, where there is one.
 abbrev pub Holds : (List ℕ → Type 0) → Option (List ℕ) → Type 0
 Holds P o = (text : List ℕ) → o ≡ Some text → P text

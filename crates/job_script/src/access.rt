@@ -5,7 +5,7 @@ ghost use Rattle.mvs_model.specs.Grammar.{Puts, Shows, Moves, AsksWhere};
 ghost use Rattle.mvs_model.specs.Reading.{statement_of};
 ghost use Rattle.job_script.specs.Given.{IsRead, by_place};
 ghost use Rattle.job_script.specs.Taken.{IsSomeBytes};
-ghost use Rattle.job_script.specs.Said.{said_line, Holds, IsRanged, IsNamed, IsLocated};
+ghost use Rattle.job_script.specs.Said.{filled, said_line, Holds, IsRanged, IsNamed, IsLocated};
 
 use crate::addresses::{location, name};
 use crate::digits::bounded;
@@ -16,11 +16,11 @@ use mvs_model::name::Name;
 
 impl Given<'_> {
     /// PUT.
-    pub fn put(&self, task: Name) -> Result<Line, Fault>
+    pub fn put(&self, task: Name, line: &mut Line) -> Result<(), Fault>
         requires read { IsRead self.now }
         requires to { Holds (IsLocated) ((by_place self.now).at 0) }
         requires bytes { Holds (IsSomeBytes) ((by_place self.now).at 1) }
-        ensures { result ≡ said_line task (statement_of Puts [] (by_place self.now)) }
+        ensures { filled line.new result ≡ said_line task (statement_of Puts [] (by_place self.now)) }
     {
         let Some(to) = self.positional(0) else {
             return Err(Fault::MissingOperand);
@@ -28,21 +28,22 @@ impl Given<'_> {
         let Some(digits) = self.positional(1) else {
             return Err(Fault::MissingOperand);
         };
-        Ok(Line::Statement(
+        *line = Line::Statement(
             task,
             Statement::Request(Written::Put {
                 to: location(to),
                 bytes: bytes(digits),
             }),
-        ))
+        );
+        Ok(())
     }
 
     /// SHOW.
-    pub fn show(&self, task: Name) -> Result<Line, Fault>
+    pub fn show(&self, task: Name, line: &mut Line) -> Result<(), Fault>
         requires read { IsRead self.now }
         requires from { Holds (IsLocated) ((by_place self.now).at 0) }
         requires len { Holds (IsRanged 1 4096) ((by_place self.now).at 1) }
-        ensures { result ≡ said_line task (statement_of Shows [] (by_place self.now)) }
+        ensures { filled line.new result ≡ said_line task (statement_of Shows [] (by_place self.now)) }
     {
         let Some(from) = self.positional(0) else {
             return Err(Fault::MissingOperand);
@@ -50,22 +51,23 @@ impl Given<'_> {
         let Some(len) = self.positional(1) else {
             return Err(Fault::MissingOperand);
         };
-        Ok(Line::Statement(
+        *line = Line::Statement(
             task,
             Statement::Request(Written::Show {
                 from: location(from),
                 len: bounded(len),
             }),
-        ))
+        );
+        Ok(())
     }
 
     /// MOVE.
-    pub fn move_bytes(&self, task: Name) -> Result<Line, Fault>
+    pub fn move_bytes(&self, task: Name, line: &mut Line) -> Result<(), Fault>
         requires read { IsRead self.now }
         requires to { Holds (IsLocated) ((by_place self.now).at 0) }
         requires from { Holds (IsLocated) ((by_place self.now).at 1) }
         requires len { Holds (IsRanged 1 65536) ((by_place self.now).at 2) }
-        ensures { result ≡ said_line task (statement_of Moves [] (by_place self.now)) }
+        ensures { filled line.new result ≡ said_line task (statement_of Moves [] (by_place self.now)) }
     {
         let Some(to) = self.positional(0) else {
             return Err(Fault::MissingOperand);
@@ -76,25 +78,27 @@ impl Given<'_> {
         let Some(len) = self.positional(2) else {
             return Err(Fault::MissingOperand);
         };
-        Ok(Line::Statement(
+        *line = Line::Statement(
             task,
             Statement::Request(Written::Move {
                 to: location(to),
                 from: location(from),
                 len: bounded(len),
             }),
-        ))
+        );
+        Ok(())
     }
 
     /// WHERE.
-    pub fn ask_where(&self, task: Name) -> Result<Line, Fault>
+    pub fn ask_where(&self, task: Name, line: &mut Line) -> Result<(), Fault>
         requires read { IsRead self.now }
         requires area { Holds (IsNamed) ((by_place self.now).at 0) }
-        ensures { result ≡ said_line task (statement_of AsksWhere [] (by_place self.now)) }
+        ensures { filled line.new result ≡ said_line task (statement_of AsksWhere [] (by_place self.now)) }
     {
         let Some(area) = self.positional(0) else {
             return Err(Fault::MissingOperand);
         };
-        Ok(Line::Statement(task, Statement::Where(name(area))))
+        *line = Line::Statement(task, Statement::Where(name(area)));
+        Ok(())
     }
 }

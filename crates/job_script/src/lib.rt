@@ -5,7 +5,9 @@ ghost use Rattle.std.specs.Prelude.{◌≡◌, ◌==◌, ◌&&◌, nat_le};
 ghost use Rattle.std.specs.List.{list_all};
 ghost use Rattle.mvs_model.specs.Lines.{IsLine};
 ghost use Rattle.mvs_model.specs.Reading.{IsReading, says_nothing};
+ghost use Rattle.mvs_model.specs.declared.line.Line.TheVariants.{Nothing};
 ghost use Rattle.job_script.specs.Operations.{operation_text};
+ghost use Rattle.job_script.specs.Said.{filled};
 ghost use Rattle.job_script.specs.Stated.{is_in_place, field_of, StatementReading};
 
 use crate::addresses::{is_name, name};
@@ -40,7 +42,11 @@ const LONGEST: usize = 255;
 fn is_plain(line: &[u8]) -> bool
     ensures { result ≡ list_all (λ b. nat_le 32 b && nat_le b 126) line.now }
 {
-    line.iter().all(|byte| *byte >= b' ' && *byte <= b'~')
+    let mut plain = true;
+    for byte in line {
+        plain &= *byte >= b' ' && *byte <= b'~';
+    }
+    plain
 }
 
 // Whether the line has no byte but blanks.
@@ -78,8 +84,8 @@ fn field_of<'a>(operation: Operation, rest: &'a [u8]) -> &'a [u8]
 }
 
 // Reads a statement.
-fn read_statement(line: &[u8], first: bool) -> Result<Line, Fault>
-    ensures { StatementReading first line.now result }
+fn read_statement(line: &[u8], first: bool, read: &mut Line) -> Result<(), Fault>
+    ensures { StatementReading first line.now (filled read.new result) }
 {
     let (task, rest) = parted(line, b' ');
     if !is_name(task) {
@@ -95,12 +101,13 @@ fn read_statement(line: &[u8], first: bool) -> Result<Line, Fault>
     if !is_in_place(first, operation) {
         return Err(Fault::OutOfPlace);
     }
-    read_operands(name(task), operation, field_of(operation, rest))
+    read_operands(name(task), operation, field_of(operation, rest), read)
 }
 
-// Reads a line, and answers the first fault that applies.
-fn read(line: &[u8], first: bool) -> Result<Line, Fault>
-    ensures { IsReading first line.now result }
+// Reads a line in the place of one that says nothing, and answers the first fault that applies.
+fn read_into(line: &[u8], first: bool, read: &mut Line) -> Result<(), Fault>
+    requires { read.old ≡ Nothing }
+    ensures { IsReading first line.now (filled read.new result) }
 {
     if line.len() > LONGEST {
         return Err(Fault::TooLong);
@@ -109,9 +116,9 @@ fn read(line: &[u8], first: bool) -> Result<Line, Fault>
         return Err(Fault::InvalidByte);
     }
     if says_nothing(line) {
-        return Ok(Line::Nothing);
+        return Ok(());
     }
-    read_statement(line, first)
+    read_statement(line, first, read)
 }
 
 /// Reads a line without its end, and answers the first fault that applies; `first` says whether no statement came before it. Of a line that is too
@@ -120,7 +127,11 @@ pub fn read_line(line: &[u8], first: bool) -> Result<Line, Fault>
     ensures reading { IsReading first line.now result }
     ensures in_range { IsLine first result }
 {
-    read(line, first)
+    let mut read = Line::Nothing;
+    if let Err(fault) = read_into(line, first, &mut read) {
+        return Err(fault);
+    }
+    Ok(read)
 }
 
 #[cfg(test)]

@@ -80,10 +80,12 @@ fn operand_end(text: &[u8]) -> usize
 {
     let mut opened = 0usize;
     for (i, byte) in text.iter().enumerate() {
-        if splits(opened, *byte) {
-            return i;
+        if *byte <= b',' {
+            if splits(opened, *byte) {
+                return i;
+            }
+            opened = next_opened(opened, *byte);
         }
-        opened = next_opened(opened, *byte);
     }
     text.len()
 }

@@ -4,7 +4,7 @@ ghost use Rattle.std.specs.Prelude.{◌≡◌, [], codes};
 ghost use Rattle.mvs_model.specs.Grammar.{BuildsPool, GetsCell, FreesCell, DeletesPool};
 ghost use Rattle.mvs_model.specs.Reading.{is_conditional, statement_of};
 ghost use Rattle.job_script.specs.Given.{IsRead, by_place};
-ghost use Rattle.job_script.specs.Said.{said_line, Holds, IsRanged, IsNamed, IsLocated};
+ghost use Rattle.job_script.specs.Said.{filled, said_line, Holds, IsRanged, IsNamed, IsLocated};
 
 use crate::addresses::{location, name};
 use crate::digits::bounded;
@@ -27,13 +27,13 @@ impl Given<'_> {
     }
 
     /// CPOOL BUILD.
-    pub fn build(&self, task: Name) -> Result<Line, Fault>
+    pub fn build(&self, task: Name, line: &mut Line) -> Result<(), Fault>
         requires read { IsRead self.now }
         requires pool { Holds (IsNamed) ((by_place self.now).under (codes "CPID")) }
         requires size { Holds (IsRanged 4 65536) ((by_place self.now).under (codes "CSIZE")) }
         requires count { Holds (IsRanged 1 65536) ((by_place self.now).under (codes "PCELLCT")) }
         requires more { Holds (IsRanged 1 65536) ((by_place self.now).under (codes "SCELLCT")) }
-        ensures { result ≡ said_line task (statement_of BuildsPool [] (by_place self.now)) }
+        ensures { filled line.new result ≡ said_line task (statement_of BuildsPool [] (by_place self.now)) }
     {
         let Some(pool) = self.text(Key::Cpid) else {
             return Err(Fault::MissingOperand);
@@ -45,7 +45,7 @@ impl Given<'_> {
             return Err(Fault::MissingOperand);
         };
         let primary: CellCount = bounded(count);
-        Ok(Line::Statement(
+        *line = Line::Statement(
             task,
             Statement::Request(Written::Build {
                 pool: name(pool),
@@ -55,15 +55,16 @@ impl Given<'_> {
                 secondary: self.number_or(Key::Scellct, primary),
                 loc: self.loc(),
             }),
-        ))
+        );
+        Ok(())
     }
 
     /// CPOOL GET.
-    pub fn get(&self, task: Name) -> Result<Line, Fault>
+    pub fn get(&self, task: Name, line: &mut Line) -> Result<(), Fault>
         requires read { IsRead self.now }
         requires pool { Holds (IsNamed) ((by_place self.now).under (codes "CPID")) }
         requires cell { Holds (IsNamed) ((by_place self.now).under (codes "CELL")) }
-        ensures { result ≡ said_line task (statement_of GetsCell [] (by_place self.now)) }
+        ensures { filled line.new result ≡ said_line task (statement_of GetsCell [] (by_place self.now)) }
     {
         let Some(pool) = self.text(Key::Cpid) else {
             return Err(Fault::MissingOperand);
@@ -71,22 +72,23 @@ impl Given<'_> {
         let Some(cell) = self.text(Key::Cell) else {
             return Err(Fault::MissingOperand);
         };
-        Ok(Line::Statement(
+        *line = Line::Statement(
             task,
             Statement::Request(Written::Get {
                 pool: name(pool),
                 conditional: self.is_conditional(),
                 cell: name(cell),
             }),
-        ))
+        );
+        Ok(())
     }
 
     /// CPOOL FREE.
-    pub fn free(&self, task: Name) -> Result<Line, Fault>
+    pub fn free(&self, task: Name, line: &mut Line) -> Result<(), Fault>
         requires read { IsRead self.now }
         requires pool { Holds (IsNamed) ((by_place self.now).under (codes "CPID")) }
         requires cell { Holds (IsLocated) ((by_place self.now).under (codes "CELL")) }
-        ensures { result ≡ said_line task (statement_of FreesCell [] (by_place self.now)) }
+        ensures { filled line.new result ≡ said_line task (statement_of FreesCell [] (by_place self.now)) }
     {
         let Some(pool) = self.text(Key::Cpid) else {
             return Err(Fault::MissingOperand);
@@ -94,27 +96,29 @@ impl Given<'_> {
         let Some(cell) = self.text(Key::Cell) else {
             return Err(Fault::MissingOperand);
         };
-        Ok(Line::Statement(
+        *line = Line::Statement(
             task,
             Statement::Request(Written::Free {
                 pool: name(pool),
                 cell: location(cell),
             }),
-        ))
+        );
+        Ok(())
     }
 
     /// CPOOL DELETE.
-    pub fn delete(&self, task: Name) -> Result<Line, Fault>
+    pub fn delete(&self, task: Name, line: &mut Line) -> Result<(), Fault>
         requires read { IsRead self.now }
         requires pool { Holds (IsNamed) ((by_place self.now).under (codes "CPID")) }
-        ensures { result ≡ said_line task (statement_of DeletesPool [] (by_place self.now)) }
+        ensures { filled line.new result ≡ said_line task (statement_of DeletesPool [] (by_place self.now)) }
     {
         let Some(pool) = self.text(Key::Cpid) else {
             return Err(Fault::MissingOperand);
         };
-        Ok(Line::Statement(
+        *line = Line::Statement(
             task,
             Statement::Request(Written::Delete { pool: name(pool) }),
-        ))
+        );
+        Ok(())
     }
 }

@@ -7,7 +7,7 @@ ghost use Rattle.job_script.specs.Given.{IsRead, by_place, option_now};
 ghost use Rattle.job_script.specs.Operations.{operation_text};
 ghost use Rattle.job_script.specs.Rowed.{RowReading, FormReading, as_field};
 ghost use Rattle.job_script.specs.Rows.{row_at};
-ghost use Rattle.job_script.specs.Said.{said_line};
+ghost use Rattle.job_script.specs.Said.{filled, said_line};
 
 use crate::given::Given;
 use crate::keys::Key;
@@ -19,49 +19,59 @@ use mvs_model::name::Name;
 
 impl Given<'_> {
     // The line that operands say which were all taken, and of which none excludes another.
-    fn line(&self, task: Name, form: &[u8]) -> Result<Line, Fault>
+    fn fill(&self, task: Name, form: &[u8], line: &mut Line) -> Result<(), Fault>
         requires read { IsRead self.now }
         requires apart { list_any (is_conflict (by_place self.now)) (row_at self.now.row).rules ≡ false }
-        ensures { result ≡ said_line task (statement_of (row_at self.now.row).meaning form.now (by_place self.now)) }
+        ensures { filled line.new result ≡ said_line task (statement_of (row_at self.now.row).meaning form.now (by_place self.now)) }
     {
         match self.row {
-            Row::Region => self.region(task),
-            Row::GetmainFixed => self.obtain(task, form, Key::Lv, Key::A),
-            Row::GetmainFixedPlaced => self.obtain(task, form, Key::Lv, Key::A),
-            Row::GetmainVariable => self.obtain(task, form, Key::Lv, Key::A),
-            Row::GetmainVariablePlaced => self.obtain(task, form, Key::Lv, Key::A),
-            Row::GetmainList => self.obtain_list(task, form),
-            Row::StorageObtain => self.obtain(task, form, Key::Length, Key::Addr),
-            Row::FreemainOrWhole => self.release(task, form, Key::Lv, Key::A),
-            Row::FreemainPlace => self.release(task, form, Key::Lv, Key::A),
-            Row::FreemainArea => self.release_area(task, form),
-            Row::FreemainList => self.release_list(task, form),
-            Row::StorageRelease => self.release(task, form, Key::Length, Key::Addr),
-            Row::CpoolBuild => self.build(task),
-            Row::CpoolGet => self.get(task),
-            Row::CpoolFree => self.free(task),
-            Row::CpoolDelete => self.delete(task),
-            Row::Attach => self.attach(task),
-            Row::Return => Ok(Line::Statement(task, Statement::Request(Written::Return))),
-            Row::Abend => self.abend(task),
-            Row::Put => self.put(task),
-            Row::Show => self.show(task),
-            Row::Move => self.move_bytes(task),
-            Row::Where => self.ask_where(task),
+            Row::Region => self.region(task, line),
+            Row::GetmainFixed => self.obtain(task, form, Key::Lv, Key::A, line),
+            Row::GetmainFixedPlaced => self.obtain(task, form, Key::Lv, Key::A, line),
+            Row::GetmainVariable => self.obtain(task, form, Key::Lv, Key::A, line),
+            Row::GetmainVariablePlaced => self.obtain(task, form, Key::Lv, Key::A, line),
+            Row::GetmainList => self.obtain_list(task, form, line),
+            Row::StorageObtain => self.obtain(task, form, Key::Length, Key::Addr, line),
+            Row::FreemainOrWhole => self.release(task, form, Key::Lv, Key::A, line),
+            Row::FreemainPlace => self.release(task, form, Key::Lv, Key::A, line),
+            Row::FreemainArea => self.release_area(task, form, line),
+            Row::FreemainList => self.release_list(task, form, line),
+            Row::StorageRelease => self.release(task, form, Key::Length, Key::Addr, line),
+            Row::CpoolBuild => self.build(task, line),
+            Row::CpoolGet => self.get(task, line),
+            Row::CpoolFree => self.free(task, line),
+            Row::CpoolDelete => self.delete(task, line),
+            Row::Attach => self.attach(task, line),
+            Row::Return => {
+                *line = Line::Statement(task, Statement::Request(Written::Return));
+                Ok(())
+            }
+            Row::Abend => self.abend(task, line),
+            Row::Put => self.put(task, line),
+            Row::Show => self.show(task, line),
+            Row::Move => self.move_bytes(task, line),
+            Row::Where => self.ask_where(task, line),
             Row::Report => {
                 if form == b"MAP".as_slice() {
-                    Ok(Line::Statement(task, Statement::ReportMap))
+                    *line = Line::Statement(task, Statement::ReportMap);
                 } else {
-                    Ok(Line::Statement(task, Statement::ReportSubpools))
+                    *line = Line::Statement(task, Statement::ReportSubpools);
                 }
+                Ok(())
             }
         }
     }
 }
 
 // Reads the operands behind a form by a row of the table.
-fn read_row(task: Name, row: Row, form: &[u8], field: Option<&[u8]>) -> Result<Line, Fault>
-    ensures { RowReading (row_at row) task form.now (operands_in (option_now field.entry)) result }
+fn read_row(
+    task: Name,
+    row: Row,
+    form: &[u8],
+    field: Option<&[u8]>,
+    line: &mut Line,
+) -> Result<(), Fault>
+    ensures { RowReading (row_at row) task form.now (operands_in (option_now field.entry)) (filled line.new result) }
 {
     let mut given = Given::none(row);
     if let Err(fault) = given.take_field(field) {
@@ -70,7 +80,7 @@ fn read_row(task: Name, row: Row, form: &[u8], field: Option<&[u8]>) -> Result<L
     if let Err(fault) = given.check() {
         return Err(fault);
     }
-    given.line(task, form)
+    given.fill(task, form, line)
 }
 
 // Whether an operand has a key.
@@ -81,9 +91,14 @@ fn has_key(operand: &[u8]) -> bool
 }
 
 // Reads the form of an operation and the operands behind it.
-fn read_with_form(task: Name, operation: Operation, field: &[u8]) -> Result<Line, Fault>
+fn read_with_form(
+    task: Name,
+    operation: Operation,
+    field: &[u8],
+    line: &mut Line,
+) -> Result<(), Fault>
     requires { takes_form (operation_text operation) ≡ true }
-    ensures { FormReading (operation_text operation) task (operands_in (as_field field.now)) result }
+    ensures { FormReading (operation_text operation) task (operands_in (as_field field.now)) (filled line.new result) }
 {
     if field.is_empty() {
         return Err(Fault::MissingOperand);
@@ -95,7 +110,7 @@ fn read_with_form(task: Name, operation: Operation, field: &[u8]) -> Result<Line
     let Some(row) = operation.row(form) else {
         return Err(Fault::UnknownOperation);
     };
-    read_row(task, row, form, rest)
+    read_row(task, row, form, rest, line)
 }
 
 // A field, which has no operands where it is empty.
@@ -109,23 +124,33 @@ fn as_field(field: &[u8]) -> Option<&[u8]>
 }
 
 // Reads the operands of an operation that takes no form.
-fn read_without_form(task: Name, operation: Operation, field: &[u8]) -> Result<Line, Fault>
+fn read_without_form(
+    task: Name,
+    operation: Operation,
+    field: &[u8],
+    line: &mut Line,
+) -> Result<(), Fault>
     requires { takes_form (operation_text operation) ≡ false }
-    ensures { FormReading (operation_text operation) task (operands_in (as_field field.now)) result }
+    ensures { FormReading (operation_text operation) task (operands_in (as_field field.now)) (filled line.new result) }
 {
     let Some(row) = operation.row(&[]) else {
         return Err(Fault::UnknownOperation);
     };
-    read_row(task, row, &[], as_field(field))
+    read_row(task, row, &[], as_field(field), line)
 }
 
 /// Reads what an operation says with the operands of a field, which has none where it is empty.
-pub fn read_operands(task: Name, operation: Operation, field: &[u8]) -> Result<Line, Fault>
-    ensures { FormReading (operation_text operation) task (operands_in (as_field field.now)) result }
+pub fn read_operands(
+    task: Name,
+    operation: Operation,
+    field: &[u8],
+    line: &mut Line,
+) -> Result<(), Fault>
+    ensures { FormReading (operation_text operation) task (operands_in (as_field field.now)) (filled line.new result) }
 {
     if operation.takes_form() {
-        read_with_form(task, operation, field)
+        read_with_form(task, operation, field, line)
     } else {
-        read_without_form(task, operation, field)
+        read_without_form(task, operation, field, line)
     }
 }

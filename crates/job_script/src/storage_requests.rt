@@ -6,7 +6,7 @@ ghost use Rattle.mvs_model.specs.Reading.{number_or, is_word, subpool, start_of,
 ghost use Rattle.job_script.specs.Rows.{key_text};
 ghost use Rattle.job_script.specs.Given.{IsRead, by_place};
 ghost use Rattle.job_script.specs.Taken.{IsExtent, IsNumbers, IsNames, IsLocations};
-ghost use Rattle.job_script.specs.Said.{said_line, loc_named, Holds, IsRanged, IsNamed, IsLocated, IsByte};
+ghost use Rattle.job_script.specs.Said.{filled, said_line, loc_named, Holds, IsRanged, IsNamed, IsLocated, IsByte};
 
 use crate::addresses::{location, name};
 use crate::digits::bounded;
@@ -160,12 +160,12 @@ impl Given<'_> {
     }
 
     // REGION.
-    pub fn region(&self, task: Name) -> Result<Line, Fault>
+    pub fn region(&self, task: Name, line: &mut Line) -> Result<(), Fault>
         requires read { IsRead self.now }
         requires below { Holds (IsRanged 1 2048) ((by_place self.now).under (codes "BELOW")) }
         requires above { Holds (IsRanged 0 8192) ((by_place self.now).under (codes "ABOVE")) }
         requires fill { Holds (IsByte) ((by_place self.now).under (codes "FILL")) }
-        ensures { result ≡ said_line task (statement_of IsRegion [] (by_place self.now)) }
+        ensures { filled line.new result ≡ said_line task (statement_of IsRegion [] (by_place self.now)) }
     {
         let Some(below) = self.text(Key::Below) else {
             return Err(Fault::MissingOperand);
@@ -174,7 +174,7 @@ impl Given<'_> {
             None => 0,
             Some(digits) => byte(digits),
         };
-        Ok(Line::Statement(
+        *line = Line::Statement(
             task,
             Statement::Region {
                 below: bounded(below),
@@ -182,15 +182,23 @@ impl Given<'_> {
                 fill,
                 residence: self.residence(),
             },
-        ))
+        );
+        Ok(())
     }
 
     // A request for an area, its lengths under one key and its name under another.
-    pub fn obtain(&self, task: Name, form: &[u8], lengths: Key, area: Key) -> Result<Line, Fault>
+    pub fn obtain(
+        &self,
+        task: Name,
+        form: &[u8],
+        lengths: Key,
+        area: Key,
+        line: &mut Line,
+    ) -> Result<(), Fault>
         requires read { IsRead self.now }
         requires lengths { Holds IsExtent ((by_place self.now).under (key_text lengths)) }
         requires area { Holds IsNamed ((by_place self.now).under (key_text area)) }
-        ensures { result ≡ said_line task (statement_of (Obtains (key_text lengths) (key_text area)) form.now (by_place self.now)) }
+        ensures { filled line.new result ≡ said_line task (statement_of (Obtains (key_text lengths) (key_text area)) form.now (by_place self.now)) }
     {
         let Some(lengths) = self.text(lengths) else {
             return Err(Fault::MissingOperand);
@@ -198,7 +206,7 @@ impl Given<'_> {
         let Some(area) = self.text(area) else {
             return Err(Fault::MissingOperand);
         };
-        Ok(Line::Statement(
+        *line = Line::Statement(
             task,
             Statement::Request(Written::Obtain {
                 form: self.form(form),
@@ -207,15 +215,16 @@ impl Given<'_> {
                 variable: inside(lengths).is_some(),
                 area: name(area),
             }),
-        ))
+        );
+        Ok(())
     }
 
     // A request for a list of areas.
-    pub fn obtain_list(&self, task: Name, form: &[u8]) -> Result<Line, Fault>
+    pub fn obtain_list(&self, task: Name, form: &[u8], line: &mut Line) -> Result<(), Fault>
         requires read { IsRead self.now }
         requires lengths { Holds (IsNumbers) ((by_place self.now).under (codes "LA")) }
         requires areas { Holds (IsNames) ((by_place self.now).under (codes "A")) }
-        ensures { result ≡ said_line task (statement_of ObtainsList form.now (by_place self.now)) }
+        ensures { filled line.new result ≡ said_line task (statement_of ObtainsList form.now (by_place self.now)) }
     {
         let Some(list) = self.text(Key::La) else {
             return Err(Fault::MissingOperand);
@@ -223,7 +232,7 @@ impl Given<'_> {
         let Some(areas) = self.text(Key::A) else {
             return Err(Fault::MissingOperand);
         };
-        Ok(Line::Statement(
+        *line = Line::Statement(
             task,
             Statement::Request(Written::ObtainList {
                 form: self.form(form),
@@ -232,61 +241,76 @@ impl Given<'_> {
                 start: self.start(),
                 areas: names(areas),
             }),
-        ))
+        );
+        Ok(())
     }
 
     // A release of the place under two keys, or of the whole subpool where neither is there.
-    pub fn release(&self, task: Name, form: &[u8], len: Key, address: Key) -> Result<Line, Fault>
+    pub fn release(
+        &self,
+        task: Name,
+        form: &[u8],
+        len: Key,
+        address: Key,
+        line: &mut Line,
+    ) -> Result<(), Fault>
         requires read { IsRead self.now }
         requires len { Holds (IsRanged 1 2147483647) ((by_place self.now).under (key_text len)) }
         requires address { Holds IsLocated ((by_place self.now).under (key_text address)) }
-        ensures { result ≡ said_line task (statement_of (Releases (key_text len) (key_text address)) form.now (by_place self.now)) }
+        ensures { filled line.new result ≡ said_line task (statement_of (Releases (key_text len) (key_text address)) form.now (by_place self.now)) }
     {
         let number = self.subpool();
         let form = self.form(form);
         match (self.text(len), self.text(address)) {
-            (Some(len), Some(address)) => Ok(Line::Statement(
-                task,
-                Statement::Request(Written::Release {
-                    form,
-                    number,
-                    location: location(address),
-                    len: bounded(len),
-                }),
-            )),
-            (None, None) => Ok(Line::Statement(
-                task,
-                Statement::Request(Written::ReleaseWhole { form, number }),
-            )),
+            (Some(len), Some(address)) => {
+                *line = Line::Statement(
+                    task,
+                    Statement::Request(Written::Release {
+                        form,
+                        number,
+                        location: location(address),
+                        len: bounded(len),
+                    }),
+                );
+                Ok(())
+            }
+            (None, None) => {
+                *line = Line::Statement(
+                    task,
+                    Statement::Request(Written::ReleaseWhole { form, number }),
+                );
+                Ok(())
+            }
             _ => Err(Fault::MissingOperand),
         }
     }
 
     // A release of the place of an area.
-    pub fn release_area(&self, task: Name, form: &[u8]) -> Result<Line, Fault>
+    pub fn release_area(&self, task: Name, form: &[u8], line: &mut Line) -> Result<(), Fault>
         requires read { IsRead self.now }
         requires area { Holds (IsNamed) ((by_place self.now).under (codes "A")) }
-        ensures { result ≡ said_line task (statement_of ReleasesArea form.now (by_place self.now)) }
+        ensures { filled line.new result ≡ said_line task (statement_of ReleasesArea form.now (by_place self.now)) }
     {
         let Some(area) = self.text(Key::A) else {
             return Err(Fault::MissingOperand);
         };
-        Ok(Line::Statement(
+        *line = Line::Statement(
             task,
             Statement::Request(Written::ReleaseArea {
                 form: self.form(form),
                 number: self.subpool(),
                 area: name(area),
             }),
-        ))
+        );
+        Ok(())
     }
 
     // A release of a list of places.
-    pub fn release_list(&self, task: Name, form: &[u8]) -> Result<Line, Fault>
+    pub fn release_list(&self, task: Name, form: &[u8], line: &mut Line) -> Result<(), Fault>
         requires read { IsRead self.now }
         requires lengths { Holds (IsNumbers) ((by_place self.now).under (codes "LA")) }
         requires addresses { Holds (IsLocations) ((by_place self.now).under (codes "A")) }
-        ensures { result ≡ said_line task (statement_of ReleasesList form.now (by_place self.now)) }
+        ensures { filled line.new result ≡ said_line task (statement_of ReleasesList form.now (by_place self.now)) }
     {
         let Some(list) = self.text(Key::La) else {
             return Err(Fault::MissingOperand);
@@ -294,7 +318,7 @@ impl Given<'_> {
         let Some(addresses) = self.text(Key::A) else {
             return Err(Fault::MissingOperand);
         };
-        Ok(Line::Statement(
+        *line = Line::Statement(
             task,
             Statement::Request(Written::ReleaseList {
                 form: self.form(form),
@@ -302,6 +326,7 @@ impl Given<'_> {
                 locations: locations(addresses),
                 lengths: lengths(list),
             }),
-        ))
+        );
+        Ok(())
     }
 }

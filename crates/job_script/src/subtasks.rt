@@ -7,7 +7,7 @@ ghost use Rattle.mvs_model.specs.Reading.{presents, statement_of, set_of, number
 ghost use Rattle.job_script.specs.Rows.{key_text};
 ghost use Rattle.job_script.specs.Given.{IsRead, by_place};
 ghost use Rattle.job_script.specs.Items.{items_in};
-ghost use Rattle.job_script.specs.Said.{said_line, Holds, IsRanged, IsNamed, AreGifts, AreGiven};
+ghost use Rattle.job_script.specs.Said.{filled, said_line, Holds, IsRanged, IsNamed, AreGifts, AreGiven};
 
 use crate::addresses::name;
 use crate::digits::{bounded, number};
@@ -69,7 +69,7 @@ impl Given<'_> {
     }
 
     /// ATTACH (Assembler Services Reference).
-    pub fn attach(&self, task: Name) -> Result<Line, Fault>
+    pub fn attach(&self, task: Name, line: &mut Line) -> Result<(), Fault>
         requires read { IsRead self.now }
         requires name { Holds (IsNamed) ((by_place self.now).under (codes "TASK")) }
         requires given { AreGiven ((by_place self.now).under (codes "GSPV")) × AreGiven ((by_place self.now).under (codes "GSPL")) }
@@ -77,7 +77,7 @@ impl Given<'_> {
         requires one_given { (is_some ((by_place self.now).under (codes "GSPV")) && is_some ((by_place self.now).under (codes "GSPL"))) ≡ false }
         requires one_shared { (is_some ((by_place self.now).under (codes "SHSPV")) && is_some ((by_place self.now).under (codes "SHSPL"))) ≡ false }
         requires apart { IsGifts (presents (by_place self.now)) }
-        ensures { result ≡ said_line task (statement_of Attaches [] (by_place self.now)) }
+        ensures { filled line.new result ≡ said_line task (statement_of Attaches [] (by_place self.now)) }
     {
         let Some(subtask) = self.text(Key::Task) else {
             return Err(Fault::MissingOperand);
@@ -88,25 +88,27 @@ impl Given<'_> {
         let Some(gifts) = Gifts::new(given, shared, zero) else {
             unreachable!();
         };
-        Ok(Line::Statement(
+        *line = Line::Statement(
             task,
             Statement::Request(Written::Attach {
                 name: name(subtask),
                 gifts,
                 residence: self.residence(),
             }),
-        ))
+        );
+        Ok(())
     }
 
     /// ABEND (Assembler Services Reference).
-    pub fn abend(&self, task: Name) -> Result<Line, Fault>
+    pub fn abend(&self, task: Name, line: &mut Line) -> Result<(), Fault>
         requires read { IsRead self.now }
         requires code { Holds (IsRanged 0 4095) ((by_place self.now).at 0) }
-        ensures { result ≡ said_line task (statement_of Abends [] (by_place self.now)) }
+        ensures { filled line.new result ≡ said_line task (statement_of Abends [] (by_place self.now)) }
     {
         let Some(code) = self.positional(0) else {
             return Err(Fault::MissingOperand);
         };
-        Ok(Line::Statement(task, Statement::Request(Written::Abend(bounded(code)))))
+        *line = Line::Statement(task, Statement::Request(Written::Abend(bounded(code))));
+        Ok(())
     }
 }

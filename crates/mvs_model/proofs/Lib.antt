@@ -8,6 +8,7 @@ pub mod Keepers
 pub mod Keyed
 pub mod Kept
 pub mod Made
+mod NameKeys
 pub mod NameText
 pub mod Operands
 pub mod Orders

@@ -26,6 +26,10 @@ pub record IsName (name : List ℕ) : Type 0 where
   pub begins : slice_index name 0 ≢ 32
   pub ends : (k : ℕ) → k < 7 → slice_index name k ≡ 32 → slice_index name (k + 1) ≡ 32
 
+-- Each is a byte.
+abbrev pub AreBytes : List ℕ → Type 0
+AreBytes bs = (k : ℕ) → slice_index bs k < 256
+
 -- byte order
 abbrev pub name_cmp : List ℕ → List ℕ → Ordering
 name_cmp = slice_cmp nat_cmp

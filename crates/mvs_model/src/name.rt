@@ -1,14 +1,20 @@
 //! Names of tasks, areas, cells and cell pools.
 
-ghost use Rattle.std.specs.Prelude.{◌≡◌, ◌≤◌, ◌==◌, MatchOption, length};
+ghost use Rattle.std.specs.Prelude.{◌≡◌, ◌≤◌, ◌<◌, ◌^◌, ◌==◌, ℕ, MatchOption, length, slice_index};
 ghost use Rattle.std.specs.List.{position_or_len};
-ghost use Rattle.mvs_model.specs.Name.{IsNameText, padded, trimmed};
+ghost use Rattle.std.specs.Int.{w64, from_be_bytes};
+ghost use Rattle.std.specs.Cmp.{partial_order_from_own_ties};
+ghost use Rattle.std.specs.Cmp.Rules.{comparing};
+ghost use Rattle.std.specs.Ordering.{as_partial_cmp};
+ghost use Rattle.std.proofs.Common.{rules};
+ghost use Rattle.mvs_model.specs.Name.{AreBytes, IsNameText, name_cmp, padded, trimmed};
 
+use std::cmp::Ordering;
 use std::marker::Model;
 
 /// One to eight bytes without a blank, padded with blanks to eight; in byte order. Which bytes a script may
 /// write in a name is decided where the script is read.
-#[derive(Clone, Copy, Debug, PartialEq, Eq, PartialOrd, Ord)]
+#[derive(Clone, Copy, Debug, PartialEq, Eq)]
 pub struct Name {
     bytes: [u8; 8],
 }
@@ -49,12 +55,53 @@ impl Name {
         Some(Name { bytes: pad(text) })
     }
 
+    // The bytes as a number, the first one the highest.
+    fn key(&self) -> u64
+        ensures key { result ≡ from_be_bytes w64 self.now }
+        ensures eight { length self.now ≡ 8 }
+        ensures bytes { AreBytes self.now }
+    {
+        spelled(self.bytes)
+    }
+
     /// The text without its padding.
     pub fn text(&self) -> &[u8]
         ensures text { result.now ≡ trimmed self.now }
         ensures len { length result.now ≤ 8 }
     {
         &self.bytes[..text_len(&self.bytes)]
+    }
+}
+
+// The number that eight bytes spell, the first one the highest.
+fn spelled(bytes: [u8; 8]) -> u64
+    ensures value { result ≡ from_be_bytes w64 bytes }
+    ensures bytes { AreBytes bytes }
+{
+    u64::from_be_bytes(bytes)
+}
+
+impl Ord for Name {
+    ghost cmp = { name_cmp };
+
+    ghost total = { Prim.search (comparing, rules) };
+
+    ghost matches_partial_cmp = { Prim.search (comparing, rules) };
+
+    ghost matches_eq = { Prim.search (comparing, rules) };
+
+    fn cmp(&self, other: &Name) -> Ordering {
+        self.key().cmp(&other.key())
+    }
+}
+
+impl PartialOrd for Name {
+    ghost partial_cmp = { as_partial_cmp name_cmp };
+
+    ghost laws = { partial_order_from_own_ties (Prim.search (comparing, rules)) (Prim.search (comparing, rules)) };
+
+    fn partial_cmp(&self, other: &Name) -> Option<Ordering> {
+        Some(self.cmp(other))
     }
 }
 

@@ -30,6 +30,18 @@ pub fn write_all<W: Write>(writer: &mut Watched<W>, bytes: &[u8]) -> Result<(), 
     Ok(())
 }
 
+// Puts the number and the task of a line behind a text.
+fn push_head(text: &mut Text, number: u32, task: &Name)
+    requires { length text.old ≤ 100 }
+    ensures text { text.new ≡ text.old ++ decimal number ++ codes " " ++ trimmed task.now ++ codes " " }
+    ensures len { length text.new ≤ length text.old + 20 }
+{
+    text.push_decimal(number);
+    text.push_all(b" ");
+    text.push_all(task.text());
+    text.push_all(b" ");
+}
+
 /// Prints one line: its number, its task, and what is said.
 pub fn print_line<W: Write>(
     writer: &mut Watched<W>,
@@ -43,10 +55,7 @@ pub fn print_line<W: Write>(
     ensures err { OnErr result (writer.new.failed ≡ true) }
 {
     let mut text = Text::new();
-    text.push_decimal(number);
-    text.push_all(b" ");
-    text.push_all(task.text());
-    text.push_all(b" ");
+    push_head(&mut text, number, task);
     text.push_all(said);
     text.push_all(b"\n");
     write_all(writer, text.as_slice())
@@ -154,22 +163,31 @@ fn push_bytes(text: &mut Text, bytes: &[u8])
     ensures len { length text.new ≡ length text.old + 2 * length bytes.now }
 {
     for byte in bytes {
-        text.push_last(16, 2, u32::from(*byte));
+        text.push_byte(*byte);
     }
 }
 
-// A line of bytes: the offset of the first one, and two digits for each.
-fn data_said(offset: u32, bytes: &[u8]) -> Text
+// Prints a line of bytes: the offset of the first one, and two digits for each.
+fn print_data_line<W: Write>(
+    writer: &mut Watched<W>,
+    number: u32,
+    task: &Name,
+    offset: u32,
+    bytes: &[u8],
+) -> Result<(), Failed>
     requires { length bytes.now ≤ line_bytes }
-    ensures text { result ≡ codes "DATA +" ++ hex 4 offset ++ codes " " ++ flat_map (hex 2) bytes.now }
-    ensures short { length result ≤ 120 }
+    ensures bytes { WritesAll (W.contents writer.old.inner) (W.contents writer.new.inner) result (reply_line number task.now (codes "DATA +" ++ hex 4 offset ++ codes " " ++ flat_map (hex 2) bytes.now)) }
+    ensures ok { OnOk result (writer.new.failed ≡ writer.old.failed) }
+    ensures err { OnErr result (writer.new.failed ≡ true) }
 {
     let mut text = Text::new();
+    push_head(&mut text, number, task);
     text.push_all(b"DATA +");
     text.push_last(16, 4, offset);
     text.push_all(b" ");
     push_bytes(&mut text, bytes);
-    text
+    text.push_all(b"\n");
+    write_all(writer, text.as_slice())
 }
 
 /// Prints bytes, in lines of 32.
@@ -188,7 +206,7 @@ pub fn print_data<W: Write>(
     let mut rest = bytes;
     'lines: while !rest.is_empty() {
         let (line, more) = rest.split_at(rest.len().min(LINE_BYTES));
-        print_line(writer, number, task, data_said(offset, line).as_slice())?;
+        print_data_line(writer, number, task, offset, line)?;
         offset += LINE_BYTES as u32;
         rest = more;
     }

@@ -1,12 +1,15 @@
 //! A line of text in a fixed array.
 
 ghost use Rattle.std.specs.Prelude.{◌≡◌, ◌<◌, ◌≤◌, ◌+◌, ◌++◌, ◌∷◌, [], List, ℕ, length, take, decimal};
-ghost use Rattle.mvs_model.specs.Texts.{last_digits, glyph};
+ghost use Rattle.mvs_model.specs.Texts.{last_digits, hex, glyph};
 
 use std::marker::Model;
 
 /// The most bytes that a printed line has.
 pub const ROOM: usize = 160;
+
+/// The glyphs of the digits below sixteen.
+const GLYPHS: [u8; 16] = *b"0123456789ABCDEF";
 
 /// Text of at most 160 bytes.
 #[derive(Drop)]
@@ -53,9 +56,19 @@ impl Text {
         ensures text { self.new ≡ self.old ++ bytes.now }
         ensures len { length self.new ≡ length self.old + length bytes.now }
     {
-        for byte in bytes {
-            self.push(*byte);
-        }
+        let end = self.len + bytes.len();
+        self.bytes[self.len..end].copy_from_slice(bytes);
+        self.len = end;
+    }
+
+    /// The two hexadecimal digits of a byte.
+    pub fn push_byte(&mut self, byte: u8)
+        requires { length self.old + 2 ≤ 160 }
+        ensures text { self.new ≡ self.old ++ hex 2 byte }
+        ensures len { length self.new ≡ length self.old + 2 }
+    {
+        self.push(digit_glyph(byte / 16));
+        self.push(digit_glyph(byte % 16));
     }
 
     /// A number in decimal, without leading zeros.
@@ -98,9 +111,5 @@ fn digit_glyph(digit: u8) -> u8
     requires { digit < 16 }
     ensures { result ≡ glyph digit }
 {
-    if digit < 10 {
-        b'0' + digit
-    } else {
-        b'A' + (digit - 10)
-    }
+    GLYPHS[usize::from(digit)]
 }

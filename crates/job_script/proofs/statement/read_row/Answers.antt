@@ -4,6 +4,7 @@ use Rattle.mvs_model.specs.Reading.{operands_in, first_of, operand_checks, with_
 use Rattle.job_script.specs.Given.{option_now}
 use Rattle.job_script.specs.Kinds.{fault_in}
 use Rattle.job_script.specs.Rows.{row_at}
+use Rattle.job_script.specs.Said.{filled}
 use Rattle.job_script.proofs.Rowing.{row_not_taken, row_lacks, row_said}
 use Rattle.job_script.proofs.statement.read_row.Goals as goal
 
@@ -19,5 +20,5 @@ returns-in-Err-check c =
 
 pub returns : goal.returns
 returns c =
-    row_said c.take_field.new.self c.args.row c.args.task c.args.form.now (operands_in (option_now c.args.field)) c.line.result c.in_default.ensures.0 (c.in_default.ensures.1 ∙ c.none-given.ensures.row)
-    (sym c.check.ensures ∙ ap fault_in c.in_default-check.is) c.line.ensures
+    row_said c.take_field.new.self c.args.row c.args.task c.args.form.now (operands_in (option_now c.args.field)) (filled c.fill.new.line c.fill.result) c.in_default.ensures.0 (c.in_default.ensures.1 ∙ c.none-given.ensures.row)
+    (sym c.check.ensures ∙ ap fault_in c.in_default-check.is) c.fill.ensures

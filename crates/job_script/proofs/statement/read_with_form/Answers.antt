@@ -6,6 +6,7 @@ use Rattle.job_script.specs.Given.{option_now}
 use Rattle.job_script.specs.Operations.{operation_text}
 use Rattle.job_script.specs.Rowed.{FormReading}
 use Rattle.job_script.specs.Rows.{row_at}
+use Rattle.job_script.specs.Said.{filled}
 use Rattle.job_script.proofs.Rowing.{form_parts, form_there, form_unknown, form_known, behind_one}
 use Rattle.job_script.proofs.statement.read_with_form.Goals as goal
 
@@ -26,5 +27,5 @@ returns c =
     let parts = form_parts c.args.field.now form c.next_operand.result.1 (sym c.is_empty.ensures ∙ c.if-is_empty.false) c.next_operand.ensures.parts in
     let plain : has_key form ≡ false = sym c.has_key.ensures ∙ c.if-has_key.false in
     let formed : is_empty (row_at c.in-Some.row).forms ≡ false = c.in-Some.ensures.formed ∙ ap not c.requires in
-    subst (λ os. FormReading op c.args.task os c.read_row.result) (sym parts)
-    (form_known op c.args.task (form ∷ behind) behind form (row_at c.in-Some.row) c.read_row.result (form_there op form behind plain) c.in-Some.ensures.row (behind_one (row_at c.in-Some.row) form behind formed) refl c.read_row.ensures)
+    subst (λ os. FormReading op c.args.task os (filled c.read_row.new.line c.read_row.result)) (sym parts)
+    (form_known op c.args.task (form ∷ behind) behind form (row_at c.in-Some.row) (filled c.read_row.new.line c.read_row.result) (form_there op form behind plain) c.in-Some.ensures.row (behind_one (row_at c.in-Some.row) form behind formed) refl c.read_row.ensures)

@@ -1,7 +1,7 @@
 use Rattle.std.specs.Prelude.{codes}
 use Rattle.job_script.specs.declared.rows.Row.TheVariants as row
 use Rattle.job_script.proofs.Facts.{at_key, at_place, extent_number, extent_pair, a_byte, some_numbers, some_names, some_locations, some_bytes, gives_number, gives_list, shares_number, shares_list, attach_apart}
-use Rattle.job_script.proofs.given.Given.line.Goals as goal
+use Rattle.job_script.proofs.given.Given.fill.Goals as goal
 
 pub region-requires-clause-below : goal.region-requires-clause-below
 region-requires-clause-below c = λ text e. let k = at_key c.args.self.now c.requires.read row.Region c.in-Region.is (codes "BELOW") text e in record { digits = k.of_kind; range = k.within }

@@ -1,0 +1,55 @@
+-- Names lie as the numbers that their bytes spell.
+use Rattle.std.proofs.Common.{◌≡◌, ℕ, suc, ◌+◌, ◌*◌, ◌<◌, ◌^◌, List, [], ◌∷◌, length, slice_index, refl, sym, ap, ◌∙◌, arith}
+use Rattle.std.specs.declared.cmp.Ordering.{Ordering}
+use Rattle.std.specs.declared.cmp.Ordering.TheVariants.{Less, Equal, Greater}
+use Rattle.std.specs.Ordering.{nat_cmp, ordering_then, MatchOrdering}
+use Rattle.std.specs.Cmp.{ranks, nat_cmp_is}
+use Rattle.std.specs.Cmp.Lexicographic.{slice_cmp}
+use Rattle.std.specs.Int.{w64, from_be_bytes}
+use Rattle.mvs_model.specs.Name.{AreBytes}
+
+-- the number that the bytes spell behind another
+abbrev spelled : ℕ → List ℕ → ℕ
+spelled n [] = n
+spelled n (b ∷ bs) = spelled (n * 256 + b) bs
+
+behind : (b : ℕ) (bs : List ℕ) → AreBytes (b ∷ bs) → AreBytes bs
+behind b bs are k = are (suc k)
+
+-- what spells more at the front spells more
+rises : (m n : ℕ) (xs ys : List ℕ) → length xs ≡ length ys → AreBytes xs → AreBytes ys → m < n → spelled m xs < spelled n ys
+rises m n [] [] e bx by l = l
+rises m n [] (y ∷ ys) e bx by l = absurd (omega arith)
+rises m n (x ∷ xs) [] e bx by l = absurd (omega arith)
+rises m n (x ∷ xs) (y ∷ ys) e bx by l =
+    let small : x < 2 ^ 8 = bx 0 in
+    rises (m * 256 + x) (n * 256 + y) xs ys (omega arith) (behind x xs bx) (behind y ys by) (omega arith)
+
+settles : (n : ℕ) (xs ys : List ℕ) → length xs ≡ length ys → AreBytes xs → AreBytes ys → slice_cmp nat_cmp xs ys ≡ nat_cmp (spelled n xs) (spelled n ys)
+settles n [] [] e bx by = nat_cmp_is n n Equal refl
+settles n [] (y ∷ ys) e bx by = absurd (omega arith)
+settles n (x ∷ xs) [] e bx by = absurd (omega arith)
+settles n (x ∷ xs) (y ∷ ys) e bx by = at (nat_cmp x y) (ranks x y) (settles (n * 256 + x) xs ys (omega arith) (behind x xs bx) (behind y ys by)) where
+  long : length xs ≡ length ys
+  long = omega arith
+
+  at : (r : Ordering) → MatchOrdering r (x < y) (x ≡ y) (y < x) → slice_cmp nat_cmp xs ys ≡ nat_cmp (spelled (n * 256 + x) xs) (spelled (n * 256 + x) ys)
+      → ordering_then r (slice_cmp nat_cmp xs ys) ≡ nat_cmp (spelled (n * 256 + x) xs) (spelled (n * 256 + y) ys)
+  at Less h same = nat_cmp_is _ _ Less (rises (n * 256 + x) (n * 256 + y) xs ys long (behind x xs bx) (behind y ys by) (omega (arith, h, bx 0)))
+  at Equal h same = same ∙ ap (λ z. nat_cmp (spelled (n * 256 + x) xs) (spelled (n * 256 + z) ys)) h
+  at Greater h same = nat_cmp_is _ _ Greater (rises (n * 256 + y) (n * 256 + x) ys xs (sym long) (behind y ys by) (behind x xs bx) (omega (arith, h, by 0)))
+
+eight : (bs : List ℕ) → length bs ≡ 8 → from_be_bytes w64 bs ≡ spelled 0 bs
+eight [] e = absurd (omega arith)
+eight (a ∷ []) e = absurd (omega arith)
+eight (a ∷ b ∷ []) e = absurd (omega arith)
+eight (a ∷ b ∷ c ∷ []) e = absurd (omega arith)
+eight (a ∷ b ∷ c ∷ d ∷ []) e = absurd (omega arith)
+eight (a ∷ b ∷ c ∷ d ∷ f ∷ []) e = absurd (omega arith)
+eight (a ∷ b ∷ c ∷ d ∷ f ∷ g ∷ []) e = absurd (omega arith)
+eight (a ∷ b ∷ c ∷ d ∷ f ∷ g ∷ h ∷ []) e = absurd (omega arith)
+eight (a ∷ b ∷ c ∷ d ∷ f ∷ g ∷ h ∷ i ∷ []) e = omega arith
+eight (a ∷ b ∷ c ∷ d ∷ f ∷ g ∷ h ∷ i ∷ j ∷ more) e = absurd (omega arith)
+
+pub names_lie : (xs ys : List ℕ) → length xs ≡ 8 → length ys ≡ 8 → AreBytes xs → AreBytes ys → nat_cmp (from_be_bytes w64 xs) (from_be_bytes w64 ys) ≡ slice_cmp nat_cmp xs ys
+names_lie xs ys ex ey bx by = rw (eight xs ex, eight ys ey) (sym (settles 0 xs ys (ex ∙ sym ey) bx by))
