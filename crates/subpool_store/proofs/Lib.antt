@@ -1,6 +1,10 @@
 pub mod Ranges
-pub mod Words
-pub mod BitRows
+pub mod Queued
+pub mod PageChange
+pub mod PageTaken
+pub mod PageWritten
+pub mod Marked
+pub mod Cursors
 pub mod Scan
 pub mod Exact
 pub mod Cover

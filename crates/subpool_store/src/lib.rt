@@ -1,9 +1,9 @@
 //! Storage of both regions: obtain and release.
 #![tactic(auto)]
 
-mod bit_list;
+mod free_runs;
 mod half;
-mod held_map;
+mod memory;
 mod run;
 mod search;
 mod store;

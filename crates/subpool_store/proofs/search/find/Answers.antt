@@ -8,12 +8,12 @@ use Rattle.subpool_store.proofs.search.find.Goals as goal
 
 pub runs-init : goal.runs-init
 runs-init c =
-    let test = may_take c.args.held.now c.args.pages.now c.args.subpool in record {
-      walk = subst (IsWalk c.args.held.now c.args.pages.now c.args.subpool) (sym c.new-walk.ensures) (record {
+    let test = may_take c.args.memory.now.held c.args.pages.now c.args.subpool in record {
+      walk = subst (IsWalk c.args.memory.now c.args.pages.now c.args.subpool) (sym c.new-walk.ensures) (record {
         ordered = omega arith;
         within = omega arith;
         passes = λ i low high. absurd (omega arith);
-        stands = record { page = λ _. refl; own = λ e. absurd (false≢true e); within = λ e. absurd (false≢true e) };
+        stands = record { page = λ _. refl; own = λ e. absurd (false≢true e); within = λ e. absurd (false≢true e); cursor = λ e. absurd (false≢true e) };
         counted = omega arith;
       });
       found = tt;
@@ -22,7 +22,7 @@ runs-init c =
 
 pub runs-preserved : goal.runs-preserved
 runs-preserved c =
-    let test = may_take c.args.held.now c.args.pages.now c.args.subpool in
+    let test = may_take c.args.memory.now.held c.args.pages.now c.args.subpool in
     let k = c.in-Some.ensures.run in
     let e = c.preferred-best.ensures in record {
       walk = c.next_run.ensures.walk;
@@ -32,6 +32,6 @@ runs-preserved c =
 
 pub returns-clause-longest : goal.returns-clause-longest
 returns-clause-longest c =
-    let test = may_take c.args.held.now c.args.pages.now c.args.subpool in
+    let test = may_take c.args.memory.now.held c.args.pages.now c.args.subpool in
     subst (λ b. (q : PlaceValue) → IsCandidate test c.args.first c.args.want.now q → Beats b q.len) (sym c.new-2.ensures)
     (best_of_all test c.args.first c.args.want.now c.runs.best _ c.only_length-only.ensures.wanted.some c.in_default.ensures.run c.runs.invariant.behind)

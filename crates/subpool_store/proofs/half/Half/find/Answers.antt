@@ -3,4 +3,4 @@ use Rattle.subpool_store.proofs.Methods.{finds_best}
 use Rattle.subpool_store.proofs.half.Half.find.Goals as goal
 
 pub returns-clause-best : goal.returns-clause-best
-returns-clause-best c = let s = c.self.inside in finds_best s.first s.held s.pages (value_at s.bytes) c.args.self.now c.self.invariant.0 c.self.view_is c.args.subpool c.args.want.now _ c.find.ensures.wanted c.find.ensures.found c.find.ensures.longest
+returns-clause-best c = let s = c.self.inside in finds_best s.first s.memory.held s.pages (value_at s.memory.bytes) c.args.self.now c.self.invariant.0 c.self.view_is c.args.subpool c.args.want.now _ c.find.ensures.wanted c.find.ensures.found c.find.ensures.longest
