@@ -5,6 +5,9 @@ pub mod PageTaken
 pub mod PageWritten
 pub mod Marked
 pub mod Cursors
+pub mod Begun
+pub mod HalfCount
+pub mod StoreCount
 pub mod Scan
 pub mod Exact
 pub mod Cover

@@ -14,9 +14,12 @@ use Rattle.subpool_store.proofs.Queued.{closed_free, closed_past, free_is, held_
 module _ (ps : Pages) (heads : List ℕ) (m : MemoryState) (inv : IsMemory ps heads) (is : memory_of ps heads ≡ m) (at n : ℕ) (part : IsHeldPart m.held at n) where
   -- what is held is a part
   pub held_part : IsPart ps at n
-  held_part = (part.0, λ k from to.
-      let page : k / 8 / 512 ≡ k / 4096 = omega arith in
-      sym (ap (is_open ps) page) ∙ held_open ps heads (k / 8) (sym (bit_is ps heads m inv is (k / 8)) ∙ part.1 k from to))
+  held_part = (
+    part.0,
+    λ k from to.
+        let page : k / 8 / 512 ≡ k / 4096 = omega arith in
+        sym (ap (is_open ps) page) ∙ held_open ps heads (k / 8) (sym (bit_is ps heads m inv is (k / 8)) ∙ part.1 k from to),
+  )
 
   module _ (ws : List ℕ) (short : length ws ≤ n) (ps' : Pages) (writes : Writes ps at ws ps') where
     -- no byte that is free is written

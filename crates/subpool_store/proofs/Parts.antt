@@ -19,7 +19,9 @@ module _ (first : ℕ) (bits : List Bool) (pages : List (Option ℕ)) (values : 
   pub part_of_held : (p : PlaceValue) (at n : ℕ) → at ≡ p.addr - 8 * first → (n ≡ p.len) × (1 ≤ p.len) → AllHeldIn h p → IsHeldPart bits at n
   part_of_held p at n at_is n_is held =
       let some : 1 ≤ p.len = n_is.1 in let long : n ≡ p.len = n_is.0 in
-      let low : 8 * first ≤ p.addr = (all_inside first bits pages values h is p some held).0 in
-      (omega (arith, some, long), λ k from to.
-      let index : (k + 8 * first) / 8 - first ≡ k / 8 = omega arith in
-      sym (ap (λ i. get_or bits i false) index) ∙ bit_held ((k + 8 * first) / 8) (held ((k + 8 * first) / 8) (omega arith, omega arith)))
+      let low : 8 * first ≤ p.addr = (all_inside first bits pages values h is p some held).0 in (
+        omega (arith, some, long),
+        λ k from to.
+            let index : (k + 8 * first) / 8 - first ≡ k / 8 = omega arith in
+            sym (ap (λ i. get_or bits i false) index) ∙ bit_held ((k + 8 * first) / 8) (held ((k + 8 * first) / 8) (omega arith, omega arith)),
+      )

@@ -7,6 +7,7 @@ ghost use Rattle.mvs_model.specs.Finite.{count_below, has};
 ghost use Rattle.mvs_model.specs.Storage.{IsWhole};
 ghost use Rattle.mvs_model.specs.Want.{IsWant};
 ghost use Rattle.page_map.specs.Owners.{owner_of, is_usable};
+ghost use Rattle.subpool_store.specs.Bound.{to_look_at};
 ghost use Rattle.subpool_store.specs.Edits.{IsAssigned, IsGivenUp, IsDropped, IsMarked};
 ghost use Rattle.subpool_store.specs.Half.{
   AllHeldIn,
@@ -21,6 +22,7 @@ ghost use Rattle.subpool_store.specs.Half.{
   cell,
 };
 ghost use Rattle.subpool_store.specs.Memory.{Stays};
+ghost use Rattle.subpool_store.specs.Search.{IsCounted};
 ghost use Rattle.subpool_store.specs.LendsHalf.{LendsHalf};
 
 use crate::free_runs::{self, are_held, are_held_in};
@@ -256,6 +258,7 @@ impl Half {
     // A longest open place that meets what is wanted, the one that the placement takes.
     pub fn find(&self, placement: Placement, subpool: SubpoolId, want: &Want) -> Found
         ensures best { BestIn self.now subpool want.now result.place }
+        ensures counted { IsCounted (to_look_at self.now subpool) result.place result.steps }
         ensures wanted { IsWant want.now }
     {
         find(

@@ -9,4 +9,5 @@ mod search;
 mod store;
 mod walk;
 
+pub use search::Found;
 pub use store::{NotHeld, Store};

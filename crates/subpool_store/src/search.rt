@@ -1,6 +1,6 @@
 //! The search for a place in one region.
 
-ghost use Rattle.std.specs.Prelude.{◌≡◌, ◌<◌, ◌≤◌, ◌+◌, ◌-◌, ◌*◌, ◌^◌, ◌⊎◌, ◌↔◌, ℕ, IfSome, IsTrue, length};
+ghost use Rattle.std.specs.Prelude.{◌≡◌, ◌<◌, ◌≤◌, ◌+◌, ◌-◌, ◌*◌, ◌^◌, ◌⊎◌, ◌↔◌, ℕ, IfSome, IsTrue, false, length};
 ghost use Rattle.mvs_model.specs.Place.{PlaceValue};
 ghost use Rattle.mvs_model.specs.Storage.{IsLength, IsRun};
 ghost use Rattle.mvs_model.specs.Want.{IsWant};
@@ -9,11 +9,13 @@ ghost use Rattle.subpool_store.specs.Search.{
   may_take,
   Beats,
   IsCandidate,
+  IsCounted,
   IsExact,
   IsOnlyLength,
   IsShorter,
   LongestIn,
 };
+ghost use Rattle.subpool_store.specs.Walk.{looked_at};
 
 use crate::memory::Memory;
 use crate::run::Run;
@@ -32,8 +34,9 @@ pub struct Found {
 }
 
 impl Found {
-    fn new(place: Option<Place>, steps: u32) -> Found
-        ensures { result.place ≡ place }
+    pub fn new(place: Option<Place>, steps: u32) -> Found
+        ensures place { result.place ≡ place }
+        ensures steps { result.steps ≡ steps }
     {
         Found { place, steps }
     }
@@ -168,6 +171,7 @@ pub fn find(
     requires one_side { first < 2097152 → first + length memory.now.held ≤ 2097152 }
     ensures found { IfSome result.place (IsCandidate (may_take memory.now.held pages.now subpool) first want.now) }
     ensures longest { (q : PlaceValue) → IsCandidate (may_take memory.now.held pages.now subpool) first want.now q → Beats result.place q.len }
+    ensures counted { IsCounted (looked_at memory.now pages.now subpool (length memory.now.held) false) result.place result.steps }
     ensures wanted { IsWant want.now }
 {
     let only = only_length(want);

@@ -1,6 +1,6 @@
 //! One pass in rising order over the pages of a region and the free runs of the subpool's own pages.
 
-ghost use Rattle.std.specs.Prelude.{◌≡◌, ◌<◌, ◌≤◌, ◌/◌, ◌%◌, ℕ, MatchOption, Some, false, true, length};
+ghost use Rattle.std.specs.Prelude.{◌≡◌, ◌<◌, ◌≤◌, ◌/◌, ◌%◌, ◌⊎◌, ℕ, MatchOption, Some, false, true, length, slice_index_or};
 ghost use Rattle.free_queue.specs.Runs.{end};
 ghost use Rattle.page_map.specs.Owners.{owner_of};
 ghost use Rattle.subpool_store.specs.Half.{IsOpened};
@@ -26,7 +26,8 @@ struct Part {
 }
 
 /// A pass: the run that it has joined so far, which ends where it stands; whether it stands inside a page of
-/// the subpool's own, whose entry it has examined; the queue of the runs of that page that it has not examined; and how many page entries and free runs it has examined.
+/// the subpool's own, whose entry it has examined; the queue of the runs of that page that it has not examined; and
+/// how many page entries and free runs it has examined.
 #[derive(Clone, Copy)]
 pub struct Walk {
     start: usize,
@@ -37,6 +38,7 @@ pub struct Walk {
 }
 
 // Looks at the entry of the next page.
+#[tactic(auto, using(crate::proofs::Begun::page_counted))]
 fn examine_page(memory: &Memory, pages: &PageMap, subpool: SubpoolId, from: usize) -> Part
     requires exact { IsExact memory.now.held pages.now }
     requires within { from < length memory.now.held }
@@ -71,6 +73,7 @@ fn examine_page(memory: &Memory, pages: &PageMap, subpool: SubpoolId, from: usiz
 }
 
 // Looks at the next free run of a page of the subpool's own. Where there is none it looks at nothing.
+#[tactic(auto, using(crate::proofs::Begun::rest_counted, crate::proofs::Begun::run_counted))]
 fn examine_run(
     memory: &Memory,
     pages: &PageMap,
@@ -83,6 +86,7 @@ fn examine_run(
     requires own { owner_of pages.now (from / 512) ≡ Some subpool }
     requires opened { IsOpened pages.now memory.now.bytes }
     requires cursor { IsCursor memory.now (from / 512) from queue }
+    requires fresh { (from % 512 ≡ 0) ⊎ (slice_index_or memory.now.held from false ≡ true) }
     ensures { IsNextPart memory.now pages.now subpool from true result }
 {
     let page = from / 512;
@@ -143,6 +147,7 @@ impl Walk {
         ensures run { MatchOption result
             ((i : ℕ) → self.old.start ≤ i → may_take memory.now.held pages.now subpool i ≡ false)
             (λ run. IsNextRun (may_take memory.now.held pages.now subpool) self.old.start run.start run.end self.new.start) }
+        ensures all { MatchOption result (self.new.end ≡ length memory.now.held) (λ _. 0 < self.new.end) }
     {
         let total = 512 * pages.pages();
         'parts: while self.end < total {
