@@ -1,2 +1,3 @@
 mod Words
 mod Queues
+pub mod Free

@@ -1,5 +1,5 @@
 -- The free runs of a page, and how the bytes of the page spell them. All is counted in bytes from the page's start.
-use Rattle.std.specs.Prelude.{◌≡◌, ℕ, ◌+◌, ◌*◌, ◌%◌, ◌/◌, ◌<◌, ◌≤◌, ◌⊎◌, ◌↔◌, List, [], ◌∷◌, length, Option, Some, None, ⊤, if◌then◌else◌, nat_lt, unwrap_or}
+use Rattle.std.specs.Prelude.{◌≡◌, ℕ, zero, suc, ◌+◌, ◌*◌, ◌%◌, ◌/◌, ◌<◌, ◌≤◌, ◌⊎◌, ◌↔◌, List, [], ◌∷◌, length, Option, Some, None, ⊤, if◌then◌else◌, nat_lt, unwrap_or}
 use Rattle.std.specs.Int.{from_be_bytes, w32}
 use Rattle.mvs_model.specs.Numbers.{page_bytes}
 use Rattle.region_raw.specs.Pages.{Pages, byte_of, is_open}
@@ -34,6 +34,15 @@ Rising lo (r ∷ rs) = (lo ≤ r.from) × (0 < r.len) × (r.from + r.len ≤ pag
 -- a queue from lo on: the page spells rising runs
 abbrev pub Queue : ℕ → (ℕ → Option ℕ) → ℕ → List Run → Type 0
 Queue lo v h rs = Rising lo rs × Spells v h rs
+
+-- the runs that the page spells from h on, at most so many
+abbrev pub runs_from : ℕ → (ℕ → Option ℕ) → ℕ → List Run
+runs_from zero v h = []
+runs_from (suc n) v h = if nat_lt h page_bytes then record { from = h; len = word v (h + 4) } ∷ runs_from n v (word v h) else []
+
+-- the runs that the page spells from h on
+unfoldable pub runs_of : (ℕ → Option ℕ) → ℕ → List Run
+runs_of v h = runs_from page_bytes v h
 
 -- d is among the n from a on
 abbrev pub Within : ℕ → ℕ → ℕ → Type 0

@@ -15,6 +15,7 @@ ghost use Rattle.free_queue.specs.Runs.{
   Same,
   Takes,
   Within,
+  end,
   next_run,
   page_of,
   place_of,
@@ -37,6 +38,15 @@ impl Model for Head {
     ghost view = { λ head. head.offset };
 
     ghost inverse = { λ n. record { offset = n } };
+}
+
+impl Head {
+    /// The head of a page of which nothing is free.
+    pub fn none() -> Head
+        ensures { result ≡ end }
+    {
+        Head { offset: crate::END }
+    }
 }
 
 /// Makes all of a page free. What it holds is lost.
@@ -92,6 +102,17 @@ pub fn next_free(region: &Region, page: usize, head: Head, from: u32) -> Option<
     ensures { (rs : List Run) → Queue 0 (page_of region.now page) head rs → result ≡ place_of (next_run from rs) }
 {
     crate::next_free(region, page, head.offset, from)
+}
+
+/// The queue of the free runs behind the first one.
+pub fn behind(region: &Region, page: usize, head: Head) -> Head
+    requires few { page < most_pages_above }
+    requires there { is_open region.now page ≡ true }
+    requires queue { (lo : ℕ) × (r : Run) × (rs : List Run) × Queue lo (page_of region.now page) head (r ∷ rs) }
+    ensures { (lo : ℕ) (r : Run) (rs : List Run) → Queue lo (page_of region.now page) head (r ∷ rs) → Queue (r.from + r.len + 1) (page_of region.now page) result rs }
+{
+    let offset = crate::link(region, page, head.offset);
+    Head { offset }
 }
 
 /// Whether all of a page is free.

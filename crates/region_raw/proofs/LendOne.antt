@@ -1,5 +1,5 @@
 -- From a borrow of the owner a run is lent to write, and the owner follows it. Assumes `Logic`.
-use mathlib.Core.Path.{◌≡◌, refl, sym, subst, ◌∙◌}
+use mathlib.Core.Path.{◌≡◌, refl, sym, ap, subst, ◌∙◌}
 use Prim.Native.Nat.{ℕ, ◌+◌, ◌<◌, ◌≤◌, ◌^◌}
 use native.Mathlib.Omega.{arith}
 use mathlib.Core.List.{List, [], ◌∷◌, map}
@@ -20,7 +20,8 @@ use denote.RawPtr.{Ptr, block_ptr}
 use denote.Slice.{Room}
 use denote.FollowSlice.{Elements, lends_Elements}
 use Rattle.std.specs.Prelude.{Option, Some}
-use Rattle.region_raw.specs.Rows.{written}
+use Rattle.std.proofs.lemmas.List.{take_all}
+use Rattle.region_raw.specs.Rows.{overlaid, written}
 use Rattle.region_raw.specs.LendsRaw.{with_run}
 use Rattle.region_raw.specs.Ownership.{owned, row}
 use Rattle.region_raw.specs.declared.raw.RawBytes.{RawBytes}
@@ -33,7 +34,7 @@ module _ {M : Type 1} {𝓤 : Ura M} (𝓛 : Logic 𝓤) (κ : Lft) (q : Share) 
   open 𝓛 use {H, A}
 
   abbrev pub F : List ℕ → RawBytes
-  F = with_run d i
+  F = with_run d i n
 
   abbrev pub FieldsHere : Fml
   FieldsHere = NoFields.own_val tt vs
@@ -50,8 +51,8 @@ module _ {M : Type 1} {𝓤 : Ura M} (𝓛 : Logic 𝓤) (κ : Lft) (q : Share) 
   pub whole : (w : List ℕ) → length w ≡ length xs → ent 𝓤 (sep 𝓤 (sem 𝓛 (cells (mem u8) w b (o + i))) Rest) (sem 𝓛 ((mem BytesRow).own_at (F w) rb ro))
   unfolding part_of
   whole w same = let long : length w ≡ n = same ∙ long_x in let put : length (map Some w) ≡ n = length-map w Some ∙ long in
-      let same_row : (F w).bytes ≡ written d.bytes i n w = overlaid_is d.bytes i n xs w fits is_x long in
-      let kept : length (F w).bytes ≡ length d.bytes = length-overlaid d.bytes i w in
+      let same_row : (F w).bytes ≡ written d.bytes i n w = ap (overlaid d.bytes i) (take_all n w (omega (arith, long))) ∙ overlaid_is d.bytes i n xs w fits is_x long in
+      let kept : length (F w).bytes ≡ length d.bytes = length-overlaid d.bytes i (take n w) in
       qed 𝓛 (‵ (cells (mem u8) w b (o + i)) ∷ raw Rest ∷ []) ∵ use1 𝓛 (‵ (row b (o + i) (map Some w))) (of_cells 𝓛 b w (o + i)) $ move ! (1 ∷ []) $
       use1 𝓛 (‵ Beside ⊛ (‵ FieldsHere ⊛ ‵ CellHere)) (id⊢ 𝓤 _) $ split3 ! $
       -- [round the run; the mark; its cell; the run]

@@ -1,5 +1,5 @@
 -- From a borrow of the owner a run is lent to read and another to write, and the owner follows the second. Assumes `Logic`.
-use mathlib.Core.Path.{◌≡◌, refl, sym, subst, ◌∙◌}
+use mathlib.Core.Path.{◌≡◌, refl, sym, ap, subst, ◌∙◌}
 use Prim.Native.Nat.{ℕ, ◌+◌, ◌*◌, ◌<◌, ◌≤◌, ◌^◌}
 use native.Mathlib.Omega.{arith}
 use mathlib.Core.List.{List, [], ◌∷◌, map}
@@ -35,7 +35,8 @@ use denote.Struct.Laws.{u8-copy}
 use denote.Struct.Struct.{Struct}
 use denote.Struct.Owning.{shape}
 use Rattle.std.specs.Prelude.{Option, Some}
-use Rattle.region_raw.specs.Rows.{IsApart, written}
+use Rattle.std.proofs.lemmas.List.{take_all}
+use Rattle.region_raw.specs.Rows.{IsApart, overlaid, written}
 use Rattle.region_raw.specs.LendsRaw.{with_run}
 use Rattle.region_raw.specs.Ownership.{owned, row}
 use Rattle.region_raw.specs.declared.raw.RawBytes.{RawBytes}
@@ -61,7 +62,7 @@ module _ {M : Type 1} {𝓤 : Ura M} (𝓛 : Logic 𝓤) where
       (e : d.at ≡ block_ptr b o) (apart : IsApart i j n) (fits_i : i + n ≤ length d.bytes) (fits_j : j + n ≤ length d.bytes) (small : length d.bytes < 2 ^ 63)
       (is_x : take n (drop i d.bytes) ≡ map Some xs) (is_y : take n (drop j d.bytes) ≡ map Some ys) (long_x : length xs ≡ n) (long_y : length ys ≡ n) where
     abbrev pub F : List ℕ → RawBytes
-    F = with_run d j
+    F = with_run d j n
 
     abbrev Source : Fml
     Source = parts_of (mem u8) (shares u8) full_share xs b (o + i)
@@ -85,8 +86,8 @@ module _ {M : Type 1} {𝓤 : Ura M} (𝓛 : Logic 𝓤) where
     unfolding fseps part_of
     whole w = qed 𝓛 (‵ (Target w) ∷ ‵ (fseps (Source ∷ [])) ∷ raw Rest ∷ []) ∵ fsplit ! $ feq_l ! (λ same.
         let long : length w ≡ n = same ∙ long_y in
-        let same_row : (F w).bytes ≡ written d.bytes j n w = overlaid_is d.bytes j n ys w fits_j is_y long in
-        let kept : length (F w).bytes ≡ length d.bytes = length-overlaid d.bytes j w in
+        let same_row : (F w).bytes ≡ written d.bytes j n w = ap (overlaid d.bytes j) (take_all n w (omega (arith, long))) ∙ overlaid_is d.bytes j n ys w fits_j is_y long in
+        let kept : length (F w).bytes ≡ length d.bytes = length-overlaid d.bytes j (take n w) in
         use1 𝓛 (‵ (row b (o + j) (map Some w))) (of_cells 𝓛 b w (o + j)) $ move ! (1 ∷ []) $ fsplit ! $
         use1 𝓛 (‵ (row b (o + i) (map Some xs))) (of_parts 𝓛 b xs (o + i)) $ rewrite ! 0 (λ (l : List (Option ℕ)). ‵ (row b (o + i) l)) (sym is_x) refl $
         -- [the first run; nothing; the second; the rest]

@@ -1,13 +1,13 @@
 -- What a block is once a loan of some of its bytes is over.
-use Rattle.std.specs.Prelude.{ℕ, List, Option}
+use Rattle.std.specs.Prelude.{ℕ, List, Option, take}
 use Rattle.std.specs.Borrow.{Bor, MutBor, Fml, Array, u8, follows}
 use Rattle.region_raw.specs.Rows.{overlaid}
 use Rattle.region_raw.specs.contracts.block.Block.{the_row}
 
--- the block ends with what was last written to the bytes that were lent, from an index on
-abbrev pub LendsRun : MutBor (List (Option ℕ)) → ℕ → MutBor (List ℕ) → Fml
-LendsRun s at r = follows the_row (Array u8 0) s.ghost_name r.ghost_name (overlaid s.now at)
+-- the block ends with what was last written to the bytes that were lent, so many from an index on
+abbrev pub LendsRun : MutBor (List (Option ℕ)) → ℕ → ℕ → MutBor (List ℕ) → Fml
+LendsRun s at n r = follows the_row (Array u8 0) s.ghost_name r.ghost_name (λ ws. overlaid s.now at (take n ws))
 
 -- the same, where the bytes are the second of two runs that were lent
-abbrev pub LendsSecond : MutBor (List (Option ℕ)) → ℕ → Bor (List ℕ) × MutBor (List ℕ) → Fml
-LendsSecond s at r = follows the_row (Array u8 0) s.ghost_name r.1.ghost_name (overlaid s.now at)
+abbrev pub LendsSecond : MutBor (List (Option ℕ)) → ℕ → ℕ → Bor (List ℕ) × MutBor (List ℕ) → Fml
+LendsSecond s at n r = follows the_row (Array u8 0) s.ghost_name r.1.ghost_name (λ ws. overlaid s.now at (take n ws))

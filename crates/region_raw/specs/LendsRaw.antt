@@ -1,18 +1,18 @@
 -- What the owner of a row of bytes is once a loan of some of them is over.
-use Rattle.std.specs.Prelude.{ℕ, List}
+use Rattle.std.specs.Prelude.{ℕ, List, take}
 use Rattle.std.specs.Borrow.{MutBor, Bor, Fml, Array, u8, follows}
 use Rattle.region_raw.specs.Rows.{overlaid}
 use Rattle.region_raw.specs.declared.raw.RawBytes.{RawBytes}
 use Rattle.region_raw.specs.contracts.raw.RawBytes.{the_row}
 
--- the owner with values in place of those from an index on
-abbrev pub with_run : RawBytes → ℕ → List ℕ → RawBytes
-with_run c at ws = record c { bytes = overlaid c.bytes at ws }
+-- the owner with values in place of those from an index on, at most so many
+abbrev pub with_run : RawBytes → ℕ → ℕ → List ℕ → RawBytes
+with_run c at n ws = record c { bytes = overlaid c.bytes at (take n ws) }
 
--- the owner ends with what was last written to the bytes that were lent, from an index on
-abbrev pub LendsRun : MutBor RawBytes → ℕ → MutBor (List ℕ) → Fml
-LendsRun s at r = follows the_row (Array u8 0) s.ghost_name r.ghost_name (with_run s.now at)
+-- the owner ends with what was last written to the bytes that were lent, so many from an index on
+abbrev pub LendsRun : MutBor RawBytes → ℕ → ℕ → MutBor (List ℕ) → Fml
+LendsRun s at n r = follows the_row (Array u8 0) s.ghost_name r.ghost_name (with_run s.now at n)
 
 -- the same, where the bytes are the second of two runs that were lent
-abbrev pub LendsSecond : MutBor RawBytes → ℕ → Bor (List ℕ) × MutBor (List ℕ) → Fml
-LendsSecond s at r = follows the_row (Array u8 0) s.ghost_name r.1.ghost_name (with_run s.now at)
+abbrev pub LendsSecond : MutBor RawBytes → ℕ → ℕ → Bor (List ℕ) × MutBor (List ℕ) → Fml
+LendsSecond s at n r = follows the_row (Array u8 0) s.ghost_name r.1.ghost_name (with_run s.now at n)

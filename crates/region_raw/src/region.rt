@@ -125,7 +125,7 @@ impl Region {
     /// Lends the `n` bytes from `at` on to write.
     pub fn part_mut(&mut self, at: usize, n: usize) -> &mut [u8]
         requires { IsPart self.old at n }
-        ensures* writes_back { sem 𝓛 (LendsPart self.entry at result) }
+        ensures* writes_back { sem 𝓛 (LendsPart self.entry at n result) }
         ensures writes { (ws : List ℕ) → Writes self.old at ws (with_part self.old at ws) }
         ensures value { result.now ≡ part_of self.old at n }
         ensures len { length result.now ≡ n }
@@ -140,7 +140,7 @@ impl Region {
         requires apart { IsApart from to n }
         requires source { IsPart self.old from n }
         requires target { IsPart self.old to n }
-        ensures* writes_back { sem 𝓛 (LendsSecond self.entry to result) }
+        ensures* writes_back { sem 𝓛 (LendsSecond self.entry to n result) }
         ensures writes { (ws : List ℕ) → Writes self.old to ws (with_part self.old to ws) }
         ensures read { result.0.now ≡ part_of self.old from n }
         ensures written { result.1.now ≡ part_of self.old to n }

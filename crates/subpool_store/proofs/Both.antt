@@ -176,6 +176,7 @@ pub new_below : (b a b' : HalfState) → IsStore b a → b'.first ≡ b.first �
 new_below b a b' both first pages sound = record {
   first_below = first ∙ both.first_below;
   first_above = both.first_above;
+  some_below = let some : 1 ≤ b.pages = both.some_below in omega arith;
   few_below = let few : b.pages ≤ 2048 = both.few_below in omega arith;
   few_above = both.few_above;
   sound_below = sound;
@@ -186,6 +187,7 @@ pub new_above : (b a a' : HalfState) → IsStore b a → a'.first ≡ a.first �
 new_above b a a' both first pages sound = record {
   first_below = both.first_below;
   first_above = first ∙ both.first_above;
+  some_below = both.some_below;
   few_below = both.few_below;
   few_above = let few : a.pages ≤ 8192 = both.few_above in omega arith;
   sound_below = both.sound_below;
@@ -199,11 +201,12 @@ nothing_stored b a m n fill low high =
     (λ i. store_of (low i) (high i) fill)
     ∙ (λ i. record { regions = record { below = m; above = n; fill = fill }; held = joined_empty 268435456 2097152 i; bytes = joined_empty 2147483648 16777216 i })
 
-pub nothing_kept : (b a : HalfState) (m n : ℕ) → m ≤ 2048 → n ≤ 8192 → b ≡ record { first = 3072; pages = m; held = empty; bytes = empty } → a ≡ record { first = 2097152; pages = n; held = empty; bytes = empty } →
+pub nothing_kept : (b a : HalfState) (m n : ℕ) → 1 ≤ m → m ≤ 2048 → n ≤ 8192 → b ≡ record { first = 3072; pages = m; held = empty; bytes = empty } → a ≡ record { first = 2097152; pages = n; held = empty; bytes = empty } →
     IsSound b → IsSound a → IsStore b a
-nothing_kept b a m n few_m few_n low high sound_b sound_a = record {
+nothing_kept b a m n some_m few_m few_n low high sound_b sound_a = record {
   first_below = ap (λ h. h.first) low;
   first_above = ap (λ h. h.first) high;
+  some_below = let e : b.pages ≡ m = ap (λ h. h.pages) low in omega arith;
   few_below = let e : b.pages ≡ m = ap (λ h. h.pages) low in omega arith;
   few_above = let e : a.pages ≡ n = ap (λ h. h.pages) high in omega arith;
   sound_below = sound_b;

@@ -1,16 +1,10 @@
 -- How many numbers below a bound pass a test.
-use Rattle.std.proofs.Common.{List, length, get_or, Option, Some, None, ◌≡◌, ℕ, zero, suc, ◌+◌, ◌-◌, ◌*◌, ◌/◌, ◌%◌, ◌^◌, ◌<◌, ◌≤◌, Bool, true, false, cond, eqb, refl, sym, ap, ◌∙◌, subst, inl, inr, arith}
-use Rattle.std.proofs.lemmas.Bool.{cases_eq, eq-eqb, ne_eqb}
-use Rattle.std.proofs.lemmas.Nat.{pow_pos, ones_cat, ones_le_self, div-add-mod'}
-use Rattle.std.proofs.lemmas.Nat.Bits.{bit_at_cat_low}
-use Rattle.std.specs.Int.{bit_at}
-use Rattle.std.proofs.Math.Nat.{div-lt_iff_lt-mul, mod-lt, pow-suc}
-use lib.Count.{ones, ones_in}
+use Rattle.std.proofs.Common.{List, length, get_or, Option, Some, None, ◌≡◌, ℕ, zero, suc, ◌+◌, ◌-◌, ◌*◌, ◌/◌, ◌<◌, ◌≤◌, Bool, true, false, cond, eqb, refl, sym, ap, ◌∙◌, arith}
+use Rattle.std.proofs.lemmas.Bool.{eq-eqb, ne_eqb}
 use Rattle.std.specs.FinMap.{get}
 use Rattle.mvs_model.specs.Finite.{count_below, has}
 use Rattle.mvs_model.specs.Storage.{Storage, end_of, holds}
 use Rattle.page_map.specs.Owners.{owner_of}
-use Rattle.subpool_store.specs.Bits.{bit_of}
 use Rattle.subpool_store.specs.Half.{HalfState, cell, half_of, held_of}
 use Rattle.subpool_store.specs.Joined.{IsStore, regions_of, store_of}
 use Rattle.subpool_store.proofs.Both.{high_holder, low_holder}
@@ -27,6 +21,11 @@ pub count_none : (n : ℕ) (f : ℕ → Bool) → ((i : ℕ) → i < n → f i �
 unfolding count_below
 count_none zero f none = refl
 count_none (suc n) f none = ap (λ b. cond b 1 0 + count_below n f) (none n (omega arith)) ∙ (let rest : count_below n f ≡ 0 = count_none n f (λ i low. none i (omega arith)) in let e : 0 + count_below n f ≡ 0 = omega arith in e)
+
+pub count_all : (n : ℕ) (f : ℕ → Bool) → ((i : ℕ) → i < n → f i ≡ true) → count_below n f ≡ n
+unfolding count_below
+count_all zero f all = refl
+count_all (suc n) f all = ap (λ b. cond b 1 0 + count_below n f) (all n (omega arith)) ∙ (let rest : count_below n f ≡ n = count_all n f (λ i low. all i (omega arith)) in let e : 1 + count_below n f ≡ suc n = omega arith in e)
 
 pub count_most : (n : ℕ) (f : ℕ → Bool) → count_below n f ≤ n
 unfolding count_below
@@ -45,6 +44,18 @@ count_split n a (suc b) f is =
     let rest : count_below (a + b) f ≡ count_below a f + count_below b (λ i. f (a + i)) = count_split (a + b) a b f refl in
     ap (λ k. count_below k f) next ∙ (let e : cond (f (a + b)) 1 0 + count_below (a + b) f ≡ count_below a f + (cond (f (a + b)) 1 0 + count_below b (λ i. f (a + i))) = omega arith in e)
 
+-- the count up to the end of a part that passes and of one that does not
+pub count_run : (f : ℕ → Bool) (base at start end : ℕ) → base ≤ at → at ≤ start → start ≤ end → ((i : ℕ) → at ≤ i → i < start → f i ≡ true) → ((i : ℕ) → start ≤ i → i < end → f i ≡ false) →
+    count_below (end - base) (λ i. f (base + i)) ≡ count_below (at - base) (λ i. f (base + i)) + (start - at)
+count_run f base at start end low more some all none =
+    let one : count_below (end - base) (λ i. f (base + i)) ≡ count_below (start - base) (λ i. f (base + i)) + count_below (end - start) (λ i. f (base + (start - base + i))) =
+    count_split (end - base) (start - base) (end - start) (λ i. f (base + i)) (omega (arith, low, more, some)) in
+    let two : count_below (start - base) (λ i. f (base + i)) ≡ count_below (at - base) (λ i. f (base + i)) + count_below (start - at) (λ i. f (base + (at - base + i))) =
+    count_split (start - base) (at - base) (start - at) (λ i. f (base + i)) (omega (arith, low, more)) in
+    let rest : count_below (end - start) (λ i. f (base + (start - base + i))) ≡ 0 = count_none (end - start) (λ i. f (base + (start - base + i))) (λ i below. none (base + (start - base + i)) (omega (arith, low, more)) (omega (arith, low, more, below))) in
+    let full : count_below (start - at) (λ i. f (base + (at - base + i))) ≡ start - at = count_all (start - at) (λ i. f (base + (at - base + i))) (λ i below. all (base + (at - base + i)) (omega (arith, low)) (omega (arith, low, below))) in
+    omega arith
+
 -- the count of a middle part, where nothing else passes
 pub count_middle : (n x y z : ℕ) (f : ℕ → Bool) → n ≡ x + (y + z) → ((i : ℕ) → i < x → f i ≡ false) → ((i : ℕ) → x + y ≤ i → i < n → f i ≡ false) → count_below n f ≡ count_below y (λ i. f (x + i))
 count_middle n x y z f is before behind =
@@ -54,65 +65,8 @@ count_middle n x y z f is before behind =
     let rest : count_below z (λ i. f (x + (y + i))) ≡ 0 = count_none z (λ i. f (x + (y + i))) (λ i low. behind (x + (y + i)) (omega arith) (omega arith)) in
     omega arith
 
-ones_one : ones 1 ≡ 1
-unfolding ones ones_in
-ones_one = refl
-
-ones_small : (q : ℕ) → q < 2 → ones q ≡ q
-ones_small q small = elim (cases_eq q 1) [
-  | inl one ↦ ap ones one ∙ ones_one ∙ sym one
-  | inr other ↦ let zero : q ≡ 0 = omega arith in let less : ones q ≤ q = ones_le_self q in omega arith
-]
-
-digit_of : (q : ℕ) → q < 2 → cond (eqb (q % 2) 1) 1 0 ≡ q
-digit_of q small = elim (cases_eq q 1) [
-  | inl one ↦ ap (λ x. cond (eqb (x % 2) 1) 1 0) one ∙ sym one
-  | inr other ↦ let zero : q ≡ 0 = omega arith in ap (λ x. cond (eqb (x % 2) 1) 1 0) zero ∙ sym zero
-]
-
-quotient_small : (n p : ℕ) → 0 < p → n < 2 * p → n / p < 2
-quotient_small n p some small = (div-lt_iff_lt-mul some).1 small
-
--- the ones of a number are counted bit by bit
-pub ones-count : (d n : ℕ) → n < 2 ^ d → ones n ≡ count_below d (λ i. eqb (bit_at n i) 1)
-unfolding count_below
-ones-count zero n small = let less : ones n ≤ n = ones_le_self n in let one : n < 1 = small in omega arith
-ones-count (suc d) n small =
-    let is : n / 2 ^ d * 2 ^ d + n % 2 ^ d ≡ n = div-add-mod' n (2 ^ d) in
-    let double : 2 ^ suc d ≡ 2 ^ d * 2 = pow-suc 2 d in
-    let high : n / 2 ^ d < 2 = quotient_small n (2 ^ d) (pow_pos d) (omega (arith, double)) in
-    let low : n % 2 ^ d < 2 ^ d = mod-lt n (pow_pos d) in
-    let rest : count_below d (λ i. eqb (bit_at (n % 2 ^ d) i) 1) ≡ count_below d (λ i. eqb (bit_at n i) 1) =
-    count_same d (λ i. eqb (bit_at (n % 2 ^ d) i) 1) (λ i. eqb (bit_at n i) 1) (λ i below. ap (λ x. eqb x 1) (sym (bit_at_cat_low (n / 2 ^ d) d (n % 2 ^ d) i below) ∙ ap (λ x. bit_at x i) is)) in
-    sym (ap ones is)
-    ∙ ones_cat d (n / 2 ^ d) (n % 2 ^ d) low
-    ∙ ap (λ x. x + ones (n % 2 ^ d)) (ones_small (n / 2 ^ d) high ∙ sym (digit_of (n / 2 ^ d) high))
-    ∙ ap (λ x. cond (eqb (bit_at n d) 1) 1 0 + x) (ones-count d (n % 2 ^ d) low ∙ rest)
-
--- the count of one word more
-pub count_word : (ws : List ℕ) (from k n : ℕ) → n ≡ 64 * k → get_or ws (from + k) 0 < 2 ^ 64 →
-    count_below (n + 64) (λ i. bit_of ws (64 * from + i)) ≡ count_below n (λ i. bit_of ws (64 * from + i)) + ones (get_or ws (from + k) 0)
-count_word ws from k n is small =
-    count_split (n + 64) n 64 (λ i. bit_of ws (64 * from + i)) refl
-    ∙ ap (λ x. count_below n (λ i. bit_of ws (64 * from + i)) + x) (count_same 64 (λ i. bit_of ws (64 * from + (n + i))) (λ i. eqb (bit_at (get_or ws (from + k) 0) i) 1) same ∙ sym (ones-count 64 (get_or ws (from + k) 0) small)) where
-      same : (i : ℕ) → i < 64 → bit_of ws (64 * from + (n + i)) ≡ eqb (bit_at (get_or ws (from + k) 0) i) 1
-      same i low =
-          let word : (64 * from + (n + i)) / 64 ≡ from + k = omega arith in
-          let place : (64 * from + (n + i)) % 64 ≡ i = omega arith in
-          ap (λ w. eqb (bit_at (get_or ws w 0) ((64 * from + (n + i)) % 64)) 1) word ∙ ap (λ j. eqb (bit_at (get_or ws (from + k) 0) j) 1) place
-
 pub count_empty : (n : ℕ) (f : ℕ → Bool) → n ≡ 0 → 0 ≡ count_below n f
 count_empty n f none = sym (count_none n f (λ i low. absurd (omega arith)))
-
-pub count_next : (ws : List ℕ) (from index count : ℕ) → from ≤ index → get_or ws index 0 < 2 ^ 64 → count ≡ count_below (64 * (index - from)) (λ i. bit_of ws (64 * from + i)) →
-    count + ones (get_or ws index 0) ≡ count_below (64 * (index + 1 - from)) (λ i. bit_of ws (64 * from + i))
-count_next ws from index count ordered small is =
-    let at : from + (index - from) ≡ index = omega arith in
-    let next : 64 * (index - from) + 64 ≡ 64 * (index + 1 - from) = omega arith in
-    ap (λ x. x + ones (get_or ws index 0)) is
-    ∙ ap (λ j. count_below (64 * (index - from)) (λ i. bit_of ws (64 * from + i)) + ones (get_or ws j 0)) (sym at)
-    ∙ sym (count_word ws from (index - from) (64 * (index - from)) refl (subst (λ j. get_or ws j 0 < 2 ^ 64) (sym at) small))
-    ∙ ap (λ n. count_below n (λ i. bit_of ws (64 * from + i))) next
 
 -- the doublewords of s in a page of its own, and in another one
 pub count_own : (bits : List Bool) (pages : List (Option ℕ)) (s p : ℕ) → owner_of pages p ≡ Some s →

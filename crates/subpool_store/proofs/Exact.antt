@@ -33,7 +33,7 @@ cell_at bits pages i e = ap (λ b. cond b (owner_of pages (i / 512)) None) e
 pub cell_none : (bits : List Bool) (pages : List (Option ℕ)) (i : ℕ) → get_or bits i false ≡ false → cell bits pages i ≡ None
 cell_none bits pages i e = ap (λ b. cond b (owner_of pages (i / 512)) None) e
 
-bit_clear : (bits : List Bool) (i : ℕ) → get_or bits i true ≡ false → (i < length bits) × (get_or bits i false ≡ false)
+pub bit_clear : (bits : List Bool) (i : ℕ) → get_or bits i true ≡ false → (i < length bits) × (get_or bits i false ≡ false)
 bit_clear bits i e = grind (arith, get_or_default, get_or_past)
 
 -- who holds a doubleword, read off the bits

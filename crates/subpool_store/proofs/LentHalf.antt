@@ -2,7 +2,7 @@
 use Rattle.std.proofs.Common.{◌≡◌, ℕ, ◌+◌, ◌-◌, ◌*◌, ◌/◌, ◌<◌, ◌≤◌, ◌⊎◌, ◌&&◌, Bool, true, false, cond, Option, Some, None, is_some, List, length, get_or, min, refl, subst, sym, ap, ◌∙◌, inl, inr, arith}
 use Rattle.std.proofs.lemmas.Bool.{cases_Bool, cases_lt, cond-true, cond-false, lt-ltb, le-ltb, true≢false}
 use Rattle.std.proofs.lemmas.Bool.Decides.{nat_tests}
-use Rattle.std.proofs.lemmas.List.{get_or_past}
+use Rattle.std.proofs.lemmas.List.{get_or_past, take_all}
 use Rattle.std.specs.Ordering.{nat_cmp}
 use Rattle.std.specs.FinMap.{FinMap, get}
 use Rattle.mvs_model.specs.Place.{PlaceValue}
@@ -11,7 +11,7 @@ use Rattle.mvs_model.proofs.Tables.{get-table_all, same_maps}
 use Rattle.subpool_store.specs.Bits.{in_range}
 use Rattle.subpool_store.specs.Half.{HalfState, IsHalf, IsSound, byte_at, bytes_of, cell, half_of, shifted}
 use Rattle.subpool_store.specs.Joined.{IsStore, regions_of, store_of}
-use Rattle.subpool_store.specs.Written.{half_written, over, overwritten, Puts, side_end, written}
+use Rattle.subpool_store.specs.Written.{half_written, over, overwritten, Puts, side_end, written, written_from}
 use Rattle.subpool_store.proofs.Both.{high_byte, low_byte, new_above, new_below, past_byte, storage_of}
 use Rattle.subpool_store.proofs.Bytes.{get-bytes_of}
 use Rattle.subpool_store.proofs.Exact.{holder_at, holder_some, shifted_at, shifted_none, cell_none}
@@ -118,11 +118,10 @@ module _ (b a : HalfState) (fill : ℕ) (st : Storage) (both : IsStore b a) (is 
   pub kept_above : IsStore b (half_written a at w)
   kept_above = new_above b a (half_written a at w) both refl refl (sound_written a both.sound_above small_a at w)
 
-  pub lends_below : at < 16777216 → (p : PlaceValue) → p.addr ≡ at → store_of (half_written b at w) a fill ≡ written st p w
-  lends_below low p addr_is =
+  pub lends_below : at < 16777216 → store_of (half_written b at w) a fill ≡ written_from st at w
+  lends_below low =
       (λ i. record { regions = regions_of b a fill; held = (store_of b a fill).held; bytes = same_maps _ _ pointwise i })
-      ∙ (λ i. record { regions = (is i).regions; held = (is i).held; bytes = overwritten (is i).bytes at (min (at + length w) (side i)) w })
-      ∙ sym (ap (λ x. record { regions = st.regions; held = st.held; bytes = overwritten st.bytes x (min (x + length w) (side_end x)) w }) addr_is) where
+      ∙ (λ i. record { regions = (is i).regions; held = (is i).held; bytes = overwritten (is i).bytes at (min (at + length w) (side i)) w }) where
         side : 16777216 ≡ side_end at
         side = sym (cond-true _ _ _ (lt-ltb at 16777216 low))
 
@@ -145,11 +144,10 @@ module _ (b a : HalfState) (fill : ℕ) (st : Storage) (both : IsStore b a) (is 
         pointwise : (k : ℕ) → get (store_of (half_written b at w) a fill).bytes k ≡ get (overwritten (store_of b a fill).bytes at (min (at + length w) 16777216) w) k
         pointwise k = by k (cases_lt k 16777216) (cases_lt k 2147483648) ∙ sym (new k)
 
-  pub lends_above : 16777216 ≤ at → (p : PlaceValue) → p.addr ≡ at → store_of b (half_written a at w) fill ≡ written st p w
-  lends_above high p addr_is =
+  pub lends_above : 16777216 ≤ at → store_of b (half_written a at w) fill ≡ written_from st at w
+  lends_above high =
       (λ i. record { regions = regions_of b a fill; held = (store_of b a fill).held; bytes = same_maps _ _ pointwise i })
-      ∙ (λ i. record { regions = (is i).regions; held = (is i).held; bytes = overwritten (is i).bytes at (min (at + length w) (side i)) w })
-      ∙ sym (ap (λ x. record { regions = st.regions; held = st.held; bytes = overwritten st.bytes x (min (x + length w) (side_end x)) w }) addr_is) where
+      ∙ (λ i. record { regions = (is i).regions; held = (is i).held; bytes = overwritten (is i).bytes at (min (at + length w) (side i)) w }) where
         side : 2147483648 ≡ side_end at
         side = sym (cond-false _ _ _ (le-ltb at 16777216 high))
 
@@ -174,7 +172,7 @@ module _ (b a : HalfState) (fill : ℕ) (st : Storage) (both : IsStore b a) (is 
 
 -- bytes written over those of a place that is held, as many as it has, stand there
 pub puts : (st : Storage) (p : PlaceValue) (w : List ℕ) → IsStorage st → AllHeld st p → ((k : ℕ) → 2147483648 ≤ k → get st.bytes k ≡ None) → p.addr + p.len ≤ side_end p.addr → length w ≡ p.len →
-    IsStorage (written st p w) → Puts st p w (written st p w)
+    IsStorage (written_from st p.addr w) → Puts st p w (written_from st p.addr w)
 puts st p w storage held none one_side size new = record { regions = refl; held = refl; bytes = at; storage = new } where
   side : p.addr + length w ≤ side_end p.addr
   side = omega arith
@@ -196,7 +194,7 @@ puts st p w storage held none one_side size new = record { regions = refl; held 
   by k true hit = (λ i. cond (range k true hit i && some k hit i) (Some (get_or w (k - p.addr) 0)) (get st.bytes k))
   by k false out = over_out (get st.bytes) p.addr (min (p.addr + length w) (side_end p.addr)) w k (range k false out)
 
-  at : (k : ℕ) → get (written st p w).bytes k ≡ cond (has_address p k) (Some (get_or w (k - p.addr) 0)) (get st.bytes k)
+  at : (k : ℕ) → get (written_from st p.addr w).bytes k ≡ cond (has_address p k) (Some (get_or w (k - p.addr) 0)) (get st.bytes k)
   at k = get-overwritten st.bytes p.addr (min (p.addr + length w) (side_end p.addr)) w none k ∙ by k (has_address p k) refl
 
 module _ (b a : HalfState) (fill : ℕ) (st : Storage) (both : IsStore b a) (is : store_of b a fill ≡ st) (p : PlaceValue) (held : AllHeld st p) (w : List ℕ) (size : length w ≡ p.len) where
@@ -208,13 +206,15 @@ module _ (b a : HalfState) (fill : ℕ) (st : Storage) (both : IsStore b a) (is 
 
   pub puts_below : 1 ≤ p.len → p.addr + p.len ≤ 16777216 → Puts st p w (written st p w)
   puts_below some low =
-      puts st p w storage held none_past_st (subst (λ e. p.addr + p.len ≤ e) (sym (cond-true _ _ _ (lt-ltb p.addr 16777216 (omega arith)))) low) size
-      (subst IsStorage (lends_below b a fill st both is p.addr w (omega arith) p refl) (storage_of (half_written b p.addr w) a fill (kept_below b a fill st both is p.addr w)))
+      subst (Puts st p w) (ap (written_from st p.addr) (sym (take_all p.len w (omega (arith, size)))))
+      (puts st p w storage held none_past_st (subst (λ e. p.addr + p.len ≤ e) (sym (cond-true _ _ _ (lt-ltb p.addr 16777216 (omega arith)))) low) size
+      (subst IsStorage (lends_below b a fill st both is p.addr w (omega arith)) (storage_of (half_written b p.addr w) a fill (kept_below b a fill st both is p.addr w))))
 
   pub puts_above : 1 ≤ p.len → 16777216 ≤ p.addr → Puts st p w (written st p w)
   puts_above some high =
-      puts st p w storage held none_past_st (subst (λ e. p.addr + p.len ≤ e) (sym (cond-false _ _ _ (le-ltb p.addr 16777216 high))) ends) size
-      (subst IsStorage (lends_above b a fill st both is p.addr w high p refl) (storage_of b (half_written a p.addr w) fill (kept_above b a fill st both is p.addr w))) where
+      subst (Puts st p w) (ap (written_from st p.addr) (sym (take_all p.len w (omega (arith, size)))))
+      (puts st p w storage held none_past_st (subst (λ e. p.addr + p.len ≤ e) (sym (cond-false _ _ _ (le-ltb p.addr 16777216 high))) ends) size
+      (subst IsStorage (lends_above b a fill st both is p.addr w high) (storage_of b (half_written a p.addr w) fill (kept_above b a fill st both is p.addr w)))) where
         ends : p.addr + p.len ≤ 2147483648
         ends = by (get st.bytes (p.addr + p.len - 1)) refl (storage.bytes (p.addr + p.len - 1) ∙ held ((p.addr + p.len - 1) / 8) (omega arith, omega arith)) where
           by : (o : Option ℕ) → get st.bytes (p.addr + p.len - 1) ≡ o → is_some (get st.bytes (p.addr + p.len - 1)) ≡ true → p.addr + p.len ≤ 2147483648

@@ -1,6 +1,13 @@
 pub mod Ranges
-pub mod Words
-pub mod BitRows
+pub mod Queued
+pub mod PageChange
+pub mod PageTaken
+pub mod PageWritten
+pub mod Marked
+pub mod Cursors
+pub mod Begun
+pub mod HalfCount
+pub mod StoreCount
 pub mod Scan
 pub mod Exact
 pub mod Cover

@@ -1,6 +1,6 @@
 -- What the methods of a region owe, over its parts.
 use Rattle.std.proofs.Common.{◌≡◌, ℕ, ◌+◌, ◌-◌, ◌*◌, ◌/◌, ◌%◌, ◌^◌, ◌<◌, ◌≤◌, Bool, true, false, cond, Option, Some, None, is_some, IsSome, IfSome, List, length, get_or, replicate, ◌⊎◌, refl, sym, ap, ◌∙◌, subst, inl, inr, arith}
-use Rattle.std.proofs.lemmas.Bool.{cases_lt, cond-true, false≢true}
+use Rattle.std.proofs.lemmas.Bool.{and_parts, not-true, cases_lt, cond-true, false≢true}
 use Rattle.std.proofs.lemmas.List.{get_or_past, get_or-replicate, length-replicate}
 use Rattle.std.proofs.lemmas.Option.{none-some, same_Some}
 use Rattle.std.specs.Ordering.{nat_cmp}
@@ -16,7 +16,7 @@ use Rattle.subpool_store.specs.Half.{HalfState, cell, shifted, IsHalf, IsSound, 
 use Rattle.subpool_store.specs.Search.{Beats, IsCandidate, IsExact, may_take}
 use Rattle.subpool_store.proofs.Bytes.{get-bytes_of, cells_change, holders_change, taken_bytes, given_bytes, dropped_holders, dropped_bytes}
 use Rattle.subpool_store.proofs.Change.{page_index, pages_usable, taken_cell, taken_exact, given_cell, given_exact, dropped_cell, dropped_exact}
-use Rattle.subpool_store.proofs.Exact.{holder_at, holder_some, holder_index, shifted_at, shifted_none, cell_at, cell_none, cell_some, open_from, open_of}
+use Rattle.subpool_store.proofs.Exact.{bit_clear, holder_at, holder_some, holder_index, shifted_at, shifted_none, cell_at, cell_none, cell_some, open_from, open_of}
 
 pub set_within : (bits : List Bool) (i : ℕ) → get_or bits i false ≡ true → i < length bits
 set_within bits i set = elim (cases_lt i (length bits)) [ inl low ↦ low | inr high ↦ absurd (let e : false ≡ true = sym (get_or_past bits i false high) ∙ set in cc) ]
@@ -114,6 +114,9 @@ module _ (first : ℕ) (bits : List Bool) (pages : List (Option ℕ)) (bytes : �
         let at = open_of first bits pages bytes s p half there (first + i) (omega arith, omega arith) in
         let e : i ≡ first + i - first = omega arith in
         ap (may_take bits pages s) e ∙ at.1
+
+    pub open_free : OpenIn h s p → (i : ℕ) → start ≤ i → i < end → get_or bits i false ≡ false
+    open_free is_open i low high = (bit_clear bits i (not-true _ (and_parts _ _ (open_pass is_open i low high)).0)).1
 
     pub open_usable : OpenIn h s p → (q : ℕ) → start / 512 ≤ q → q < (end - 1) / 512 + 1 → is_usable s (owner_of pages q) ≡ true
     open_usable is_open = pages_usable bits pages s start end ordered (open_pass is_open)

@@ -10,7 +10,7 @@ use Rattle.mvs_model.specs.Table.{table}
 use Rattle.mvs_model.specs.Want.{WantValue}
 use Rattle.page_map.specs.Owners.{owner_of}
 pub use Rattle.region_raw.specs.Pages.{value_at}
-use Rattle.region_raw.specs.Pages.{Pages, byte_of, is_open}
+use Rattle.region_raw.specs.Pages.{Pages, is_open}
 use Rattle.subpool_store.specs.Search.{IsExact}
 
 -- f moved up, so that it begins at a number
@@ -56,10 +56,6 @@ half_of first bits pages bytes = record { first = first; pages = length pages; h
 pub record IsOpened (pages : List (Option ℕ)) (bytes : Pages) : Type 0 where
   pub sizes : length bytes ≡ length pages
   pub each : (p : ℕ) → is_open bytes p ≡ is_some (owner_of pages p)
-
--- the bytes of one region are there in another one
-abbrev pub Stays : Pages → Pages → Type 0
-Stays old new = (k x : ℕ) → byte_of old k ≡ Some x → byte_of new k ≡ Some x
 
 -- What is kept of the doublewords and the pages of one region.
 pub record IsHalf (first : ℕ) (bits : List Bool) (pages : List (Option ℕ)) : Type 0 where

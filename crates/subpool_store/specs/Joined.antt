@@ -7,8 +7,10 @@ use Rattle.mvs_model.specs.Place.{PlaceValue}
 use Rattle.mvs_model.specs.Storage.{Storage, Regions, covers, has_address}
 use Rattle.mvs_model.specs.Table.{table}
 use Rattle.mvs_model.specs.Want.{WantValue}
-use Rattle.mvs_model.specs.declared.want.Side.TheVariants.{Below}
+use Rattle.mvs_model.specs.declared.want.Side.TheVariants.{Below, Either}
+use Rattle.subpool_store.specs.Bound.{to_look_at}
 use Rattle.subpool_store.specs.Half.{HalfState, IsSound, BestIn}
+use Rattle.subpool_store.specs.Search.{IsCounted}
 
 -- one map up to a key, and another from there on
 abbrev pub joined_at : ℕ → FinMap nat_cmp ℕ → FinMap nat_cmp ℕ → ℕ → Option ℕ
@@ -30,6 +32,7 @@ store_of b a fill = record { regions = regions_of b a fill; held = joined 268435
 pub record IsStore (b a : HalfState) : Type 0 where
   pub first_below : b.first ≡ 3072
   pub first_above : a.first ≡ 2097152
+  pub some_below : 1 ≤ b.pages
   pub few_below : b.pages ≤ 2048
   pub few_above : a.pages ≤ 8192
   pub sound_below : IsSound b
@@ -44,3 +47,7 @@ pub record Taken (old : Storage) (p : PlaceValue) (v b : Option ℕ) (new : Stor
 -- the best place above, where a place above is wanted
 abbrev pub BestAbove : HalfState → ℕ → WantValue → Option PlaceValue → Type 0
 BestAbove a s want r = BestIn a s want r ⊎ ((want.side ≡ Below) × (r ≡ None))
+
+-- what a search above has looked at, where a place above is wanted
+abbrev pub CountedAbove : HalfState → ℕ → WantValue → Option PlaceValue → ℕ → Type 0
+CountedAbove a s want r steps = ((want.side ≡ Either) × IsCounted (to_look_at a s) r steps) ⊎ ((want.side ≡ Below) × (r ≡ None) × (steps ≡ 0))

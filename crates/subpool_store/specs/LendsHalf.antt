@@ -1,5 +1,5 @@
 -- What a region is once a loan of some of its bytes is over.
-use Rattle.std.specs.Prelude.{ℕ, List}
+use Rattle.std.specs.Prelude.{ℕ, List, take}
 use Rattle.std.specs.Borrow.{Lends, MutBor, Fml, Array, u8}
 use Rattle.mvs_model.specs.Place.{PlaceValue}
 use Rattle.subpool_store.specs.Written.{half_written}
@@ -8,4 +8,4 @@ use Rattle.subpool_store.specs.contracts.half.Half.{the_row}
 
 -- the region ends with what was last written at the place
 abbrev pub LendsHalf : MutBor Half → PlaceValue → MutBor (List ℕ) → Fml
-LendsHalf h p r = Lends the_row (Array u8 0) h r (half_written h.now p.addr)
+LendsHalf h p r = Lends the_row (Array u8 0) h r (λ w. half_written h.now p.addr (take p.len w))

@@ -1,6 +1,9 @@
 pub mod Bits
 pub mod Edits
 pub mod Half
+pub mod Memory
+pub mod LendsMemory
+pub mod Bound
 pub mod Joined
 pub mod Search
 pub mod Walk

@@ -42,6 +42,12 @@ IsShorter None other = Unit {0}
 IsShorter (Some p) None = ⊥
 IsShorter (Some p) (Some q) = p.len < q.len
 
+-- A search looked at something if there is anything, at no more than there is, and at all of it where it found no place.
+pub record IsCounted (most : ℕ) (place : Option PlaceValue) (steps : ℕ) : Type 0 where
+  pub some : 1 ≤ most → 1 ≤ steps
+  pub at_most : steps ≤ most
+  pub all : place ≡ None → steps ≡ most
+
 -- a place of a length that is wanted, that meets what is wanted, and whose doublewords pass
 pub record IsCandidate (test : ℕ → Bool) (first : ℕ) (want : WantValue) (q : PlaceValue) : Type 0 where
   pub length : IsLength want q.len

@@ -1,36 +1,50 @@
 -- Where a pass over a region stands.
-use Rattle.std.specs.Prelude.{◌≡◌, ℕ, ◌+◌, ◌*◌, ◌/◌, ◌%◌, ◌<◌, ◌≤◌, Bool, true, false, Option, Some, List, length}
-use Rattle.page_map.specs.Owners.{owner_of}
+use Rattle.std.specs.Prelude.{◌≡◌, ℕ, ◌+◌, ◌-◌, ◌*◌, ◌/◌, ◌%◌, ◌<◌, ◌≤◌, ◌⊎◌, ◌==◌, ◌&&◌, ◌||◌, not, Bool, true, false, Option, Some, List, length, slice_index_or}
+use Rattle.mvs_model.specs.Finite.{count_below}
+use Rattle.page_map.specs.Owners.{is_of, owner_of}
 use Rattle.subpool_store.specs.Bits.{digit}
+use Rattle.subpool_store.specs.Memory.{IsCursor, MemoryState}
 use Rattle.subpool_store.specs.Search.{may_take}
 use Rattle.subpool_store.specs.declared.walk.Part.{Part}
 use Rattle.subpool_store.specs.declared.walk.Walk.{Walk}
 
--- A pass stands before a page, or inside a page of s.
-pub record Stands (bits : List Bool) (pages : List (Option ℕ)) (s at : ℕ) (inside : Bool) : Type 0 where
+-- A pass stands before a page, or inside a page of s, and before the free runs in its queue.
+pub record Stands (m : MemoryState) (pages : List (Option ℕ)) (s at : ℕ) (inside : Bool) (queue : ℕ) : Type 0 where
   pub page : inside ≡ false → at % 512 ≡ 0
   pub own : inside ≡ true → owner_of pages (at / 512) ≡ Some s
-  pub within : inside ≡ true → at < length bits
+  pub within : inside ≡ true → at < length m.held
+  pub cursor : inside ≡ true → IsCursor m (at / 512) at queue
+  pub fresh : inside ≡ true → (at % 512 ≡ 0) ⊎ (slice_index_or m.held at false ≡ true)
+
+-- whether a free run of a page of s begins at an index: it is free, and it is the first of its page or the one before it is held
+abbrev pub begins_run : List Bool → List (Option ℕ) → ℕ → ℕ → Bool
+begins_run bits pages s i = not (slice_index_or bits i false) && (is_of s (owner_of pages (i / 512)) && (i % 512 == 0 || slice_index_or bits (i - 1) false))
+
+-- how many page entries and free runs a pass has looked at: those before an index, and the entry of the page that it stands inside
+abbrev pub looked_at : MemoryState → List (Option ℕ) → ℕ → ℕ → Bool → ℕ
+looked_at m pages s at inside = at / 512 + digit inside + count_below at (begins_run m.held pages s)
 
 -- how far a pass has come
 abbrev pub progress : ℕ → Bool → ℕ
 progress at inside = 2 * at + digit inside
 
 -- The part is what comes next from an index on: first doublewords that s may not take, then some that s may take.
-pub record IsNextPart (bits : List Bool) (pages : List (Option ℕ)) (s from : ℕ) (inside : Bool) (part : Part) : Type 0 where
+pub record IsNextPart (m : MemoryState) (pages : List (Option ℕ)) (s from : ℕ) (inside : Bool) (part : Part) : Type 0 where
   pub after : from ≤ part.start
   pub ordered : part.start ≤ part.end
-  pub within : part.end ≤ length bits
-  pub skipped : (i : ℕ) → from ≤ i → i < part.start → may_take bits pages s i ≡ false
-  pub passes : (i : ℕ) → part.start ≤ i → i < part.end → may_take bits pages s i ≡ true
-  pub stands : Stands bits pages s part.end part.inside
+  pub within : part.end ≤ length m.held
+  pub skipped : (i : ℕ) → from ≤ i → i < part.start → may_take m.held pages s i ≡ false
+  pub passes : (i : ℕ) → part.start ≤ i → i < part.end → may_take m.held pages s i ≡ true
+  pub stands : Stands m pages s part.end part.inside part.queue
   pub farther : progress from inside < progress part.end part.inside
   pub one : part.examined ≤ 1
+  pub counted : looked_at m pages s from inside + part.examined ≡ looked_at m pages s part.end part.inside
 
 -- The pass has joined a run up to where it stands.
-pub record IsWalk (bits : List Bool) (pages : List (Option ℕ)) (s : ℕ) (w : Walk) : Type 0 where
+pub record IsWalk (m : MemoryState) (pages : List (Option ℕ)) (s : ℕ) (w : Walk) : Type 0 where
   pub ordered : w.start ≤ w.end
-  pub within : w.end ≤ length bits
-  pub passes : (i : ℕ) → w.start ≤ i → i < w.end → may_take bits pages s i ≡ true
-  pub stands : Stands bits pages s w.end w.inside
-  pub counted : w.steps ≤ progress w.end w.inside
+  pub within : w.end ≤ length m.held
+  pub passes : (i : ℕ) → w.start ≤ i → i < w.end → may_take m.held pages s i ≡ true
+  pub stands : Stands m pages s w.end w.inside w.queue
+  pub few : w.steps ≤ progress w.end w.inside
+  pub counted : w.steps ≡ looked_at m pages s w.end w.inside

@@ -1,5 +1,5 @@
 -- What a map of bytes has once bytes were written over it.
-use Rattle.std.specs.Prelude.{◌≡◌, ℕ, ◌+◌, ◌-◌, ◌&&◌, min, List, Option, Some, length, is_some, nat_lt, slice_index, if◌then◌else◌}
+use Rattle.std.specs.Prelude.{◌≡◌, ℕ, ◌+◌, ◌-◌, ◌&&◌, min, List, Option, Some, length, take, is_some, nat_lt, slice_index, if◌then◌else◌}
 use Rattle.std.specs.Ordering.{nat_cmp}
 use Rattle.std.specs.FinMap.{FinMap, get}
 use Rattle.mvs_model.specs.Place.{PlaceValue}
@@ -24,9 +24,13 @@ side_end a = if nat_lt a 16777216 then 16777216 else 2147483648
 abbrev pub half_written : HalfState → ℕ → List ℕ → HalfState
 half_written h a w = record { first = h.first; pages = h.pages; held = h.held; bytes = overwritten h.bytes a (a + length w) w }
 
--- Storage with the bytes written over those of a place, on its side of 16 megabytes.
+-- storage with the bytes written over those from an address on, on its side of 16 megabytes
+abbrev pub written_from : Storage → ℕ → List ℕ → Storage
+written_from st a w = record { regions = st.regions; held = st.held; bytes = overwritten st.bytes a (min (a + length w) (side_end a)) w }
+
+-- storage with the bytes written over those of a place
 abbrev pub written : Storage → PlaceValue → List ℕ → Storage
-written st p w = record { regions = st.regions; held = st.held; bytes = overwritten st.bytes p.addr (min (p.addr + length w) (side_end p.addr)) w }
+written st p w = written_from st p.addr (take p.len w)
 
 -- The bytes stand at the place now, one after another, and all else is as before.
 pub record Puts (old : Storage) (p : PlaceValue) (w : List ℕ) (new : Storage) : Type 0 where

@@ -7,7 +7,8 @@ ghost use Rattle.mvs_model.specs.Finite.{count_below, has};
 ghost use Rattle.mvs_model.specs.Storage.{IsWhole};
 ghost use Rattle.mvs_model.specs.Want.{IsWant};
 ghost use Rattle.page_map.specs.Owners.{owner_of, is_usable};
-ghost use Rattle.subpool_store.specs.Edits.{IsAssigned, IsGivenUp, IsDropped};
+ghost use Rattle.subpool_store.specs.Bound.{to_look_at};
+ghost use Rattle.subpool_store.specs.Edits.{IsAssigned, IsGivenUp, IsDropped, IsMarked};
 ghost use Rattle.subpool_store.specs.Half.{
   AllHeldIn,
   BestIn,
@@ -18,12 +19,14 @@ ghost use Rattle.subpool_store.specs.Half.{
   IsSound,
   OpenIn,
   OwnsPage,
-  Stays,
   cell,
 };
+ghost use Rattle.subpool_store.specs.Memory.{Stays};
+ghost use Rattle.subpool_store.specs.Search.{IsCounted};
 ghost use Rattle.subpool_store.specs.LendsHalf.{LendsHalf};
 
-use crate::held_map::HeldMap;
+use crate::free_runs::{self, are_held, are_held_in};
+use crate::memory::Memory;
 use crate::run::Run;
 use crate::search::{Found, find};
 use mvs_model::error::OutOfMemory;
@@ -31,7 +34,6 @@ use mvs_model::place::{Addr, Place};
 use mvs_model::subpool::SubpoolId;
 use mvs_model::want::{Placement, Want};
 use page_map::PageMap;
-use region_raw::region::Region;
 use std::alloc::Global;
 use std::marker::Model;
 
@@ -49,25 +51,26 @@ fn run_of(first: u32, place: Place) -> Run
 }
 
 // Assigns a page that the subpool may use to it, and opens it, if it is not assigned yet.
-fn open_page(pages: &mut PageMap, bytes: &mut Region, subpool: SubpoolId, page: usize, fill: u8)
+fn open_page(pages: &mut PageMap, memory: &mut Memory, subpool: SubpoolId, page: usize, fill: u8)
     requires within { page < length pages.old }
     requires usable { is_usable subpool (owner_of pages.old page) ≡ true }
-    requires opened { IsOpened pages.old bytes.old }
+    requires opened { IsOpened pages.old memory.old.bytes }
     ensures assigned { pages.new ≡ slice_set pages.old page (Some subpool) }
-    ensures opened { IsOpened pages.new bytes.new }
-    ensures stays { Stays bytes.old bytes.new }
+    ensures opened { IsOpened pages.new memory.new.bytes }
+    ensures held { memory.new.held ≡ memory.old.held }
+    ensures stays { Stays memory.old.held memory.old.bytes memory.new.bytes }
 {
     if pages.owner(page).is_some() {
         return;
     }
     pages.assign(page, subpool);
-    bytes.open_page(page, fill);
+    memory.open_page(page, fill);
 }
 
 // Assigns the pages of a range that are not assigned, and opens them.
 fn open_pages(
     pages: &mut PageMap,
-    bytes: &mut Region,
+    memory: &mut Memory,
     subpool: SubpoolId,
     from: usize,
     to: usize,
@@ -76,44 +79,45 @@ fn open_pages(
     requires ordered { from ≤ to }
     requires within { to ≤ length pages.old }
     requires usable { (p : ℕ) → from ≤ p → p < to → is_usable subpool (owner_of pages.old p) ≡ true }
-    requires opened { IsOpened pages.old bytes.old }
+    requires opened { IsOpened pages.old memory.old.bytes }
     ensures assigned { IsAssigned pages.old from to subpool pages.new }
-    ensures opened { IsOpened pages.new bytes.new }
-    ensures stays { Stays bytes.old bytes.new }
+    ensures opened { IsOpened pages.new memory.new.bytes }
+    ensures held { memory.new.held ≡ memory.old.held }
+    ensures stays { Stays memory.old.held memory.old.bytes memory.new.bytes }
 {
     for page in from..to {
-        open_page(pages, bytes, subpool, page, fill);
+        open_page(pages, memory, subpool, page, fill);
     }
 }
 
-// Gives up a page that is assigned, and closes it.
-fn close_page(pages: &mut PageMap, bytes: &mut Region, page: usize)
+// Gives up a page that is assigned, and closes it: nothing of it is held then.
+fn close_page(pages: &mut PageMap, memory: &mut Memory, page: usize)
     requires within { page < length pages.old }
     requires assigned { IsSome (owner_of pages.old page) }
-    requires opened { IsOpened pages.old bytes.old }
+    requires opened { IsOpened pages.old memory.old.bytes }
     ensures unassigned { pages.new ≡ slice_set pages.old page None }
-    ensures opened { IsOpened pages.new bytes.new }
-    ensures stays { Stays bytes.new bytes.old }
+    ensures opened { IsOpened pages.new memory.new.bytes }
+    ensures marked { IsMarked memory.old.held (512 * page) (512 * page + 512) false memory.new.held }
+    ensures stays { Stays memory.new.held memory.old.bytes memory.new.bytes }
 {
     pages.unassign(page);
-    bytes.close_page(page);
+    memory.close_page(page);
 }
 
 // Gives up the pages of a range of which nothing is held, and closes them.
-fn give_up_pages(held: &HeldMap, pages: &mut PageMap, bytes: &mut Region, from: usize, to: usize)
+fn give_up_pages(pages: &mut PageMap, memory: &mut Memory, from: usize, to: usize)
     requires ordered { from ≤ to }
     requires within { to ≤ length pages.old }
-    requires few { length pages.old ≤ 8192 }
-    requires sizes { length held.now ≡ 512 * length pages.old }
     requires assigned { (p : ℕ) → from ≤ p → p < to → IsSome (owner_of pages.old p) }
-    requires opened { IsOpened pages.old bytes.old }
-    ensures given { IsGivenUp held.now pages.old from to pages.new }
-    ensures opened { IsOpened pages.new bytes.new }
-    ensures stays { Stays bytes.new bytes.old }
+    requires opened { IsOpened pages.old memory.old.bytes }
+    ensures given { IsGivenUp memory.old.held pages.old from to pages.new }
+    ensures opened { IsOpened pages.new memory.new.bytes }
+    ensures held { memory.new.held ≡ memory.old.held }
+    ensures stays { Stays memory.old.held memory.old.bytes memory.new.bytes }
 {
     for page in from..to {
-        if held.is_whole(page) {
-            close_page(pages, bytes, page);
+        if memory.is_whole(page) {
+            close_page(pages, memory, page);
         }
     }
 }
@@ -133,30 +137,31 @@ fn are_of(pages: &PageMap, subpool: SubpoolId, from: usize, to: usize) -> bool
 }
 
 // Whether the subpool holds each doubleword of a run.
-fn holds_run(held: &HeldMap, pages: &PageMap, subpool: SubpoolId, run: Run) -> bool
+fn holds_run(memory: &Memory, pages: &PageMap, subpool: SubpoolId, run: Run) -> bool
     requires some { run.start < run.end }
-    requires within { run.end ≤ length held.now }
-    requires sizes { length held.now ≡ 512 * length pages.now }
-    ensures { IsTrue result ↔ ((i : ℕ) → run.start ≤ i → i < run.end → cell held.now pages.now i ≡ Some subpool) }
+    requires within { run.end ≤ length memory.now.held }
+    requires sizes { length memory.now.held ≡ 512 * length pages.now }
+    requires few { length pages.now ≤ 8192 }
+    requires opened { IsOpened pages.now memory.now.bytes }
+    ensures { IsTrue result ↔ ((i : ℕ) → run.start ≤ i → i < run.end → cell memory.now.held pages.now i ≡ Some subpool) }
 {
     if !are_of(pages, subpool, run.start / 512, (run.end - 1) / 512 + 1) {
         return false;
     }
-    held.are_held(run)
+    are_held(memory, run)
 }
 
 // Gives up the pages of the subpool, and what is held of them, and closes them.
-fn drop_pages(held: &mut HeldMap, pages: &mut PageMap, bytes: &mut Region, subpool: SubpoolId)
-    requires sizes { length held.old ≡ 512 * length pages.old }
-    requires opened { IsOpened pages.old bytes.old }
-    ensures dropped { IsDropped subpool held.old pages.old (length pages.old) held.new pages.new }
-    ensures opened { IsOpened pages.new bytes.new }
-    ensures stays { Stays bytes.new bytes.old }
+fn drop_pages(pages: &mut PageMap, memory: &mut Memory, subpool: SubpoolId)
+    requires sizes { length memory.old.held ≡ 512 * length pages.old }
+    requires opened { IsOpened pages.old memory.old.bytes }
+    ensures dropped { IsDropped subpool memory.old.held pages.old (length pages.old) memory.new.held pages.new }
+    ensures opened { IsOpened pages.new memory.new.bytes }
+    ensures stays { Stays memory.new.held memory.old.bytes memory.new.bytes }
 {
     for page in 0..pages.pages() {
         if pages.owner(page) == Some(subpool) {
-            close_page(pages, bytes, page);
-            held.start(page);
+            close_page(pages, memory, page);
         }
     }
 }
@@ -170,52 +175,55 @@ fn is_own(pages: &PageMap, subpool: SubpoolId, page: usize) -> bool
 }
 
 // How many doublewords of a page the subpool holds.
-fn count_page(held: &HeldMap, pages: &PageMap, subpool: SubpoolId, page: usize) -> u32
-    requires sizes { length held.now ≡ 512 * length pages.now }
+fn count_page(memory: &Memory, pages: &PageMap, subpool: SubpoolId, page: usize) -> u32
     requires few { length pages.now ≤ 8192 }
     requires within { page < length pages.now }
-    ensures { result ≡ count_below 512 (λ i. has (λ t. t == subpool) (cell held.now pages.now (512 * page + i))) }
+    requires opened { IsOpened pages.now memory.now.bytes }
+    ensures { result ≡ count_below 512 (λ i. has (λ t. t == subpool) (cell memory.now.held pages.now (512 * page + i))) }
 {
     if is_own(pages, subpool, page) {
-        held.count(page)
+        free_runs::count(memory, page)
     } else {
         0
     }
 }
 
 // How many doublewords the subpool holds.
-fn count(held: &HeldMap, pages: &PageMap, subpool: SubpoolId) -> u32
-    requires sizes { length held.now ≡ 512 * length pages.now }
+fn count(memory: &Memory, pages: &PageMap, subpool: SubpoolId) -> u32
     requires few { length pages.now ≤ 8192 }
-    ensures { result ≡ count_below (512 * length pages.now) (λ i. has (λ t. t == subpool) (cell held.now pages.now i)) }
+    requires opened { IsOpened pages.now memory.now.bytes }
+    ensures { result ≡ count_below (512 * length pages.now) (λ i. has (λ t. t == subpool) (cell memory.now.held pages.now i)) }
 {
     let mut count = 0;
     for page in 0..pages.pages() {
-        count += count_page(held, pages, subpool, page);
+        count += count_page(memory, pages, subpool, page);
     }
     count
 }
 
 // Who holds a doubleword.
-fn cell(held: &HeldMap, pages: &PageMap, index: usize) -> Option<SubpoolId>
-    requires within { index < length held.now }
-    requires sizes { length held.now ≡ 512 * length pages.now }
-    ensures { result ≡ cell held.now pages.now index }
+fn cell(memory: &Memory, pages: &PageMap, index: usize) -> Option<SubpoolId>
+    requires within { index < 512 * length pages.now }
+    requires few { length pages.now ≤ 8192 }
+    requires opened { IsOpened pages.now memory.now.bytes }
+    ensures { result ≡ cell memory.now.held pages.now index }
 {
-    if held.is_held(index) {
-        pages.owner(index / 512)
+    let Some(owner) = pages.owner(index / 512) else {
+        return None;
+    };
+    if are_held_in(memory, index / 512, index, index + 1) {
+        Some(owner)
     } else {
         None
     }
 }
 
-/// The doublewords of a region that are held, the owners of its pages, and its bytes.
+/// A region: the owners of its pages, what is held of them, and the bytes.
 #[derive(Drop)]
 pub struct Half {
     first: u32,
-    held: HeldMap,
     pages: PageMap,
-    bytes: Region,
+    memory: Memory,
 }
 
 impl Model for Half {
@@ -225,9 +233,9 @@ impl Model for Half {
 
     ghost coded = { half_code };
 
-    ghost view = { λ h. half_of h.first h.held h.pages (value_at h.bytes) };
+    ghost view = { λ h. half_of h.first h.memory.held h.pages (value_at h.memory.bytes) };
 
-    ghost invariant = { λ h. IsHalf h.first h.held h.pages × IsOpened h.pages h.bytes };
+    ghost invariant = { λ h. IsHalf h.first h.memory.held h.pages × IsOpened h.pages h.memory.bytes };
 }
 
 impl Half {
@@ -242,21 +250,21 @@ impl Half {
     {
         Ok(Half {
             first,
-            held: HeldMap::new(alloc, pages)?,
             pages: PageMap::new(alloc, pages)?,
-            bytes: Region::new(alloc, pages)?,
+            memory: Memory::new(alloc, pages)?,
         })
     }
 
     // A longest open place that meets what is wanted, the one that the placement takes.
     pub fn find(&self, placement: Placement, subpool: SubpoolId, want: &Want) -> Found
         ensures best { BestIn self.now subpool want.now result.place }
+        ensures counted { IsCounted (to_look_at self.now subpool) result.place result.steps }
         ensures wanted { IsWant want.now }
     {
         find(
             placement,
             self.first,
-            &self.held,
+            &self.memory,
             &self.pages,
             subpool,
             want,
@@ -272,16 +280,16 @@ impl Half {
         ensures sound { IsSound self.new }
     {
         let run = run_of(self.first, place);
-        self.held.take(run);
         open_pages(
             &mut self.pages,
-            &mut self.bytes,
+            &mut self.memory,
             subpool,
             run.start / 512,
             (run.end - 1) / 512 + 1,
             fill,
         );
-        self.bytes
+        self.memory.take(run);
+        self.memory
             .fill(8 * run.start, 8 * (run.end - run.start), fill);
     }
 
@@ -298,7 +306,7 @@ impl Half {
         if 512 * self.pages.pages() < run.end {
             return false;
         }
-        holds_run(&self.held, &self.pages, subpool, run)
+        holds_run(&self.memory, &self.pages, subpool, run)
     }
 
     // Takes back a place that the subpool holds.
@@ -310,11 +318,10 @@ impl Half {
         ensures sound { IsSound self.new }
     {
         let run = run_of(self.first, place);
-        self.held.give(run);
+        self.memory.give(run);
         give_up_pages(
-            &self.held,
             &mut self.pages,
-            &mut self.bytes,
+            &mut self.memory,
             run.start / 512,
             (run.end - 1) / 512 + 1,
         );
@@ -325,7 +332,7 @@ impl Half {
         ensures dropped { DroppedIn self.old subpool self.new }
         ensures sound { IsSound self.new }
     {
-        drop_pages(&mut self.held, &mut self.pages, &mut self.bytes, subpool);
+        drop_pages(&mut self.pages, &mut self.memory, subpool);
     }
 
     // Who holds the doubleword of an address.
@@ -336,7 +343,7 @@ impl Half {
         if at < self.first || 512 * self.pages.pages() <= (at - self.first) as usize {
             return None;
         }
-        cell(&self.held, &self.pages, (at - self.first) as usize)
+        cell(&self.memory, &self.pages, (at - self.first) as usize)
     }
 
     // How many doublewords the subpool holds.
@@ -344,7 +351,7 @@ impl Half {
         ensures count { result ≡ count_below (512 * self.now.pages) (λ i. has (λ t. t == subpool) (get self.now.held (self.now.first + i))) }
         ensures most { result ≤ 4194304 }
     {
-        count(&self.held, &self.pages, subpool)
+        count(&self.memory, &self.pages, subpool)
     }
 
     // How many pages the region has.
@@ -373,7 +380,7 @@ impl Half {
     {
         let len = place.len() as usize;
         let from = (place.addr().get() - 8 * self.first) as usize;
-        self.bytes.part(from, len)
+        self.memory.part(from, len)
     }
 
     // Lends the bytes of a place.
@@ -385,7 +392,7 @@ impl Half {
     {
         let len = place.len() as usize;
         let from = (place.addr().get() - 8 * self.first) as usize;
-        self.bytes.part_mut(from, len)
+        self.memory.part_mut(from, len)
     }
 
     // Lends the bytes of one place to read, and those of another one to write.
@@ -402,6 +409,6 @@ impl Half {
         let len = from.len() as usize;
         let source = (from.addr().get() - 8 * self.first) as usize;
         let target = (to.addr().get() - 8 * self.first) as usize;
-        self.bytes.two_parts(source, target, len)
+        self.memory.two_parts(source, target, len)
     }
 }

@@ -1,12 +1,13 @@
 //! Storage of both regions: obtain and release.
 #![tactic(auto)]
 
-mod bit_list;
+mod free_runs;
 mod half;
-mod held_map;
+mod memory;
 mod run;
 mod search;
 mod store;
 mod walk;
 
+pub use search::Found;
 pub use store::{NotHeld, Store};

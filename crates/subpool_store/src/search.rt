@@ -1,20 +1,23 @@
 //! The search for a place in one region.
 
-ghost use Rattle.std.specs.Prelude.{◌≡◌, ◌<◌, ◌≤◌, ◌+◌, ◌-◌, ◌*◌, ◌^◌, ◌⊎◌, ◌↔◌, ℕ, IfSome, IsTrue, length};
+ghost use Rattle.std.specs.Prelude.{◌≡◌, ◌<◌, ◌≤◌, ◌+◌, ◌-◌, ◌*◌, ◌^◌, ◌⊎◌, ◌↔◌, ℕ, IfSome, IsTrue, false, length};
 ghost use Rattle.mvs_model.specs.Place.{PlaceValue};
 ghost use Rattle.mvs_model.specs.Storage.{IsLength, IsRun};
 ghost use Rattle.mvs_model.specs.Want.{IsWant};
+ghost use Rattle.subpool_store.specs.Half.{IsOpened};
 ghost use Rattle.subpool_store.specs.Search.{
   may_take,
   Beats,
   IsCandidate,
+  IsCounted,
   IsExact,
   IsOnlyLength,
   IsShorter,
   LongestIn,
 };
+ghost use Rattle.subpool_store.specs.Walk.{looked_at};
 
-use crate::held_map::HeldMap;
+use crate::memory::Memory;
 use crate::run::Run;
 use crate::walk::Walk;
 use boundary_loc::{first_in, last_in, longest_in};
@@ -31,8 +34,9 @@ pub struct Found {
 }
 
 impl Found {
-    fn new(place: Option<Place>, steps: u32) -> Found
-        ensures { result.place ≡ place }
+    pub fn new(place: Option<Place>, steps: u32) -> Found
+        ensures place { result.place ≡ place }
+        ensures steps { result.steps ≡ steps }
     {
         Found { place, steps }
     }
@@ -156,22 +160,24 @@ fn is_final(placement: Placement, best: &Option<Place>, want: &Want) -> bool
 pub fn find(
     placement: Placement,
     first: u32,
-    held: &HeldMap,
+    memory: &Memory,
     pages: &PageMap,
     subpool: SubpoolId,
     want: &Want,
 ) -> Found
-    requires exact { IsExact held.now pages.now }
-    requires end { 8 * (first + length held.now) ≤ 2 ^ 31 }
-    requires one_side { first < 2097152 → first + length held.now ≤ 2097152 }
-    ensures found { IfSome result.place (IsCandidate (may_take held.now pages.now subpool) first want.now) }
-    ensures longest { (q : PlaceValue) → IsCandidate (may_take held.now pages.now subpool) first want.now q → Beats result.place q.len }
+    requires exact { IsExact memory.now.held pages.now }
+    requires opened { IsOpened pages.now memory.now.bytes }
+    requires end { 8 * (first + length memory.now.held) ≤ 2 ^ 31 }
+    requires one_side { first < 2097152 → first + length memory.now.held ≤ 2097152 }
+    ensures found { IfSome result.place (IsCandidate (may_take memory.now.held pages.now subpool) first want.now) }
+    ensures longest { (q : PlaceValue) → IsCandidate (may_take memory.now.held pages.now subpool) first want.now q → Beats result.place q.len }
+    ensures counted { IsCounted (looked_at memory.now pages.now subpool (length memory.now.held) false) result.place result.steps }
     ensures wanted { IsWant want.now }
 {
     let only = only_length(want);
     let mut walk = Walk::new();
     let mut best = None;
-    'runs: while let Some(run) = walk.next_run(held, pages, subpool) {
+    'runs: while let Some(run) = walk.next_run(memory, pages, subpool) {
         best = preferred(
             placement,
             best,

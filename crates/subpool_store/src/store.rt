@@ -19,12 +19,13 @@ ghost use Rattle.mvs_model.specs.Storage.{
   held_bytes,
   holder,
 };
-ghost use Rattle.subpool_store.specs.Joined.{BestAbove, Taken};
+ghost use Rattle.subpool_store.specs.Bound.{IsBound};
+ghost use Rattle.subpool_store.specs.Joined.{BestAbove, CountedAbove, Taken};
 ghost use Rattle.subpool_store.specs.LendsBytes.{LendsBytes};
 ghost use Rattle.subpool_store.specs.Written.{Puts, written};
 
 use crate::half::Half;
-use crate::search::{is_longest, longer};
+use crate::search::{Found, is_longest, longer};
 use mvs_model::error::OutOfMemory;
 use mvs_model::place::{Addr, Place};
 use mvs_model::subpool::SubpoolId;
@@ -49,6 +50,7 @@ pub struct Store {
     above: Half,
     fill: u8,
     placement: Placement,
+    steps: u32,
 }
 
 impl Model for Store {
@@ -93,12 +95,13 @@ fn whole_doublewords(place: Place) -> Place
 }
 
 // The best place in the region above, if a place may be there.
-fn find_above(placement: Placement, above: &Half, subpool: SubpoolId, want: &Want) -> Option<Place>
-    ensures { BestAbove above.now subpool want.now result }
+fn find_above(placement: Placement, above: &Half, subpool: SubpoolId, want: &Want) -> Found
+    ensures best { BestAbove above.now subpool want.now result.place }
+    ensures counted { CountedAbove above.now subpool want.now result.place result.steps }
 {
     match want.side() {
-        Side::Either => above.find(placement, subpool, want).place,
-        Side::Below => None,
+        Side::Either => above.find(placement, subpool, want),
+        Side::Below => Found::new(None, 0),
     }
 }
 
@@ -123,21 +126,24 @@ impl Store {
             above: Half::new(alloc, 2_097_152, above as usize)?,
             fill,
             placement,
+            steps: 0,
         })
     }
 
     // The place to take for what is wanted: the longest one, above if one of that length is above.
-    fn search(&self, subpool: SubpoolId, want: &Want) -> Option<Place>
-        ensures chosen { MatchOption result
+    fn search(&self, subpool: SubpoolId, want: &Want) -> Found
+        ensures chosen { MatchOption result.place
             (NoPlace self.now.regions (holder self.now) subpool want.now)
             (Chosen self.now.regions (holder self.now) subpool want.now) }
+        ensures bound { IsBound self.now subpool want.now.side result.place result.steps }
         ensures storage { IsStorage self.now }
     {
         let above = find_above(self.placement, &self.above, subpool, want);
-        if is_longest(&above, want) {
+        if is_longest(&above.place, want) {
             return above;
         }
-        longer(above, self.below.find(self.placement, subpool, want).place)
+        let below = self.below.find(self.placement, subpool, want);
+        Found::new(longer(above.place, below.place), above.steps + below.steps)
     }
 
     // Gives an open place to the subpool and fills it.
@@ -165,11 +171,30 @@ impl Store {
             (λ p. Grant self.old subpool want.now p self.new) }
         ensures storage { IsStorage self.new }
     {
-        let Some(place) = self.search(subpool, want) else {
-            return None;
-        };
-        self.take(subpool, place);
-        Some(place)
+        let found = self.obtain_counted(subpool, want);
+        self.steps = found.steps;
+        found.place
+    }
+
+    /// Obtains what is wanted, and counts the page entries and the free runs that the search for it looked at. It looks
+    /// at each at most once, and at all of them before it answers that there is no place.
+    pub fn obtain_counted(&mut self, subpool: SubpoolId, want: &Want) -> Found
+        ensures grant { MatchOption result.place
+            (NoPlace self.old.regions (holder self.old) subpool want.now × (self.new ≡ self.old))
+            (λ p. Grant self.old subpool want.now p self.new) }
+        ensures bound { IsBound self.old subpool want.now.side result.place result.steps }
+        ensures storage { IsStorage self.new }
+    {
+        let found = self.search(subpool, want);
+        if let Some(place) = found.place {
+            self.take(subpool, place);
+        }
+        found
+    }
+
+    /// How many page entries and free runs the latest `obtain` looked at; 0 before one.
+    pub fn steps(&self) -> u32 {
+        self.steps
     }
 
     // Takes back a place that the subpool holds.

@@ -1,12 +1,16 @@
 //! One pass in rising order over the pages of a region and the free runs of the subpool's own pages.
 
-ghost use Rattle.std.specs.Prelude.{◌≡◌, ◌<◌, ◌≤◌, ◌/◌, ◌%◌, ℕ, MatchOption, Some, false, true, length};
+ghost use Rattle.std.specs.Prelude.{◌≡◌, ◌<◌, ◌≤◌, ◌/◌, ◌%◌, ◌⊎◌, ℕ, MatchOption, Some, false, true, length, slice_index_or};
+ghost use Rattle.free_queue.specs.Runs.{end};
 ghost use Rattle.page_map.specs.Owners.{owner_of};
+ghost use Rattle.subpool_store.specs.Half.{IsOpened};
+ghost use Rattle.subpool_store.specs.Memory.{IsCursor};
 ghost use Rattle.subpool_store.specs.Search.{may_take, IsExact, IsNextRun};
 ghost use Rattle.subpool_store.specs.Walk.{IsNextPart, IsWalk};
 
-use crate::held_map::HeldMap;
+use crate::memory::Memory;
 use crate::run::Run;
+use free_queue::queue::Head;
 use mvs_model::subpool::SubpoolId;
 use page_map::PageMap;
 
@@ -17,25 +21,30 @@ struct Part {
     start: usize,
     end: usize,
     inside: bool,
+    queue: Head,
     examined: u32,
 }
 
 /// A pass: the run that it has joined so far, which ends where it stands; whether it stands inside a page of
-/// the subpool's own, whose entry it has examined; and how many page entries and free runs it has examined.
+/// the subpool's own, whose entry it has examined; the queue of the runs of that page that it has not examined; and
+/// how many page entries and free runs it has examined.
 #[derive(Clone, Copy)]
 pub struct Walk {
     start: usize,
     end: usize,
     inside: bool,
+    queue: Head,
     pub steps: u32,
 }
 
 // Looks at the entry of the next page.
-fn examine_page(held: &HeldMap, pages: &PageMap, subpool: SubpoolId, from: usize) -> Part
-    requires exact { IsExact held.now pages.now }
-    requires within { from < length held.now }
+#[tactic(auto, using(crate::proofs::Begun::page_counted))]
+fn examine_page(memory: &Memory, pages: &PageMap, subpool: SubpoolId, from: usize) -> Part
+    requires exact { IsExact memory.now.held pages.now }
+    requires within { from < length memory.now.held }
     requires page { from % 512 ≡ 0 }
-    ensures { IsNextPart held.now pages.now subpool from false result }
+    requires opened { IsOpened pages.now memory.now.bytes }
+    ensures { IsNextPart memory.now pages.now subpool from false result }
 {
     let end = from + 512;
     match pages.owner(from / 512) {
@@ -43,43 +52,58 @@ fn examine_page(held: &HeldMap, pages: &PageMap, subpool: SubpoolId, from: usize
             start: from,
             end,
             inside: false,
+            queue: Head::none(),
             examined: 1,
         },
         Some(owner) if owner == subpool => Part {
             start: from,
             end: from,
             inside: true,
+            queue: memory.first(from / 512),
             examined: 1,
         },
         Some(_) => Part {
             start: end,
             end,
             inside: false,
+            queue: Head::none(),
             examined: 1,
         },
     }
 }
 
 // Looks at the next free run of a page of the subpool's own. Where there is none it looks at nothing.
-fn examine_run(held: &HeldMap, pages: &PageMap, subpool: SubpoolId, from: usize) -> Part
-    requires exact { IsExact held.now pages.now }
-    requires within { from < length held.now }
+#[tactic(auto, using(crate::proofs::Begun::rest_counted, crate::proofs::Begun::run_counted))]
+fn examine_run(
+    memory: &Memory,
+    pages: &PageMap,
+    subpool: SubpoolId,
+    from: usize,
+    queue: Head,
+) -> Part
+    requires exact { IsExact memory.now.held pages.now }
+    requires within { from < length memory.now.held }
     requires own { owner_of pages.now (from / 512) ≡ Some subpool }
-    ensures { IsNextPart held.now pages.now subpool from true result }
+    requires opened { IsOpened pages.now memory.now.bytes }
+    requires cursor { IsCursor memory.now (from / 512) from queue }
+    requires fresh { (from % 512 ≡ 0) ⊎ (slice_index_or memory.now.held from false ≡ true) }
+    ensures { IsNextPart memory.now pages.now subpool from true result }
 {
     let page = from / 512;
     let end = 512 * page + 512;
-    match held.next_free(page, from) {
+    match memory.next_free(page, from, queue) {
         None => Part {
             start: end,
             end,
             inside: false,
+            queue: Head::none(),
             examined: 0,
         },
-        Some(run) => Part {
+        Some((run, behind)) => Part {
             start: run.start,
             end: run.end,
             inside: run.end < end,
+            queue: behind,
             examined: 1,
         },
     }
@@ -88,48 +112,53 @@ fn examine_run(held: &HeldMap, pages: &PageMap, subpool: SubpoolId, from: usize)
 impl Walk {
     // A pass before the first page.
     pub fn new() -> Walk
-        ensures { result ≡ record { start = 0; end = 0; inside = false; steps = 0 } }
+        ensures { result ≡ record { start = 0; end = 0; inside = false; queue = end; steps = 0 } }
     {
         Walk {
             start: 0,
             end: 0,
             inside: false,
+            queue: Head::none(),
             steps: 0,
         }
     }
 
     // Makes one step.
-    fn examine(&self, held: &HeldMap, pages: &PageMap, subpool: SubpoolId) -> Part
-        requires exact { IsExact held.now pages.now }
-        requires walk { IsWalk held.now pages.now subpool self.now }
-        requires within { self.now.end < length held.now }
-        ensures { IsNextPart held.now pages.now subpool self.now.end self.now.inside result }
+    fn examine(&self, memory: &Memory, pages: &PageMap, subpool: SubpoolId) -> Part
+        requires exact { IsExact memory.now.held pages.now }
+        requires opened { IsOpened pages.now memory.now.bytes }
+        requires walk { IsWalk memory.now pages.now subpool self.now }
+        requires within { self.now.end < length memory.now.held }
+        ensures { IsNextPart memory.now pages.now subpool self.now.end self.now.inside result }
     {
         if self.inside {
-            examine_run(held, pages, subpool, self.end)
+            examine_run(memory, pages, subpool, self.end, self.queue)
         } else {
-            examine_page(held, pages, subpool, self.end)
+            examine_page(memory, pages, subpool, self.end)
         }
     }
 
     // The next run of doublewords that the subpool may take, joined across pages.
-    pub fn next_run(&mut self, held: &HeldMap, pages: &PageMap, subpool: SubpoolId) -> Option<Run>
-        requires exact { IsExact held.now pages.now }
-        requires walk { IsWalk held.now pages.now subpool self.old }
-        ensures walk { IsWalk held.now pages.now subpool self.new }
+    pub fn next_run(&mut self, memory: &Memory, pages: &PageMap, subpool: SubpoolId) -> Option<Run>
+        requires exact { IsExact memory.now.held pages.now }
+        requires opened { IsOpened pages.now memory.now.bytes }
+        requires walk { IsWalk memory.now pages.now subpool self.old }
+        ensures walk { IsWalk memory.now pages.now subpool self.new }
         ensures run { MatchOption result
-            ((i : ℕ) → self.old.start ≤ i → may_take held.now pages.now subpool i ≡ false)
-            (λ run. IsNextRun (may_take held.now pages.now subpool) self.old.start run.start run.end self.new.start) }
+            ((i : ℕ) → self.old.start ≤ i → may_take memory.now.held pages.now subpool i ≡ false)
+            (λ run. IsNextRun (may_take memory.now.held pages.now subpool) self.old.start run.start run.end self.new.start) }
+        ensures all { MatchOption result (self.new.end ≡ length memory.now.held) (λ _. 0 < self.new.end) }
     {
         let total = 512 * pages.pages();
         'parts: while self.end < total {
-            let part = self.examine(held, pages, subpool);
+            let part = self.examine(memory, pages, subpool);
             let run = Run {
                 start: self.start,
                 end: self.end,
             };
             self.end = part.end;
             self.inside = part.inside;
+            self.queue = part.queue;
             self.steps += part.examined;
             if part.start != run.end {
                 self.start = part.start;

@@ -116,14 +116,14 @@ fn exact_fit(rt: HostRuntime) -> Result<(), Fail> {
     }
     let two = Want::fixed(Length::new(16), Exponent::new(3), Side::Below);
     assert_eq!(rt; store.obtain(one, &two), None);
-    assert_eq!(rt; store.below.find(Placement::Low, one, &two).steps, 257);
+    assert_eq!(rt; store.steps(), 257);
     let hole = Want::fixed(Length::new(8), Exponent::new(3), Side::Below);
     assert_eq!(rt;
         store.obtain(one, &hole),
         Some(Place::new(Addr::new(0x6008), 8))
     );
     // The page, the run that serves, and the one behind it, which shows that the first does not go on.
-    assert_eq!(rt; store.below.find(Placement::Low, one, &hole).steps, 3);
+    assert_eq!(rt; store.steps(), 3);
     Ok(())
 }
 
@@ -207,8 +207,31 @@ fn each_page_once(rt: HostRuntime) -> Result<(), Fail> {
     );
     let want = Want::fixed(Length::new(8192), Exponent::new(3), Side::Below);
     assert_eq!(rt; store.obtain(one, &want), None);
-    assert_eq!(rt; store.below.find(Placement::Low, one, &want).steps, 2049);
-    assert_eq!(rt; store.below.find(Placement::Low, two, &want).steps, 2048);
+    assert_eq!(rt; store.steps(), 2049);
+    assert_eq!(rt; store.obtain(two, &want), None);
+    assert_eq!(rt; store.steps(), 2048);
+    Ok(())
+}
+
+// Pages of other subpools are looked at, and the free runs in them are not.
+#[test]
+fn pages_of_others(rt: HostRuntime) -> Result<(), Fail> {
+    let one = SubpoolId::new(1);
+    let two = SubpoolId::new(2);
+    let three = SubpoolId::new(3);
+    let mut store = Store::new(rt.alloc(), 2, 0, 0, Placement::Low)?;
+    let want = Want::fixed(Length::new(8), Exponent::new(3), Side::Either);
+    assert_eq!(rt; store.steps(), 0);
+    assert_eq!(rt;
+        store.obtain(one, &want),
+        Some(Place::new(Addr::new(0x6000), 8))
+    );
+    assert_eq!(rt;
+        store.obtain(two, &want),
+        Some(Place::new(Addr::new(0x7000), 8))
+    );
+    assert_eq!(rt; store.obtain(three, &want), None);
+    assert_eq!(rt; store.steps(), 2);
     Ok(())
 }
 

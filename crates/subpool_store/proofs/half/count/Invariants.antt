@@ -5,6 +5,6 @@ use Rattle.subpool_store.proofs.half.count.Given as goal
 
 abbrev pub invariant-loop-page : goal.invariant-loop-page
 invariant-loop-page l = record {
-  counted : l.count ≡ count_below (512 * l.page) (λ i. has (λ t. eqb t l.subpool) (cell l.held l.pages i));
+  counted : l.count ≡ count_below (512 * l.page) (λ i. has (λ t. eqb t l.subpool) (cell l.memory.held l.pages i));
   most : l.count ≤ 512 * l.page;
 }

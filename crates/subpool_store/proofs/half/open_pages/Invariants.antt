@@ -1,10 +1,13 @@
+use Rattle.std.proofs.Common.{◌≡◌}
 use Rattle.subpool_store.specs.Edits.{IsAssigned}
-use Rattle.subpool_store.specs.Half.{IsOpened, Stays}
+use Rattle.subpool_store.specs.Half.{IsOpened}
+use Rattle.subpool_store.specs.Memory.{Stays}
 use Rattle.subpool_store.proofs.half.open_pages.Given as goal
 
 abbrev pub invariant-loop-page : goal.invariant-loop-page
 invariant-loop-page l = record {
   assigned : IsAssigned l.fn.pages l.from l.page l.subpool l.pages;
-  opened : IsOpened l.pages l.bytes;
-  stays : Stays l.fn.bytes l.bytes;
+  opened : IsOpened l.pages l.memory.bytes;
+  held : l.memory.held ≡ l.fn.memory.held;
+  stays : Stays l.fn.memory.held l.fn.memory.bytes l.memory.bytes;
 }

@@ -1,20 +1,22 @@
-use Rattle.std.proofs.Common.{None, refl, ap, sym, subst, arith}
+use Rattle.std.proofs.Common.{◌≡◌, ◌≤◌, false, length, ◌∙◌, None, refl, ap, sym, subst, arith}
 use Rattle.std.proofs.lemmas.Bool.{false≢true}
 use Rattle.mvs_model.specs.Place.{PlaceValue}
-use Rattle.subpool_store.specs.Walk.{IsWalk}
+use Rattle.subpool_store.specs.Walk.{IsWalk, looked_at}
 use Rattle.subpool_store.specs.Search.{may_take, BehindBest, Beats, IsCandidate}
+use Rattle.subpool_store.proofs.Begun.{counted_some, counted_within, least_length, starts_counted}
 use Rattle.subpool_store.proofs.Scan.{best_anywhere, best_behind, best_found, best_of_all}
 use Rattle.subpool_store.proofs.search.find.Goals as goal
 
 pub runs-init : goal.runs-init
 runs-init c =
-    let test = may_take c.args.held.now c.args.pages.now c.args.subpool in record {
-      walk = subst (IsWalk c.args.held.now c.args.pages.now c.args.subpool) (sym c.new-walk.ensures) (record {
+    let test = may_take c.args.memory.now.held c.args.pages.now c.args.subpool in record {
+      walk = subst (IsWalk c.args.memory.now c.args.pages.now c.args.subpool) (sym c.new-walk.ensures) (record {
         ordered = omega arith;
         within = omega arith;
         passes = λ i low high. absurd (omega arith);
-        stands = record { page = λ _. refl; own = λ e. absurd (false≢true e); within = λ e. absurd (false≢true e) };
-        counted = omega arith;
+        stands = record { page = λ _. refl; own = λ e. absurd (false≢true e); within = λ e. absurd (false≢true e); cursor = λ e. absurd (false≢true e); fresh = λ e. absurd (false≢true e) };
+        few = omega arith;
+        counted = starts_counted c.args.memory.now c.args.pages.now c.args.subpool;
       });
       found = tt;
       behind = subst (BehindBest test c.args.first c.args.want.now None) (sym (ap (λ w. w.start) c.new-walk.ensures)) (best_anywhere test c.args.first c.args.want.now c.only_length-only.ensures.wanted.some);
@@ -22,7 +24,7 @@ runs-init c =
 
 pub runs-preserved : goal.runs-preserved
 runs-preserved c =
-    let test = may_take c.args.held.now c.args.pages.now c.args.subpool in
+    let test = may_take c.args.memory.now.held c.args.pages.now c.args.subpool in
     let k = c.in-Some.ensures.run in
     let e = c.preferred-best.ensures in record {
       walk = c.next_run.ensures.walk;
@@ -32,6 +34,15 @@ runs-preserved c =
 
 pub returns-clause-longest : goal.returns-clause-longest
 returns-clause-longest c =
-    let test = may_take c.args.held.now c.args.pages.now c.args.subpool in
-    subst (λ b. (q : PlaceValue) → IsCandidate test c.args.first c.args.want.now q → Beats b q.len) (sym c.new-2.ensures)
+    let test = may_take c.args.memory.now.held c.args.pages.now c.args.subpool in
+    subst (λ b. (q : PlaceValue) → IsCandidate test c.args.first c.args.want.now q → Beats b q.len) (sym c.new-2.ensures.place)
     (best_of_all test c.args.first c.args.want.now c.runs.best _ c.only_length-only.ensures.wanted.some c.in_default.ensures.run c.runs.invariant.behind)
+
+pub returns-then-is_final-clause-counted : goal.returns-then-is_final-clause-counted
+returns-then-is_final-clause-counted c =
+    let m = c.args.memory.now in let pages = c.args.pages.now in let s = c.args.subpool in let w = c.next_run.new.self in let walk = c.next_run.ensures.walk in
+    let steps : c.new.result.steps ≡ looked_at m pages s w.end w.inside = c.new.ensures.steps ∙ walk.counted in record {
+      some = λ _. subst (λ n. 1 ≤ n) (sym steps) (counted_some m pages s w.end w.inside c.in-Some.ensures.all walk.stands.page);
+      at_most = subst (λ n. n ≤ looked_at m pages s (length m.held) false) (sym steps) (counted_within m pages s w.end w.inside c.requires.exact.sizes walk.within walk.stands.within);
+      all = λ none. absurd (subst (λ p. Beats p c.args.want.now.least) (sym c.new.ensures.place ∙ none) (c.if-is_final.ensures.longest refl c.args.want.now.least (least_length c.args.want.now c.only_length-only.ensures.wanted)));
+    }

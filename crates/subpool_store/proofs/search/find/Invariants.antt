@@ -5,10 +5,10 @@ use Rattle.subpool_store.proofs.search.find.Given as goal
 
 abbrev pub invariant-runs : goal.invariant-runs
 invariant-runs l = record {
-  walk : IsWalk l.held l.pages l.subpool l.walk;
-  found : IfSome l.best (IsCandidate (may_take l.held l.pages l.subpool) l.first l.want);
-  behind : BehindBest (may_take l.held l.pages l.subpool) l.first l.want l.best l.walk.start;
+  walk : IsWalk l.memory l.pages l.subpool l.walk;
+  found : IfSome l.best (IsCandidate (may_take l.memory.held l.pages l.subpool) l.first l.want);
+  behind : BehindBest (may_take l.memory.held l.pages l.subpool) l.first l.want l.best l.walk.start;
 }
 
 abbrev pub decreases-runs : goal.decreases-runs
-decreases-runs l = length l.held - l.walk.start
+decreases-runs l = length l.memory.held - l.walk.start

@@ -43,7 +43,7 @@ slice_mut_spec 𝓤 𝓛 𝓜 𝓡 wired =
     move ! (3 ∷ 4 ∷ 5 ∷ 0 ∷ 1 ∷ 2 ∷ []) $ group ! 6 $
     use1 𝓛 (later (some (λ (δ : GName). raw (Ends δ)))) (lends 𝓛 κ q rb ro γ d us b o i n xs e filled.0 small filled.1 long (BytesRow.coded.code d) (BytesRow.coded.code d)) $ await ! tt $ pick ! (λ δ.
     let lent : MutBor (List ℕ) = record { ref_ptr = (b, o + i); ghost_name = δ; now = xs } in
-    use1 𝓛 (‵ ((MutSlice (named 0) κ u8).own_val lent (slice_val (b, o + i) (length xs) ∷ [])) ⊛ (‵ (flft κ q) ⊛ ‵ (follows BytesRow (Array u8 0) γ δ (with_run d i)))) (id⊢ 𝓤 _) $ split3 ! $
+    use1 𝓛 (‵ ((MutSlice (named 0) κ u8).own_val lent (slice_val (b, o + i) (length xs) ∷ [])) ⊛ (‵ (flft κ q) ⊛ ‵ (follows BytesRow (Array u8 0) γ δ (with_run d i n)))) (id⊢ 𝓤 _) $ split3 ! $
     rewrite ! 0 (λ (w : Val). ‵ ((MutSlice (named 0) κ u8).own_val lent (w ∷ []))) is refl $
     returns ! (look_at ! 0 refl) $ free_all ! refl $ keep ! (0 ∷ 1 ∷ 2 ∷ []) $
     suffices ! _ (ends_at 𝓛 f.ended stayed c y v lent (tt, (tt, (tt, (tt, tt)))) (tt, (tt, (tt, (tt, tt))))) $

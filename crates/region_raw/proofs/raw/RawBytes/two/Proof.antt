@@ -51,7 +51,7 @@ two_spec 𝓤 𝓛 𝓜 𝓡 wired =
     move ! (3 ∷ 4 ∷ 5 ∷ 0 ∷ 1 ∷ 2 ∷ []) $ group ! 6 $
     use1 𝓛 (later (some (λ (δ : GName). raw (Ends δ)))) (lends 𝓛 κ q rb ro γ d us b o i j n xs ys e apart source.0 target.0 small source.1 target.1 long_x long_y (BytesRow.coded.code d) (BytesRow.coded.code d)) $ await ! tt $ pick ! (λ δ.
     let second : MutBor (List ℕ) = record { ref_ptr = (b, o + j); ghost_name = δ; now = ys } in
-    use1 𝓛 (‵ ((ShrSlice (named 0) κ u8).own_val first (slice_val (b, o + i) (length xs) ∷ [])) ⊛ (‵ ((MutSlice (named 0) κ u8).own_val second (slice_val (b, o + j) (length ys) ∷ [])) ⊛ (‵ (flft κ q) ⊛ ‵ (follows BytesRow (Array u8 0) γ δ (with_run d j))))) (id⊢ 𝓤 _) $ split3 ! $
+    use1 𝓛 (‵ ((ShrSlice (named 0) κ u8).own_val first (slice_val (b, o + i) (length xs) ∷ [])) ⊛ (‵ ((MutSlice (named 0) κ u8).own_val second (slice_val (b, o + j) (length ys) ∷ [])) ⊛ (‵ (flft κ q) ⊛ ‵ (follows BytesRow (Array u8 0) γ δ (with_run d j n))))) (id⊢ 𝓤 _) $ split3 ! $
     nothing ! $ move ! (2 ∷ 0 ∷ []) $ fjoin ! $ move ! (1 ∷ 0 ∷ []) $ fjoin ! $
     feq_i ! (List Val) (v ∷ []) (vstruct (vcons (slice_val (b, o + i) (length xs)) (vcons (slice_val (b, o + j) (length ys)) vnil)) ∷ []) (λ k. vstruct (vcons (slice_val (b, at_i k) (sym long_x k)) (vcons (slice_val (b, at_j k) (sym long_y k)) vnil)) ∷ []) $ fjoin ! $
     fpack ! (Valss (Two κ)) (within (shape (tuple_type (Two κ))) (first, (second, tt)) (v ∷ [])) (slice_val (b, o + i) (length xs) ∷ [], (slice_val (b, o + j) (length ys) ∷ [], tt)) $

@@ -8,11 +8,11 @@ use Rattle.subpool_store.proofs.half.Half.page_owner.Goals.{then-page-self-via-t
 pub returns-then-page-self : goal.returns-then-page-self
 returns-then-page-self c =
     let s = c.self.inside in
-    no_page s.first s.held s.pages (value_at s.bytes) c.args.self.now c.self.view_is (c.args.addr / 4096) c.self.invariant.0.aligned c.self.invariant.0.exact.sizes (λ low. elim c.then-page-self.branch [ then-page-self-via-then-page-self w ↦ omega arith | then-page-self-via-else-page-self+then-pages-page w ↦ omega arith ])
+    no_page s.first s.memory.held s.pages (value_at s.memory.bytes) c.args.self.now c.self.view_is (c.args.addr / 4096) c.self.invariant.0.aligned c.self.invariant.0.exact.sizes (λ low. elim c.then-page-self.branch [ then-page-self-via-then-page-self w ↦ omega arith | then-page-self-via-else-page-self+then-pages-page w ↦ omega arith ])
 
 pub returns : goal.returns
 returns c =
     let s = c.self.inside in
     let page : c.get-page.result / 4096 - s.first / 512 ≡ c.args.addr / 4096 - s.first / 512 = ap (λ a. a / 4096 - s.first / 512) c.get-page.ensures.value in
     subst (OwnsPage c.args.self.now (c.args.addr / 4096)) (sym (c.owner.ensures ∙ ap (owner_of s.pages) page))
-    (page_owner s.first s.held s.pages (value_at s.bytes) c.args.self.now c.self.view_is (c.args.addr / 4096) c.self.invariant.0.aligned c.self.invariant.0.exact (omega arith))
+    (page_owner s.first s.memory.held s.pages (value_at s.memory.bytes) c.args.self.now c.self.view_is (c.args.addr / 4096) c.self.invariant.0.aligned c.self.invariant.0.exact (omega arith))

@@ -9,17 +9,17 @@ use Rattle.subpool_store.proofs.half.Half.part.Goals as goal
 pub overflow_sub-from : goal.overflow_sub-from
 overflow_sub-from c =
     let s = c.self.inside in
-    let inside : LiesIn (8 * s.first) (8 * s.first + 8 * length s.held) c.args.place = all_inside s.first s.held s.pages (value_at s.bytes) c.args.self.now c.self.view_is c.args.place (omega arith) c.requires in
+    let inside : LiesIn (8 * s.first) (8 * s.first + 8 * length s.memory.held) c.args.place = all_inside s.first s.memory.held s.pages (value_at s.memory.bytes) c.args.self.now c.self.view_is c.args.place (omega arith) c.requires in
     omega arith
 
 pub part-requires : goal.part-requires
 part-requires c =
     let s = c.self.inside in
-    part_of_held s.first s.held s.pages (value_at s.bytes) c.args.self.now c.self.view_is s.bytes c.self.invariant.1 c.args.place (c.get.result - 8 * s.first) _ (omega arith) (omega arith, omega arith) c.requires
+    part_of_held s.first s.memory.held s.pages (value_at s.memory.bytes) c.args.self.now c.self.view_is c.args.place (c.get.result - 8 * s.first) _ (omega arith) (omega arith, omega arith) c.requires
 
 pub returns-clause-each : goal.returns-clause-each
 returns-clause-each c =
     let s = c.self.inside in
     let at : c.get.result - 8 * s.first ≡ c.args.place.addr - 8 * s.first = omega arith in
-    part_bytes s.first s.held s.pages (value_at s.bytes) c.args.self.now c.self.view_is c.args.place c.part.result.now (omega arith) c.requires
-    (λ k low. sym (ap (λ o. unwrap_or o 0) (c.part.ensures.bytes k (omega arith))) ∙ ap (λ f. value_at s.bytes (f + k)) at)
+    part_bytes s.first s.memory.held s.pages (value_at s.memory.bytes) c.args.self.now c.self.view_is c.args.place c.part.result.now (omega arith) c.requires
+    (λ k low. sym (ap (λ o. unwrap_or o 0) (c.part.ensures.bytes k (omega arith))) ∙ ap (λ f. value_at s.memory.bytes (f + k)) at)

@@ -4,13 +4,13 @@ use Rattle.subpool_store.proofs.Opened.{stays_held}
 use Rattle.subpool_store.proofs.half.Half.release_all.Goals as goal
 
 pub invariant_of-self : goal.invariant_of-self
-invariant_of-self c = let s = c.self.inside in (drop_half s.first s.held s.pages (value_at s.bytes) c.args.self.now c.self.invariant.0 c.self.view_is c.args.subpool _ _ c.drop_pages.ensures.dropped, c.drop_pages.ensures.opened)
+invariant_of-self c = let s = c.self.inside in (drop_half s.first s.memory.held s.pages (value_at s.memory.bytes) c.args.self.now c.self.invariant.0 c.self.view_is c.args.subpool _ _ c.drop_pages.ensures.dropped, c.drop_pages.ensures.opened)
 
 pub returns-clause-dropped : goal.returns-clause-dropped
 returns-clause-dropped c =
     let s = c.self.inside in
-    drop_changes s.first s.held s.pages (value_at s.bytes) c.args.self.now c.self.invariant.0 c.self.view_is c.args.subpool _ _ c.drop_pages.ensures.dropped (value_at c.drop_pages.new.bytes)
-    (stays_held c.drop_pages.new.held c.drop_pages.new.pages c.drop_pages.new.bytes c.drop_pages.ensures.opened s.bytes c.drop_pages.ensures.stays)
+    drop_changes s.first s.memory.held s.pages (value_at s.memory.bytes) c.args.self.now c.self.invariant.0 c.self.view_is c.args.subpool _ _ c.drop_pages.ensures.dropped (value_at c.drop_pages.new.memory.bytes)
+    (stays_held c.drop_pages.new.memory.held c.drop_pages.new.pages s.memory.bytes c.drop_pages.new.memory.bytes c.drop_pages.ensures.stays)
 
 pub returns-clause-sound : goal.returns-clause-sound
-returns-clause-sound c = let s = c.self.inside in half_sound s.first c.drop_pages.new.held c.drop_pages.new.pages (value_at c.drop_pages.new.bytes) (drop_half s.first s.held s.pages (value_at s.bytes) c.args.self.now c.self.invariant.0 c.self.view_is c.args.subpool _ _ c.drop_pages.ensures.dropped)
+returns-clause-sound c = let s = c.self.inside in half_sound s.first c.drop_pages.new.memory.held c.drop_pages.new.pages (value_at c.drop_pages.new.memory.bytes) (drop_half s.first s.memory.held s.pages (value_at s.memory.bytes) c.args.self.now c.self.invariant.0 c.self.view_is c.args.subpool _ _ c.drop_pages.ensures.dropped)

@@ -1,4 +1,4 @@
-use Rattle.std.proofs.Common.{◌<◌, refl, arith}
+use Rattle.std.proofs.Common.{take, ◌<◌, refl, arith}
 use Rattle.subpool_store.proofs.Choice.{above_from, all_below, all_above, bytes_below, bytes_above}
 use Rattle.subpool_store.proofs.LentHalf.{kept_below, kept_above, lends_below, lends_above, puts_below, puts_above}
 use Rattle.subpool_store.proofs.store.Store.bytes_mut.Goals as goal
@@ -7,7 +7,7 @@ pub part_mut-requires : goal.part_mut-requires
 part_mut-requires c = let s = c.self.inside in let low : c.args.place.addr < 0x1000000 = omega (arith, c.if-is_below.ensures.below) in all_below s.below s.above s.fill c.args.self.now c.self.invariant c.self.view_is c.args.place c.is_below.ensures.some low c.requires
 
 pub invariant_of-self-lent : goal.invariant_of-self-lent
-invariant_of-self-lent c = let s = c.self.inside in λ w. kept_below s.below s.above s.fill c.args.self.now c.self.invariant c.self.view_is c.args.place.addr w
+invariant_of-self-lent c = let s = c.self.inside in λ w. kept_below s.below s.above s.fill c.args.self.now c.self.invariant c.self.view_is c.args.place.addr (take c.args.place.len w)
 
 pub part_mut-requires-else-is_below : goal.part_mut-requires-else-is_below
 part_mut-requires-else-is_below c =
@@ -16,13 +16,13 @@ part_mut-requires-else-is_below c =
     all_above s.below s.above s.fill c.args.self.now c.self.invariant c.self.view_is c.args.place c.is_below.ensures.some high c.requires
 
 pub invariant_of-self-lent-else-is_below : goal.invariant_of-self-lent-else-is_below
-invariant_of-self-lent-else-is_below c = let s = c.self.inside in λ w. kept_above s.below s.above s.fill c.args.self.now c.self.invariant c.self.view_is c.args.place.addr w
+invariant_of-self-lent-else-is_below c = let s = c.self.inside in λ w. kept_above s.below s.above s.fill c.args.self.now c.self.invariant c.self.view_is c.args.place.addr (take c.args.place.len w)
 
 pub returns-then-is_below : goal.returns-then-is_below
 returns-then-is_below c =
     let s = c.self.inside in
     let low : c.args.place.addr < 0x1000000 = omega (arith, c.if-is_below.ensures.below) in (
-      (refl, λ w. lends_below s.below s.above s.fill c.args.self.now c.self.invariant c.self.view_is c.args.place.addr w low c.args.place refl),
+      (refl, λ w. lends_below s.below s.above s.fill c.args.self.now c.self.invariant c.self.view_is c.args.place.addr (take c.args.place.len w) low),
       record {
         writes_back = tt;
         written = λ w size. puts_below s.below s.above s.fill c.args.self.now c.self.invariant c.self.view_is c.args.place c.requires w size c.is_below.ensures.some c.if-is_below.ensures.below;
@@ -35,7 +35,7 @@ pub returns-else-is_below : goal.returns-else-is_below
 returns-else-is_below c =
     let s = c.self.inside in
     let high = above_from s.below s.above s.fill c.args.self.now c.self.invariant c.self.view_is c.args.place c.is_below.ensures.some c.requires c.if-is_below.ensures.below in (
-      (refl, λ w. lends_above s.below s.above s.fill c.args.self.now c.self.invariant c.self.view_is c.args.place.addr w high c.args.place refl),
+      (refl, λ w. lends_above s.below s.above s.fill c.args.self.now c.self.invariant c.self.view_is c.args.place.addr (take c.args.place.len w) high),
       record {
         writes_back = tt;
         written = λ w size. puts_above s.below s.above s.fill c.args.self.now c.self.invariant c.self.view_is c.args.place c.requires w size c.is_below.ensures.some high;

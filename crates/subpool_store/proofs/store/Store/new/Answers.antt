@@ -7,4 +7,4 @@ returns-clause-empty c = nothing_stored c.in_ok-new.field-0 c.in_ok-new-2.field-
 pub returns-clause-storage : goal.returns-clause-storage
 returns-clause-storage c =
     storage_of c.in_ok-new.field-0 c.in_ok-new-2.field-0 c.args.fill
-    (nothing_kept c.in_ok-new.field-0 c.in_ok-new-2.field-0 c.args.below c.args.above c.requires.below c.requires.above c.in_ok-new.ensures.empty c.in_ok-new-2.ensures.empty c.in_ok-new.ensures.sound c.in_ok-new-2.ensures.sound)
+    (nothing_kept c.in_ok-new.field-0 c.in_ok-new-2.field-0 c.args.below c.args.above c.requires.some c.requires.below c.requires.above c.in_ok-new.ensures.empty c.in_ok-new-2.ensures.empty c.in_ok-new.ensures.sound c.in_ok-new-2.ensures.sound)

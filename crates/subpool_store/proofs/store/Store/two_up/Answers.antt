@@ -1,4 +1,4 @@
-use Rattle.std.proofs.Common.{refl, arith}
+use Rattle.std.proofs.Common.{take, refl, arith}
 use Rattle.subpool_store.proofs.Choice.{all_below, all_above, bytes_below, bytes_above}
 use Rattle.subpool_store.proofs.LentHalf.{kept_above, lends_above, puts_above}
 use Rattle.subpool_store.proofs.store.Store.two_up.Goals as goal
@@ -10,12 +10,12 @@ pub part_mut-requires : goal.part_mut-requires
 part_mut-requires c = let s = c.self.inside in all_above s.below s.above s.fill c.args.self.now c.self.invariant c.self.view_is c.args.to (omega arith) c.requires.to_above c.requires.target
 
 pub invariant_of-self-lent : goal.invariant_of-self-lent
-invariant_of-self-lent c = let s = c.self.inside in λ w. kept_above s.below s.above s.fill c.args.self.now c.self.invariant c.self.view_is c.args.to.addr w
+invariant_of-self-lent c = let s = c.self.inside in λ w. kept_above s.below s.above s.fill c.args.self.now c.self.invariant c.self.view_is c.args.to.addr (take c.args.to.len w)
 
 pub returns : goal.returns
 returns c =
     let s = c.self.inside in (
-      (refl, λ w. lends_above s.below s.above s.fill c.args.self.now c.self.invariant c.self.view_is c.args.to.addr w c.requires.to_above c.args.to refl),
+      (refl, λ w. lends_above s.below s.above s.fill c.args.self.now c.self.invariant c.self.view_is c.args.to.addr (take c.args.to.len w) c.requires.to_above),
       record {
         writes_back = tt;
         written = λ w size. puts_above s.below s.above s.fill c.args.self.now c.self.invariant c.self.view_is c.args.to c.requires.target w size (omega arith) c.requires.to_above;

@@ -5,10 +5,10 @@ use Rattle.subpool_store.proofs.walk.Walk.next_run.Given as goal
 
 abbrev pub invariant-parts : goal.invariant-parts
 invariant-parts l = record {
-  walk : IsWalk l.held l.pages l.subpool l.self;
+  walk : IsWalk l.memory l.pages l.subpool l.self;
   after : l.fn.self.start ≤ l.self.start;
-  skipped : (i : ℕ) → l.fn.self.start ≤ i → i < l.self.start → may_take l.held l.pages l.subpool i ≡ false;
+  skipped : (i : ℕ) → l.fn.self.start ≤ i → i < l.self.start → may_take l.memory.held l.pages l.subpool i ≡ false;
 }
 
 abbrev pub decreases-parts : goal.decreases-parts
-decreases-parts l = 2 * length l.held + 1 - progress l.self.end l.self.inside
+decreases-parts l = 2 * length l.memory.held + 1 - progress l.self.end l.self.inside

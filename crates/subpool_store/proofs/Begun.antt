@@ -1,0 +1,117 @@
+-- The free runs that a pass has come by.
+use Rattle.std.proofs.Common.{◌≡◌, ◌∙◌, ℕ, ◌+◌, ◌-◌, ◌*◌, ◌/◌, ◌%◌, ◌<◌, ◌≤◌, ◌⊎◌, ◌&&◌, ◌||◌, not, Bool, true, false, List, Option, Some, length, get_or, eqb, refl, sym, ap, inl, inr, arith}
+use Rattle.std.proofs.lemmas.Bool.{and_from, both_ways, cases_eq, eq-eqb, ne_eqb}
+use Rattle.std.proofs.lemmas.List.{get_or_default}
+use Rattle.mvs_model.specs.Finite.{count_below}
+use Rattle.mvs_model.specs.Storage.{IsLength}
+use Rattle.mvs_model.specs.Want.{IsWant, WantValue}
+use Rattle.page_map.specs.Owners.{is_of, is_usable, owner_of}
+use Rattle.subpool_store.specs.Edits.{IsFreeRun}
+use Rattle.subpool_store.specs.Memory.{MemoryState}
+use Rattle.subpool_store.specs.Search.{may_take}
+use Rattle.subpool_store.specs.Walk.{begins_run, looked_at}
+use Rattle.subpool_store.proofs.Counts.{count_all, count_empty, count_none, count_split}
+
+-- where none begins the count stays
+pub count_stays : (f : ℕ → Bool) (a b : ℕ) → a ≤ b → ((i : ℕ) → a ≤ i → i < b → f i ≡ false) → count_below b f ≡ count_below a f
+count_stays f a b le none =
+    let all : count_below b f ≡ count_below a f + count_below (b - a) (λ i. f (a + i)) = count_split b a (b - a) f (omega (arith, le)) in
+    let rest : count_below (b - a) (λ i. f (a + i)) ≡ 0 = count_none (b - a) (λ i. f (a + i)) (λ i low. none (a + i) (omega arith) (omega (arith, le, low))) in
+    omega arith
+
+pub count_once : (f : ℕ → Bool) (x : ℕ) → f x ≡ true → count_below (x + 1) f ≡ count_below x f + 1
+count_once f x hit =
+    let all : count_below (x + 1) f ≡ count_below x f + count_below 1 (λ i. f (x + i)) = count_split (x + 1) x 1 f refl in
+    let here : count_below 1 (λ i. f (x + i)) ≡ 1 = count_all 1 (λ i. f (x + i)) (λ i low. let at : x + i ≡ x = omega (arith, low) in ap f at ∙ hit) in
+    omega arith
+
+pub count_grows : (f : ℕ → Bool) (a b : ℕ) → a ≤ b → count_below a f ≤ count_below b f
+count_grows f a b le = let all : count_below b f ≡ count_below a f + count_below (b - a) (λ i. f (a + i)) = count_split b a (b - a) f (omega (arith, le)) in omega arith
+
+module _ (m : MemoryState) (pages : List (Option ℕ)) (s : ℕ) where
+  held_begins : (i : ℕ) → get_or m.held i false ≡ true → begins_run m.held pages s i ≡ false
+  held_begins i set = ap (λ b. not b && (is_of s (owner_of pages (i / 512)) && (eqb (i % 512) 0 || get_or m.held (i - 1) false))) set
+
+  foreign_begins : (i : ℕ) → is_of s (owner_of pages (i / 512)) ≡ false → begins_run m.held pages s i ≡ false
+  foreign_begins i foreign = ap (λ b. not (get_or m.held i false) && (b && (eqb (i % 512) 0 || get_or m.held (i - 1) false))) foreign ∙ never (not (get_or m.held i false)) where
+    never : (b : Bool) → (b && false) ≡ false
+    never true = refl
+    never false = refl
+
+  inner_begins : (i : ℕ) → (i % 512 ≡ 0 → ⊥) → get_or m.held (i - 1) false ≡ false → begins_run m.held pages s i ≡ false
+  inner_begins i inner clear =
+      (λ j. not (get_or m.held i false) && (is_of s (owner_of pages (i / 512)) && (ne_eqb (i % 512) 0 inner j || clear j)))
+      ∙ never (not (get_or m.held i false)) (is_of s (owner_of pages (i / 512))) where
+        never : (a b : Bool) → (a && (b && false)) ≡ false
+        never true true = refl
+        never true false = refl
+        never false b = refl
+
+  first_begins : (i : ℕ) → owner_of pages (i / 512) ≡ Some s → get_or m.held i false ≡ false → (i % 512 ≡ 0) ⊎ (get_or m.held (i - 1) false ≡ true) → begins_run m.held pages s i ≡ true
+  first_begins i own clear begun =
+      (λ j. not (clear j) && (is_of s (own j) && (eqb (i % 512) 0 || get_or m.held (i - 1) false)))
+      ∙ (λ j. eq-eqb s s refl j && (eqb (i % 512) 0 || get_or m.held (i - 1) false))
+      ∙ elim begun [ inl zero ↦ ap (λ b. b || get_or m.held (i - 1) false) (eq-eqb (i % 512) 0 zero) | inr set ↦ ap (λ b. eqb (i % 512) 0 || b) set ∙ either (eqb (i % 512) 0) ] where
+        either : (b : Bool) → (b || true) ≡ true
+        either true = refl
+        either false = refl
+
+  -- a page that is none of s
+  pub page_counted : (from : ℕ) → from % 512 ≡ 0 → is_of s (owner_of pages (from / 512)) ≡ false → looked_at m pages s from false + 1 ≡ looked_at m pages s (from + 512) false
+  page_counted from on foreign =
+      let same : count_below (from + 512) (begins_run m.held pages s) ≡ count_below from (begins_run m.held pages s) = count_stays (begins_run m.held pages s) from (from + 512) (omega arith) (λ i low high.
+      let page : i / 512 ≡ from / 512 = omega (arith, on, low, high) in foreign_begins i (ap (λ p. is_of s (owner_of pages p)) page ∙ foreign)) in
+      omega (arith, same, on)
+
+  -- the rest of a page, in which nothing is free
+  pub rest_counted : (from : ℕ) → ((i : ℕ) → from ≤ i → i < 512 * (from / 512) + 512 → get_or m.held i false ≡ true) → looked_at m pages s from true + 0 ≡ looked_at m pages s (512 * (from / 512) + 512) false
+  rest_counted from held =
+      let same : count_below (512 * (from / 512) + 512) (begins_run m.held pages s) ≡ count_below from (begins_run m.held pages s) = count_stays (begins_run m.held pages s) from (512 * (from / 512) + 512) (omega arith) (λ i low high. held_begins i (held i low high)) in
+      omega (arith, same)
+
+  -- a free run of a page of s
+  pub run_counted : (from start end : ℕ) (inside : Bool) → owner_of pages (from / 512) ≡ Some s → (from % 512 ≡ 0) ⊎ (get_or m.held from false ≡ true) → IsFreeRun m.held from (512 * (from / 512) + 512) start end →
+      (inside ≡ true → end < 512 * (from / 512) + 512) → (inside ≡ false → end ≡ 512 * (from / 512) + 512) → looked_at m pages s from true + 1 ≡ looked_at m pages s end inside
+  run_counted from start end inside own fresh run on past =
+      let f = begins_run m.held pages s in
+      let before : count_below start f ≡ count_below from f = count_stays f from start run.after (λ i low high. held_begins i (run.held i low high)) in
+      let page : start / 512 ≡ from / 512 = omega (arith, run.after, run.some, run.within) in
+      let one : count_below (start + 1) f ≡ count_below start f + 1 = count_once f start (first_begins start (ap (owner_of pages) page ∙ own) (run.free start (omega arith) run.some) begun) in
+      let behind : count_below end f ≡ count_below (start + 1) f = count_stays f (start + 1) end (omega (arith, run.some)) (λ i low high.
+      inner_begins i (λ zero. absurd (omega (arith, zero, low, high, run.after, run.within))) (run.free (i - 1) (omega (arith, low)) (omega (arith, high)))) in
+      by inside on past (before, one, behind) where
+        begun : (start % 512 ≡ 0) ⊎ (get_or m.held (start - 1) false ≡ true)
+        begun = elim (cases_eq from start) [
+          | inl is ↦ elim fresh [
+            | inl zero ↦ inl (ap (λ x. x % 512) (sym is) ∙ zero)
+            | inr set ↦ absurd (both_ways _ (run.free start (omega arith) run.some) (ap (λ x. get_or m.held x false) (sym is) ∙ set))
+          ]
+          | inr other ↦ inr (run.held (start - 1) (omega (arith, other, run.after)) (omega (arith, other, run.after)))
+        ]
+
+        by : (inside : Bool) → (inside ≡ true → end < 512 * (from / 512) + 512) → (inside ≡ false → end ≡ 512 * (from / 512) + 512)
+            → (count_below start (begins_run m.held pages s) ≡ count_below from (begins_run m.held pages s)) × (count_below (start + 1) (begins_run m.held pages s) ≡ count_below start (begins_run m.held pages s) + 1) × (count_below end (begins_run m.held pages s) ≡ count_below (start + 1) (begins_run m.held pages s))
+            → looked_at m pages s from true + 1 ≡ looked_at m pages s end inside
+        by true on past counts = let low = on refl in omega (arith, low, run.after, run.some, counts.0, counts.1, counts.2)
+        by false on past counts = let is = past refl in omega (arith, is, counts.0, counts.1, counts.2)
+
+-- s may take what is free in a page that it may use
+pub free_passes : (bits : List Bool) (pages : List (Option ℕ)) (s i : ℕ) → i < length bits → get_or bits i false ≡ false → is_usable s (owner_of pages (i / 512)) ≡ true → may_take bits pages s i ≡ true
+free_passes bits pages s i within clear usable = and_from _ _ (ap not (get_or_default bits i true false within ∙ clear)) usable
+
+-- a pass that has not begun has looked at nothing
+pub starts_counted : (m : MemoryState) (pages : List (Option ℕ)) (s : ℕ) → 0 ≡ looked_at m pages s 0 false
+starts_counted m pages s = let none : 0 ≡ count_below 0 (begins_run m.held pages s) = count_empty 0 (begins_run m.held pages s) refl in omega arith
+
+-- what a pass has looked at, of all that there is
+pub counted_within : (m : MemoryState) (pages : List (Option ℕ)) (s at : ℕ) (inside : Bool) → length m.held ≡ 512 * length pages → at ≤ length m.held → (inside ≡ true → at < length m.held) → looked_at m pages s at inside ≤ looked_at m pages s (length m.held) false
+counted_within m pages s at true sizes low within = let less = within refl in let grows = count_grows (begins_run m.held pages s) at (length m.held) low in omega (arith, less, grows)
+counted_within m pages s at false sizes low within = let grows = count_grows (begins_run m.held pages s) at (length m.held) low in omega (arith, low, grows)
+
+pub counted_some : (m : MemoryState) (pages : List (Option ℕ)) (s at : ℕ) (inside : Bool) → 0 < at → (inside ≡ false → at % 512 ≡ 0) → 1 ≤ looked_at m pages s at inside
+counted_some m pages s at true some page = omega arith
+counted_some m pages s at false some page = let on = page refl in omega (arith, some, on)
+
+-- the least length is one that is wanted
+pub least_length : (want : WantValue) → IsWant want → IsLength want want.least
+least_length want ok = record { least = omega arith; most = ok.ordered; whole = ok.least_whole }

@@ -1,0 +1,34 @@
+use Rattle.std.proofs.Common.{rules, Some, refl, ◌≡◌, ◌/◌, ap, ◌∙◌, arith}
+use Rattle.std.proofs.lemmas.Bool.{eq-eqb, ltb-true}
+use Rattle.page_map.specs.Owners.{is_usable, owner_of}
+use Rattle.subpool_store.proofs.Begun.{free_passes, rest_counted, run_counted}
+use Rattle.subpool_store.proofs.walk.examine_run.Goals as goal
+
+pub returns-in-None : goal.returns-in-None
+returns-in-None c = record {
+  after = search rules;
+  ordered = search rules;
+  within = search rules;
+  skipped = search rules;
+  passes = search rules;
+  stands = search rules;
+  farther = search rules;
+  one = search rules;
+  counted = rest_counted c.args.memory.now c.args.pages.now c.args.subpool c.args.from c.in-None.ensures;
+}
+
+pub returns-in-Some : goal.returns-in-Some
+returns-in-Some c = let run = c.in-Some.ensures.0 in record {
+  after = search rules;
+  ordered = search rules;
+  within = search rules;
+  skipped = search rules;
+  passes = λ i low high.
+      let page : i / 512 ≡ c.args.from / 512 = omega (arith, low, high, run.after, run.within) in
+      let own : owner_of c.args.pages.now (i / 512) ≡ Some c.args.subpool = ap (owner_of c.args.pages.now) page ∙ c.requires.own in
+      free_passes c.args.memory.now.held c.args.pages.now c.args.subpool i (omega (arith, high, run.within, c.requires.within, c.requires.exact.sizes)) (run.free i low high) (ap (is_usable c.args.subpool) own ∙ eq-eqb c.args.subpool c.args.subpool refl);
+  stands = search rules;
+  farther = search rules;
+  one = search rules;
+  counted = run_counted c.args.memory.now c.args.pages.now c.args.subpool c.args.from c.in-Some.run'.start c.in-Some.run'.end _ c.requires.own c.requires.fresh run (λ e. ltb-true _ _ e) (λ e. search rules);
+}

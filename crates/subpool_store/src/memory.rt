@@ -1,0 +1,220 @@
+//! The pages of a region in raw memory, with the queues of what is free in them.
+
+ghost use Rattle.std.specs.Prelude.{◌≡◌, ◌<◌, ◌≤◌, ◌+◌, ◌*◌, ◌/◌, ◌↔◌, ℕ, IfOk, MatchOption, MatchBool, IsTrue, None, Some, List, false, true, length, replicate, slice_index, slice_index_or};
+ghost use Rattle.std.specs.Borrow.{sem};
+ghost use Rattle.region_raw.specs.Pages.{IsBlank, Writes, byte_of, is_open, with_part};
+ghost use Rattle.region_raw.specs.Rows.{IsApart};
+ghost use Rattle.subpool_store.specs.Edits.{IsClear, IsMarked, IsFreeRun, HasNoBit, HasBit};
+ghost use Rattle.subpool_store.specs.Memory.{IsCursor, IsHeldPart, KeepsHeld, Stays, Turns};
+
+use crate::run::Run;
+use free_queue::queue::{self, Head};
+use mvs_model::error::OutOfMemory;
+use region_raw::region::Region;
+use std::alloc::Global;
+use std::marker::Model;
+
+/// The pages of a region, each blank or open, and of each open page which of its doublewords are held. The others are
+/// free, and the queue of them lies in the page. Doublewords go by their index in the region, 512 to a page.
+#[derive(Drop)]
+pub struct Memory {
+    region: Region,
+    heads: Vec<Head>,
+}
+
+impl Model for Memory {
+    ghost use Rattle.subpool_store.specs.Memory.{IsMemory, MemoryState, memory_code, memory_of};
+
+    ghost Value = { MemoryState };
+
+    ghost coded = { memory_code };
+
+    ghost view = { λ m. memory_of m.region m.heads.items };
+
+    ghost invariant = { λ m. IsMemory m.region m.heads.items };
+}
+
+impl Memory {
+    ghost use Rattle.subpool_store.specs.LendsMemory.{LendsPart, LendsSecond};
+
+    // So many blank pages.
+    pub fn new(alloc: Global, pages: usize) -> Result<Memory, OutOfMemory>
+        requires { pages ≤ 8192 }
+        ensures clear { IfOk result (λ m. IsClear (512 * pages) m.held) }
+        ensures blank { IfOk result (λ m. m.bytes ≡ replicate pages None) }
+    {
+        let region = Region::new(alloc, pages)?;
+        match vec![in alloc; Head::none(); pages] {
+            Ok(heads) => Ok(Memory { region, heads }),
+            Err(_) => Err(OutOfMemory),
+        }
+    }
+
+    // Opens a blank page: all of it is free.
+    pub fn open_page(&mut self, page: usize, fill: u8)
+        requires { IsBlank self.old.bytes page }
+        ensures held { self.new.held ≡ self.old.held }
+        ensures opened { Turns self.old.bytes page true self.new.bytes }
+        ensures stays { Stays self.old.held self.old.bytes self.new.bytes }
+    {
+        self.region.open_page(page, fill);
+        self.heads[page] = queue::start(&mut self.region, page);
+    }
+
+    // Makes an open page blank.
+    pub fn close_page(&mut self, page: usize)
+        requires { is_open self.old.bytes page ≡ true }
+        ensures marked { IsMarked self.old.held (512 * page) (512 * page + 512) false self.new.held }
+        ensures closed { Turns self.old.bytes page false self.new.bytes }
+        ensures stays { Stays self.new.held self.old.bytes self.new.bytes }
+    {
+        self.region.close_page(page);
+    }
+
+    // Takes free doublewords of a page: they are held then.
+    fn take_in(&mut self, page: usize, from: usize, to: usize)
+        requires some { from < to }
+        requires first { 512 * page ≤ from }
+        requires last { to ≤ 512 * page + 512 }
+        requires there { is_open self.old.bytes page ≡ true }
+        requires free { (i : ℕ) → from ≤ i → i < to → slice_index_or self.old.held i false ≡ false }
+        ensures marked { IsMarked self.old.held from to true self.new.held }
+        ensures keeps { KeepsHeld self.old.held self.old.bytes self.new.bytes }
+    {
+        let at = 8 * (from - 512 * page) as u32;
+        let len = 8 * (to - from) as u32;
+        self.heads[page] = queue::take(&mut self.region, page, self.heads[page], at, len);
+    }
+
+    // Gives doublewords of a page back that are held: they are free then.
+    fn give_in(&mut self, page: usize, from: usize, to: usize)
+        requires some { from < to }
+        requires first { 512 * page ≤ from }
+        requires last { to ≤ 512 * page + 512 }
+        requires there { is_open self.old.bytes page ≡ true }
+        requires held { (i : ℕ) → from ≤ i → i < to → slice_index_or self.old.held i false ≡ true }
+        ensures marked { IsMarked self.old.held from to false self.new.held }
+        ensures keeps { KeepsHeld self.new.held self.old.bytes self.new.bytes }
+    {
+        let at = 8 * (from - 512 * page) as u32;
+        let len = 8 * (to - from) as u32;
+        self.heads[page] = queue::give(&mut self.region, page, self.heads[page], at, len);
+    }
+
+    // Takes free doublewords of open pages: they are held then.
+    pub fn take(&mut self, run: Run)
+        requires some { run.start ≤ run.end }
+        requires few { run.end ≤ 4194304 }
+        requires there { (i : ℕ) → run.start ≤ i → i < run.end → is_open self.old.bytes (i / 512) ≡ true }
+        requires free { (i : ℕ) → run.start ≤ i → i < run.end → slice_index_or self.old.held i false ≡ false }
+        ensures marked { IsMarked self.old.held run.start run.end true self.new.held }
+        ensures keeps { KeepsHeld self.old.held self.old.bytes self.new.bytes }
+    {
+        let mut at = run.start;
+        'pages: while at < run.end {
+            let page = at / 512;
+            let stop = run.end.min(512 * page + 512);
+            self.take_in(page, at, stop);
+            at = stop;
+        }
+    }
+
+    // Gives doublewords back that are held: they are free then.
+    pub fn give(&mut self, run: Run)
+        requires some { run.start ≤ run.end }
+        requires few { run.end ≤ 4194304 }
+        requires there { (i : ℕ) → run.start ≤ i → i < run.end → is_open self.old.bytes (i / 512) ≡ true }
+        requires held { (i : ℕ) → run.start ≤ i → i < run.end → slice_index_or self.old.held i false ≡ true }
+        ensures marked { IsMarked self.old.held run.start run.end false self.new.held }
+        ensures keeps { KeepsHeld self.new.held self.old.bytes self.new.bytes }
+    {
+        let mut at = run.start;
+        'pages: while at < run.end {
+            let page = at / 512;
+            let stop = run.end.min(512 * page + 512);
+            self.give_in(page, at, stop);
+            at = stop;
+        }
+    }
+
+    // Whether all doublewords of an open page are free.
+    pub fn is_whole(&self, page: usize) -> bool
+        requires { is_open self.now.bytes page ≡ true }
+        ensures { MatchBool result (HasNoBit self.now.held page) (HasBit self.now.held page) }
+    {
+        queue::is_whole(&self.region, page, self.heads[page])
+    }
+
+    // The queue of what is free in an open page.
+    pub fn first(&self, page: usize) -> Head
+        requires { is_open self.now.bytes page ≡ true }
+        ensures { IsCursor self.now page (512 * page) result }
+    {
+        let _ = &self.region;
+        self.heads[page]
+    }
+
+    // The first free run of a page, from a doubleword of the page on, and the queue behind it.
+    pub fn next_free(&self, page: usize, from: usize, queue: Head) -> Option<(Run, Head)>
+        requires there { is_open self.now.bytes page ≡ true }
+        requires from { 512 * page ≤ from }
+        requires queue { IsCursor self.now page from queue }
+        ensures { MatchOption result
+            ((i : ℕ) → from ≤ i → i < 512 * page + 512 → slice_index_or self.now.held i false ≡ true)
+            (λ found. IsFreeRun self.now.held from (512 * page + 512) found.0.start found.0.end × IsCursor self.now page found.0.end found.1) }
+    {
+        let Some((at, len)) = queue::next_free(&self.region, page, queue, 0) else {
+            return None;
+        };
+        let start = 512 * page + (at / 8) as usize;
+        let run = Run {
+            start,
+            end: start + (len / 8) as usize,
+        };
+        Some((run, queue::behind(&self.region, page, queue)))
+    }
+
+    // Gives each of some bytes that are held the value.
+    pub fn fill(&mut self, at: usize, n: usize, value: u8)
+        requires { IsHeldPart self.old.held at n }
+        ensures held { self.new.held ≡ self.old.held }
+        ensures writes { Writes self.old.bytes at (replicate n value) self.new.bytes }
+    {
+        self.region.fill(at, n, value);
+    }
+
+    // Some bytes that are held.
+    pub fn part(&self, at: usize, n: usize) -> &[u8]
+        requires { IsHeldPart self.now.held at n }
+        ensures len { length result.now ≡ n }
+        ensures bytes { (k : ℕ) → k < n → byte_of self.now.bytes (at + k) ≡ Some (slice_index result.now k) }
+    {
+        let _ = &self.heads;
+        self.region.part(at, n)
+    }
+
+    // Lends some bytes that are held to write.
+    pub fn part_mut(&mut self, at: usize, n: usize) -> &mut [u8]
+        requires { IsHeldPart self.old.held at n }
+        ensures* writes_back { sem 𝓛 (LendsPart self.entry at n result) }
+        ensures writes { (ws : List ℕ) → Writes self.old.bytes at ws (with_part self.old.bytes at ws) }
+        ensures len { length result.now ≡ n }
+        ensures bytes { (k : ℕ) → k < n → byte_of self.old.bytes (at + k) ≡ Some (slice_index result.now k) }
+    {
+        self.region.part_mut(at, n)
+    }
+
+    // Lends `n` bytes that are held to read, and `n` others to write.
+    pub fn two_parts(&mut self, from: usize, to: usize, n: usize) -> (&[u8], &mut [u8])
+        requires apart { IsApart from to n }
+        requires source { IsHeldPart self.old.held from n }
+        requires target { IsHeldPart self.old.held to n }
+        ensures* writes_back { sem 𝓛 (LendsSecond self.entry to n result) }
+        ensures writes { (ws : List ℕ) → Writes self.old.bytes to ws (with_part self.old.bytes to ws) }
+        ensures len { (length result.0.now ≡ n) × (length result.1.now ≡ n) }
+        ensures source_bytes { (k : ℕ) → k < n → byte_of self.old.bytes (from + k) ≡ Some (slice_index result.0.now k) }
+        ensures target_bytes { (k : ℕ) → k < n → byte_of self.old.bytes (to + k) ≡ Some (slice_index result.1.now k) }
+    {
+        self.region.two_parts(from, to, n)
+    }
+}
