@@ -25,7 +25,7 @@ pub record IsNextPart (bits : List Bool) (pages : List (Option ℕ)) (s from : �
   pub passes : (i : ℕ) → part.start ≤ i → i < part.end → may_take bits pages s i ≡ true
   pub stands : Stands bits pages s part.end part.inside
   pub farther : progress from inside < progress part.end part.inside
-  pub one : part.examined ≤ 1
+  pub counted : progress from inside + part.examined ≤ progress part.end part.inside
 
 -- The pass has joined a run up to where it stands.
 pub record IsWalk (bits : List Bool) (pages : List (Option ℕ)) (s : ℕ) (w : Walk) : Type 0 where

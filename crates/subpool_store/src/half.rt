@@ -4,10 +4,10 @@ ghost use Rattle.std.specs.Prelude.{◌≡◌, ◌<◌, ◌≤◌, ◌+◌, ◌-
 ghost use Rattle.std.specs.Borrow.{sem};
 ghost use Rattle.std.specs.FinMap.{get, empty};
 ghost use Rattle.mvs_model.specs.Finite.{count_below, has};
-ghost use Rattle.mvs_model.specs.Storage.{IsWhole};
+ghost use Rattle.mvs_model.specs.Storage.{IsWhole, is_one_of};
 ghost use Rattle.mvs_model.specs.Want.{IsWant};
 ghost use Rattle.page_map.specs.Owners.{owner_of, is_usable};
-ghost use Rattle.subpool_store.specs.Edits.{IsAssigned, IsGivenUp, IsDropped};
+ghost use Rattle.subpool_store.specs.Edits.{IsAssigned, IsGivenUp};
 ghost use Rattle.subpool_store.specs.Half.{
   AllHeldIn,
   BestIn,
@@ -23,12 +23,14 @@ ghost use Rattle.subpool_store.specs.Half.{
 };
 ghost use Rattle.subpool_store.specs.LendsHalf.{LendsHalf};
 
+use crate::dropping::drop_pages;
 use crate::held_map::HeldMap;
 use crate::run::Run;
 use crate::search::{Found, find};
 use mvs_model::error::OutOfMemory;
 use mvs_model::place::{Addr, Place};
 use mvs_model::subpool::SubpoolId;
+use mvs_model::subpool_set::SubpoolSet;
 use mvs_model::want::{Placement, Want};
 use page_map::PageMap;
 use region_raw::region::Region;
@@ -87,7 +89,7 @@ fn open_pages(
 }
 
 // Gives up a page that is assigned, and closes it.
-fn close_page(pages: &mut PageMap, bytes: &mut Region, page: usize)
+pub fn close_page(pages: &mut PageMap, bytes: &mut Region, page: usize)
     requires within { page < length pages.old }
     requires assigned { IsSome (owner_of pages.old page) }
     requires opened { IsOpened pages.old bytes.old }
@@ -143,22 +145,6 @@ fn holds_run(held: &HeldMap, pages: &PageMap, subpool: SubpoolId, run: Run) -> b
         return false;
     }
     held.are_held(run)
-}
-
-// Gives up the pages of the subpool, and what is held of them, and closes them.
-fn drop_pages(held: &mut HeldMap, pages: &mut PageMap, bytes: &mut Region, subpool: SubpoolId)
-    requires sizes { length held.old ≡ 512 * length pages.old }
-    requires opened { IsOpened pages.old bytes.old }
-    ensures dropped { IsDropped subpool held.old pages.old (length pages.old) held.new pages.new }
-    ensures opened { IsOpened pages.new bytes.new }
-    ensures stays { Stays bytes.new bytes.old }
-{
-    for page in 0..pages.pages() {
-        if pages.owner(page) == Some(subpool) {
-            close_page(pages, bytes, page);
-            held.start(page);
-        }
-    }
 }
 
 // Whether the page is the subpool's.
@@ -320,12 +306,12 @@ impl Half {
         );
     }
 
-    // Takes back all that the subpool holds.
-    pub fn release_all(&mut self, subpool: SubpoolId)
-        ensures dropped { DroppedIn self.old subpool self.new }
+    // Takes back all that the subpools of a set hold.
+    pub fn release_each(&mut self, subpools: &SubpoolSet)
+        ensures dropped { DroppedIn self.old (is_one_of subpools.now) self.new }
         ensures sound { IsSound self.new }
     {
-        drop_pages(&mut self.held, &mut self.pages, &mut self.bytes, subpool);
+        drop_pages(&mut self.held, &mut self.pages, &mut self.bytes, subpools);
     }
 
     // Who holds the doubleword of an address.

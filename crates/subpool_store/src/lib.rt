@@ -2,6 +2,7 @@
 #![tactic(auto)]
 
 mod bit_list;
+mod dropping;
 mod half;
 mod held_map;
 mod run;

@@ -1,7 +1,7 @@
 //! One pass in rising order over the pages of a region and the free runs of the subpool's own pages.
 
 ghost use Rattle.std.specs.Prelude.{◌≡◌, ◌<◌, ◌≤◌, ◌/◌, ◌%◌, ℕ, MatchOption, Some, false, true, length};
-ghost use Rattle.page_map.specs.Owners.{owner_of};
+ghost use Rattle.page_map.specs.Owners.{owner_of, is_usable};
 ghost use Rattle.subpool_store.specs.Search.{may_take, IsExact, IsNextRun};
 ghost use Rattle.subpool_store.specs.Walk.{IsNextPart, IsWalk};
 
@@ -10,7 +10,7 @@ use crate::run::Run;
 use mvs_model::subpool::SubpoolId;
 use page_map::PageMap;
 
-/// What a look at one page entry or at one free run says: from where the pass stands to `start` the subpool may
+/// What a look at page entries or at one free run says: from where the pass stands to `start` the subpool may
 /// take no doubleword, from there to `end` each of them.
 #[derive(Clone, Copy)]
 struct Part {
@@ -28,6 +28,24 @@ pub struct Walk {
     end: usize,
     inside: bool,
     pub steps: u32,
+}
+
+// Passes the entries of other subpools' pages, up to the first one that is free or the subpool's own.
+fn pass_pages(held: &HeldMap, pages: &PageMap, subpool: SubpoolId, from: usize) -> Part
+    requires exact { IsExact held.now pages.now }
+    requires within { from < length held.now }
+    requires page { from % 512 ≡ 0 }
+    requires foreign { is_usable subpool (owner_of pages.now (from / 512)) ≡ false }
+    ensures { IsNextPart held.now pages.now subpool from false result }
+{
+    let _ = held;
+    let page = pages.first_usable(subpool, from / 512);
+    Part {
+        start: 512 * page,
+        end: 512 * page,
+        inside: false,
+        examined: (page - from / 512) as u32,
+    }
 }
 
 // Looks at the entry of the next page.
@@ -51,12 +69,7 @@ fn examine_page(held: &HeldMap, pages: &PageMap, subpool: SubpoolId, from: usize
             inside: true,
             examined: 1,
         },
-        Some(_) => Part {
-            start: end,
-            end,
-            inside: false,
-            examined: 1,
-        },
+        Some(_) => pass_pages(held, pages, subpool, from),
     }
 }
 
