@@ -16,7 +16,7 @@ use Rattle.mvs_model.proofs.StorageLaws.{covers_is, has_covers}
 use Rattle.mvs_model.proofs.CellPlaces.{has_is}
 use Rattle.cell_pool.specs.Layout.{byte_of}
 use Rattle.cell_pool.specs.Roots.{Root, part_of, pools_of}
-use Rattle.cell_pool.specs.Agree.{AgreeParts}
+use Rattle.cell_pool.specs.Agree.{Agree, AgreeParts}
 use Rattle.cell_pool.specs.Laws.{KeepsParts, DropsSubpool, GrantKeeps, ReleaseKeeps, ReleaseAllKeeps, WriteKeeps, FewerAgree, NoneAgree}
 use Rattle.mvs_model.specs.Pools.{Pool}
 use Rattle.mvs_model.proofs.Stand.{Stand, apart_from, pooled_from}
@@ -26,7 +26,7 @@ use Rattle.mvs_model.specs.View.{in_pools}
 use Rattle.cell_pool.specs.Roots.{pool_of}
 use Rattle.std.specs.Option.{option_map}
 use Rattle.cell_pool.proofs.Frame.{get-pools_of}
-use Rattle.mvs_model.specs.Finite.{Keeps}
+use Rattle.mvs_model.specs.Finite.{Changes, Keeps}
 use Rattle.cell_pool.proofs.Frame.{root_found, pool_from}
 use Rattle.cell_pool.proofs.Only.{stands, part_held, head_covered, not_in_head}
 
@@ -59,21 +59,25 @@ release_keeps roots old new s p whole is g clear = let agree = whole.parts in ch
     let pooled : in_pools (pools_of roots old) d ≡ true = pooled_from (pools_of roots old) d name (pool_of (byte_of old) r) (pool_from roots old name r e) (part_from (pool_of (byte_of old) r) d (part_of (byte_of old) r j) (part_contained (byte_of old) r j l) c) in
     let f : true ≡ false = sym pooled ∙ clear d h in absurd (cc))
 
-pub release_all_keeps : ReleaseAllKeeps
-release_all_keeps roots old new s whole is g none = let agree = whole.parts in record {
+-- the release of all that some subpools hold, of which none has a pool
+pub releases_keep : (test : ℕ → Bool) (roots : FinMap name_cmp Root) (old new : Storage) → Agree roots old → IsStorage new → new.regions ≡ old.regions → Keeps (get old.held) (λ _ t. not (test t)) (get new.held)
+    → Changes (get old.bytes) (λ a. has test (held_by old (a / 8))) None (get new.bytes) → ((name : Name) (r : Root) → get roots name ≡ Some r → test r.subpool ≡ false) → KeepsParts roots old new
+releases_keep test roots old new whole is regions held bytes none = let agree = whole.parts in record {
   storage = is;
-  regions = g.regions;
-  held = λ name r j d e l c. g.held d ∙ at r.subpool (held_by old d) (part_held roots old agree name r j d e l c) (none name r e);
-  heads = λ name r j x e l low high. ap (λ o. unwrap_or o 0) (g.bytes x ∙ past (holds old s (x / 8)) None (get old.bytes x) (λ t. other r.subpool (held_by old (x / 8)) (part_held roots old agree name r j (x / 8) e l (head_covered roots old agree r j x low high)) (none name r e) t));
+  regions = regions;
+  held = λ name r j d e l c. held d ∙ at r.subpool (held_by old d) (part_held roots old agree name r j d e l c) (none name r e);
+  heads = λ name r j x e l low high. ap (λ o. unwrap_or o 0) (bytes x ∙ past (has test (held_by old (x / 8))) None (get old.bytes x) (λ t. other r.subpool (held_by old (x / 8)) (part_held roots old agree name r j (x / 8) e l (head_covered roots old agree r j x low high)) (none name r e) t));
 } where
+  at : (t : ℕ) (o : Option ℕ) → o ≡ Some t → test t ≡ false → kept (λ u. not (test u)) o ≡ o
+  at t o e h = ap (kept (λ u. not (test u))) e ∙ ap (λ b. cond (not b) (Some t) None) h ∙ sym e
+
+  other : (t : ℕ) (o : Option ℕ) → o ≡ Some t → test t ≡ false → has test o ≡ true → ⊥
+  other t o e h f = absurd (let g : false ≡ true = sym h ∙ sym (ap (has test) e) ∙ f in cc)
+
+pub release_all_keeps : ReleaseAllKeeps
+release_all_keeps roots old new s whole is g none = releases_keep (λ t. t == s) roots old new whole is g.regions g.held g.bytes (λ name r e. differs r.subpool (none name r e)) where
   differs : (t : ℕ) → t ≢ s → (t == s) ≡ false
   differs t h = grind (arith, nat_tests)
-
-  at : (t : ℕ) (o : Option ℕ) → o ≡ Some t → t ≢ s → kept (λ u. not (u == s)) o ≡ o
-  at t o e h = ap (kept (λ u. not (u == s))) e ∙ ap (λ b. cond (not b) (Some t) None) (differs t h) ∙ sym e
-
-  other : (t : ℕ) (o : Option ℕ) → o ≡ Some t → t ≢ s → has (λ u. u == s) o ≡ true → ⊥
-  other t o e h f = absurd (let g : false ≡ true = sym (differs t h) ∙ sym (ap (has (λ u. u == s)) e) ∙ f in cc)
 
 pub write_parts : (roots : FinMap name_cmp Root) (old new : Storage) (p : PlaceValue) (value : ℕ → Option ℕ) (o : Owners) → AgreeParts roots old → IsStorage new → new.regions ≡ old.regions → new.held ≡ old.held
     → ((a : ℕ) → get new.bytes a ≡ cond (has_address p a) (value a) (get old.bytes a)) → Granted (state_of old o (pools_of roots old)) p → KeepsParts roots old new
@@ -140,28 +144,31 @@ none_agree st is bounded = record {
     cells = λ name pool c e. absurd (none name pool e);
   }
 
--- where the pools of a subpool go
-pub drops_subpool : DropsSubpool
-drops_subpool roots fewer st s agree keeps = (fewer_agree roots fewer st agree (λ name r e. (stays name r e).0), pools_left, λ name r e. (stays name r e).1) where
-  unequal : (t : ℕ) → (t == s) ≡ false → t ≢ s
-  unequal t e f = absurd (let g : (t == s) ≡ true = grind (arith, nat_tests) in let h : true ≡ false = sym g ∙ e in cc)
-
-  stays : (name : Name) (r : Root) → get fewer name ≡ Some r → (get roots name ≡ Some r) × (r.subpool ≢ s)
+-- where the pools of some subpools go
+pub drops_pools : (test : ℕ → Bool) (roots fewer : FinMap name_cmp Root) (st : Storage) → Agree roots st → Keeps (get roots) (λ _ r. not (test r.subpool)) (get fewer)
+    → Agree fewer st × Keeps (get (pools_of roots st)) (λ _ pool. not (test pool.subpool)) (get (pools_of fewer st)) × ((name : Name) (r : Root) → get fewer name ≡ Some r → test r.subpool ≡ false)
+drops_pools test roots fewer st agree keeps = (fewer_agree roots fewer st agree (λ name r e. (stays name r e).0), pools_left, λ name r e. (stays name r e).1) where
+  stays : (name : Name) (r : Root) → get fewer name ≡ Some r → (get roots name ≡ Some r) × (test r.subpool ≡ false)
   stays name r e = at (get roots name) refl (sym (keeps name) ∙ e) where
-    by : (q : Root) (b : Bool) → (q.subpool == s) ≡ b → get roots name ≡ Some q → cond (not b) (Some q) None ≡ Some r → (get roots name ≡ Some r) × (r.subpool ≢ s)
+    by : (q : Root) (b : Bool) → test q.subpool ≡ b → get roots name ≡ Some q → cond (not b) (Some q) None ≡ Some r → (get roots name ≡ Some r) × (test r.subpool ≡ false)
     by q true t f g = absurd (let h : ◌≡◌ {A = Option Root} None (Some r) = g in cc)
-    by q false t f g = (f ∙ g, (let same : q ≡ r = cc in subst (λ (w : Root). w.subpool ≢ s) same (unequal q.subpool t)))
+    by q false t f g = (f ∙ g, (let same : q ≡ r = cc in subst (λ (w : Root). test w.subpool ≡ false) same t))
 
-    at : (v : Option Root) → get roots name ≡ v → kept (λ (q : Root). not (q.subpool == s)) v ≡ Some r → (get roots name ≡ Some r) × (r.subpool ≢ s)
+    at : (v : Option Root) → get roots name ≡ v → kept (λ (q : Root). not (test q.subpool)) v ≡ Some r → (get roots name ≡ Some r) × (test r.subpool ≡ false)
     at None f g = absurd (let h : ◌≡◌ {A = Option Root} None (Some r) = g in cc)
-    at (Some q) f g = by q (q.subpool == s) refl f g
+    at (Some q) f g = by q (test q.subpool) refl f g
 
-  pools_left : Keeps (get (pools_of roots st)) (λ _ pool. not (pool.subpool == s)) (get (pools_of fewer st))
-  pools_left n = get-pools_of fewer st n ∙ ap (option_map (pool_of (byte_of st))) (keeps n) ∙ at (get roots n) ∙ sym (ap (kept (λ pool. not (pool.subpool == s))) (get-pools_of roots st n)) where
+  pools_left : Keeps (get (pools_of roots st)) (λ _ pool. not (test pool.subpool)) (get (pools_of fewer st))
+  pools_left n = get-pools_of fewer st n ∙ ap (option_map (pool_of (byte_of st))) (keeps n) ∙ at (get roots n) ∙ sym (ap (kept (λ pool. not (test pool.subpool))) (get-pools_of roots st n)) where
     by : (r : Root) (b : Bool) → option_map (pool_of (byte_of st)) (cond b (Some r) None) ≡ cond b (Some (pool_of (byte_of st) r)) None
     by r true = refl
     by r false = refl
 
-    at : (v : Option Root) → option_map (pool_of (byte_of st)) (kept (λ (r : Root). not (r.subpool == s)) v) ≡ kept (λ pool. not (pool.subpool == s)) (option_map (pool_of (byte_of st)) v)
+    at : (v : Option Root) → option_map (pool_of (byte_of st)) (kept (λ (r : Root). not (test r.subpool)) v) ≡ kept (λ pool. not (test pool.subpool)) (option_map (pool_of (byte_of st)) v)
     at None = refl
-    at (Some r) = by r (not (r.subpool == s))
+    at (Some r) = by r (not (test r.subpool))
+
+pub drops_subpool : DropsSubpool
+drops_subpool roots fewer st s agree keeps = let d = drops_pools (λ t. t == s) roots fewer st agree keeps in (d.0, d.1, λ name r e. unequal r.subpool (d.2 name r e)) where
+  unequal : (t : ℕ) → (t == s) ≡ false → t ≢ s
+  unequal t e f = absurd (let g : (t == s) ≡ true = grind (arith, nat_tests) in let h : true ≡ false = sym g ∙ e in cc)

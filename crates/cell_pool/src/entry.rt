@@ -1,14 +1,15 @@
 //! What is kept of the pools, by their names.
 
-ghost use Rattle.std.specs.Prelude.{◌≡◌, ◌≢◌, ◌<◌, ◌≤◌, ◌==◌, ℕ, not, Some, None, IsSome, MatchOption};
+ghost use Rattle.std.specs.Prelude.{◌≡◌, ◌≢◌, ◌<◌, ◌≤◌, ℕ, not, Some, None, IsSome, MatchOption};
 ghost use Rattle.std.specs.FinMap.{get};
 ghost use Rattle.slab.specs.Slab.{get as slab_get, slab_len, Updates};
 ghost use Rattle.mvs_model.specs.Finite.{has, kept};
+ghost use Rattle.mvs_model.specs.Storage.{is_one_of};
 ghost use Rattle.cell_pool.specs.declared.entry.Entry.{Entry};
 
 use crate::root::Root;
 use mvs_model::name::Name;
-use mvs_model::subpool::SubpoolId;
+use mvs_model::subpool_set::SubpoolSet;
 use slab::Slab;
 
 // What is kept of a pool, with its name.
@@ -73,24 +74,24 @@ pub(crate) fn remove(entries: &mut Slab<Entry>, key: usize)
     let _ = entries.try_remove(key);
 }
 
-// Whether the pool at a key is of the subpool.
-pub(crate) fn is_of(entries: &Slab<Entry>, key: usize, subpool: SubpoolId) -> bool
-    ensures { result ≡ has (λ (x : Entry). x.root.subpool == subpool) (slab_get entries.now key) }
+// Whether the pool at a key is of a subpool of the set.
+pub(crate) fn is_of_one(entries: &Slab<Entry>, key: usize, subpools: &SubpoolSet) -> bool
+    ensures { result ≡ has (λ (x : Entry). is_one_of subpools.now x.root.subpool) (slab_get entries.now key) }
 {
     match entries.get(key) {
-        Some(entry) => entry.root.is_of(subpool),
+        Some(entry) => subpools.contains(entry.root.subpool),
         None => false,
     }
 }
 
-// Removes the entries of the subpool's pools.
-pub(crate) fn remove_each(entries: &mut Slab<Entry>, subpool: SubpoolId)
-    ensures kept { (k : ℕ) → slab_get entries.new k ≡ kept (λ (x : Entry). not (x.root.subpool == subpool)) (slab_get entries.old k) }
+// Removes the entries of the pools of a set of subpools.
+pub(crate) fn remove_each(entries: &mut Slab<Entry>, subpools: &SubpoolSet)
+    ensures kept { (k : ℕ) → slab_get entries.new k ≡ kept (λ (x : Entry). not (is_one_of subpools.now x.root.subpool)) (slab_get entries.old k) }
     ensures len { slab_len entries.new ≤ slab_len entries.old }
     ensures capacity { entries.new.capacity ≡ entries.old.capacity }
 {
     for key in 0..entries.capacity() {
-        if is_of(entries, key, subpool) {
+        if is_of_one(entries, key, subpools) {
             remove(entries, key);
         }
     }

@@ -18,7 +18,7 @@ ghost use Rattle.mvs_model.specs.declared.request.Reply.TheVariants.{Rc0};
 ghost use Rattle.mvs_model.specs.Owners.{Owners};
 ghost use Rattle.mvs_model.specs.Reports.{bytes_held};
 ghost use Rattle.mvs_model.specs.View.{state_of};
-ghost use Rattle.mvs_model.specs.Storage.{Storage, has_address};
+ghost use Rattle.mvs_model.specs.Storage.{Storage, has_address, is_one_of};
 ghost use Rattle.cell_pool.specs.Cells.{IsTakenCell, Touches, TouchesNone};
 ghost use Rattle.std.specs.FinSet as set;
 ghost use Rattle.mvs_model.specs.State.{in_cell};
@@ -43,6 +43,7 @@ use mvs_model::error::OutOfMemory;
 use mvs_model::name::Name;
 use mvs_model::place::{Addr, Place};
 use mvs_model::subpool::SubpoolId;
+use mvs_model::subpool_set::SubpoolSet;
 use mvs_model::want::Side;
 use slab::Slab;
 use std::alloc::Global;
@@ -350,7 +351,16 @@ impl Pools {
     pub fn drop_subpool(&mut self, subpool: SubpoolId)
         ensures { Keeps (get self.old) (λ _ r. not (r.subpool == subpool)) (get self.new) }
     {
-        remove_each(&mut self.entries, subpool);
+        let mut subpools = SubpoolSet::empty();
+        subpools.insert(subpool);
+        self.drop_subpools(&subpools);
+    }
+
+    /// The same for the pools of a set of subpools.
+    pub fn drop_subpools(&mut self, subpools: &SubpoolSet)
+        ensures { Keeps (get self.old) (λ _ r. not (is_one_of subpools.now r.subpool)) (get self.new) }
+    {
+        remove_each(&mut self.entries, subpools);
     }
 
     /// Takes a free cell of the pool: the lowest one of the earliest part that has one (Assembler Services Reference, CPOOL

@@ -39,4 +39,5 @@ pub mod Finite
 pub mod Table
 pub mod Keyed
 pub mod View
+pub mod SubpoolSet
 pub mod Watched

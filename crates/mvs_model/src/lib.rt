@@ -17,6 +17,7 @@ pub mod report;
 pub mod request;
 pub mod short_list;
 pub mod subpool;
+pub mod subpool_set;
 #[cfg(test)]
 mod tests;
 pub mod want;

@@ -3,31 +3,36 @@
 
 ghost use Rattle.std.specs.Prelude.{◌≡◌, ◌<◌, ◌≤◌, Some, None, IfOk, length, slice_set, count_by, replicate};
 ghost use Rattle.mvs_model.specs.Numbers.{most_pages_above};
-ghost use Rattle.page_map.specs.Owners.{owner_of, is_of, is_usable};
+ghost use Rattle.mvs_model.specs.Finite.{has};
+ghost use Rattle.mvs_model.specs.Storage.{is_one_of};
+ghost use Rattle.page_map.specs.Owners.{owner_of, is_of, is_usable, IsFirst};
 
+use crate::codes::{FREE, first_of, first_usable, subpool_of};
 use mvs_model::error::OutOfMemory;
 use mvs_model::subpool::SubpoolId;
+use mvs_model::subpool_set::SubpoolSet;
 use std::alloc::Global;
 use std::marker::Model;
 
+mod codes;
 #[cfg(test)]
 mod tests;
 
 /// The subpool of each page of a region of at most 8,192 pages, by the page's index in the region.
 #[derive(Drop)]
 pub struct PageMap {
-    owners: Vec<Option<SubpoolId>>,
+    owners: Vec<u16>,
 }
 
 impl Model for PageMap {
-    ghost use Rattle.mvs_model.specs.Numbers.{most_pages_above};
-    ghost use Rattle.std.specs.Prelude.{ℕ, List, Option, length, ◌≤◌};
+    ghost use Rattle.page_map.specs.Codes.{AreCodes, page_owners};
+    ghost use Rattle.std.specs.Prelude.{ℕ, List, Option};
 
     ghost Value = { List (Option ℕ) };
 
-    ghost view = { λ m. m.owners.items };
+    ghost view = { λ m. page_owners m.owners.items };
 
-    ghost invariant = { λ m. length m.owners.items ≤ most_pages_above };
+    ghost invariant = { λ m. AreCodes m.owners.items };
 }
 
 impl PageMap {
@@ -36,7 +41,7 @@ impl PageMap {
         requires { pages ≤ most_pages_above }
         ensures { IfOk result (λ m. m ≡ replicate pages None) }
     {
-        match vec![in alloc; None; pages] {
+        match vec![in alloc; FREE; pages] {
             Ok(owners) => Ok(PageMap { owners }),
             Err(_) => Err(OutOfMemory),
         }
@@ -55,7 +60,7 @@ impl PageMap {
         requires { page < length self.now }
         ensures { result ≡ owner_of self.now page }
     {
-        self.owners[page]
+        subpool_of(self.owners[page])
     }
 
     /// Assigns a page that is not assigned.
@@ -64,7 +69,7 @@ impl PageMap {
         requires free { owner_of self.old page ≡ None }
         ensures { self.new ≡ slice_set self.old page (Some subpool) }
     {
-        self.owners[page] = Some(subpool);
+        self.owners[page] = subpool.get();
     }
 
     /// Gives a page up: it is not assigned then.
@@ -72,7 +77,7 @@ impl PageMap {
         requires { page < length self.old }
         ensures { self.new ≡ slice_set self.old page None }
     {
-        self.owners[page] = None;
+        self.owners[page] = FREE;
     }
 
     /// Whether the subpool may use the page: no other subpool has it (Assembler Services Guide, subpools).
@@ -91,11 +96,27 @@ impl PageMap {
         ensures { result ≡ count_by (is_of subpool) self.now }
     {
         let mut count = 0u32;
-        for owner in &self.owners {
-            if *owner == Some(subpool) {
+        for code in &self.owners {
+            if *code == subpool.get() {
                 count += 1;
             }
         }
         count
+    }
+
+    /// The first page from one on that the subpool may use, or the number of pages.
+    pub fn first_usable(&self, subpool: SubpoolId, from: usize) -> usize
+        requires { from ≤ length self.now }
+        ensures { IsFirst (is_usable subpool) self.now from result }
+    {
+        first_usable(&self.owners, subpool.get(), from)
+    }
+
+    /// The first page from one on that is assigned to a subpool of the set, or the number of pages.
+    pub fn first_of(&self, subpools: &SubpoolSet, from: usize) -> usize
+        requires { from ≤ length self.now }
+        ensures { IsFirst (has (is_one_of subpools.now)) self.now from result }
+    {
+        first_of(&self.owners, subpools, from)
     }
 }

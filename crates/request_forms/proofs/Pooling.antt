@@ -1,5 +1,5 @@
 -- Storage with its pools: what calls of the store and of the pools leave.
-use Rattle.std.proofs.Common.{◌≡◌, ◌≢◌, ℕ, Bool, true, false, cond, List, [], ◌∷◌, Option, Some, None, refl, sym, ap, ◌∙◌, subst}
+use Rattle.std.proofs.Common.{◌≡◌, ◌≢◌, ℕ, ◌/◌, Bool, true, false, cond, List, [], ◌∷◌, Option, Some, None, refl, sym, ap, ◌∙◌, subst}
 use Rattle.std.specs.Prelude.{not, ◌==◌}
 use Rattle.std.specs.List.{AllByRecursion}
 use Rattle.std.specs.Option.{option_map}
@@ -8,8 +8,8 @@ use Rattle.mvs_model.specs.declared.name.Name.{Name}
 use Rattle.mvs_model.specs.Place.{PlaceValue}
 use Rattle.mvs_model.specs.Want.{WantValue}
 use Rattle.mvs_model.specs.Name.{name_cmp}
-use Rattle.mvs_model.specs.Finite.{Keeps}
-use Rattle.mvs_model.specs.Storage.{Storage, IsStorage, Grant, ReleaseAll, holds}
+use Rattle.mvs_model.specs.Finite.{Changes, Keeps, has}
+use Rattle.mvs_model.specs.Storage.{Storage, IsStorage, Grant, ReleaseAll, holder, holds}
 use Rattle.mvs_model.specs.Owners.{Owners, SubpoolOf, Enters}
 use Rattle.mvs_model.specs.Pools.{Pool}
 use Rattle.mvs_model.specs.View.{state_of}
@@ -26,7 +26,7 @@ use Rattle.cell_pool.specs.Layout.{byte_of}
 use Rattle.cell_pool.specs.Roots.{Root, pool_of, pools_of}
 use Rattle.cell_pool.proofs.Frame.{get-pools_of}
 use Rattle.cell_pool.proofs.Counted.{all_kept as parts_kept}
-use Rattle.cell_pool.proofs.Keeping.{grant_keeps, release_keeps, release_all_keeps, drops_subpool}
+use Rattle.cell_pool.proofs.Keeping.{grant_keeps, release_keeps, releases_keep, drops_pools}
 use Rattle.std.specs.FinMap.{FinMap, get, len, contains_key, entries, entries_sorted, from_sorted, entries-from_sorted, get-from_sorted, get-entries, len-entries, is_sorted, find, same_map}
 use Rattle.mvs_model.proofs.Orders.{name_cmp_total, name_cmp-IsAntisymmetric}
 use Rattle.request_forms.specs.Lists.{GrantsEach, ReleasesEach}
@@ -64,16 +64,25 @@ releases_agree roots st new s (p ∷ ps) agree clear h =
     let rest = releases_agree roots h.0 new s ps one.0 (subst (λ pools. AllByRecursion (IsClear pools) ps) (sym one.1) clear.1) h.3 in
     (rest.0, rest.1 ∙ one.1)
 
--- all of a subpool that goes, with its pools
-module _ (roots fewer : FinMap name_cmp Root) (st new : Storage) (s : ℕ) (agree : Agree roots st) (now : IsStorage new) (gone : Keeps (get roots) (λ _ r. not (r.subpool == s)) (get fewer)) (all : ReleaseAll st s new) where
+-- all that some subpools hold goes, with their pools
+module _ (test : ℕ → Bool) (roots fewer : FinMap name_cmp Root) (st new : Storage) (agree : Agree roots st) (now : IsStorage new) (gone : Keeps (get roots) (λ _ r. not (test r.subpool)) (get fewer))
+    (regions : new.regions ≡ st.regions) (held : Keeps (get st.held) (λ _ t. not (test t)) (get new.held)) (bytes : Changes (get st.bytes) (λ a. has test (holder st (a / 8))) None (get new.bytes)) where
   kept : Agree fewer new × (pools_of fewer new ≡ pools_of fewer st)
-  kept = let d = drops_subpool roots fewer st s agree gone in parts_kept fewer st new d.0 (release_all_keeps fewer st new s d.0 now all d.2)
+  kept = let d = drops_pools test roots fewer st agree gone in parts_kept fewer st new d.0 (releases_keep test fewer st new d.0 now regions held bytes d.2)
 
+  pub still_agree : Agree fewer new
+  still_agree = kept.0
+
+  pub pools_gone : Keeps (get (pools_of roots st)) (λ _ p. not (test p.subpool)) (get (pools_of fewer new))
+  pools_gone = subst (λ pools. Keeps (get (pools_of roots st)) (λ _ p. not (test p.subpool)) (get pools)) (sym kept.1) (drops_pools test roots fewer st agree gone).1
+
+-- of one subpool
+module _ (roots fewer : FinMap name_cmp Root) (st new : Storage) (s : ℕ) (agree : Agree roots st) (now : IsStorage new) (gone : Keeps (get roots) (λ _ r. not (r.subpool == s)) (get fewer)) (all : ReleaseAll st s new) where
   pub subpool_agrees : Agree fewer new
-  subpool_agrees = kept.0
+  subpool_agrees = still_agree (λ t. t == s) roots fewer st new agree now gone all.regions all.held all.bytes
 
   pub subpool_pools : Keeps (get (pools_of roots st)) (λ _ p. not (p.subpool == s)) (get (pools_of fewer new))
-  subpool_pools = subst (λ pools. Keeps (get (pools_of roots st)) (λ _ p. not (p.subpool == s)) (get pools)) (sym kept.1) (drops_subpool roots fewer st s agree gone).1
+  subpool_pools = pools_gone (λ t. t == s) roots fewer st new agree now gone all.regions all.held all.bytes
 
   pub emptied : (o : Owners) → Empties (machine_state roots st o) s (machine_state fewer new o)
   emptied o = record {

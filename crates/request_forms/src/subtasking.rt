@@ -18,21 +18,22 @@ use mvs_model::code::Code;
 use mvs_model::gifts::Gifts;
 use mvs_model::name::Name;
 use mvs_model::request::{Fallen, Reply};
-use mvs_model::subpool::SubpoolId;
+use mvs_model::subpool_set::SubpoolSet;
 use mvs_model::want::Residence;
 use subpool_store::Store;
 
 // Releases all that some subpools hold, and gives up their cell pools.
-fn release_each(store: &mut Store, pools: &mut Pools, subpools: &[SubpoolId])
+fn release_each(store: &mut Store, pools: &mut Pools, subpools: &SubpoolSet)
     requires { Agree pools.old store.old }
     ensures released { ReleaseEach store.old subpools.now store.new }
     ensures gone { Keeps (get (pools_of pools.old store.old)) (λ _ p. not (is_one_of subpools.now p.subpool)) (get (pools_of pools.new store.new)) }
     ensures agree { Agree pools.new store.new }
 {
-    for subpool in subpools {
-        pools.drop_subpool(*subpool);
-        store.release_all(*subpool);
+    if subpools.is_empty() {
+        return;
     }
+    pools.drop_subpools(subpools);
+    store.release_each(subpools);
 }
 
 impl Machine {
@@ -42,7 +43,7 @@ impl Machine {
         ensures { (e : End self.old name self.new) × (result ≡ e.fallen) }
     {
         let gone = self.tasks.end_of(name);
-        release_each(&mut self.store, &mut self.pools, gone.freed.as_slice());
+        release_each(&mut self.store, &mut self.pools, &gone.freed);
         gone.fallen
     }
 

@@ -1,5 +1,5 @@
 -- The free runs that a pass has come by.
-use Rattle.std.proofs.Common.{◌≡◌, ◌∙◌, ℕ, ◌+◌, ◌-◌, ◌*◌, ◌/◌, ◌%◌, ◌<◌, ◌≤◌, ◌⊎◌, ◌&&◌, ◌||◌, not, Bool, true, false, List, Option, Some, length, get_or, eqb, refl, sym, ap, inl, inr, arith}
+use Rattle.std.proofs.Common.{◌≡◌, ◌∙◌, ℕ, ◌+◌, ◌-◌, ◌*◌, ◌/◌, ◌%◌, ◌<◌, ◌≤◌, ◌⊎◌, ◌&&◌, ◌||◌, not, Bool, true, false, List, Option, Some, None, length, get_or, eqb, refl, sym, ap, inl, inr, arith}
 use Rattle.std.proofs.lemmas.Bool.{and_from, both_ways, cases_eq, eq-eqb, ne_eqb}
 use Rattle.std.proofs.lemmas.List.{get_or_default}
 use Rattle.mvs_model.specs.Finite.{count_below}
@@ -63,6 +63,13 @@ module _ (m : MemoryState) (pages : List (Option ℕ)) (s : ℕ) where
       let page : i / 512 ≡ from / 512 = omega (arith, on, low, high) in foreign_begins i (ap (λ p. is_of s (owner_of pages p)) page ∙ foreign)) in
       omega (arith, same, on)
 
+  -- pages that are none of s
+  pub pages_counted : (from to : ℕ) → from % 512 ≡ 0 → from / 512 ≤ to → ((p : ℕ) → from / 512 ≤ p → p < to → is_of s (owner_of pages p) ≡ false) → looked_at m pages s from false + (to - from / 512) ≡ looked_at m pages s (512 * to) false
+  pages_counted from to on rises foreign =
+      let same : count_below (512 * to) (begins_run m.held pages s) ≡ count_below from (begins_run m.held pages s) = count_stays (begins_run m.held pages s) from (512 * to) (omega (arith, on, rises)) (λ i low high.
+      foreign_begins i (foreign (i / 512) (omega (arith, low)) (omega (arith, high)))) in
+      omega (arith, same, on, rises)
+
   -- the rest of a page, in which nothing is free
   pub rest_counted : (from : ℕ) → ((i : ℕ) → from ≤ i → i < 512 * (from / 512) + 512 → get_or m.held i false ≡ true) → looked_at m pages s from true + 0 ≡ looked_at m pages s (512 * (from / 512) + 512) false
   rest_counted from held =
@@ -115,3 +122,8 @@ counted_some m pages s at false some page = let on = page refl in omega (arith, 
 -- the least length is one that is wanted
 pub least_length : (want : WantValue) → IsWant want → IsLength want want.least
 least_length want ok = record { least = omega arith; most = ok.ordered; whole = ok.least_whole }
+
+-- a page that s may not use is none of s
+pub not_own : (s : ℕ) (owner : Option ℕ) → is_usable s owner ≡ false → is_of s owner ≡ false
+not_own s None e = absurd (let f : true ≡ false = e in cc)
+not_own s (Some t) e = e

@@ -1,12 +1,12 @@
 -- What the two regions together hold, and how it changes with one of them.
-use Rattle.std.proofs.Common.{◌≡◌, ℕ, ◌+◌, ◌*◌, ◌/◌, ◌^◌, ◌<◌, ◌≤◌, ◌⊎◌, not, eqb, Bool, true, false, cond, ltb, Option, Some, None, is_some, refl, sym, ap, ◌∙◌, inl, inr, arith}
+use Rattle.std.proofs.Common.{◌≡◌, ℕ, ◌+◌, ◌*◌, ◌/◌, ◌^◌, ◌<◌, ◌≤◌, ◌⊎◌, not, eqb, Bool, true, false, cond, ltb, Option, Some, None, List, is_some, refl, sym, ap, ◌∙◌, inl, inr, arith}
 use Rattle.std.proofs.lemmas.Bool.{cases_lt, lt-ltb, le-ltb, cond-true, cond-false}
 use Rattle.std.proofs.lemmas.Bool.Decides.{nat_tests}
 use Rattle.std.specs.Ordering.{nat_cmp}
 use Rattle.std.specs.FinMap.{FinMap, get, empty, get-empty}
 use Rattle.mvs_model.specs.Finite.{Changes, kept, has}
 use Rattle.mvs_model.specs.Place.{PlaceValue, place_at}
-use Rattle.mvs_model.specs.Storage.{covers, has_address, InRegion, IsStorage, ReleaseAll, holder}
+use Rattle.mvs_model.specs.Storage.{covers, has_address, InRegion, IsStorage, Storage, ReleaseAll, ReleaseEach, is_one_of, holder}
 use Rattle.mvs_model.proofs.Tables.{get-table, table_changes, table_some, same_maps}
 use Rattle.subpool_store.specs.Half.{HalfState, IsSound, ChangedIn, DroppedIn}
 use Rattle.subpool_store.specs.Joined.{joined, joined_at, regions_of, store_of, IsStore, Taken}
@@ -142,34 +142,34 @@ module _ (b a : HalfState) (fill : ℕ) where
     address_low : (k : ℕ) → has_address p k ≡ true → k < 2147483648
     address_low k hit = grind (arith, nat_tests)
 
-  -- all that s holds goes in both
-  pub both_dropped : (b' a' : HalfState) (s : ℕ) → DroppedIn b s b' → DroppedIn a s a' → ReleaseAll (store_of b a fill) s (store_of b' a' fill)
-  both_dropped b' a' s low high = record {
+  -- all that some subpools hold goes in both
+  pub both_dropped : (b' a' : HalfState) (subpools : List ℕ) → DroppedIn b (is_one_of subpools) b' → DroppedIn a (is_one_of subpools) a' → ReleaseEach (store_of b a fill) subpools (store_of b' a' fill)
+  both_dropped b' a' subpools low high = record {
     regions = (λ i. record { below = low.pages i; above = high.pages i; fill = fill });
     held = λ k. held k (cases_lt k 2097152) (cases_lt k 268435456);
     bytes = λ k. bytes k (cases_lt k 16777216) (cases_lt k 2147483648);
   } where
     held : (k : ℕ) → (k < 2097152) ⊎ (2097152 ≤ k) → (k < 268435456) ⊎ (268435456 ≤ k) →
-        get (joined 268435456 2097152 b'.held a'.held) k ≡ kept (λ t. not (eqb t s)) (get (joined 268435456 2097152 b.held a.held) k)
-    held k (inl below) small = get_low 268435456 2097152 b'.held a'.held (omega arith) k below ∙ low.held k ∙ sym (ap (kept (λ t. not (eqb t s))) (low_holder k below))
-    held k (inr above) (inl small) = get_high 268435456 2097152 b'.held a'.held k above small ∙ high.held k ∙ sym (ap (kept (λ t. not (eqb t s))) (high_holder k above small))
-    held k (inr above) (inr past) = get_past 268435456 2097152 b'.held a'.held k past ∙ sym (ap (kept (λ t. not (eqb t s))) (past_holder k past))
+        get (joined 268435456 2097152 b'.held a'.held) k ≡ kept (λ t. not (is_one_of subpools t)) (get (joined 268435456 2097152 b.held a.held) k)
+    held k (inl below) small = get_low 268435456 2097152 b'.held a'.held (omega arith) k below ∙ low.held k ∙ sym (ap (kept (λ t. not (is_one_of subpools t))) (low_holder k below))
+    held k (inr above) (inl small) = get_high 268435456 2097152 b'.held a'.held k above small ∙ high.held k ∙ sym (ap (kept (λ t. not (is_one_of subpools t))) (high_holder k above small))
+    held k (inr above) (inr past) = get_past 268435456 2097152 b'.held a'.held k past ∙ sym (ap (kept (λ t. not (is_one_of subpools t))) (past_holder k past))
 
     cond_none : (t : Bool) → cond {A = Option ℕ} t None None ≡ None
     cond_none true = refl
     cond_none false = refl
 
     bytes : (k : ℕ) → (k < 16777216) ⊎ (16777216 ≤ k) → (k < 2147483648) ⊎ (2147483648 ≤ k) →
-        get (joined 2147483648 16777216 b'.bytes a'.bytes) k ≡ cond (has (λ t. eqb t s) (holder (store_of b a fill) (k / 8))) None (get (joined 2147483648 16777216 b.bytes a.bytes) k)
+        get (joined 2147483648 16777216 b'.bytes a'.bytes) k ≡ cond (has (is_one_of subpools) (holder (store_of b a fill) (k / 8))) None (get (joined 2147483648 16777216 b.bytes a.bytes) k)
     bytes k (inl below) small =
         get_low 2147483648 16777216 b'.bytes a'.bytes (omega arith) k below ∙ low.bytes k
-        ∙ sym ((λ i. cond (has (λ t. eqb t s) (low_holder (k / 8) (omega arith) i)) None (low_byte k below i)))
+        ∙ sym ((λ i. cond (has (is_one_of subpools) (low_holder (k / 8) (omega arith) i)) None (low_byte k below i)))
     bytes k (inr above) (inl small) =
         get_high 2147483648 16777216 b'.bytes a'.bytes k above small ∙ high.bytes k
-        ∙ sym ((λ i. cond (has (λ t. eqb t s) (high_holder (k / 8) (omega arith) (omega arith) i)) None (high_byte k above small i)))
+        ∙ sym ((λ i. cond (has (is_one_of subpools) (high_holder (k / 8) (omega arith) (omega arith) i)) None (high_byte k above small i)))
     bytes k (inr above) (inr past) =
         get_past 2147483648 16777216 b'.bytes a'.bytes k past
-        ∙ sym (ap (cond (has (λ t. eqb t s) (holder (store_of b a fill) (k / 8))) None) (past_byte k past) ∙ cond_none (has (λ t. eqb t s) (holder (store_of b a fill) (k / 8))))
+        ∙ sym (ap (cond (has (is_one_of subpools) (holder (store_of b a fill) (k / 8))) None) (past_byte k past) ∙ cond_none (has (is_one_of subpools) (holder (store_of b a fill) (k / 8))))
 
 -- what is kept of the two halves when one of them changes
 pub new_below : (b a b' : HalfState) → IsStore b a → b'.first ≡ b.first → b'.pages ≡ b.pages → IsSound b' → IsStore b' a
@@ -211,4 +211,12 @@ nothing_kept b a m n some_m few_m few_n low high sound_b sound_a = record {
   few_above = let e : a.pages ≡ n = ap (λ h. h.pages) high in omega arith;
   sound_below = sound_b;
   sound_above = sound_a;
+}
+
+-- a set of one subpool
+pub released_alone : (old : Storage) (s : ℕ) (new : Storage) (subpools : List ℕ) → ((t : ℕ) → is_one_of subpools t ≡ eqb t s) → ReleaseEach old subpools new → ReleaseAll old s new
+released_alone old s new subpools one each = record {
+  regions = each.regions;
+  held = λ d. each.held d ∙ (λ i. kept (λ t. not (one t i)) (get old.held d));
+  bytes = λ a. each.bytes a ∙ (λ i. cond (has (λ t. one t i) (holder old (a / 8))) None (get old.bytes a));
 }

@@ -103,28 +103,28 @@ module _ (first : ℕ) (bits bits' : List Bool) (pages pages' : List (Option ℕ
         inner true o = refl
         inner false o = refl
 
-  pub dropped_shifted : (s : ℕ) → ((i : ℕ) → cell bits' pages' i ≡ kept (λ t. not (eqb t s)) (cell bits pages i)) →
-      (k : ℕ) → (k < first) ⊎ (first ≤ k) → shifted first (cell bits' pages') k ≡ kept (λ t. not (eqb t s)) (shifted first (cell bits pages) k)
-  dropped_shifted s cells k (inl low) = shifted_none first (cell bits' pages') k (λ h. absurd (omega arith)) ∙ sym (ap (kept (λ t. not (eqb t s))) (shifted_none first (cell bits pages) k (λ h. absurd (omega arith))))
-  dropped_shifted s cells k (inr high) = shifted_at first (cell bits' pages') k high ∙ cells (k - first) ∙ sym (ap (kept (λ t. not (eqb t s))) (shifted_at first (cell bits pages) k high))
+  pub dropped_shifted : (test : ℕ → Bool) → ((i : ℕ) → cell bits' pages' i ≡ kept (λ t. not (test t)) (cell bits pages i)) →
+      (k : ℕ) → (k < first) ⊎ (first ≤ k) → shifted first (cell bits' pages') k ≡ kept (λ t. not (test t)) (shifted first (cell bits pages) k)
+  dropped_shifted test cells k (inl low) = shifted_none first (cell bits' pages') k (λ h. absurd (omega arith)) ∙ sym (ap (kept (λ t. not (test t))) (shifted_none first (cell bits pages) k (λ h. absurd (omega arith))))
+  dropped_shifted test cells k (inr high) = shifted_at first (cell bits' pages') k high ∙ cells (k - first) ∙ sym (ap (kept (λ t. not (test t))) (shifted_at first (cell bits pages) k high))
 
   -- all that s holds goes, with its bytes
-  pub dropped_holders : (s : ℕ) → ((i : ℕ) → cell bits' pages' i ≡ kept (λ t. not (eqb t s)) (cell bits pages i)) →
-      Keeps (get (held_of first bits pages)) (λ _ t. not (eqb t s)) (get (held_of first bits' pages'))
-  dropped_holders s cells k = holder_at first bits' pages' k ∙ dropped_shifted s cells k (cases_lt k first) ∙ sym (ap (kept (λ t. not (eqb t s))) (holder_at first bits pages k))
+  pub dropped_holders : (test : ℕ → Bool) → ((i : ℕ) → cell bits' pages' i ≡ kept (λ t. not (test t)) (cell bits pages i)) →
+      Keeps (get (held_of first bits pages)) (λ _ t. not (test t)) (get (held_of first bits' pages'))
+  dropped_holders test cells k = holder_at first bits' pages' k ∙ dropped_shifted test cells k (cases_lt k first) ∙ sym (ap (kept (λ t. not (test t))) (holder_at first bits pages k))
 
-  pub dropped_bytes : (s : ℕ) (bytes bytes' : ℕ → ℕ) → ((k t : ℕ) → cell bits' pages' (k / 8) ≡ Some t → bytes' k ≡ bytes k) → ((i : ℕ) → cell bits' pages' i ≡ kept (λ t. not (eqb t s)) (cell bits pages i)) →
-      Changes (get (bytes_of first bits pages bytes)) (λ a. has (λ t. eqb t s) (get (held_of first bits pages) (a / 8))) None (get (bytes_of first bits' pages' bytes'))
-  dropped_bytes s bytes bytes' stays cells a =
+  pub dropped_bytes : (test : ℕ → Bool) (bytes bytes' : ℕ → ℕ) → ((k t : ℕ) → cell bits' pages' (k / 8) ≡ Some t → bytes' k ≡ bytes k) → ((i : ℕ) → cell bits' pages' i ≡ kept (λ t. not (test t)) (cell bits pages i)) →
+      Changes (get (bytes_of first bits pages bytes)) (λ a. has test (get (held_of first bits pages) (a / 8))) None (get (bytes_of first bits' pages' bytes'))
+  dropped_bytes test bytes bytes' stays cells a =
       get-bytes_of first bits' pages' bytes' a
       ∙ kept_at first bits' pages' bytes bytes' a (λ t _ held. stays (a - 8 * first) t held)
-      ∙ ap (λ o. cond (is_some o) (Some (bytes (a - 8 * first))) None) (dropped_shifted s cells (a / 8) (cases_lt (a / 8) first))
+      ∙ ap (λ o. cond (is_some o) (Some (bytes (a - 8 * first))) None) (dropped_shifted test cells (a / 8) (cases_lt (a / 8) first))
       ∙ inner (shifted first (cell bits pages) (a / 8))
-      ∙ sym (ap (λ o. cond (has (λ t. eqb t s) o) None (byte_at first bits pages bytes a)) (holder_at first bits pages (a / 8)))
-      ∙ sym (ap (cond (has (λ t. eqb t s) (get (held_of first bits pages) (a / 8))) None) (get-bytes_of first bits pages bytes a)) where
-        inner : (o : Option ℕ) → cond (is_some (kept (λ t. not (eqb t s)) o)) (Some (bytes (a - 8 * first))) None ≡ cond (has (λ t. eqb t s) o) None (cond (is_some o) (Some (bytes (a - 8 * first))) None)
+      ∙ sym (ap (λ o. cond (has test o) None (byte_at first bits pages bytes a)) (holder_at first bits pages (a / 8)))
+      ∙ sym (ap (cond (has test (get (held_of first bits pages) (a / 8))) None) (get-bytes_of first bits pages bytes a)) where
+        inner : (o : Option ℕ) → cond (is_some (kept (λ t. not (test t)) o)) (Some (bytes (a - 8 * first))) None ≡ cond (has test o) None (cond (is_some o) (Some (bytes (a - 8 * first))) None)
         inner None = refl
-        inner (Some t) = at (eqb t s) where
+        inner (Some t) = at (test t) where
           at : (b : Bool) → cond (is_some (cond (not b) (Some t) None)) (Some (bytes (a - 8 * first))) None ≡ cond b None (Some (bytes (a - 8 * first)))
           at true = refl
           at false = refl

@@ -3,8 +3,8 @@ use Rattle.std.proofs.Common.{◌≡◌, ℕ, ◌+◌, ◌-◌, ◌*◌, ◌/◌
 use Rattle.std.proofs.lemmas.Bool.{both_ways, cases_lt, false≢true, and_parts, cases_Bool, cond-true, cond-false, lt-ltb, le-ltb}
 use Rattle.std.proofs.lemmas.List.{get_or_past}
 use Rattle.std.proofs.lemmas.Option.{none-some}
-use Rattle.mvs_model.specs.Finite.{kept}
-use Rattle.page_map.specs.Owners.{owner_of, is_usable, is_of}
+use Rattle.mvs_model.specs.Finite.{kept, has}
+use Rattle.page_map.specs.Owners.{owner_of, is_usable}
 use Rattle.subpool_store.specs.Bits.{in_range}
 use Rattle.subpool_store.specs.Edits.{IsMarked, IsAssigned, IsGivenUp, IsDropped}
 use Rattle.subpool_store.specs.Half.{cell}
@@ -142,47 +142,47 @@ module _ (start end : ℕ) (bits bits' : List Bool) (pages pages' : List (Option
   }
 
 -- a doubleword and its page after all of s went
-dropped_at : (b : Bool) (o : Option ℕ) (s : ℕ) → cond (cond (is_of s o) false b) (cond (is_of s o) None o) None ≡ kept (λ t. not (eqb t s)) (cond b o None)
-dropped_at true None s = refl
-dropped_at false None s = refl
-dropped_at true (Some t) s = at (eqb t s) where
+dropped_at : (b : Bool) (o : Option ℕ) (test : ℕ → Bool) → cond (cond (has test o) false b) (cond (has test o) None o) None ≡ kept (λ t. not (test t)) (cond b o None)
+dropped_at true None test = refl
+dropped_at false None test = refl
+dropped_at true (Some t) test = at (test t) where
   at : (c : Bool) → cond (cond c false true) (cond {A = Option ℕ} c None (Some t)) None ≡ cond (not c) (Some t) None
   at true = refl
   at false = refl
-dropped_at false (Some t) s = at (eqb t s) where
+dropped_at false (Some t) test = at (test t) where
   at : (c : Bool) → cond {A = Option ℕ} (cond c false false) (cond {A = Option ℕ} c None (Some t)) None ≡ None
   at true = refl
   at false = refl
 
--- all that s has is given up
-module _ (s : ℕ) (bits bits' : List Bool) (pages pages' : List (Option ℕ)) (exact : IsExact bits pages) (dropped : IsDropped s bits pages (length pages) bits' pages') where
-  all_pages : (p : ℕ) → (ltb p (length pages) && is_of s (owner_of pages p)) ≡ is_of s (owner_of pages p)
+-- all that the subpools of a test have is given up
+module _ (test : ℕ → Bool) (bits bits' : List Bool) (pages pages' : List (Option ℕ)) (exact : IsExact bits pages) (dropped : IsDropped test bits pages (length pages) bits' pages') where
+  all_pages : (p : ℕ) → (ltb p (length pages) && has test (owner_of pages p)) ≡ has test (owner_of pages p)
   all_pages p = elim (cases_lt p (length pages)) [
-    | inl low ↦ ap (λ b. b && is_of s (owner_of pages p)) (lt-ltb p (length pages) low)
-    | inr past ↦ ap (λ b. b && is_of s (owner_of pages p)) (le-ltb p (length pages) past) ∙ sym (ap (is_of s) (get_or_past pages p None past))
+    | inl low ↦ ap (λ b. b && has test (owner_of pages p)) (lt-ltb p (length pages) low)
+    | inr past ↦ ap (λ b. b && has test (owner_of pages p)) (le-ltb p (length pages) past) ∙ sym (ap (has test) (get_or_past pages p None past))
   ]
 
-  owner_is : (p : ℕ) → owner_of pages' p ≡ cond (is_of s (owner_of pages p)) None (owner_of pages p)
+  owner_is : (p : ℕ) → owner_of pages' p ≡ cond (has test (owner_of pages p)) None (owner_of pages p)
   owner_is p = dropped.owners p ∙ ap (λ b. cond b None (owner_of pages p)) (all_pages p)
 
-  bit_is : (i : ℕ) → get_or bits' i false ≡ cond (is_of s (owner_of pages (i / 512))) false (get_or bits i false)
+  bit_is : (i : ℕ) → get_or bits' i false ≡ cond (has test (owner_of pages (i / 512))) false (get_or bits i false)
   bit_is i = dropped.each i ∙ ap (λ b. cond b false (get_or bits i false)) (all_pages (i / 512))
 
-  pub dropped_cell : (i : ℕ) → cell bits' pages' i ≡ kept (λ t. not (eqb t s)) (cell bits pages i)
-  dropped_cell i = (λ j. cond (bit_is i j) (owner_is (i / 512) j) None) ∙ dropped_at (get_or bits i false) (owner_of pages (i / 512)) s
+  pub dropped_cell : (i : ℕ) → cell bits' pages' i ≡ kept (λ t. not (test t)) (cell bits pages i)
+  dropped_cell i = (λ j. cond (bit_is i j) (owner_is (i / 512) j) None) ∙ dropped_at (get_or bits i false) (owner_of pages (i / 512)) test
 
   pub dropped_exact : IsExact bits' pages'
   dropped_exact = record {
     sizes = dropped.bits_size ∙ exact.sizes ∙ ap (λ n. 512 * n) (sym dropped.pages_size);
     most = subst (λ n. n ≤ 8192) (sym dropped.pages_size) exact.most;
-    free = λ i none. elim (cases_Bool (is_of s (owner_of pages (i / 512)))) [
+    free = λ i none. elim (cases_Bool (has test (owner_of pages (i / 512)))) [
       | inl gone ↦ bit_is i ∙ cond-true _ _ _ gone
       | inr stays ↦ bit_is i ∙ cond-false _ _ _ stays ∙ exact.free i (sym (cond-false _ _ _ stays) ∙ sym (owner_is (i / 512)) ∙ none)
     ];
-    used = λ p t owned. elim (cases_Bool (is_of s (owner_of pages p))) [
+    used = λ p t owned. elim (cases_Bool (has test (owner_of pages p))) [
       | inl gone ↦ absurd (none-some t (sym (cond-true _ _ _ gone) ∙ sym (owner_is p) ∙ owned))
       | inr stays ↦
           let at = exact.used p t (sym (cond-false _ _ _ stays) ∙ sym (owner_is p) ∙ owned) in
-          (at.0, at.1, bit_is at.0 ∙ cond-false _ _ _ (ap (λ q. is_of s (owner_of pages q)) at.1 ∙ stays) ∙ at.2)
+          (at.0, at.1, bit_is at.0 ∙ cond-false _ _ _ (ap (λ q. has test (owner_of pages q)) at.1 ∙ stays) ∙ at.2)
     ];
   }

@@ -21,3 +21,4 @@ pub mod Taken
 pub mod Parts
 pub mod LentHalf
 pub mod Counts
+pub mod PagesDropped

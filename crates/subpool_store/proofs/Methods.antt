@@ -194,25 +194,26 @@ module _ (first : ℕ) (bits : List Bool) (pages : List (Option ℕ)) (bytes : �
         let l8 : p.len % 8 ≡ 0 = full in
         sym (holder_index first bits pages i) ∙ ap (λ g. get g.held (first + i)) is ∙ held (first + i) (omega arith, omega arith)
 
-  -- all that s holds goes
-  module _ (bits' : List Bool) (pages' : List (Option ℕ)) (dropped : IsDropped s bits pages (length pages) bits' pages') where
-    pub drop_half : IsHalf first bits' pages'
-    drop_half = record {
-      exact = dropped_exact s bits bits' pages pages' half.exact dropped;
-      aligned = half.aligned;
-      end = subst (λ n. 8 * (first + n) ≤ 2 ^ 31) (sym dropped.bits_size) half.end;
-      one_side = subst (λ n. first < 2097152 → first + n ≤ 2097152) (sym dropped.bits_size) half.one_side;
-    }
+-- all that the subpools of a test hold goes
+module _ (first : ℕ) (bits : List Bool) (pages : List (Option ℕ)) (bytes : ℕ → ℕ) (h : HalfState) (half : IsHalf first bits pages) (is : half_of first bits pages bytes ≡ h) (test : ℕ → Bool)
+    (bits' : List Bool) (pages' : List (Option ℕ)) (dropped : IsDropped test bits pages (length pages) bits' pages') where
+  pub drop_half : IsHalf first bits' pages'
+  drop_half = record {
+    exact = dropped_exact test bits bits' pages pages' half.exact dropped;
+    aligned = half.aligned;
+    end = subst (λ n. 8 * (first + n) ≤ 2 ^ 31) (sym dropped.bits_size) half.end;
+    one_side = subst (λ n. first < 2097152 → first + n ≤ 2097152) (sym dropped.bits_size) half.one_side;
+  }
 
-    pub drop_changes : (bytes' : ℕ → ℕ) → ((k t : ℕ) → cell bits' pages' (k / 8) ≡ Some t → bytes' k ≡ bytes k) → DroppedIn h s (half_of first bits' pages' bytes')
-    drop_changes bytes' stays =
-        let cells = dropped_cell s bits bits' pages pages' half.exact dropped in
-        subst (λ g. DroppedIn g s (half_of first bits' pages' bytes')) is (record {
-          first = refl;
-          pages = dropped.pages_size;
-          held = dropped_holders first bits bits' pages pages' s cells;
-          bytes = dropped_bytes first bits bits' pages pages' s bytes bytes' stays cells;
-        })
+  pub drop_changes : (bytes' : ℕ → ℕ) → ((k t : ℕ) → cell bits' pages' (k / 8) ≡ Some t → bytes' k ≡ bytes k) → DroppedIn h test (half_of first bits' pages' bytes')
+  drop_changes bytes' stays =
+      let cells = dropped_cell test bits bits' pages pages' half.exact dropped in
+      subst (λ g. DroppedIn g test (half_of first bits' pages' bytes')) is (record {
+        first = refl;
+        pages = dropped.pages_size;
+        held = dropped_holders first bits bits' pages pages' test cells;
+        bytes = dropped_bytes first bits bits' pages pages' test bytes bytes' stays cells;
+      })
 
 module _ (first : ℕ) (bits : List Bool) (pages : List (Option ℕ)) (bytes : ℕ → ℕ) (h : HalfState) (is : half_of first bits pages bytes ≡ h) where
   -- who holds a doubleword, in the region and outside it

@@ -1,6 +1,7 @@
 -- The doublewords of a region that are held, the owners of its pages, and changes of both.
 use Rattle.std.specs.Prelude.{◌≡◌, ℕ, ◌/◌, ◌<◌, ◌≤◌, ◌⊎◌, ◌&&◌, nat_lt, Bool, true, false, Option, Some, None, List, length, slice_index_or, if◌then◌else◌}
-use Rattle.page_map.specs.Owners.{owner_of, is_of}
+use Rattle.mvs_model.specs.Finite.{has}
+use Rattle.page_map.specs.Owners.{owner_of}
 use Rattle.subpool_store.specs.Bits.{in_range}
 
 -- There are so many bits, and none of them is set.
@@ -41,9 +42,9 @@ pub record IsGivenUp (bits : List Bool) (old : List (Option ℕ)) (from to : ℕ
   pub outside : (p : ℕ) → in_range from to p ≡ false → owner_of new p ≡ owner_of old p
   pub inside : (p : ℕ) → in_range from to p ≡ true → ((owner_of new p ≡ None) × HasNoBit bits p) ⊎ ((owner_of new p ≡ owner_of old p) × HasBit bits p)
 
--- What s has of the first n pages is free now and these pages are given up, and all else is as before.
-pub record IsDropped (s : ℕ) (bits : List Bool) (pages : List (Option ℕ)) (n : ℕ) (bits' : List Bool) (pages' : List (Option ℕ)) : Type 0 where
+-- What the subpools that pass the test have of the first n pages is free now and these pages are given up, and all else is as before.
+pub record IsDropped (test : ℕ → Bool) (bits : List Bool) (pages : List (Option ℕ)) (n : ℕ) (bits' : List Bool) (pages' : List (Option ℕ)) : Type 0 where
   pub bits_size : length bits' ≡ length bits
   pub pages_size : length pages' ≡ length pages
-  pub owners : (p : ℕ) → owner_of pages' p ≡ (if nat_lt p n && is_of s (owner_of pages p) then None else owner_of pages p)
-  pub each : (i : ℕ) → slice_index_or bits' i false ≡ (if nat_lt (i / 512) n && is_of s (owner_of pages (i / 512)) then false else slice_index_or bits i false)
+  pub owners : (p : ℕ) → owner_of pages' p ≡ (if nat_lt p n && has test (owner_of pages p) then None else owner_of pages p)
+  pub each : (i : ℕ) → slice_index_or bits' i false ≡ (if nat_lt (i / 512) n && has test (owner_of pages (i / 512)) then false else slice_index_or bits i false)

@@ -107,9 +107,9 @@ pub record ChangedIn (old : HalfState) (p : PlaceValue) (v b : Option ℕ) (new 
   pub held : Changes (get old.held) (covers p) v (get new.held)
   pub bytes : Changes (get old.bytes) (has_address p) b (get new.bytes)
 
--- What s held is free now and its bytes are gone, and all else is as before.
-pub record DroppedIn (old : HalfState) (s : ℕ) (new : HalfState) : Type 0 where
+-- What the subpools that pass the test held is free now and its bytes are gone, and all else is as before.
+pub record DroppedIn (old : HalfState) (test : ℕ → Bool) (new : HalfState) : Type 0 where
   pub first : new.first ≡ old.first
   pub pages : new.pages ≡ old.pages
-  pub held : Keeps (get old.held) (λ _ t. not (t == s)) (get new.held)
-  pub bytes : Changes (get old.bytes) (λ a. has (λ t. t == s) (get old.held (a / 8))) None (get new.bytes)
+  pub held : Keeps (get old.held) (λ _ t. not (test t)) (get new.held)
+  pub bytes : Changes (get old.bytes) (λ a. has test (get old.held (a / 8))) None (get new.bytes)

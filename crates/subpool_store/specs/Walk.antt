@@ -37,7 +37,7 @@ pub record IsNextPart (m : MemoryState) (pages : List (Option ℕ)) (s from : �
   pub passes : (i : ℕ) → part.start ≤ i → i < part.end → may_take m.held pages s i ≡ true
   pub stands : Stands m pages s part.end part.inside part.queue
   pub farther : progress from inside < progress part.end part.inside
-  pub one : part.examined ≤ 1
+  pub few : progress from inside + part.examined ≤ progress part.end part.inside
   pub counted : looked_at m pages s from inside + part.examined ≡ looked_at m pages s part.end part.inside
 
 -- The pass has joined a run up to where it stands.

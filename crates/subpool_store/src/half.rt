@@ -4,11 +4,11 @@ ghost use Rattle.std.specs.Prelude.{◌≡◌, ◌<◌, ◌≤◌, ◌+◌, ◌-
 ghost use Rattle.std.specs.Borrow.{sem};
 ghost use Rattle.std.specs.FinMap.{get, empty};
 ghost use Rattle.mvs_model.specs.Finite.{count_below, has};
-ghost use Rattle.mvs_model.specs.Storage.{IsWhole};
+ghost use Rattle.mvs_model.specs.Storage.{IsWhole, is_one_of};
 ghost use Rattle.mvs_model.specs.Want.{IsWant};
 ghost use Rattle.page_map.specs.Owners.{owner_of, is_usable};
 ghost use Rattle.subpool_store.specs.Bound.{to_look_at};
-ghost use Rattle.subpool_store.specs.Edits.{IsAssigned, IsGivenUp, IsDropped, IsMarked};
+ghost use Rattle.subpool_store.specs.Edits.{IsAssigned, IsGivenUp, IsMarked};
 ghost use Rattle.subpool_store.specs.Half.{
   AllHeldIn,
   BestIn,
@@ -25,6 +25,7 @@ ghost use Rattle.subpool_store.specs.Memory.{Stays};
 ghost use Rattle.subpool_store.specs.Search.{IsCounted};
 ghost use Rattle.subpool_store.specs.LendsHalf.{LendsHalf};
 
+use crate::dropping::drop_pages;
 use crate::free_runs::{self, are_held, are_held_in};
 use crate::memory::Memory;
 use crate::run::Run;
@@ -32,6 +33,7 @@ use crate::search::{Found, find};
 use mvs_model::error::OutOfMemory;
 use mvs_model::place::{Addr, Place};
 use mvs_model::subpool::SubpoolId;
+use mvs_model::subpool_set::SubpoolSet;
 use mvs_model::want::{Placement, Want};
 use page_map::PageMap;
 use std::alloc::Global;
@@ -91,7 +93,7 @@ fn open_pages(
 }
 
 // Gives up a page that is assigned, and closes it: nothing of it is held then.
-fn close_page(pages: &mut PageMap, memory: &mut Memory, page: usize)
+pub fn close_page(pages: &mut PageMap, memory: &mut Memory, page: usize)
     requires within { page < length pages.old }
     requires assigned { IsSome (owner_of pages.old page) }
     requires opened { IsOpened pages.old memory.old.bytes }
@@ -149,21 +151,6 @@ fn holds_run(memory: &Memory, pages: &PageMap, subpool: SubpoolId, run: Run) -> 
         return false;
     }
     are_held(memory, run)
-}
-
-// Gives up the pages of the subpool, and what is held of them, and closes them.
-fn drop_pages(pages: &mut PageMap, memory: &mut Memory, subpool: SubpoolId)
-    requires sizes { length memory.old.held ≡ 512 * length pages.old }
-    requires opened { IsOpened pages.old memory.old.bytes }
-    ensures dropped { IsDropped subpool memory.old.held pages.old (length pages.old) memory.new.held pages.new }
-    ensures opened { IsOpened pages.new memory.new.bytes }
-    ensures stays { Stays memory.new.held memory.old.bytes memory.new.bytes }
-{
-    for page in 0..pages.pages() {
-        if pages.owner(page) == Some(subpool) {
-            close_page(pages, memory, page);
-        }
-    }
 }
 
 // Whether the page is the subpool's.
@@ -327,12 +314,12 @@ impl Half {
         );
     }
 
-    // Takes back all that the subpool holds.
-    pub fn release_all(&mut self, subpool: SubpoolId)
-        ensures dropped { DroppedIn self.old subpool self.new }
+    // Takes back all that the subpools of a set hold.
+    pub fn release_each(&mut self, subpools: &SubpoolSet)
+        ensures dropped { DroppedIn self.old (is_one_of subpools.now) self.new }
         ensures sound { IsSound self.new }
     {
-        drop_pages(&mut self.pages, &mut self.memory, subpool);
+        drop_pages(&mut self.pages, &mut self.memory, subpools);
     }
 
     // Who holds the doubleword of an address.

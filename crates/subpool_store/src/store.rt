@@ -16,6 +16,7 @@ ghost use Rattle.mvs_model.specs.Storage.{
   Open,
   Release,
   ReleaseAll,
+  ReleaseEach,
   held_bytes,
   holder,
 };
@@ -29,6 +30,7 @@ use crate::search::{Found, is_longest, longer};
 use mvs_model::error::OutOfMemory;
 use mvs_model::place::{Addr, Place};
 use mvs_model::subpool::SubpoolId;
+use mvs_model::subpool_set::SubpoolSet;
 use mvs_model::want::{Placement, Side, Want};
 use std::alloc::Global;
 use std::marker::Model;
@@ -232,8 +234,18 @@ impl Store {
         ensures released { ReleaseAll self.old subpool self.new }
         ensures storage { IsStorage self.new }
     {
-        self.below.release_all(subpool);
-        self.above.release_all(subpool);
+        let mut subpools = SubpoolSet::empty();
+        subpools.insert(subpool);
+        self.release_each(&subpools);
+    }
+
+    /// Takes back all that the subpools of a set hold, in one pass.
+    pub fn release_each(&mut self, subpools: &SubpoolSet)
+        ensures released { ReleaseEach self.old subpools.now self.new }
+        ensures storage { IsStorage self.new }
+    {
+        self.below.release_each(subpools);
+        self.above.release_each(subpools);
     }
 
     /// Whether the subpool holds each doubleword of which a byte lies in the place.

@@ -2,7 +2,7 @@
 
 ghost use Rattle.std.specs.Prelude.{◌≡◌, ◌<◌, ◌≤◌, ◌/◌, ◌%◌, ◌⊎◌, ℕ, MatchOption, Some, false, true, length, slice_index_or};
 ghost use Rattle.free_queue.specs.Runs.{end};
-ghost use Rattle.page_map.specs.Owners.{owner_of};
+ghost use Rattle.page_map.specs.Owners.{owner_of, is_usable};
 ghost use Rattle.subpool_store.specs.Half.{IsOpened};
 ghost use Rattle.subpool_store.specs.Memory.{IsCursor};
 ghost use Rattle.subpool_store.specs.Search.{may_take, IsExact, IsNextRun};
@@ -14,7 +14,7 @@ use free_queue::queue::Head;
 use mvs_model::subpool::SubpoolId;
 use page_map::PageMap;
 
-/// What a look at one page entry or at one free run says: from where the pass stands to `start` the subpool may
+/// What a look at page entries or at one free run says: from where the pass stands to `start` the subpool may
 /// take no doubleword, from there to `end` each of them.
 #[derive(Clone, Copy)]
 struct Part {
@@ -35,6 +35,25 @@ pub struct Walk {
     inside: bool,
     queue: Head,
     pub steps: u32,
+}
+
+// Passes the entries of other subpools' pages, up to the first one that is free or the subpool's own.
+fn pass_pages(memory: &Memory, pages: &PageMap, subpool: SubpoolId, from: usize) -> Part
+    requires exact { IsExact memory.now.held pages.now }
+    requires within { from < length memory.now.held }
+    requires page { from % 512 ≡ 0 }
+    requires foreign { is_usable subpool (owner_of pages.now (from / 512)) ≡ false }
+    ensures { IsNextPart memory.now pages.now subpool from false result }
+{
+    let _ = memory;
+    let page = pages.first_usable(subpool, from / 512);
+    Part {
+        start: 512 * page,
+        end: 512 * page,
+        inside: false,
+        queue: Head::none(),
+        examined: (page - from / 512) as u32,
+    }
 }
 
 // Looks at the entry of the next page.
@@ -62,13 +81,7 @@ fn examine_page(memory: &Memory, pages: &PageMap, subpool: SubpoolId, from: usiz
             queue: memory.first(from / 512),
             examined: 1,
         },
-        Some(_) => Part {
-            start: end,
-            end,
-            inside: false,
-            queue: Head::none(),
-            examined: 1,
-        },
+        Some(_) => pass_pages(memory, pages, subpool, from),
     }
 }
 

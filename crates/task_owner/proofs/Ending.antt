@@ -7,13 +7,12 @@ use Rattle.mvs_model.specs.Finite.{Keeps, kept, has}
 use Rattle.mvs_model.specs.Owners.{goes, Ends}
 use Rattle.task_owner.specs.Tasks.{name_at}
 use Rattle.task_owner.specs.Seats.{item_at, name_of_seat, number_of, seat_named, mother_of, task_of, entry_of, owner_name, directory, IsSound, MothersActive}
-use Rattle.task_owner.specs.Family.{has_owner, Trims, IsTrimmed}
+use Rattle.task_owner.specs.Family.{has_owner, TrimsBy, IsTrimmed}
 use Rattle.task_owner.specs.declared.seat.Seat.{Seat}
 use Rattle.task_owner.specs.declared.seat.Owned.{Owned}
 use Rattle.task_owner.proofs.Places.{of_some}
 use Rattle.task_owner.proofs.Reading.{found, found_at, not_found, view-task, view-entry, view-owner, view-name}
 use Rattle.task_owner.proofs.Bools.{kept_back, not_true, passing_kept, none_kept, all_kept}
-use Rattle.task_owner.proofs.Trimming.{numbers_kept}
 use Rattle.task_owner.proofs.Having.{same_place}
 
 module _ (seats mid next : List (Option Seat)) (owned left : List (Option Owned)) (t : Name) (fallen : List Name) (sound : IsSound seats owned)
@@ -27,14 +26,14 @@ module _ (seats mid next : List (Option Seat)) (owned left : List (Option Owned)
   to_mid : (k : ℕ) (x : Seat) → item_at seats k ≡ Some x → item_at mid k ≡ cond (not (goes t fallen x.name)) (Some x) None
   to_mid k x h = out k ∙ ap (kept (λ (y : Seat). not (goes t fallen y.name))) h
 
-  trimmed : (k : ℕ) (x : Seat) → item_at mid k ≡ Some x → (w : Seat) × (item_at next k ≡ Some w) × Trims left x w
+  trimmed : (k : ℕ) (x : Seat) → item_at mid k ≡ Some x → (w : Seat) × (item_at next k ≡ Some w) × TrimsBy (has_owner left) x w
   trimmed k x h = subst (λ o. IsTrimmed left o (item_at next k)) h (each k)
 
-  before : (k : ℕ) (w : Seat) → item_at next k ≡ Some w → (x : Seat) × (item_at mid k ≡ Some x) × Trims left x w
+  before : (k : ℕ) (w : Seat) → item_at next k ≡ Some w → (x : Seat) × (item_at mid k ≡ Some x) × TrimsBy (has_owner left) x w
   before k w h = by (item_at mid k) refl (each k) where
-    by : (o : Option Seat) → item_at mid k ≡ o → IsTrimmed left o (item_at next k) → (x : Seat) × (item_at mid k ≡ Some x) × Trims left x w
+    by : (o : Option Seat) → item_at mid k ≡ o → IsTrimmed left o (item_at next k) → (x : Seat) × (item_at mid k ≡ Some x) × TrimsBy (has_owner left) x w
     by None e r = let f : None ≡ Some w = sym r ∙ h in absurd (cc)
-    by (Some x) e r = let f : Some r.0 ≡ Some w = sym r.1 ∙ h in let same : r.0 ≡ w = cc in (x, e, subst (λ (v : Seat). Trims left x v) same r.2)
+    by (Some x) e r = let f : Some r.0 ≡ Some w = sym r.1 ∙ h in let same : r.0 ≡ w = cc in (x, e, subst (λ (v : Seat). TrimsBy (has_owner left) x v) same r.2)
 
   owner_back : (s : ℕ) (o : Owned) → item_at left s ≡ Some o → (item_at owned s ≡ Some o) × IsSome (item_at mid o.owner)
   owner_back s o h = kept_back (λ (p : Owned). is_some (item_at mid p.owner)) (item_at owned s) o (sym (freed s) ∙ h)
@@ -50,14 +49,14 @@ module _ (seats mid next : List (Option Seat)) (owned left : List (Option Owned)
     first = λ j k v w hv hw e f. let a = before j v hv in let b = before k w hw in sound.first j k a.0 b.0 (from_mid j a.0 a.1).0 (from_mid k b.0 b.1).0 (sym a.2.mother ∙ e) (sym b.2.mother ∙ f);
     entries = λ k n s w h e.
         let a = before k w h in
-        let r = kept_back (has_owner left) (number_of a.0 n) s (sym (numbers_kept left a.0 w a.2 n) ∙ e) in
+        let r = kept_back (has_owner left) (number_of a.0 n) s (sym (a.2.numbers n) ∙ e) in
         let o = of_some (item_at left s) r.1 in
         let p = sound.entries k n s a.0 (from_mid k a.0 a.1).0 r.0 in
         let f : Some p.0 ≡ Some o.0 = sym p.1 ∙ (owner_back s o.0 o.1).0 in
         (p.0, o.1 ∙ sym f, p.2);
     places = λ k n s w h e.
         let a = before k w h in
-        let r = kept_back (has_owner left) (number_of a.0 n) s (sym (numbers_kept left a.0 w a.2 n) ∙ e) in
+        let r = kept_back (has_owner left) (number_of a.0 n) s (sym (a.2.numbers n) ∙ e) in
         same_place a.0 w n (sym a.2.mother) (sound.places k n s a.0 (from_mid k a.0 a.1).0 r.0);
     owners = λ s o h.
         let b = owner_back s o h in
@@ -66,7 +65,7 @@ module _ (seats mid next : List (Option Seat)) (owned left : List (Option Owned)
         let w = trimmed o.owner z.0 z.1 in
         let f : Some x.0 ≡ Some z.0 = sym x.1 ∙ (from_mid o.owner z.0 z.1).0 in
         let same : x.0 ≡ z.0 = cc in
-        (w.0, w.1, numbers_kept left z.0 w.0 w.2 o.number ∙ ap (kept (has_owner left)) (ap (λ v. number_of v o.number) (sym same) ∙ x.2) ∙ passing_kept (has_owner left) s (ap is_some h));
+        (w.0, w.1, w.2.numbers o.number ∙ ap (kept (has_owner left)) (ap (λ v. number_of v o.number) (sym same) ∙ x.2) ∙ passing_kept (has_owner left) s (ap is_some h));
   }
 
   -- what is found by a name that goes, and by one that stays
@@ -75,7 +74,7 @@ module _ (seats mid next : List (Option Seat)) (owned left : List (Option Owned)
       let a = before k w h in
       let f : true ≡ false = sym g ∙ ap (goes t fallen) (sym e ∙ a.2.name) ∙ (from_mid k a.0 a.1).1 in cc)
 
-  after : (q : Name) → goes t fallen q ≡ false → (x : Seat) → seat_named seats q ≡ Some x → (k : ℕ) × (w : Seat) × (item_at mid k ≡ Some x) × (seat_named next q ≡ Some w) × Trims left x w
+  after : (q : Name) → goes t fallen q ≡ false → (x : Seat) → seat_named seats q ≡ Some x → (k : ℕ) × (w : Seat) × (item_at mid k ≡ Some x) × (seat_named next q ≡ Some w) × TrimsBy (has_owner left) x w
   after q g x h =
       let r = found_at seats q x h in
       let here : item_at mid r.0 ≡ Some x = to_mid r.0 x r.1 ∙ ap (λ b. cond (not b) (Some x) None) (ap (goes t fallen) r.2 ∙ g) in
@@ -172,10 +171,10 @@ module _ (seats mid next : List (Option Seat)) (owned left : List (Option Owned)
       two : (o : Option Seat) → seat_named seats q ≡ o → entry_of (seat_named next q) n ≡ kept (λ s. not (has (goes t fallen) (owner_name seats (item_at owned s)))) (entry_of (seat_named seats q) n)
       two None h = ap (λ o. entry_of o n) (after_none q h) ∙ sym (ap (λ o. kept (λ s. not (has (goes t fallen) (owner_name seats (item_at owned s)))) (entry_of o n)) h)
       two (Some x) h =
-          ap (λ o. entry_of o n) a.3 ∙ numbers_kept left x a.1 a.4 n ∙ agree (number_of x n) refl
+          ap (λ o. entry_of o n) a.3 ∙ a.4.numbers n ∙ agree (number_of x n) refl
           ∙ sym (ap (λ o. kept (λ s. not (has (goes t fallen) (owner_name seats (item_at owned s)))) (entry_of o n)) h)
         where
-          a : (k : ℕ) × (w : Seat) × (item_at mid k ≡ Some x) × (seat_named next q ≡ Some w) × Trims left x w
+          a : (k : ℕ) × (w : Seat) × (item_at mid k ≡ Some x) × (seat_named next q ≡ Some w) × TrimsBy (has_owner left) x w
           a = after q g x h
 
           agree : (o : Option ℕ) → number_of x n ≡ o → kept (has_owner left) o ≡ kept (λ s. not (has (goes t fallen) (owner_name seats (item_at owned s)))) o

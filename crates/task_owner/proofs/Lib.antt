@@ -9,8 +9,7 @@ pub mod Starting
 pub mod Binding
 pub mod Bound
 pub mod Families
-pub mod Freed
-pub mod Trimming
+pub mod Collecting
 pub mod Ending
 pub mod Fallen
 pub mod Ended

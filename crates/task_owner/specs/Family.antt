@@ -1,14 +1,13 @@
 -- What stands between while a task and its descendants are taken out. No public clause cites this module.
-use Rattle.std.specs.Prelude.{◌≡◌, ℕ, ◌+◌, ◌<◌, ◌≤◌, List, length, Bool, true, false, not, Option, Some, None, is_some, count_by, nat_eq, nat_lt, if◌then◌else◌}
-use Rattle.std.specs.List.{list_any, AllByRecursion}
-use Rattle.std.specs.List.Sorted.{IsStrictlySortedBy}
-use Rattle.std.specs.Ordering.{nat_cmp}
+use Rattle.std.specs.Prelude.{◌≡◌, ℕ, ◌+◌, ◌<◌, ◌≤◌, ◌==◌, ◌&&◌, List, length, Bool, true, false, not, Option, Some, None, is_some, count_by, nat_lt, if◌then◌else◌}
+use Rattle.std.specs.List.{list_any}
 use Rattle.slab.specs.Slab.{Slab, get, slab_len}
 use Rattle.mvs_model.specs.declared.name.Name.{Name}
 use Rattle.mvs_model.specs.Name.{same_name}
-use Rattle.mvs_model.specs.Finite.{Keeps, has}
+use Rattle.mvs_model.specs.Finite.{Keeps, has, kept}
 use Rattle.mvs_model.specs.Owners.{goes}
-use Rattle.task_owner.specs.Seats.{item_at}
+use Rattle.mvs_model.specs.Storage.{is_one_of}
+use Rattle.task_owner.specs.Seats.{item_at, number_of}
 use Rattle.task_owner.specs.declared.seat.Seat.{Seat}
 use Rattle.task_owner.specs.declared.seat.Owned.{Owned}
 
@@ -37,32 +36,69 @@ is_owner_active active o = is_some (get active o.owner)
 abbrev pub falls_free : Slab Seat → List (Option Owned) → ℕ → Bool
 falls_free active owned s = has (λ o. not (is_owner_active active o)) (item_at owned s)
 
--- the subpools below the bound whose owner is not active, in rising order
-pub record FreedBelow (active : Slab Seat) (owned : List (Option Owned)) (bound : ℕ) (freed : List ℕ) : Type 0 where
-  pub sorted : IsStrictlySortedBy nat_cmp freed
-  pub below : AllByRecursion (λ s. s < bound) freed
-  pub len : length freed ≤ bound
-  pub each : (s : ℕ) → list_any (nat_eq s) freed ≡ (if nat_lt s bound then falls_free active owned s else false)
+-- the set has the subpools whose owner is not active
+abbrev pub IsFreed : Slab Seat → List (Option Owned) → List ℕ → Type 0
+IsFreed active owned freed = (s : ℕ) → is_one_of freed s ≡ falls_free active owned s
+
+-- whether the task at the key owns it
+abbrev pub is_of : ℕ → Option Owned → Bool
+is_of key = has (λ (o : Owned). o.owner == key)
+
+-- each subpool stands under its number with its owner
+abbrev pub OwnersHave : List (Option Seat) → List (Option Owned) → Type 0
+OwnersHave seats owned = (s : ℕ) (o : Owned) → item_at owned s ≡ Some o → (x : Seat) × (item_at seats o.owner ≡ Some x) × (number_of x o.number ≡ Some s)
+
+-- each subpool that a task has stands there under its number
+abbrev pub EntriesStand : List (Option Seat) → List (Option Owned) → Type 0
+EntriesStand seats owned = (k n s : ℕ) (x : Seat) → item_at seats k ≡ Some x → number_of x n ≡ Some s → (o : Owned) × (item_at owned s ≡ Some o) × (o.number ≡ n)
 
 -- whether the subpool has an owner
 abbrev pub has_owner : List (Option Owned) → ℕ → Bool
 has_owner owned s = is_some (item_at owned s)
 
--- a task with only the entries of subpools that have an owner
-pub record Trims (owned : List (Option Owned)) (old now : Seat) : Type 0 where
+-- a task with only the entries of subpools that pass the test
+pub record TrimsBy (test : ℕ → Bool) (old now : Seat) : Type 0 where
   pub name : now.name ≡ old.name
   pub mother : now.mother ≡ old.mother
   pub residence : now.residence ≡ old.residence
-  pub numbers : Keeps (item_at old.numbers) (λ _ s. has_owner owned s) (item_at now.numbers)
+  pub numbers : (n : ℕ) → number_of now n ≡ kept test (number_of old n)
 
 -- the same where there is a task
-abbrev pub IsTrimmed : List (Option Owned) → Option Seat → Option Seat → Type 0
-IsTrimmed owned None now = now ≡ None
-IsTrimmed owned (Some x) now = (y : Seat) × (now ≡ Some y) × Trims owned x y
+abbrev pub IsTrimmedBy : (ℕ → Bool) → Option Seat → Option Seat → Type 0
+IsTrimmedBy test None now = now ≡ None
+IsTrimmedBy test (Some x) now = (y : Seat) × (now ≡ Some y) × TrimsBy test x y
 
--- below the bound the tasks are trimmed, and from it on they are as before
-pub record TrimmedBelow (owned : List (Option Owned)) (old : Slab Seat) (bound : ℕ) (now : Slab Seat) : Type 0 where
-  pub below : (k : ℕ) → k < bound → IsTrimmed owned (get old k) (get now k)
+-- with only the entries of subpools that have an owner
+abbrev pub IsTrimmed : List (Option Owned) → Option Seat → Option Seat → Type 0
+IsTrimmed owned = IsTrimmedBy (has_owner owned)
+
+-- a task that no longer has the subpool under the number
+pub record Loses (number s : ℕ) (old now : Seat) : Type 0 where
+  pub name : now.name ≡ old.name
+  pub mother : now.mother ≡ old.mother
+  pub residence : now.residence ≡ old.residence
+  pub numbers : (n : ℕ) → number_of now n ≡ (if (n == number) && has (λ r. r == s) (number_of old n) then None else number_of old n)
+
+-- the same where there is a task
+abbrev pub IsLost : ℕ → ℕ → Option Seat → Option Seat → Type 0
+IsLost number s None now = now ≡ None
+IsLost number s (Some x) now = (y : Seat) × (now ≡ Some y) × Loses number s x y
+
+-- below the bound the tasks have lost it, and from it on they are as before
+pub record LostBelow (number s : ℕ) (old : Slab Seat) (bound : ℕ) (now : Slab Seat) : Type 0 where
+  pub below : (k : ℕ) → k < bound → IsLost number s (get old k) (get now k)
   pub later : (k : ℕ) → bound ≤ k → get now k ≡ get old k
+  pub len : slab_len now ≡ slab_len old
+  pub capacity : now.capacity ≡ old.capacity
+
+-- whether the subpool is one of the set below the bound
+abbrev pub is_freed_below : List ℕ → ℕ → ℕ → Bool
+is_freed_below freed bound s = nat_lt s bound && is_one_of freed s
+
+-- The subpools of the set that are below the bound have no owner, and no task has an entry for one of these.
+pub record FreedBelow (old : Slab Seat) (owned : List (Option Owned)) (freed : List ℕ) (bound : ℕ) (now : Slab Seat) (left : List (Option Owned)) : Type 0 where
+  pub owners : (s : ℕ) → item_at left s ≡ (if is_freed_below freed bound s then None else item_at owned s)
+  pub each : (k : ℕ) → IsTrimmedBy (λ s. not (is_freed_below freed bound s)) (get old k) (get now k)
+  pub sizes : length left ≡ length owned
   pub len : slab_len now ≡ slab_len old
   pub capacity : now.capacity ≡ old.capacity

@@ -3,11 +3,11 @@
 
 mod by_name;
 mod family;
+mod freed;
 mod handing;
 mod seat;
 mod tasks;
 #[cfg(test)]
 mod tests;
 
-pub use seat::Subpools;
 pub use tasks::{Gone, TaskId, Tasks};

@@ -10,7 +10,6 @@ ghost use Rattle.task_owner.specs.declared.seat.Owned.{Owned};
 
 use mvs_model::name::Name;
 use mvs_model::numbers::{MOST_SUBPOOLS, SUBPOOL_NUMBERS};
-use mvs_model::short_list::ShortList;
 use mvs_model::subpool::{SubNo, SubpoolId};
 use mvs_model::want::Residence;
 use slab::Slab;
@@ -21,9 +20,6 @@ pub(crate) const SLOTS: usize = SUBPOOL_NUMBERS as usize;
 
 // The subpools under the numbers of a task.
 pub(crate) type Numbers = [Option<SubpoolId>; SLOTS];
-
-/// Subpools, in rising order.
-pub type Subpools = ShortList<SubpoolId, 0, MOST_SUBPOOLS>;
 
 // A task, its mother by her key, and the subpools under its numbers.
 #[derive(Drop)]

@@ -14,11 +14,12 @@ ghost use Rattle.mvs_model.specs.Start.{first_owners};
 ghost use Rattle.task_owner.specs.Handing.{GetsEntry, SharesBelow, Admits};
 ghost use Rattle.task_owner.specs.Tasks.{name_at, IsTask, name_of, residence_of};
 
-use crate::family::{drop_entries, free_subpools, remove_family};
+use crate::family::remove_family;
+use crate::freed::free_subpools;
 use crate::handing::{hand_over, pass_on};
 use crate::seat::{
-    Owned, SLOTS, Seat, Subpools, enter, find_first, find_key, first_spare, has_child, no_owners,
-    number_at, seat_at,
+    Owned, SLOTS, Seat, enter, find_first, find_key, first_spare, has_child, no_owners, number_at,
+    seat_at,
 };
 use mvs_model::code::Code;
 use mvs_model::error::OutOfMemory;
@@ -27,6 +28,7 @@ use mvs_model::name::Name;
 use mvs_model::numbers::{MOST_TASKS, TASK_NUMBERS};
 use mvs_model::request::Fallen;
 use mvs_model::subpool::{SubNo, SubpoolId};
+use mvs_model::subpool_set::SubpoolSet;
 use mvs_model::want::Residence;
 use slab::Slab;
 use std::alloc::Global;
@@ -77,8 +79,8 @@ impl Model for Tasks {
 pub struct Gone {
     /// Its descendants, in byte order of their names (the order is this project's choice).
     pub fallen: Fallen,
-    /// The subpools that it and its descendants owned, in rising order.
-    pub freed: Subpools,
+    /// The subpools that it and its descendants owned.
+    pub freed: SubpoolSet,
 }
 
 impl Tasks {
@@ -353,9 +355,9 @@ impl Tasks {
         ensures rising { IsStrictlySortedBy nat_cmp result.freed }
         ensures names { (id : ℕ) → name_at self.new id ≡ kept (λ x. not (goes (name_of self.old t) result.fallen x)) (name_at self.old id) }
     {
-        let names = remove_family(&mut self.active, t.key);
-        let freed = free_subpools(&self.active, &mut self.owned);
-        drop_entries(&mut self.active, self.owned.as_slice());
+        let mut freed = SubpoolSet::empty();
+        let names = remove_family(&mut self.active, self.owned.as_slice(), t.key, &mut freed);
+        free_subpools(&mut self.active, &mut self.owned, &freed);
         Gone {
             fallen: Fallen::new(names),
             freed,

@@ -1,14 +1,25 @@
-use Rattle.mvs_model.proofs.SeenEnd.{releases_none, releases_more, keeps_none, keeps_more}
-use Rattle.request_forms.proofs.Pooling.{subpool_agrees, subpool_pools}
+use Rattle.std.proofs.Common.{[], subst, sym}
+use Rattle.std.specs.Prelude.{not}
+use Rattle.std.specs.FinMap.{get}
+use Rattle.mvs_model.specs.Finite.{Keeps}
+use Rattle.mvs_model.specs.Storage.{ReleaseEach, is_one_of}
+use Rattle.mvs_model.proofs.SeenEnd.{releases_none, keeps_none}
+use Rattle.cell_pool.specs.Roots.{pools_of}
+use Rattle.request_forms.proofs.Pooling.{still_agree, pools_gone}
 use Rattle.request_forms.proofs.subtasking.release_each.Goals as goal
 
-pub loop-subpool-init : goal.loop-subpool-init
-loop-subpool-init c = record { released = releases_none _; gone = keeps_none _; agree = c.requires }
+pub returns-then-is_empty : goal.returns-then-is_empty
+returns-then-is_empty c =
+    let none = c.is_empty.ensures.0 c.if-is_empty.true in record {
+      released = subst (λ xs. ReleaseEach c.args.store.now xs c.args.store.now) (sym none) (releases_none c.args.store.now);
+      gone = subst (λ xs. Keeps (get (pools_of c.args.pools.now c.args.store.now)) (λ _ p. not (is_one_of xs p.subpool)) (get (pools_of c.args.pools.now c.args.store.now))) (sym none) (keeps_none (get (pools_of c.args.pools.now c.args.store.now)));
+      agree = c.requires;
+    }
 
-pub loop-subpool-preserved : goal.loop-subpool-preserved
-loop-subpool-preserved c = record {
-  released = releases_more _ _ _ c.args.subpools.now c.loop-subpool.subpool-index c.subpool-item.result c.loop-subpool-test.true c.subpool-item.is c.loop-subpool.invariant.released c.release_all.ensures.released;
-  gone = keeps_more _ _ _ c.args.subpools.now c.loop-subpool.subpool-index c.subpool-item.result c.loop-subpool-test.true c.subpool-item.is c.loop-subpool.invariant.gone
-      (subpool_pools c.loop-subpool.pools c.drop_subpool.new.self c.loop-subpool.store c.release_all.new.self c.subpool-item.result c.loop-subpool.invariant.agree c.release_all.ensures.storage c.drop_subpool.ensures c.release_all.ensures.released);
-  agree = subpool_agrees c.loop-subpool.pools c.drop_subpool.new.self c.loop-subpool.store c.release_all.new.self c.subpool-item.result c.loop-subpool.invariant.agree c.release_all.ensures.storage c.drop_subpool.ensures c.release_all.ensures.released;
-}
+pub returns : goal.returns
+returns c =
+    let all = c.release_each.ensures.released in record {
+      released = all;
+      gone = pools_gone (is_one_of c.args.subpools.now) c.args.pools.now c.drop_subpools.new.self c.args.store.now c.release_each.new.self c.requires c.release_each.ensures.storage c.drop_subpools.ensures all.regions all.held all.bytes;
+      agree = still_agree (is_one_of c.args.subpools.now) c.args.pools.now c.drop_subpools.new.self c.args.store.now c.release_each.new.self c.requires c.release_each.ensures.storage c.drop_subpools.ensures all.regions all.held all.bytes;
+    }

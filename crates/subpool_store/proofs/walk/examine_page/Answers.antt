@@ -15,6 +15,6 @@ returns-in-None c = record {
       free_passes c.args.memory.now.held c.args.pages.now c.args.subpool i (omega (arith, low, high, c.requires.page, c.requires.within, c.requires.exact.sizes)) (c.requires.exact.free i none) (ap (is_usable c.args.subpool) none);
   stands = search rules;
   farther = search rules;
-  one = search rules;
+  few = search rules;
   counted = page_counted c.args.memory.now c.args.pages.now c.args.subpool c.args.from c.requires.page (ap (is_of c.args.subpool) (sym c.in-None.ensures));
 }

@@ -13,7 +13,7 @@ returns-in-None c = record {
   passes = search rules;
   stands = search rules;
   farther = search rules;
-  one = search rules;
+  few = search rules;
   counted = rest_counted c.args.memory.now c.args.pages.now c.args.subpool c.args.from c.in-None.ensures;
 }
 
@@ -29,6 +29,6 @@ returns-in-Some c = let run = c.in-Some.ensures.0 in record {
       free_passes c.args.memory.now.held c.args.pages.now c.args.subpool i (omega (arith, high, run.within, c.requires.within, c.requires.exact.sizes)) (run.free i low high) (ap (is_usable c.args.subpool) own ∙ eq-eqb c.args.subpool c.args.subpool refl);
   stands = search rules;
   farther = search rules;
-  one = search rules;
+  few = search rules;
   counted = run_counted c.args.memory.now c.args.pages.now c.args.subpool c.args.from c.in-Some.run'.start c.in-Some.run'.end _ c.requires.own c.requires.fresh run (λ e. ltb-true _ _ e) (λ e. search rules);
 }

@@ -21,5 +21,5 @@ returns c = rw (← c.self.view_is) (
     let gone = c.release_each.ensures.gone in
     let abends : Abends (machine_state roots st o) c.args.name (User 0) (Abended (User 0) fallen) (machine_state fewer new after) =
     abends_seen st new o after (pools_of roots st) (pools_of fewer new) _ _ _ c.self.invariant.parts.storage c.release_each.ensures.agree.parts.storage (stands roots st o c.self.invariant) (stands fewer new after c.release_each.ensures.agree)
-    c.end_of-gone.ensures.fallen c.end_of-gone.ensures.ends c.end_of-gone.ensures.freed (rw (c.as_slice.ensures.items) at released) (rw (c.as_slice.ensures.items) at gone) (User 0) in
+    c.end_of-gone.ensures.fallen c.end_of-gone.ensures.ends c.end_of-gone.ensures.freed released gone (User 0) in
     let same : Abended (User 0) fallen ≡ Abended (User 0) abends.0.fallen = abends.1 in (abends.0, cc))

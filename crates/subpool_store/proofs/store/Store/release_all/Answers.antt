@@ -1,19 +1,8 @@
-use Rattle.std.proofs.Common.{subst}
-use Rattle.mvs_model.specs.Storage.{ReleaseAll}
-use Rattle.subpool_store.specs.Joined.{store_of}
-use Rattle.subpool_store.proofs.Both.{both_dropped, storage_of, new_below, new_above}
+use Rattle.std.proofs.Common.{ap, ◌∙◌}
+use Rattle.mvs_model.specs.Storage.{is_one_of}
+use Rattle.mvs_model.proofs.SubpoolSets.{alone}
+use Rattle.subpool_store.proofs.Both.{released_alone}
 use Rattle.subpool_store.proofs.store.Store.release_all.Goals as goal
 
 pub returns-clause-released : goal.returns-clause-released
-returns-clause-released c =
-    let s = c.self.inside in
-    subst (λ t. ReleaseAll t c.args.subpool (store_of c.release_all.new.self c.release_all-2.new.self s.fill)) c.self.view_is
-    (both_dropped s.below s.above s.fill c.release_all.new.self c.release_all-2.new.self c.args.subpool c.release_all.ensures.dropped c.release_all-2.ensures.dropped)
-
-pub returns-clause-storage : goal.returns-clause-storage
-returns-clause-storage c =
-    let s = c.self.inside in
-    let low = c.release_all.ensures in
-    let high = c.release_all-2.ensures in
-    storage_of c.release_all.new.self c.release_all-2.new.self s.fill
-    (new_above c.release_all.new.self s.above c.release_all-2.new.self (new_below s.below s.above c.release_all.new.self c.self.invariant low.dropped.first low.dropped.pages low.sound) high.dropped.first high.dropped.pages high.sound)
+returns-clause-released c = released_alone _ c.args.subpool _ c.insert.new.self (λ t. c.insert.ensures.members t ∙ alone t c.args.subpool c.empty-subpools.result c.empty-subpools.ensures) c.release_each.ensures.released

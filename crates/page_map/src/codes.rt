@@ -1,0 +1,102 @@
+//! The subpools of pages as bare numbers, of which several are looked at at once.
+
+ghost use Rattle.std.specs.Prelude.{◌≡◌, ◌<◌, ◌≤◌, ◌+◌, ◌⊎◌, ◌↔◌, ℕ, length, false, true, IsTrue, slice_index_or};
+ghost use Rattle.mvs_model.specs.Finite.{has};
+ghost use Rattle.mvs_model.specs.Numbers.{most_subpools};
+ghost use Rattle.mvs_model.specs.Storage.{is_one_of};
+ghost use Rattle.page_map.specs.Codes.{AreCodes, decoded, free_code, page_owners};
+ghost use Rattle.page_map.specs.Owners.{is_usable, owner_of, IsFirst};
+
+use mvs_model::subpool::SubpoolId;
+use mvs_model::subpool_set::SubpoolSet;
+
+/// What stands for a page that no subpool has.
+pub(crate) const FREE: u16 = u16::MAX;
+
+// How many pages are looked at at once.
+const SEVERAL: usize = 64;
+
+// The subpool of a number.
+pub(crate) fn subpool_of(code: u16) -> Option<SubpoolId>
+    requires { (code < most_subpools) ⊎ (code ≡ free_code) }
+    ensures { result ≡ decoded code }
+{
+    if code == FREE {
+        None
+    } else {
+        Some(SubpoolId::new(code))
+    }
+}
+
+// Whether a page is free or the subpool's. Both are compared at once, so that several pages can be.
+fn is_usable(code: u16, own: u16) -> bool
+    requires code { (code < most_subpools) ⊎ (code ≡ free_code) }
+    requires own { own < most_subpools }
+    ensures { result ≡ is_usable own (decoded code) }
+{
+    (code == FREE) | (code == own)
+}
+
+// Whether one of some pages is free or the subpool's.
+fn is_one_usable(codes: &[u16], own: u16) -> bool
+    requires codes { AreCodes codes.now }
+    requires own { own < most_subpools }
+    ensures { result ≡ false → (p : ℕ) → p < length codes.now → is_usable own (decoded (slice_index_or codes.now p free_code)) ≡ false }
+{
+    let mut found = false;
+    for code in codes {
+        found |= is_usable(*code, own);
+    }
+    found
+}
+
+// Passes several pages at once of which none is free or the subpool's, from one on.
+fn pass_several(codes: &[u16], own: u16, from: usize) -> usize
+    requires codes { AreCodes codes.now }
+    requires own { own < most_subpools }
+    requires from { from ≤ length codes.now }
+    ensures after { from ≤ result }
+    ensures within { result ≤ length codes.now }
+    ensures passed { (p : ℕ) → from ≤ p → p < result → is_usable own (owner_of (page_owners codes.now) p) ≡ false }
+{
+    let mut page = from;
+    'several: while SEVERAL <= codes.len() - page {
+        if is_one_usable(&codes[page..page + SEVERAL], own) {
+            return page;
+        }
+        page += SEVERAL;
+    }
+    page
+}
+
+// The first page from one on that is free or the subpool's.
+pub(crate) fn first_usable(codes: &[u16], own: u16, from: usize) -> usize
+    requires codes { AreCodes codes.now }
+    requires own { own < most_subpools }
+    requires from { from ≤ length codes.now }
+    ensures { IsFirst (is_usable own) (page_owners codes.now) from result }
+{
+    let start = pass_several(codes, own, from);
+    for page in start..codes.len() {
+        if is_usable(codes[page], own) {
+            return page;
+        }
+    }
+    codes.len()
+}
+
+// The first page from one on whose subpool is one of the set.
+pub(crate) fn first_of(codes: &[u16], subpools: &SubpoolSet, from: usize) -> usize
+    requires codes { AreCodes codes.now }
+    requires from { from ≤ length codes.now }
+    ensures { IsFirst (has (is_one_of subpools.now)) (page_owners codes.now) from result }
+{
+    for page in from..codes.len() {
+        if let Some(subpool) = subpool_of(codes[page]) {
+            if subpools.contains(subpool) {
+                return page;
+            }
+        }
+    }
+    codes.len()
+}

@@ -1,0 +1,106 @@
+//! The subpools that fall free when their owner goes.
+
+ghost use Rattle.std.specs.Prelude.{◌≡◌, ◌≢◌, ◌<◌, ◌==◌, ◌&&◌, ◌||◌, ℕ, length, true, IsSome, Some};
+ghost use Rattle.std.specs.List.Sorted.{IsStrictlySortedBy};
+ghost use Rattle.std.specs.Ordering.{nat_cmp};
+ghost use Rattle.slab.specs.Slab.{get, slab_len};
+ghost use Rattle.mvs_model.specs.Numbers.{most_subpools, subpool_numbers};
+ghost use Rattle.mvs_model.specs.Storage.{is_one_of};
+ghost use Rattle.task_owner.specs.Seats.{item_at};
+ghost use Rattle.task_owner.specs.Family.{is_of, is_freed_below, EntriesStand, IsLost, IsTrimmed, FreedBelow};
+ghost use Rattle.task_owner.specs.declared.seat.Seat.{Seat};
+ghost use Rattle.task_owner.specs.declared.seat.Owned.{Owned};
+
+use crate::seat::{Numbers, Owned, Seat};
+use mvs_model::subpool::SubpoolId;
+use mvs_model::subpool_set::SubpoolSet;
+use slab::Slab;
+
+// Puts a subpool into the set if the task at the key owns it.
+fn collect(subpool: SubpoolId, key: usize, owned: &[Option<Owned>], freed: &mut SubpoolSet)
+    requires { length owned.now ≡ most_subpools }
+    ensures members { (s : ℕ) → is_one_of freed.new s ≡ (((s == subpool) && is_of key (item_at owned.now s)) || is_one_of freed.old s) }
+    ensures rising { IsStrictlySortedBy nat_cmp freed.old → IsStrictlySortedBy nat_cmp freed.new }
+{
+    if let Some(o) = owned[subpool.get() as usize] {
+        if o.owner == key {
+            freed.insert(subpool);
+        }
+    }
+}
+
+// Puts each subpool that the task at the key owns into the set. They stand under its numbers.
+pub(crate) fn collect_owned(
+    numbers: &Numbers,
+    key: usize,
+    owned: &[Option<Owned>],
+    freed: &mut SubpoolSet,
+)
+    requires long { length owned.now ≡ most_subpools }
+    requires listed { (s : ℕ) (o : Owned) → item_at owned.now s ≡ Some o → o.owner ≡ key → (o.number < subpool_numbers) × (item_at numbers.now o.number ≡ Some s) }
+    ensures members { (s : ℕ) → is_one_of freed.new s ≡ (is_of key (item_at owned.now s) || is_one_of freed.old s) }
+    ensures rising { IsStrictlySortedBy nat_cmp freed.old → IsStrictlySortedBy nat_cmp freed.new }
+{
+    for n in 0..numbers.len() {
+        if let Some(subpool) = numbers[n] {
+            collect(subpool, key, owned, freed);
+        }
+    }
+}
+
+// Drops a task's entry for a subpool under a number, if it has it.
+fn lose(active: &mut Slab<Seat>, key: usize, number: usize, subpool: SubpoolId)
+    requires there { IsSome (get active.old key) }
+    requires low { number < subpool_numbers }
+    ensures lost { IsLost number subpool (get active.old key) (get active.new key) }
+    ensures others { (k : ℕ) → k ≢ key → get active.new k ≡ get active.old k }
+    ensures len { slab_len active.new ≡ slab_len active.old }
+    ensures capacity { active.new.capacity ≡ active.old.capacity }
+{
+    match active.get_mut(key) {
+        Some(seat) => {
+            if seat.numbers[number] == Some(subpool) {
+                seat.numbers[number] = None;
+            }
+        }
+        None => unreachable!(),
+    }
+}
+
+// Drops each task's entry for a subpool under a number.
+fn drop_entries(active: &mut Slab<Seat>, number: usize, subpool: SubpoolId)
+    requires { number < subpool_numbers }
+    ensures each { (k : ℕ) → IsLost number subpool (get active.old k) (get active.new k) }
+    ensures len { slab_len active.new ≡ slab_len active.old }
+    ensures capacity { active.new.capacity ≡ active.old.capacity }
+{
+    for key in 0..active.capacity() {
+        if active.contains(key) {
+            lose(active, key, number, subpool);
+        }
+    }
+}
+
+// Takes the owner from each subpool of the set, and drops each task's entry for it. A subpool stands under one number only.
+pub(crate) fn free_subpools(
+    active: &mut Slab<Seat>,
+    owned: &mut Vec<Option<Owned>>,
+    freed: &SubpoolSet,
+)
+    requires long { length owned.old.items ≡ most_subpools }
+    requires low { (s : ℕ) (o : Owned) → item_at owned.old.items s ≡ Some o → o.number < subpool_numbers }
+    requires entries { EntriesStand active.old.slots owned.old.items }
+    requires owned { (s : ℕ) → is_one_of freed.now s ≡ true → IsSome (item_at owned.old.items s) }
+    ensures { FreedBelow active.old owned.old.items freed.now most_subpools active.new owned.new.items }
+{
+    let mut from = 0;
+    'subpools: while let Some(subpool) = freed.first_from(from) {
+        let s = subpool.get() as usize;
+        let Some(o) = owned[s] else {
+            unreachable!();
+        };
+        drop_entries(active, o.number as usize, subpool);
+        owned[s] = None;
+        from = s + 1;
+    }
+}
