@@ -30,11 +30,24 @@ class Script:
         self.rng, self.lengths = random.Random(seed), lengths
         self.is_prone = is_prone  # whether the job step task may well abend
         self.tidy, self.in_full = tidy, True
+        self.high, self.lines, self.printed = high, [], []
+        self.begin("JOB", below, above)
+
+    def begin(self, task, below, above):
+        """The REGION statement of a step: nothing is left of a step before it."""
         fill, above_resident = self.rng.randrange(256), self.rng.random() < 0.3
-        self.machine = Machine("JOB", below, above, fill, above_resident, high)
+        self.machine = Machine(task, below, above, fill, above_resident, self.high)
         self.labels = {}
-        words = f"JOB REGION BELOW={below},ABOVE={above},FILL={fill:02X},RES={'ABOVE' if above_resident else 'BELOW'}"
-        self.lines, self.printed = [words], [f"1 JOB REGION BELOW {below} ABOVE {above}"]
+        self.lines.append(f"{task} REGION BELOW={below},ABOVE={above},FILL={fill:02X},RES={'ABOVE' if above_resident else 'BELOW'}")
+        self.printed.append(f"{len(self.lines)} {task} REGION BELOW {below} ABOVE {above}")
+
+    def next_step(self, below, above):
+        self.printed.append(self.end_line())
+        self.begin(self.rng.choice(TASKS), below, above)
+        return self
+
+    def end_line(self):
+        return f"STEP ENDED RC {8 if self.machine.some_abend else 0}"
 
     def say(self, task, words, looked_up, act):
         before = dict(self.machine.names)
@@ -53,7 +66,7 @@ class Script:
         return "\n".join(self.lines) + "\n"
 
     def output(self):
-        return "\n".join(self.printed + [f"STEP ENDED RC {8 if self.machine.some_abend else 0}"]) + "\n"
+        return "\n".join(self.printed + [self.end_line()]) + "\n"
 
     # ---- operands
 
@@ -338,5 +351,15 @@ def anything(seed, high):
     return script.grow(STORAGE | OWNERS | dict(pool=8, report_map=0.5), 60).show_all()
 
 
+def steps(seed, high):
+    script = Script(seed, high, below=2, above=1, is_prone=True)
+    for count in (15, 30, 45):
+        script.grow(STORAGE | OWNERS | dict(pool=8), count).next_step(3, 1)
+    return script.grow(STORAGE | OWNERS | dict(pool=8), 60).show_all()
+
+
 def tidy(seed, high):
-    return Script(seed, high, below=30, above=16, tidy=True, lengths=[1, 8, 12, 40, 100, 600, 3000]).grow(TIDY, 40)
+    script = Script(seed, high, below=30, above=16, tidy=True, lengths=[1, 8, 12, 40, 100, 600, 3000])
+    if seed % 4 == 0:
+        script.grow(TIDY, 20).next_step(30, 16)
+    return script.grow(TIDY, 40)

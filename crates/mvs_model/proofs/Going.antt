@@ -21,13 +21,15 @@ use Rattle.mvs_model.specs.State.{State, Holding, subpool_in}
 use Rattle.mvs_model.specs.Start.{start}
 use Rattle.mvs_model.specs.Steps.{IsRequest}
 use Rattle.mvs_model.specs.WellFormed.{PoolsSized}
-use Rattle.mvs_model.specs.Texts.{fault_text}
-use Rattle.mvs_model.specs.Job.{JobValue}
+use Rattle.mvs_model.specs.Texts.{fault_text, region_text}
+use Rattle.mvs_model.specs.Job.{JobValue, next_job}
 use Rattle.mvs_model.specs.Lines.{card_of, IsStatement, IsLine}
 use Rattle.mvs_model.specs.ReadingLaws.{Reading, Said, Wrong}
 use Rattle.mvs_model.specs.Replies.{is_abend}
 use Rattle.mvs_model.specs.Resolving.{resolved, all_set, names_set, places_in}
-use Rattle.mvs_model.specs.Runs.{Stage, Before, In, is_before, Tells, Asks, Says, Does, Begins, Follows, Serves, ServesLine, Faults, Closes, Prints, Runs}
+use Rattle.mvs_model.specs.Runs.{Stage, Before, In, is_before, Tells, Asks, Says, Does, Begins, Follows, Serves, ServesLine, Faults, Closes, Prints, Runs, end_text}
+use Rattle.mvs_model.specs.Memory.{TakesMemory, LineTakesMemory, PrintsBefore}
+use Rattle.mvs_model.specs.Reading.{LineOf}
 use Rattle.mvs_model.specs.Laws.{PagesKept, NeverStuck}
 use Rattle.mvs_model.proofs.Requested.{is_request}
 use Rattle.mvs_model.proofs.Kept.{Closed, plan_in_range, step_keeps}
@@ -183,16 +185,18 @@ prints_some number (l ∷ lines) old all = at (one_reading.some (is_before old) 
 -- lines left go on, that is how the whole goes on.
 pub record Reaches (all : List (List ℕ)) (text : List ℕ) (number : ℕ) (stage : Stage) (left : List (List ℕ)) : Type 0 where
   pub on : (rest : List ℕ) (outcome : Outcome) → Prints number stage left rest outcome → Prints 1 Before all (text ++ rest) outcome
+  pub before : (rest : List ℕ) → PrintsBefore number stage left rest → PrintsBefore 1 Before all (text ++ rest)
   pub sized : Sized stage
 
 module _ (all : List (List ℕ)) where
   pub reaches_start : Reaches all [] 1 Before all
-  reaches_start = record { on = λ rest outcome p. p; sized = tt }
+  reaches_start = record { on = λ rest outcome p. p; before = λ rest p. p; sized = tt }
 
   -- a line that lets the job go on
   pub reaches_next : (text first : List ℕ) (number : ℕ) (old new : Stage) (l : List ℕ) (lines : List (List ℕ)) → Reaches all text number old (l ∷ lines) → ServesLine number old l first new → Reaches all (text ++ first) (number + 1) new lines
   reaches_next text first number old new l lines r s = record {
     on = λ rest outcome p. rw (append_assoc text first rest) (r.on (first ++ rest) outcome (inr (new, first, rest, s, refl, p)));
+    before = λ rest p. rw (append_assoc text first rest) (r.before (first ++ rest) (inr (new, first, rest, s, refl, p)));
     sized = line_keeps_sized number old l first new s r.sized;
   }
 
@@ -227,3 +231,29 @@ module _ (all : List (List ℕ)) where
 
   pub front_at_end : (text last front back : List ℕ) (number : ℕ) (old : Stage) (outcome : Outcome) → last ≡ front ++ back → Reaches all text number old [] → Closes number old last outcome → Front (text ++ front)
   front_at_end text last front back number old outcome e r c = front_of text last front back [] outcome e (rw (append-nil (text ++ last)) (reaches_end text last number old outcome r c))
+
+  -- a line that takes memory: what is printed before its reply is a front, and just the printing before that reply
+  pub reaches_memory : (text last : List ℕ) (number : ℕ) (old : Stage) (l : List ℕ) (lines : List (List ℕ)) → Reaches all text number old (l ∷ lines) → LineTakesMemory old l last → PrintsBefore 1 Before all (text ++ last)
+  reaches_memory text last number old l lines r h = r.before last (inl h)
+
+  pub front_at_memory : (text last : List ℕ) (number : ℕ) (old : Stage) (l : List ℕ) (lines : List (List ℕ)) → Reaches all text number old (l ∷ lines) → LineTakesMemory old l last → Front (text ++ last)
+  front_at_memory text last number old l lines r h = at old h.0 r h.1 h.2 where
+    none : (old : Stage) → Reaches all text number old (l ∷ lines) → last ≡ [] → Front (text ++ last)
+    none old r e = rw (e, append-nil text) (front_so_far text number old (l ∷ lines) r)
+
+    at : (old : Stage) (said : Line) → Reaches all text number old (l ∷ lines) → LineOf (is_before old) l said → TakesMemory old said last → Front (text ++ last)
+    at Before (line.Statement t (says.Region below above fill residence)) r is e = none Before r e
+    at (In job) (line.Statement t (says.Region below above fill residence)) r is e =
+        let card = card_of t below above fill residence in
+        let said = line.Statement t (says.Region below above fill residence) in
+        front_in_line text (end_text job ++ region_text number card) last (region_text number card) number (In job) (In (next_job job card)) l lines (ap (λ x. x ++ region_text number card) (sym e)) r (said, is, (refl, refl))
+    at (In job) (line.Statement t (says.Request a)) r is h = none (In job) r h.0
+    at Before line.Nothing r is h = absurd h
+    at (In job) line.Nothing r is h = absurd h
+    at Before (line.Statement t (says.Request a)) r is h = absurd h
+    at Before (line.Statement t (says.Where name)) r is h = absurd h
+    at Before (line.Statement t says.ReportSubpools) r is h = absurd h
+    at Before (line.Statement t says.ReportMap) r is h = absurd h
+    at (In job) (line.Statement t (says.Where name)) r is h = absurd h
+    at (In job) (line.Statement t says.ReportSubpools) r is h = absurd h
+    at (In job) (line.Statement t says.ReportMap) r is h = absurd h

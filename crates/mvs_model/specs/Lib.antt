@@ -24,6 +24,7 @@ pub mod Reports
 pub mod Job
 pub mod Replies
 pub mod Runs
+pub mod Memory
 pub mod Labels
 pub mod Tidy
 -- What every state of a run keeps, and the laws.

@@ -9,19 +9,20 @@ use Rattle.mvs_model.specs.declared.line.Fault.TheVariants.{TooLong}
 use Rattle.mvs_model.specs.declared.outcome.Outcome.{Outcome}
 use Rattle.mvs_model.specs.declared.outcome.Outcome.TheVariants.{ScriptFault}
 use Rattle.mvs_model.specs.Lines.{lines_of}
-use Rattle.mvs_model.specs.Runs.{Stage, Before, IsPrinting, is_before, ServesLine, Faults}
+use Rattle.mvs_model.specs.Runs.{Stage, Before, IsPrinting, IsPrintingFront, is_before, ServesLine, Faults}
 use Rattle.mvs_model.specs.Reading.{FaultOf}
 use Rattle.mvs_model.specs.Texts.{fault_text}
 use Rattle.mvs_model.proofs.Reading.{one_reading}
 use Rattle.mvsjob.specs.declared.job.Stop.{Stop}
 use Rattle.mvsjob.specs.Serving.{RunsLine}
+use Rattle.mvs_model.specs.Memory.{IsPrintingBefore}
 use Rattle.mvs_model.specs.Labels.{IsLabelText}
 use Rattle.mvs_model.specs.Tidy.{Tidy, IsPrintingInFull}
 use Rattle.mvs_model.proofs.TidySteps.{tidy_text}
 use Rattle.mvsjob.specs.declared.job.Stop.TheVariants as why
 use Rattle.mvsjob.specs.declared.run.RunFault.{RunFault}
 use Rattle.mvsjob.specs.declared.run.RunFault.TheVariants.{Write, Memory, ReadTooLong}
-use Rattle.mvsjob.specs.Streams.{Progress, Printed, PrintedFront, Stands, Feeds, FeedsSome, Finishes, IsUnderWay, HasEnded, HasBroken, HasGivenUp, fault_of}
+use Rattle.mvsjob.specs.Streams.{Progress, Printed, PrintedFront, PrintedUpTo, Stands, Feeds, FeedsSome, Finishes, IsUnderWay, HasEnded, HasBroken, HasGivenUp, fault_of}
 use Rattle.mvsjob.specs.Writing.{Exchanges}
 use Rattle.mvsjob.proofs.FirstLine.{lines_at_other}
 use Rattle.mvsjob.proofs.Running.{progress_start, progress_next, progress_fault, progress_stopped, progress_front}
@@ -81,9 +82,10 @@ not_served number s s' line text long h = one_reading.not_both (is_before s) lin
 
 -- so what is run of its front is run of the whole
 long_stopped : (before after : Option (List ℕ)) (number : ℕ) (s s' : Stage) (line rest : List ℕ) (stop : Stop) → 255 < length line → RunsLine before after number s line s' (Err stop) → RunsLine before after number s (line ++ rest) s' (Err stop)
-long_stopped before after number s s' line rest stop long (inl kept) = inl kept
-long_stopped before after number s s' line rest stop long (inr (text, inl serves, front)) = absurd (not_served number s serves.0 line text long serves.1)
-long_stopped before after number s s' line rest stop long (inr (text, inr faults, front)) = inr (text, inr (long_faults number (is_before s) line rest text long faults), front)
+long_stopped before after number s s' line rest why.Write long (inl kept) = inl kept
+long_stopped before after number s s' line rest why.Write long (inr (text, inl serves, front)) = absurd (not_served number s serves.0 line text long serves.1)
+long_stopped before after number s s' line rest why.Write long (inr (text, inr faults, front)) = inr (text, inr (long_faults number (is_before s) line rest text long faults), front)
+long_stopped before after number s s' line rest why.Memory long (text, a, takes) = absurd (one_reading.not_both (is_before s) line takes.0 TooLong takes.1 (is_too_long line (is_before s) long))
 
 -- ---- a piece
 
@@ -170,9 +172,9 @@ module _ (before after : Option (List ℕ)) (bytes : List ℕ) (end n : ℕ) (s 
   whole_fault h more =
       subst (λ x. Printed start after x ScriptFault) (feed_split told bytes more end fits found) (feeds_line before after n s s' (take end bytes) (Ok false) h start (told ++ take end bytes) line_stands (drop (end + 1) bytes ++ more))
 
-  pub whole_stopped : (stop : Stop) → RunsLine before after n s (take end bytes) s' (Err stop) → (more : List ℕ) → PrintedFront start after (told ++ (bytes ++ more))
+  pub whole_stopped : (stop : Stop) → RunsLine before after n s (take end bytes) s' (Err stop) → (more : List ℕ) → PrintedUpTo stop start after (told ++ (bytes ++ more))
   whole_stopped stop h more =
-      subst (λ x. PrintedFront start after x) (feed_split told bytes more end fits found) (feeds_line before after n s s' (take end bytes) (Err stop) h start (told ++ take end bytes) line_stands (drop (end + 1) bytes ++ more))
+      subst (λ x. PrintedUpTo stop start after x) (feed_split told bytes more end fits found) (feeds_line before after n s s' (take end bytes) (Err stop) h start (told ++ take end bytes) line_stands (drop (end + 1) bytes ++ more))
 
 -- the first byte
 module _ (before after : Option (List ℕ)) (bytes : List ℕ) (n n' : ℕ) (s s' : Stage) (k k' : List ℕ) (some : 0 < length bytes)
@@ -183,8 +185,8 @@ module _ (before after : Option (List ℕ)) (bytes : List ℕ) (n n' : ℕ) (s s
   pub first_fault : Feeds before after (get_or bytes 0 0 ∷ []) n s k n' s' k' (Ok false) → (more : List ℕ) → Printed start after (told ++ (bytes ++ more)) ScriptFault
   first_fault f more = subst (λ x. Printed start after (told ++ (x ++ more)) ScriptFault) (sym (first_and_rest bytes some)) (f start told st (drop 1 bytes ++ more))
 
-  pub first_stopped : (stop : Stop) → Feeds before after (get_or bytes 0 0 ∷ []) n s k n' s' k' (Err stop) → (more : List ℕ) → PrintedFront start after (told ++ (bytes ++ more))
-  first_stopped stop f more = subst (λ x. PrintedFront start after (told ++ (x ++ more))) (sym (first_and_rest bytes some)) (f start told st (drop 1 bytes ++ more))
+  pub first_stopped : (stop : Stop) → Feeds before after (get_or bytes 0 0 ∷ []) n s k n' s' k' (Err stop) → (more : List ℕ) → PrintedUpTo stop start after (told ++ (bytes ++ more))
+  first_stopped stop f more = subst (λ x. PrintedUpTo stop start after (told ++ (x ++ more))) (sym (first_and_rest bytes some)) (f start told st (drop 1 bytes ++ more))
 
 -- the same, as a call leaves the job
 module _ (before after : Option (List ℕ)) (bytes : List ℕ) (end n n' : ℕ) (s s' : Stage) (k k' : List ℕ)
@@ -225,8 +227,8 @@ module _ (before after : Option (List ℕ)) (bytes rest : List ℕ) (at n n' : �
   pub some_fault : FeedsSome before after rest n s k n' s' k' (Ok None) → (more : List ℕ) → Printed start after (told ++ (bytes ++ more)) ScriptFault
   some_fault f more = subst (λ x. Printed start after x ScriptFault) (whole_rest more) (f start (told ++ take at bytes) st more)
 
-  pub some_stopped : (stop : Stop) → FeedsSome before after rest n s k n' s' k' (Err stop) → (more : List ℕ) → PrintedFront start after (told ++ (bytes ++ more))
-  some_stopped stop f more = subst (λ x. PrintedFront start after x) (whole_rest more) (f start (told ++ take at bytes) st more)
+  pub some_stopped : (stop : Stop) → FeedsSome before after rest n s k n' s' k' (Err stop) → (more : List ℕ) → PrintedUpTo stop start after (told ++ (bytes ++ more))
+  some_stopped stop f more = subst (λ x. PrintedUpTo stop start after x) (whole_rest more) (f start (told ++ take at bytes) st more)
 
 -- ---- the end
 
@@ -248,7 +250,7 @@ module _ (start now later : Option (List ℕ)) (told : List ℕ) (n n' : ℕ) (s
   last_fault b is h =
       progress_fault start now later told n s (k ∷ []) (last_one start now told n s k st some) s' k [] refl (subst (λ b. RunsLine now later n s k s' (Ok b)) is h)
 
-  pub last_stopped : (stop : Stop) → RunsLine now later n s k s' (Err stop) → PrintedFront start later told
+  pub last_stopped : (stop : Stop) → RunsLine now later n s k s' (Err stop) → PrintedUpTo stop start later told
   last_stopped stop h = progress_stopped start now later told n s (k ∷ []) (last_one start now told n s k st some) s' k [] stop refl h
 
 -- ---- a read
@@ -266,15 +268,20 @@ stands_front start now told n s k st = rw (append-nil told) at (progress_front s
 pub under_way_start : (unread start : Option (List ℕ)) (n : ℕ) (s : Stage) (k : List ℕ) → n ≡ 1 → s ≡ Before → k ≡ [] → IsUnderWay unread unread start start 0 n s k
 under_way_start unread start n s k e f h = rw (e, f, h) ([], Consumes-nil unread, refl, stands_start start)
 
+-- what a stopped job has printed, in the terms of the fault that it gives up with
+broken : (unread left start now : Option (List ℕ)) (most : ℕ) (told : List ℕ) (stop : Stop) (fault : RunFault) → fault ≡ fault_of stop → Consumes unread left told → length told ≤ most → PrintedUpTo stop start now told → HasBroken unread left start now most fault
+broken unread left start now most told why.Write fault is c enough p = (told, p.0, c, p.1, (enough, p.2, λ e. absurd (let f : Write ≡ Memory = sym is ∙ e in cc)))
+broken unread left start now most told why.Memory fault is c enough p = (told, p.0, c, p.1, (enough, p.2, λ e. p.3))
+
 -- a job under way, before a read: the writer is flushed, and the read told some bytes or failed
 module _ (unread left left' start now flushed : Option (List ℕ)) (count n : ℕ) (s : Stage) (k : List ℕ) (u : IsUnderWay unread left start now count n s k) (kept : Keeps now flushed) where
   here : Stands start flushed u.0 n s k
   here = stands_kept start now flushed u.0 n s k u.3 kept
 
-  pub read_failed : (room : ℕ) → Keeps left left' → HasBroken unread left' start flushed (count + room)
-  read_failed room same =
+  pub read_failed : (room : ℕ) (fault : RunFault) → (fault ≡ Memory → ⊥) → Keeps left left' → HasBroken unread left' start flushed (count + room) fault
+  read_failed room fault other same =
       let f = stands_front start flushed u.0 n s k here in
-      (u.0, f.0, Consumes-kept unread left left' u.0 u.1 same, f.1, (rw (u.2) (omega arith), f.2))
+      (u.0, f.0, Consumes-kept unread left left' u.0 u.1 same, f.1, (rw (u.2) (omega arith), f.2, λ e. absurd (other e)))
 
   -- the end of the script
   module _ (after : Option (List ℕ)) (most m : ℕ) (chunk : List ℕ) (enough : count ≤ most) (none : m ≡ 0) (c : Consumes left left' (take m chunk)) where
@@ -284,8 +291,8 @@ module _ (unread left left' start now flushed : Option (List ℕ)) (count n : �
     pub read_end : (outcome : Outcome) → Finishes flushed after n s k (Ok outcome) → HasEnded unread left' start after most outcome
     read_end outcome f = let p = f start u.0 here in (u.0, p.0, all_told, p.1, (rw (u.2) enough, p.2))
 
-    pub read_end_stopped : (stop : Stop) → Finishes flushed after n s k (Err stop) → HasBroken unread left' start after most
-    read_end_stopped stop f = let p = f start u.0 here in (u.0, p.0, all_told, p.1, (rw (u.2) enough, p.2))
+    pub read_end_stopped : (stop : Stop) (fault : RunFault) → fault ≡ fault_of stop → Finishes flushed after n s k (Err stop) → HasBroken unread left' start after most fault
+    read_end_stopped stop fault is f = broken unread left' start after most u.0 stop fault is all_told (rw (u.2) enough) (f start u.0 here)
 
   -- some bytes
   module _ (after : Option (List ℕ)) (room m n' : ℕ) (s' : Stage) (k' chunk : List ℕ) (c : Consumes left left' (take m chunk)) (fits : m ≤ length chunk) (least : length chunk ≤ room) where
@@ -305,11 +312,10 @@ module _ (unread left left' start now flushed : Option (List ℕ)) (count n : �
         let p' : Printed start after (u.0 ++ take m chunk) ScriptFault = rw (append-nil (take m chunk)) at p in
         (u.0 ++ take m chunk, p'.0, Consumes-trans unread left left' u.0 _ u.1 c, p'.1, (read_most, p'.2))
 
-    pub read_stopped : (stop : Stop) → Feeds flushed after (take m chunk) n s k n' s' k' (Err stop) → HasBroken unread left' start after (count + room)
-    read_stopped stop f =
-        let p = f start u.0 here [] in
-        let p' : PrintedFront start after (u.0 ++ take m chunk) = rw (append-nil (take m chunk)) at p in
-        (u.0 ++ take m chunk, p'.0, Consumes-trans unread left left' u.0 _ u.1 c, p'.1, (read_most, p'.2))
+    pub read_stopped : (stop : Stop) (fault : RunFault) → fault ≡ fault_of stop → Feeds flushed after (take m chunk) n s k n' s' k' (Err stop) → HasBroken unread left' start after (count + room) fault
+    read_stopped stop fault is f =
+        let p : PrintedUpTo stop start after (u.0 ++ take m chunk) = rw (append-nil (take m chunk)) at (f start u.0 here []) in
+        broken unread left' start after (count + room) (u.0 ++ take m chunk) stop fault is (Consumes-trans unread left left' u.0 _ u.1 c) read_most p
 
   -- a byte too many: what is printed is a front, however the script goes on
   module _ (m : ℕ) (chunk : List ℕ) (c : Consumes left left' (take m chunk)) (fits : m ≤ length chunk) (least : length chunk ≤ 1) (some : 0 < m) where
@@ -317,11 +323,11 @@ module _ (unread left left' start now flushed : Option (List ℕ)) (count n : �
     read_too_many =
         let p = progress_front start flushed flushed (u.0 ++ take m chunk) n s (lines_of (k ++ take m chunk)) (here.progress (take m chunk)) (Keeps-refl flushed) in
         let told : length (u.0 ++ take m chunk) ≡ count + m = length-append u.0 (take m chunk) ∙ rw (u.2, length-take-le m chunk fits) refl in
-        (u.0 ++ take m chunk, p.0, Consumes-trans unread left left' u.0 _ u.1 c, p.1, (rw told (omega arith), p.2, λ e. rw told (omega arith)))
+        (u.0 ++ take m chunk, p.0, Consumes-trans unread left left' u.0 _ u.1 c, p.1, (rw told (omega arith), p.2, λ e. rw told (omega arith), λ e. absurd (let f : ReadTooLong ≡ Memory = e in cc)))
 
 -- a job that broke off, but not for the length of its script
-pub given_up : (unread left start now : Option (List ℕ)) (count most : ℕ) (fault : RunFault) → HasBroken unread left start now most → most ≤ count + 1 → (fault ≡ ReadTooLong → ⊥) → HasGivenUp unread left start now count fault
-given_up unread left start now count most fault b enough other = (b.0, b.1, b.2, b.3, (omega (arith, b.4.0, enough), b.4.1, λ e. absurd (other e)))
+pub given_up : (unread left start now : Option (List ℕ)) (count most : ℕ) (fault : RunFault) → HasBroken unread left start now most fault → most ≤ count + 1 → (fault ≡ ReadTooLong → ⊥) → HasGivenUp unread left start now count fault
+given_up unread left start now count most fault b enough other = (b.0, b.1, b.2, b.3, (omega (arith, b.4.0, enough), b.4.1, (λ e. absurd (other e)), b.4.2))
 
 pub stop_not_long : (stop : Stop) (fault : RunFault) → fault ≡ fault_of stop → fault ≡ ReadTooLong → ⊥
 stop_not_long why.Write fault is e = absurd (let f : Write ≡ ReadTooLong = sym is ∙ e in cc)
@@ -346,3 +352,17 @@ if_ok (Err e) P R Q h f = tt
 pub if_err : {X E : Type 0} (r : Result X E) (P : X → Type 0) (Q R : E → Type 0) → MatchResult r P Q → ((e : E) → Q e → R e) → IfErr r R
 if_err (Ok x) P Q R h f = tt
 if_err (Err e) P Q R h f = f e h
+
+-- the printing of a job that gave up for want of memory
+pub printed_before : (unread left start now : Option (List ℕ)) (most : ℕ) (fault : RunFault) → HasBroken unread left start now most fault → fault ≡ Memory → Exchanges unread left start now IsPrintingBefore
+printed_before unread left start now most fault b e = (b.0, b.1, b.2, b.3, b.4.2 e)
+
+pub given_up_before : (unread left start now : Option (List ℕ)) (count : ℕ) (fault : RunFault) → HasGivenUp unread left start now count fault → fault ≡ Memory → Exchanges unread left start now IsPrintingBefore
+given_up_before unread left start now count fault b e = (b.0, b.1, b.2, b.3, b.4.3 e)
+
+-- what a job that gave up has printed, whatever the reason
+abbrev pub HasBrokenOff : Option (List ℕ) → Option (List ℕ) → Option (List ℕ) → Option (List ℕ) → ℕ → RunFault → Type 0
+HasBrokenOff unread left start now count fault = Exchanges unread left start now (λ told written. (length told ≤ count + 1) × IsPrintingFront told written × (fault ≡ ReadTooLong → count < length told))
+
+pub given_up_front : (unread left start now : Option (List ℕ)) (count : ℕ) (fault : RunFault) → HasGivenUp unread left start now count fault → HasBrokenOff unread left start now count fault
+given_up_front unread left start now count fault b = (b.0, b.1, b.2, b.3, (b.4.0, b.4.1, b.4.2))

@@ -9,10 +9,11 @@ use Rattle.mvs_model.specs.Texts.{fault_text}
 use Rattle.mvs_model.specs.Job.{JobValue}
 use Rattle.mvs_model.specs.Lines.{lines_of}
 use Rattle.mvs_model.specs.Runs.{Stage, Before, Closes, end_text}
-use Rattle.mvs_model.proofs.Going.{reaches_start, reaches_next, reaches_fault, reaches_end, front_so_far, front_in_line, front_in_fault, front_at_end}
+use Rattle.mvs_model.proofs.Going.{reaches_start, reaches_next, reaches_fault, reaches_end, front_so_far, front_in_line, front_in_fault, front_at_end, front_at_memory, reaches_memory}
 use Rattle.mvsjob.specs.declared.job.Stop.{Stop}
+use Rattle.mvsjob.specs.declared.job.Stop.TheVariants as why
 use Rattle.mvsjob.specs.Serving.{RunsLine, stage_of}
-use Rattle.mvsjob.specs.Streams.{Progress, Printed, PrintedFront}
+use Rattle.mvsjob.specs.Streams.{Progress, Printed, PrintedFront, PrintedUpTo}
 use Rattle.mvsjob.specs.Writing.{AppendsFront}
 use Rattle.mvsjob.proofs.Appending.{Appends-kept}
 
@@ -38,17 +39,23 @@ module _ (start now later : Option (List ℕ)) (script : List ℕ) (number : ℕ
   progress_front kept = (p.written, Appends-kept start now later p.written p.appended kept, front_so_far (lines_of script) p.written number old left p.reached)
 
   -- the job stops in a line
-  pub progress_stopped : (new : Stage) (l : List ℕ) (lines : List (List ℕ)) (stop : Stop) → left ≡ l ∷ lines → RunsLine now later number old l new (Err stop) → PrintedFront start later script
-  progress_stopped new l lines stop e (inl kept) = progress_front kept
-  progress_stopped new l lines stop e (inr (text, inl serves, front)) = (
+  pub progress_stopped : (new : Stage) (l : List ℕ) (lines : List (List ℕ)) (stop : Stop) → left ≡ l ∷ lines → RunsLine now later number old l new (Err stop) → PrintedUpTo stop start later script
+  progress_stopped new l lines why.Write e (inl kept) = progress_front kept
+  progress_stopped new l lines why.Write e (inr (text, inl serves, front)) = (
     p.written ++ front.0,
     Appends-trans start now later p.written front.0 p.appended front.3,
     front_in_line (lines_of script) p.written text front.0 front.1 number old serves.0 l lines front.2 (rw e at p.reached) serves.1,
   )
-  progress_stopped new l lines stop e (inr (text, inr faults, front)) = (
+  progress_stopped new l lines why.Write e (inr (text, inr faults, front)) = (
     p.written ++ front.0,
     Appends-trans start now later p.written front.0 p.appended front.3,
     front_in_fault (lines_of script) p.written text front.0 front.1 number old l lines front.2 (rw e at p.reached) faults,
+  )
+  progress_stopped new l lines why.Memory e (text, a, takes) = (
+    p.written ++ text,
+    Appends-trans start now later p.written text p.appended a,
+    front_at_memory (lines_of script) p.written text number old l lines (rw e at p.reached) takes,
+    reaches_memory (lines_of script) p.written text number old l lines (rw e at p.reached) takes,
   )
 
   -- the end of the lines

@@ -5,7 +5,7 @@ use Rattle.std.proofs.KnownBytes.{Appends-trans}
 use Rattle.std.specs.Io.KnownBytes.{Appends}
 use Rattle.mvsjob.proofs.Appending.{Appends-kept}
 use Rattle.mvsjob.specs.Writing.{AppendsFront}
-use Rattle.std.specs.Prelude.{decimal}
+use Rattle.std.specs.Prelude.{OnErr, decimal}
 use Rattle.mvs_model.specs.Card.{CardValue}
 use Rattle.mvs_model.specs.declared.line.Line.{Line}
 use Rattle.mvs_model.specs.declared.line.Line.TheVariants as line
@@ -24,7 +24,9 @@ use Rattle.mvs_model.specs.State.{State}
 use Rattle.mvs_model.specs.Reports.{map_text, subpools_text}
 use Rattle.mvs_model.specs.Owners.{is_active}
 use Rattle.mvsjob.specs.declared.job.Stop.{Stop}
-use Rattle.mvsjob.specs.Serving.{Performs, RunsLine, stage_of, card_said}
+use Rattle.mvsjob.specs.declared.job.Stop.TheVariants as why
+use Rattle.mvs_model.specs.Memory.{SetsName, TakesMemory}
+use Rattle.mvsjob.specs.Serving.{Performs, RunsLine, stage_of, card_said, ending}
 use Rattle.mvs_model.specs.Job.{JobValue, job_at}
 use Rattle.mvs_model.specs.Lines.{card_of}
 use Rattle.mvs_model.specs.Reading.{LineOf, FaultOf, IsReading}
@@ -46,10 +48,12 @@ pub does_said : (number : ℕ) (old : JobValue) (t : Name) (s : Statement) (text
 does_said number old t s text new is says = subst (λ b. MatchBool (not b) (Tells number old t (codes "NOT RUN") text new) (Says number old t s text new)) (sym is) says
 
 -- What performs one of these performs one of those, where these are those.
-pub performs_as : {X Y : Type 0} (g : X → Y) (P : List ℕ → X → Type 0) (Q : List ℕ → Y → Type 0) (before after : Option (List ℕ)) (new : X) (result : Result Unit Stop) → ((text : List ℕ) (x : X) → P text x → Q text (g x)) → Performs P before after new result → Performs Q before after (g new) result
-performs_as g P Q before after new (Ok u) f p = (p.0, p.1, f p.0 new p.2)
-performs_as g P Q before after new (Err stop) f (inl kept) = inl kept
-performs_as g P Q before after new (Err stop) f (inr h) = inr (h.0, g h.1, f h.0 h.1 h.2, h.3)
+pub performs_as : {X Y : Type 0} (g : X → Y) (P : List ℕ → X → Type 0) (Q : List ℕ → Y → Type 0) (B C : List ℕ → Type 0) (before after : Option (List ℕ)) (new : X) (result : Result Unit Stop)
+    → ((text : List ℕ) (x : X) → P text x → Q text (g x)) → ((text : List ℕ) → B text → C text) → Performs P B before after new result → Performs Q C before after (g new) result
+performs_as g P Q B C before after new (Ok u) f h p = (p.0, p.1, f p.0 new p.2)
+performs_as g P Q B C before after new (Err why.Write) f h (inl kept) = inl kept
+performs_as g P Q B C before after new (Err why.Write) f h (inr p) = inr (p.0, g p.1, f p.0 p.1 p.2, p.3)
+performs_as g P Q B C before after new (Err why.Memory) f h p = (p.0, p.1, h p.0 p.2)
 
 -- What an active task asks is what it does.
 pub asked_does : (number : ℕ) (old : JobValue) (t : Name) (s : Statement) (a : Written) (text : List ℕ) (new : JobValue) → s ≡ says.Request a → is_active old.state.owners t ≡ true → Asks number old t a (resolved old.names a) text new → Does number old t s text new
@@ -89,9 +93,10 @@ line_served number old new first bytes read l text same reading is serves = (l, 
 
 -- A line whose serving stops is run.
 pub runs_stopped : (before after : Option (List ℕ)) (number : ℕ) (old new : Stage) (first : Bool) (bytes : List ℕ) (read : Result Line Fault) (l : Line) (stop : Stop) → first ≡ is_before old → IsReading first bytes read → read ≡ Ok l
-    → Performs (Serves number old l) before after new (Err stop) → RunsLine before after number old bytes new (Err stop)
-runs_stopped before after number old new first bytes read l stop same reading is (inl kept) = inl kept
-runs_stopped before after number old new first bytes read l stop same reading is (inr h) = inr (h.0, inl (h.1, line_served number old h.1 first bytes read l h.0 same reading is h.2), h.3)
+    → Performs (Serves number old l) (TakesMemory old l) before after new (Err stop) → RunsLine before after number old bytes new (Err stop)
+runs_stopped before after number old new first bytes read l why.Write same reading is (inl kept) = inl kept
+runs_stopped before after number old new first bytes read l why.Write same reading is (inr h) = inr (h.0, inl (h.1, line_served number old h.1 first bytes read l h.0 same reading is h.2), h.3)
+runs_stopped before after number old new first bytes read l why.Memory same reading is h = (h.0, h.1, (l, subst (λ first. LineOf first bytes l) same (subst (IsReading first bytes) is reading), h.2))
 
 -- whether no statement came before
 pub first_is : (o : Option JobValue) (b : Bool) → is_some o ≡ not b → b ≡ is_before (stage_of o)
@@ -109,8 +114,8 @@ pub line_faults : (number : ℕ) (old : Stage) (first : Bool) (bytes : List ℕ)
 line_faults number old first bytes read fault same reading is = (fault, subst (λ first. FaultOf first bytes fault) same (subst (IsReading first bytes) is reading), refl)
 
 -- A fault of which a front was printed.
-pub faults_in_front : (before after : Option (List ℕ)) (number : ℕ) (old new : Stage) (bytes : List ℕ) (fault : Fault) (stop : Stop) → Faults number (is_before old) bytes (fault_text number fault) → AppendsFront before after (fault_text number fault) → RunsLine before after number old bytes new (Err stop)
-faults_in_front before after number old new bytes fault stop faults front = inr (fault_text number fault, inr faults, front)
+pub faults_in_front : (before after : Option (List ℕ)) (number : ℕ) (old new : Stage) (bytes : List ℕ) (fault : Fault) → Faults number (is_before old) bytes (fault_text number fault) → AppendsFront before after (fault_text number fault) → RunsLine before after number old bytes new (Err why.Write)
+faults_in_front before after number old new bytes fault faults front = inr (fault_text number fault, inr faults, front)
 
 -- The end of a step and the beginning of the next are one text.
 pub both_written : (before mid after : Option (List ℕ)) (first second : List ℕ) → Appends before mid first → AppendsFront mid after second → AppendsFront before after (first ++ second)
@@ -127,15 +132,41 @@ Begun number card former text new = (text ≡ region_text number card) × (new �
 abbrev pub Turned : ℕ → CardValue → List ℕ → Bool → List ℕ → Stage → Type 0
 Turned number card first former text new = (text ≡ first ++ region_text number card) × (new ≡ In (job_at card former))
 
+abbrev pub Before : List ℕ → List ℕ → Type 0
+Before first text = text ≡ first
+
 pub turned : (before mid after : Option (List ℕ)) (number : ℕ) (card : CardValue) (former so_far : Bool) (first : List ℕ) (new : Stage) (result : Result Unit Stop) → former ≡ so_far → Appends before mid first
-    → Performs (Begun number card former) mid after new result → Performs (Turned number card first so_far) before after new result
+    → Performs (Begun number card former) (Before []) mid after new result → Performs (Turned number card first so_far) (Before first) before after new result
 turned before mid after number card former so_far first new (Ok u) same a p =
     (first ++ p.0, Appends-trans before mid after first p.0 a p.1, (ap (λ x. first ++ x) p.2.0, p.2.1 ∙ ap (λ b. In (job_at card b)) same))
-turned before mid after number card former so_far first new (Err stop) same a (inl kept) =
+turned before mid after number card former so_far first new (Err why.Write) same a (inl kept) =
     inr (first ++ region_text number card, In (job_at card so_far), (refl, refl), front_written before after first (region_text number card) (first, [], sym (append-nil first), Appends-kept before mid after first a kept))
-turned before mid after number card former so_far first new (Err stop) same a (inr h) =
+turned before mid after number card former so_far first new (Err why.Write) same a (inr h) =
     inr (first ++ h.0, In (job_at card so_far), (ap (λ x. first ++ x) h.2.0, refl), both_written before mid after first h.0 a h.3)
+turned before mid after number card former so_far first new (Err why.Memory) same a h =
+    (first ++ h.0, Appends-trans before mid after first h.0 a h.1, ap (λ x. first ++ x) h.2 ∙ append-nil first)
 
 -- or has not ended
-pub not_turned : (before after : Option (List ℕ)) (number : ℕ) (card : CardValue) (so_far : Bool) (first : List ℕ) (new : Stage) (stop : Stop) → AppendsFront before after first → Performs (Turned number card first so_far) before after new (Err stop)
-not_turned before after number card so_far first new stop front = inr (first ++ region_text number card, In (job_at card so_far), (refl, refl), front_written before after first (region_text number card) front)
+pub not_turned : (before after : Option (List ℕ)) (number : ℕ) (card : CardValue) (so_far : Bool) (first : List ℕ) (new : Stage) → AppendsFront before after first → Performs (Turned number card first so_far) (Before first) before after new (Err why.Write)
+not_turned before after number card so_far first new front = inr (first ++ region_text number card, In (job_at card so_far), (refl, refl), front_written before after first (region_text number card) front)
+
+-- A REGION statement that takes memory, and a request that sets a name.
+pub region_takes : (old : Option JobValue) (t : Name) (s : Statement) (card : CardValue) (text : List ℕ) → card_said t s ≡ Some card → text ≡ ending old → TakesMemory (stage_of old) (line.Statement t s) text
+region_takes None t (says.Region below above fill residence) card text is e = e
+region_takes (Some job) t (says.Region below above fill residence) card text is e = e
+region_takes old t (says.Request a) card text is e = absurd (let f : None ≡ Some card = is in cc)
+region_takes old t (says.Where name) card text is e = absurd (let f : None ≡ Some card = is in cc)
+region_takes old t says.ReportSubpools card text is e = absurd (let f : None ≡ Some card = is in cc)
+region_takes old t says.ReportMap card text is e = absurd (let f : None ≡ Some card = is in cc)
+
+pub request_takes : (job : JobValue) (t : Name) (s : Statement) (a : Written) (text : List ℕ) → s ≡ says.Request a → (text ≡ []) × SetsName job t a → TakesMemory (In job) (line.Statement t s) text
+request_takes job t s a text is h = subst (λ s. TakesMemory (In job) (line.Statement t s) text) (sym is) h
+
+-- what takes memory in the step that runs
+pub takes_in : (old : Option JobValue) (job : JobValue) (t : Name) (s : Statement) (text : List ℕ) → old ≡ Some job → TakesMemory (In job) (line.Statement t s) text → TakesMemory (stage_of old) (line.Statement t s) text
+takes_in old job t s text is h = subst (λ o. TakesMemory (stage_of o) (line.Statement t s) text) (sym is) h
+
+-- what holds where a result is not Ok
+pub err_of : {T E P : Type 0} (r : Result T E) → ((x : T) → r ≡ Ok x → ⊥) → OnErr r P → P
+err_of (Ok x) other h = absurd (other x refl)
+err_of (Err e) other h = h

@@ -13,7 +13,9 @@ use Rattle.mvs_model.specs.Name.{name_cmp, name_code}
 use Rattle.mvs_model.specs.State.{State, state_code}
 use Rattle.mvs_model.specs.Job.{JobValue}
 use Rattle.mvs_model.specs.Runs.{Stage, Before, In, is_before, ServesLine, Faults, end_text}
+use Rattle.mvs_model.specs.Memory.{LineTakesMemory}
 use Rattle.mvsjob.specs.declared.job.Stop.{Stop}
+use Rattle.mvsjob.specs.declared.job.Stop.TheVariants as stop
 use Rattle.mvsjob.specs.Writing.{AppendsFront}
 
 -- a code, for a model's value
@@ -40,12 +42,15 @@ abbrev pub has_abended : Option JobValue → Bool
 has_abended None = false
 has_abended (Some job) = job.abended || job.former
 
--- A text of these was written, and this is the state after it; or the call stopped, when it had written nothing or a front of
--- such a text.
-abbrev pub Performs : {X : Type 0} → (List ℕ → X → Type 0) → Option (List ℕ) → Option (List ℕ) → X → Result Unit Stop → Type 0
-Performs P before after new result = MatchResult result
-    (λ _. (text : List ℕ) × Appends before after text × P text new)
-    (λ _. Keeps before after ⊎ ((text : List ℕ) × (later : _) × P text later × AppendsFront before after text))
+-- A call stopped: at a write, when it had written nothing or a front of a text of these; or for want of memory, when it had
+-- written one of those.
+abbrev pub Stopped : {X : Type 0} → (List ℕ → X → Type 0) → (List ℕ → Type 0) → Option (List ℕ) → Option (List ℕ) → Stop → Type 0
+Stopped P B before after stop.Write = Keeps before after ⊎ ((text : List ℕ) × (later : _) × P text later × AppendsFront before after text)
+Stopped P B before after stop.Memory = (text : List ℕ) × Appends before after text × B text
+
+-- A text of these was written, and this is the state after it; or the call stopped.
+abbrev pub Performs : {X : Type 0} → (List ℕ → X → Type 0) → (List ℕ → Type 0) → Option (List ℕ) → Option (List ℕ) → X → Result Unit Stop → Type 0
+Performs P B before after new result = MatchResult result (λ _. (text : List ℕ) × Appends before after text × P text new) (Stopped P B before after)
 
 -- what a line prints: what it is answered, or its fault
 abbrev pub LinePrints : ℕ → Stage → List ℕ → List ℕ → Type 0
@@ -55,4 +60,5 @@ LinePrints number old line text = ((new : Stage) × ServesLine number old line t
 abbrev pub RunsLine : Option (List ℕ) → Option (List ℕ) → ℕ → Stage → List ℕ → Stage → Result Bool Stop → Type 0
 RunsLine before after number old line new (Ok true) = (text : List ℕ) × Appends before after text × ServesLine number old line text new
 RunsLine before after number old line new (Ok false) = (text : List ℕ) × Appends before after text × Faults number (is_before old) line text
-RunsLine before after number old line new (Err stop) = Keeps before after ⊎ ((text : List ℕ) × LinePrints number old line text × AppendsFront before after text)
+RunsLine before after number old line new (Err stop.Write) = Keeps before after ⊎ ((text : List ℕ) × LinePrints number old line text × AppendsFront before after text)
+RunsLine before after number old line new (Err stop.Memory) = (text : List ℕ) × Appends before after text × LineTakesMemory old line text

@@ -6,6 +6,7 @@ use Rattle.mvs_model.specs.declared.outcome.Outcome.{Outcome}
 use Rattle.mvs_model.specs.declared.outcome.Outcome.TheVariants.{ScriptFault}
 use Rattle.mvs_model.specs.Lines.{lines_of}
 use Rattle.mvs_model.specs.Runs.{Stage, IsPrinting, IsPrintingFront}
+use Rattle.mvs_model.specs.Memory.{IsPrintingBefore}
 use Rattle.mvs_model.proofs.Going.{Reaches}
 use Rattle.mvsjob.specs.declared.job.Stop.{Stop}
 use Rattle.mvsjob.specs.declared.job.Stop.TheVariants as stop
@@ -28,6 +29,15 @@ Printed start now script outcome = (written : List ℕ) × Appends start now wri
 abbrev pub PrintedFront : Option (List ℕ) → Option (List ℕ) → List ℕ → Type 0
 PrintedFront start now script = (written : List ℕ) × Appends start now written × IsPrintingFront script written
 
+-- the whole printing before the reply to a statement that takes memory, which is a front as well
+abbrev pub PrintedBefore : Option (List ℕ) → Option (List ℕ) → List ℕ → Type 0
+PrintedBefore start now script = (written : List ℕ) × Appends start now written × IsPrintingFront script written × IsPrintingBefore script written
+
+-- what stands there where the job stopped
+abbrev pub PrintedUpTo : Stop → Option (List ℕ) → Option (List ℕ) → List ℕ → Type 0
+PrintedUpTo stop.Write start now script = PrintedFront start now script
+PrintedUpTo stop.Memory start now script = PrintedBefore start now script
+
 -- After the bytes that were told the job stands here, with these bytes kept of a line that has not ended: however the script goes on,
 -- what stands between the two moments of the writer is the printing of a run up to here.
 pub record Stands (start now : Option (List ℕ)) (told : List ℕ) (number : ℕ) (stage : Stage) (kept : List ℕ) : Type 0 where
@@ -39,19 +49,19 @@ abbrev pub Feeds : Option (List ℕ) → Option (List ℕ) → List ℕ → ℕ 
 Feeds before after bytes number stage kept number' stage' kept' result =
     (start : Option (List ℕ)) (told : List ℕ) → Stands start before told number stage kept → MatchResult result
     (λ goes_on. MatchBool goes_on (Stands start after (told ++ bytes) number' stage' kept') ((more : List ℕ) → Printed start after (told ++ (bytes ++ more)) ScriptFault))
-    (λ _. (more : List ℕ) → PrintedFront start after (told ++ (bytes ++ more)))
+    (λ reason. (more : List ℕ) → PrintedUpTo reason start after (told ++ (bytes ++ more)))
 
 -- The same of the first of some bytes, as many as the result says.
 abbrev pub FeedsSome : Option (List ℕ) → Option (List ℕ) → List ℕ → ℕ → Stage → List ℕ → ℕ → Stage → List ℕ → Result (Option ℕ) Stop → Type 0
 FeedsSome before after bytes number stage kept number' stage' kept' result =
     (start : Option (List ℕ)) (told : List ℕ) → Stands start before told number stage kept → MatchResult result
     (λ taken. MatchOption taken ((more : List ℕ) → Printed start after (told ++ (bytes ++ more)) ScriptFault) (λ n. Stands start after (told ++ take n bytes) number' stage' kept'))
-    (λ _. (more : List ℕ) → PrintedFront start after (told ++ (bytes ++ more)))
+    (λ reason. (more : List ℕ) → PrintedUpTo reason start after (told ++ (bytes ++ more)))
 
 -- What the end of the script does.
 abbrev pub Finishes : Option (List ℕ) → Option (List ℕ) → ℕ → Stage → List ℕ → Result Outcome Stop → Type 0
 Finishes before after number stage kept result = (start : Option (List ℕ)) (told : List ℕ) → Stands start before told number stage kept →
-    MatchResult result (λ outcome. Printed start after told outcome) (λ _. PrintedFront start after told)
+    MatchResult result (λ outcome. Printed start after told outcome) (λ reason. PrintedUpTo reason start after told)
 
 -- Of the bytes that were unread, count were told, and the job stands behind them.
 abbrev pub IsUnderWay : Option (List ℕ) → Option (List ℕ) → Option (List ℕ) → Option (List ℕ) → ℕ → ℕ → Stage → List ℕ → Type 0
@@ -62,8 +72,9 @@ IsUnderWay unread left start now count number stage kept =
 abbrev pub HasEnded : Option (List ℕ) → Option (List ℕ) → Option (List ℕ) → Option (List ℕ) → ℕ → Outcome → Type 0
 HasEnded unread left start now most outcome = Exchanges unread left start now (λ told written. (length told ≤ most) × IsPrinting told written outcome)
 
-abbrev pub HasBroken : Option (List ℕ) → Option (List ℕ) → Option (List ℕ) → Option (List ℕ) → ℕ → Type 0
-HasBroken unread left start now most = Exchanges unread left start now (λ told written. (length told ≤ most) × IsPrintingFront told written)
+abbrev pub HasBroken : Option (List ℕ) → Option (List ℕ) → Option (List ℕ) → Option (List ℕ) → ℕ → RunFault → Type 0
+HasBroken unread left start now most fault =
+    Exchanges unread left start now (λ told written. (length told ≤ most) × IsPrintingFront told written × (fault ≡ Memory → IsPrintingBefore told written))
 
 -- What one read of at most so many bytes and what it told did, to a job that had been told count bytes.
 abbrev pub Takes : Option (List ℕ) → Option (List ℕ) → Option (List ℕ) → Option (List ℕ) → ℕ → ℕ → ℕ → Stage → List ℕ → Turn → Type 0
@@ -72,7 +83,8 @@ Takes unread left start now count room number stage kept (Ended outcome) = HasEn
 
 -- The job gave up behind so many bytes that were told, or behind one more, which made the script too long.
 abbrev pub HasGivenUp : Option (List ℕ) → Option (List ℕ) → Option (List ℕ) → Option (List ℕ) → ℕ → RunFault → Type 0
-HasGivenUp unread left start now count fault = Exchanges unread left start now (λ told written. (length told ≤ count + 1) × IsPrintingFront told written × (fault ≡ ReadTooLong → count < length told))
+HasGivenUp unread left start now count fault =
+    Exchanges unread left start now (λ told written. (length told ≤ count + 1) × IsPrintingFront told written × (fault ≡ ReadTooLong → count < length told) × (fault ≡ Memory → IsPrintingBefore told written))
 
 -- why a job gives up that stops
 abbrev pub fault_of : Stop → RunFault

@@ -1,11 +1,12 @@
 //! A job: from the lines of a script to the printed lines.
 
-ghost use Rattle.std.specs.Prelude.{◌≡◌, ◌++◌, List, ℕ, Bool, true, IfOk, IfSome, OnOk, OnErr, IsErrOf, MatchResult};
+ghost use Rattle.std.specs.Prelude.{◌≡◌, ◌++◌, [], List, ℕ, Bool, Some, true, IfOk, IfSome, OnOk, OnErr, IsErrOf, MatchResult};
 ghost use Rattle.std.specs.Io.KnownBytes.{Appends};
 ghost use Rattle.mvs_model.specs.Card.{IsCard};
 ghost use Rattle.mvs_model.specs.Job.{job_at};
 ghost use Rattle.mvs_model.specs.Lines.{IsStatement};
 ghost use Rattle.mvs_model.specs.Runs.{Closes, In, Serves, end_text, is_before};
+ghost use Rattle.mvs_model.specs.Memory.{TakesMemory};
 ghost use Rattle.mvs_model.specs.Texts.{region_text};
 ghost use Rattle.mvs_model.specs.declared.line.Line.TheVariants as line;
 ghost use Rattle.mvsjob.specs.Serving.{Performs, RunsLine, card_said, ending, has_abended, stage_of};
@@ -31,6 +32,11 @@ pub enum Stop {
 }
 
 impl From<Failed> for Stop {
+    ghost use Rattle.std.specs.Prelude.{◌≡◌};
+    ghost use Rattle.mvsjob.specs.declared.job.Stop.TheVariants.{Write};
+
+    ghost from_gives = { λ _ stop. stop ≡ Write };
+
     fn from(_failed: Failed) -> Stop
         ensures { result ≡ Stop.Write }
     {
@@ -91,6 +97,13 @@ fn end_step<W: Write>(
     Ok(former)
 }
 
+// The step that runs from now on.
+fn start_step(stage: &mut Option<Job>, job: Job)
+    ensures { stage.new ≡ Some job }
+{
+    *stage = Some(job);
+}
+
 // Begins the step of a card.
 fn begin_step<W: Write>(
     stage: &mut Option<Job>,
@@ -102,7 +115,7 @@ fn begin_step<W: Write>(
     writer: &mut Watched<W>,
 ) -> Result<(), Stop>
     requires { IsCard card.now }
-    ensures begun { Performs (λ text new. (text ≡ region_text number card.now) × (new ≡ In (job_at card.now former)))
+    ensures begun { Performs (λ text new. (text ≡ region_text number card.now) × (new ≡ In (job_at card.now former))) (λ text. text ≡ [])
         (W.contents writer.old.inner) (W.contents writer.new.inner) (stage_of stage.new) result }
     ensures ok { OnOk result (writer.new.failed ≡ writer.old.failed) }
     ensures write { IsErrOf result Stop.Write → writer.new.failed ≡ true }
@@ -110,7 +123,7 @@ fn begin_step<W: Write>(
     let Ok(job) = Job::new(alloc, card, placement, former) else {
         return Err(Stop::Memory);
     };
-    *stage = Some(job);
+    start_step(stage, job);
     let said = region_said(card.below(), card.above());
     print_line(writer, number, &card.name(), said.as_slice())?;
     Ok(())
@@ -126,7 +139,7 @@ fn turn_step<W: Write>(
     writer: &mut Watched<W>,
 ) -> Result<(), Stop>
     requires { IsCard card.now }
-    ensures turned { Performs (λ text new. (text ≡ ending stage.old ++ region_text number card.now) × (new ≡ In (job_at card.now (has_abended stage.old))))
+    ensures turned { Performs (λ text new. (text ≡ ending stage.old ++ region_text number card.now) × (new ≡ In (job_at card.now (has_abended stage.old)))) (λ text. text ≡ ending stage.old)
         (W.contents writer.old.inner) (W.contents writer.new.inner) (stage_of stage.new) result }
     ensures ok { OnOk result (writer.new.failed ≡ writer.old.failed) }
     ensures write { IsErrOf result Stop.Write → writer.new.failed ≡ true }
@@ -146,7 +159,7 @@ fn run_statement<W: Write>(
     writer: &mut Watched<W>,
 ) -> Result<(), Stop>
     requires { IsStatement (is_before (stage_of stage.old)) task.now statement.now }
-    ensures served { Performs (Serves number (stage_of stage.old) (line.Statement task.now statement.now)) (W.contents writer.old.inner) (W.contents writer.new.inner) (stage_of stage.new) result }
+    ensures served { Performs (Serves number (stage_of stage.old) (line.Statement task.now statement.now)) (TakesMemory (stage_of stage.old) (line.Statement task.now statement.now)) (W.contents writer.old.inner) (W.contents writer.new.inner) (stage_of stage.new) result }
     ensures ok { OnOk result (writer.new.failed ≡ writer.old.failed) }
     ensures write { IsErrOf result Stop.Write → writer.new.failed ≡ true }
 {

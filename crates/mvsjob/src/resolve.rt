@@ -1,6 +1,6 @@
 //! Requests as they are written: the addresses of their names, and the names that they set.
 
-ghost use Rattle.std.specs.Prelude.{◌≡◌, ◌+◌, ◌≤◌, ◌++◌, None, Some, length, IfSome, OnOk, MatchBool};
+ghost use Rattle.std.specs.Prelude.{◌≢◌, [], OnErr, ◌≡◌, ◌+◌, ◌≤◌, ◌++◌, None, Some, length, IfSome, OnOk, MatchBool};
 ghost use Rattle.std.specs.Option.{option_map};
 ghost use Rattle.std.specs.FinMap.{FinMap};
 ghost use Rattle.mvs_model.specs.Name.{name_cmp};
@@ -116,7 +116,8 @@ fn places_in(reply: &Reply) -> &[Place]
 // Sets names to places, from the left.
 fn set_all(names: &mut Names, areas: &[Name], places: &[Place]) -> Result<(), OutOfMemory>
     requires { Fit areas.now places.now }
-    ensures { OnOk result (names.new ≡ all_set names.old areas.now places.now) }
+    ensures ok { OnOk result (names.new ≡ all_set names.old areas.now places.now) }
+    ensures err { OnErr result ((areas.now ≢ []) × (places.now ≢ [])) }
 {
     let Some((area, areas)) = areas.split_first() else {
         return Ok(());
@@ -131,7 +132,8 @@ fn set_all(names: &mut Names, areas: &[Name], places: &[Place]) -> Result<(), Ou
 /// Sets the names of a request to the places that its reply gives.
 pub fn set_names(names: &mut Names, written: &Written, reply: &Reply) -> Result<(), OutOfMemory>
     requires { Fit (names_set written.now) (places_in reply.now) }
-    ensures { OnOk result (names.new ≡ all_set names.old (names_set written.now) (places_in reply.now)) }
+    ensures ok { OnOk result (names.new ≡ all_set names.old (names_set written.now) (places_in reply.now)) }
+    ensures err { OnErr result ((names_set written.now ≢ []) × (places_in reply.now ≢ [])) }
 {
     set_all(names, names_set(written), places_in(reply))
 }

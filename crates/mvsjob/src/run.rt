@@ -4,6 +4,7 @@ ghost use Rattle.std.specs.Prelude.{◌≡◌, ◌≢◌, ◌+◌, ◌<◌, ◌�
 ghost use Rattle.std.specs.Io.KnownBytes.{IsAtEnd};
 ghost use Rattle.mvs_model.specs.Runs.{IsPrinting, IsPrintingFront};
 ghost use Rattle.mvs_model.specs.Labels.{IsLabelText};
+ghost use Rattle.mvs_model.specs.Memory.{IsPrintingBefore};
 ghost use Rattle.mvs_model.specs.Numbers.{most_script_bytes};
 ghost use Rattle.mvs_model.specs.Tidy.{Tidy, IsPrintingInFull};
 ghost use Rattle.mvsjob.specs.Writing.{Exchanges};
@@ -63,6 +64,10 @@ pub fn run_job<R: Read, W: Write>(
         Exchanges (R.remaining reader.old.inner) (R.remaining reader.new.inner) (W.contents writer.old.inner) (W.contents writer.new.inner)
         (λ told written. (length told ≤ most_script_bytes + 1) × IsPrintingFront told written
         × (fault ≡ RunFault.ReadTooLong → most_script_bytes < length told))) }
+    // For want of memory it is the whole printing before the reply to a REGION statement, or to a granted request that sets a name.
+    ensures memory { IfErr result (λ fault. fault ≡ RunFault.Memory →
+        Exchanges (R.remaining reader.old.inner) (R.remaining reader.new.inner) (W.contents writer.old.inner) (W.contents writer.new.inner)
+        (λ told written. IsPrintingBefore told written)) }
     ensures read { IsErrOf result RunFault.Read → reader.new.failed ≡ true }
     ensures write { IsErrOf result RunFault.Write → writer.new.failed ≡ true }
 {

@@ -1,13 +1,15 @@
 //! Serves the statements of a step.
 
-ghost use Rattle.std.specs.Prelude.{◌≡◌, ◌||◌, ◌+◌, ◌/◌, ◌≤◌, true, false, None, Some, IfOk, IfSome, OnOk, OnErr, IsErrOf};
+ghost use Rattle.std.specs.Prelude.{◌≡◌, ◌||◌, ◌+◌, ◌/◌, ◌≤◌, [], true, false, None, Some, IfOk, IfSome, OnOk, OnErr, IsErrOf};
 ghost use Rattle.mvs_model.specs.Card.{IsCard};
 ghost use Rattle.mvs_model.specs.Changes.{Granted};
 ghost use Rattle.mvs_model.specs.Job.{JobValue, job_at};
 ghost use Rattle.mvs_model.specs.Lines.{IsStatement, IsWritten};
 ghost use Rattle.mvs_model.specs.Replies.{bytes_at, where_text, reply_text};
 ghost use Rattle.mvs_model.specs.Resolving.{resolved};
-ghost use Rattle.mvs_model.specs.Runs.{Asks, Does};
+ghost use Rattle.mvs_model.specs.Memory.{SetsName, TakesMemory};
+ghost use Rattle.mvs_model.specs.Runs.{Asks, Does, In};
+ghost use Rattle.mvs_model.specs.declared.line.Line.TheVariants as line;
 ghost use Rattle.mvs_model.specs.Numbers.{most_shown};
 ghost use Rattle.mvs_model.specs.Texts.{data_lines, line_count, reply_line};
 ghost use Rattle.mvs_model.specs.declared.request.Reply.TheVariants.{Done};
@@ -190,7 +192,7 @@ impl Job {
         writer: &mut Watched<W>,
     ) -> Result<(), Stop>
         requires { IsWritten written.now }
-        ensures served { Performs (Asks number self.old task.now written.now (resolved self.old.names written.now)) (W.contents writer.old.inner) (W.contents writer.new.inner) self.new result }
+        ensures served { Performs (Asks number self.old task.now written.now (resolved self.old.names written.now)) (λ text. (text ≡ []) × SetsName self.old task.now written.now) (W.contents writer.old.inner) (W.contents writer.new.inner) self.new result }
         ensures ok { OnOk result (writer.new.failed ≡ writer.old.failed) }
         ensures write { IsErrOf result Stop.Write → writer.new.failed ≡ true }
     {
@@ -216,7 +218,7 @@ impl Job {
     ) -> Result<(), Stop>
         requires in_range { IsStatement false task.now statement.now }
         requires of_step { card_said task.now statement.now ≡ None }
-        ensures served { Performs (Does number self.old task.now statement.now) (W.contents writer.old.inner) (W.contents writer.new.inner) self.new result }
+        ensures served { Performs (Does number self.old task.now statement.now) (TakesMemory (In self.old) (line.Statement task.now statement.now)) (W.contents writer.old.inner) (W.contents writer.new.inner) self.new result }
         ensures ok { OnOk result (writer.new.failed ≡ writer.old.failed) }
         ensures write { IsErrOf result Stop.Write → writer.new.failed ≡ true }
     {

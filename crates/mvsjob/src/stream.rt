@@ -4,7 +4,7 @@ ghost use Rattle.std.specs.Prelude.{◌≡◌, ◌≢◌, ◌<◌, ◌≤◌, �
 ghost use Rattle.std.specs.Io.KnownBytes.{Consumes, IsAtEnd, Keeps};
 ghost use Rattle.mvs_model.specs.Runs.{Before};
 ghost use Rattle.mvsjob.specs.Serving.{RunsLine, stage_of};
-ghost use Rattle.mvsjob.specs.Streams.{Feeds, FeedsSome, Finishes, HasBroken, HasEnded, HasGivenUp, IsUnderWay, Printed, PrintedFront, Progress, Takes, fault_of};
+ghost use Rattle.mvsjob.specs.Streams.{Feeds, FeedsSome, Finishes, HasBroken, HasEnded, HasGivenUp, IsUnderWay, Printed, PrintedUpTo, Progress, Takes, fault_of};
 
 use crate::job::{Stop, close, run_line};
 use crate::run::RunFault;
@@ -53,6 +53,7 @@ fn read<R: Read, W: Write>(
     ensures read { IsErrOf result RunFault.Read → reader.new.failed ≡ true }
     ensures write { IsErrOf result RunFault.Write → writer.new.failed ≡ true }
     ensures not_long { ¬ IsErrOf result RunFault.ReadTooLong }
+    ensures not_memory { ¬ IsErrOf result RunFault.Memory }
 {
     let Ok(()) = writer.flush() else {
         return Err(RunFault::Write);
@@ -254,7 +255,7 @@ impl Stream {
     // Prints the end of a job that has no more lines.
     fn close_job<W: Write>(&self, writer: &mut Watched<W>) -> Result<Outcome, Stop>
         ensures closed { (start : Option (List ℕ)) (told : List ℕ) → Progress start (W.contents writer.old.inner) told self.now.number (stage_of self.now.stage) [] →
-            MatchResult result (λ outcome. Printed start (W.contents writer.new.inner) told outcome) (λ _. PrintedFront start (W.contents writer.new.inner) told) }
+            MatchResult result (λ outcome. Printed start (W.contents writer.new.inner) told outcome) (λ reason. PrintedUpTo reason start (W.contents writer.new.inner) told) }
         ensures ok { OnOk result (writer.new.failed ≡ writer.old.failed) }
         ensures write { IsErrOf result Stop.Write → writer.new.failed ≡ true }
     {
@@ -296,7 +297,7 @@ impl Stream {
             IsUnderWay unread (R.remaining reader.old.inner) start (W.contents writer.old.inner) count self.old.number (stage_of self.old.stage) self.old.line →
             MatchResult result
             (λ turn. Takes unread (R.remaining reader.new.inner) start (W.contents writer.new.inner) count (length chunk.old) self.new.number (stage_of self.new.stage) self.new.line turn)
-            (λ _. HasBroken unread (R.remaining reader.new.inner) start (W.contents writer.new.inner) (count + length chunk.old)) }
+            (λ fault. HasBroken unread (R.remaining reader.new.inner) start (W.contents writer.new.inner) (count + length chunk.old) fault) }
         ensures on { (n : ℕ) → result ≡ Ok (Turn.On n) → (0 < n) × (n ≤ length chunk.old) × (self.new.number ≤ self.old.number + n) × (length self.new.line < 256) }
         ensures end { (outcome : Outcome) → result ≡ Ok (Turn.Ended outcome) → (outcome ≢ Outcome.ScriptFault) → IsAtEnd (R.remaining reader.new.inner) }
         ensures healthy { OnOk result ((reader.new.failed ≡ reader.old.failed) × (writer.new.failed ≡ writer.old.failed)) }

@@ -11,7 +11,7 @@ returns-in_err-print_fault-in-Err-clause-ran g c =
     let p = err_from_is_err_and c.from_residual.result c.from_residual.ensures.1 in
     let old = stage_of c.args.stage.now in
     let faults = line_faults c.args.number old _ c.args.line.now _ c.in-Err.fault (first_is c.args.stage.now c.is_none.result c.is_none.ensures) c.read_line-read.ensures.reading c.in-Err.is in
-    rw (p.1) (faults_in_front _ _ c.args.number old old c.args.line.now c.in-Err.fault p.0 faults c.in_err-print_fault-in-Err.ensures.bytes)
+    rw (p.1, p.2) (faults_in_front _ _ c.args.number old old c.args.line.now c.in-Err.fault faults c.in_err-print_fault-in-Err.ensures.bytes)
 
 pub returns-in-Err-clause-ran : goal.returns-in-Err-clause-ran
 returns-in-Err-clause-ran g c =

@@ -6,7 +6,7 @@ use Rattle.mvsjob.proofs.job.turn_step.Goals as goal
 pub returns-in_err-former-clause-turned : goal.returns-in_err-former-clause-turned
 returns-in_err-former-clause-turned g c =
     let p = err_from_is_err_and c.from_residual.result c.from_residual.ensures.1 in
-    rw (p.1) (not_turned _ _ c.args.number c.args.card.now _ _ Before p.0 c.in_err-former.ensures.bytes)
+    rw (p.1, p.2) (not_turned _ _ c.args.number c.args.card.now _ _ Before c.in_err-former.ensures.bytes)
 
 pub returns-clause-turned : goal.returns-clause-turned
 returns-clause-turned g c =

@@ -1,12 +1,14 @@
-use Rattle.std.proofs.Common.{◌≡◌, ◌∙◌, sym, ap, Ok, Err, refl, length, arith}
+use Rattle.std.proofs.Common.{◌≡◌, ◌∙◌, ap, Ok, Err, refl, length, arith}
 use Rattle.std.proofs.lemmas.Grind.{common_steps}
 use Rattle.std.proofs.lemmas.Result.{err_from_is_err_and}
 use Rattle.mvs_model.specs.Runs.{IsPrinting}
+use Rattle.mvs_model.specs.Memory.{IsPrintingBefore}
 use Rattle.mvs_model.specs.Labels.{IsLabelText}
 use Rattle.mvs_model.specs.Tidy.{Tidy, IsPrintingInFull}
-use Rattle.mvsjob.specs.Streams.{HasEnded, HasGivenUp}
+use Rattle.mvsjob.specs.Streams.{HasEnded}
 use Rattle.mvsjob.specs.Writing.{Exchanges}
-use Rattle.mvsjob.proofs.Feeding.{under_way_start, given_up, given_up_within, ended_within, ended_tidy, if_ok, if_err}
+use Rattle.mvsjob.specs.declared.run.RunFault.TheVariants.{Memory}
+use Rattle.mvsjob.proofs.Feeding.{under_way_start, given_up, given_up_within, given_up_before, given_up_front, HasBrokenOff, printed_before, ended_within, ended_tidy, if_ok, if_err}
 use Rattle.mvsjob.proofs.run.run_job.Goals as goal
 
 pub reading-init : goal.reading-init
@@ -34,7 +36,12 @@ reading-preserved g c =
 pub returns-in_err-told-clause-fault : goal.returns-in_err-told-clause-fault
 returns-in_err-told-clause-fault g c =
     let p = err_from_is_err_and c.from_residual.result c.from_residual.ensures.1 in
-    rw (p.1) (given_up _ _ _ _ 16777215 _ p.0 (c.in_err-told.ensures.turn _ _ _ c.reading.invariant.under_way) (grind (arith, common_steps)) (λ e. c.in_err-told.ensures.not_long (ap (λ x. Err x) (sym p.2 ∙ e))))
+    rw (p.1, p.2) (given_up_front _ _ _ _ 16777215 _ (given_up _ _ _ _ 16777215 _ _ (c.in_err-told.ensures.turn _ _ _ c.reading.invariant.under_way) (grind (arith, common_steps)) (λ e. c.in_err-told.ensures.not_long (ap (λ x. Err x) e))))
+
+pub returns-in_err-told-clause-memory : goal.returns-in_err-told-clause-memory
+returns-in_err-told-clause-memory g c =
+    let p = err_from_is_err_and c.from_residual.result c.from_residual.ensures.1 in
+    rw (p.1, p.2) (λ e. printed_before _ _ _ _ _ _ (c.in_err-told.ensures.turn _ _ _ c.reading.invariant.under_way) e)
 
 pub returns-in-Ended-clause-ok : goal.returns-in-Ended-clause-ok
 returns-in-Ended-clause-ok g c = ended_within _ _ _ _ _ c.in-Ended.outcome (rw (c.in-Ended.is) at (c.in_ok-told.ensures.turn _ _ _ c.reading.invariant.under_way)) (grind (arith, common_steps))
@@ -56,5 +63,10 @@ returns-clause-tidy g c =
 
 pub returns-clause-fault : goal.returns-clause-fault
 returns-clause-fault g c =
-    if_err c.last_turn.result _ _ (λ fault. HasGivenUp (g.R.Read.remaining c.args.reader.now.inner) (g.R.Read.remaining c.last_turn.new.reader.inner) (g.W.Write.contents c.args.writer.now.inner) (g.W.Write.contents c.last_turn.new.writer.inner) 16777215 fault)
-    (c.last_turn.ensures.turn _ _ _ c.reading.invariant.under_way) (λ fault h. given_up_within _ _ _ _ _ fault h (omega (arith, c.reading.invariant.small)))
+    if_err c.last_turn.result _ _ (λ fault. HasBrokenOff (g.R.Read.remaining c.args.reader.now.inner) (g.R.Read.remaining c.last_turn.new.reader.inner) (g.W.Write.contents c.args.writer.now.inner) (g.W.Write.contents c.last_turn.new.writer.inner) 16777215 fault)
+    (c.last_turn.ensures.turn _ _ _ c.reading.invariant.under_way) (λ fault h. given_up_front _ _ _ _ 16777215 fault (given_up_within _ _ _ _ _ fault h (omega (arith, c.reading.invariant.small))))
+
+pub returns-clause-memory : goal.returns-clause-memory
+returns-clause-memory g c =
+    if_err c.last_turn.result _ _ (λ fault. fault ≡ Memory → Exchanges (g.R.Read.remaining c.args.reader.now.inner) (g.R.Read.remaining c.last_turn.new.reader.inner) (g.W.Write.contents c.args.writer.now.inner) (g.W.Write.contents c.last_turn.new.writer.inner) (λ told written. IsPrintingBefore told written))
+    (c.last_turn.ensures.turn _ _ _ c.reading.invariant.under_way) (λ fault h. given_up_before _ _ _ _ _ fault h)

@@ -1,7 +1,9 @@
-use Rattle.std.proofs.Common.{◌∙◌, sym, inr, refl}
+use Rattle.std.proofs.Common.{◌∙◌, sym, inr, refl, []}
+use Rattle.std.proofs.KnownBytes.{Appends-nil}
+use Rattle.mvs_model.specs.Memory.{SetsName}
 use Rattle.std.proofs.lemmas.Result.{err_from_is_err_and}
 use Rattle.mvs_model.specs.Job.{JobValue}
-use Rattle.mvsjob.proofs.Serving.{made}
+use Rattle.mvsjob.proofs.Serving.{made, err_of}
 use Rattle.mvsjob.proofs.Resolved.{areas_fit, steady_after, bytes_granted, none_of, quiet, state_same, told_no_name}
 use Rattle.mvsjob.proofs.serve.Job.ask.Goals as goal
 
@@ -20,14 +22,14 @@ returns-in_err-print_answer-clause-served g c =
     let p = err_from_is_err_and c.from_residual-in_err-print_answer.result c.from_residual-in_err-print_answer.ensures.1 in
     let old : JobValue = record { state = c.self.inside.step.state; names = c.self.inside.names; abended = c.self.inside.step.abended; former = c.self.inside.former } in
     let new : JobValue = record { state = c.request-reply.new.self.state; names = c.set_names.new.names; abended = c.request-reply.new.self.abended; former = c.self.inside.former } in
-    let m = made c.args.number old c.args.task.now c.args.written.now c.in-Some.request c.request-reply.result new (sym c.resolve.ensures ∙ c.in-Some.is) c.request-reply.ensures.step c.in-Ok.ensures c.request-reply.ensures.abended refl in
-    rw (p.1, ← c.self.view_is) (inr (_, new, m, c.in_err-print_answer.ensures.bytes old (sym c.resolve.ensures ∙ c.in-Some.is) (state_same c.self.inside.step.state c.args.task.now c.in-Some.request c.request-reply.result c.request-reply.new.self.state c.request-reply.ensures.step)))
+    let m = made c.args.number old c.args.task.now c.args.written.now c.in-Some.request c.request-reply.result new (sym c.resolve.ensures ∙ c.in-Some.is) c.request-reply.ensures.step c.in-Ok.ensures.ok c.request-reply.ensures.abended refl in
+    rw (p.1, p.2, ← c.self.view_is) (inr (_, new, m, c.in_err-print_answer.ensures.bytes old (sym c.resolve.ensures ∙ c.in-Some.is) (state_same c.self.inside.step.state c.args.task.now c.in-Some.request c.request-reply.result c.request-reply.new.self.state c.request-reply.ensures.step)))
 
 pub returns-clause-served : goal.returns-clause-served
 returns-clause-served g c =
     let old : JobValue = record { state = c.self.inside.step.state; names = c.self.inside.names; abended = c.self.inside.step.abended; former = c.self.inside.former } in
     let new : JobValue = record { state = c.request-reply.new.self.state; names = c.set_names.new.names; abended = c.request-reply.new.self.abended; former = c.self.inside.former } in
-    let m = made c.args.number old c.args.task.now c.args.written.now c.in-Some.request c.request-reply.result new (sym c.resolve.ensures ∙ c.in-Some.is) c.request-reply.ensures.step c.in-Ok.ensures c.request-reply.ensures.abended refl in
+    let m = made c.args.number old c.args.task.now c.args.written.now c.in-Some.request c.request-reply.result new (sym c.resolve.ensures ∙ c.in-Some.is) c.request-reply.ensures.step c.in-Ok.ensures.ok c.request-reply.ensures.abended refl in
     rw (← c.self.view_is) (_, c.in_ok-print_answer.ensures.bytes old (sym c.resolve.ensures ∙ c.in-Some.is) (state_same c.self.inside.step.state c.args.task.now c.in-Some.request c.request-reply.result c.request-reply.new.self.state c.request-reply.ensures.step), m)
 
 pub returns-in_err-print_line-clause-served : goal.returns-in_err-print_line-clause-served
@@ -35,7 +37,23 @@ returns-in_err-print_line-clause-served g c =
     let p = err_from_is_err_and c.from_residual.result c.from_residual.ensures.1 in
     let old : JobValue = record { state = c.self.inside.step.state; names = c.self.inside.names; abended = c.self.inside.step.abended; former = c.self.inside.former } in
     let told = told_no_name c.args.number old c.args.task.now c.args.written.now (sym c.resolve.ensures ∙ none_of c.resolve.result c.in_default.not-Some) in
-    rw (p.1, ← c.self.view_is) (inr (_, old, told, c.in_err-print_line.ensures.bytes))
+    rw (p.1, p.2, ← c.self.view_is) (inr (_, old, told, c.in_err-print_line.ensures.bytes))
+
+-- memory was wanting for a name
+pub returns-in_default-set_names-clause-served : goal.returns-in_default-set_names-clause-served
+returns-in_default-set_names-clause-served g c =
+    let lacks = err_of c.set_names.result c.in_default-set_names.not-Ok c.set_names.ensures.err in
+    let old : JobValue = record { state = c.self.inside.step.state; names = c.self.inside.names; abended = c.self.inside.step.abended; former = c.self.inside.former } in
+    let sets : SetsName old c.args.task.now c.args.written.now = record {
+      request = c.in-Some.request;
+      reply = c.request-reply.result;
+      new = c.request-reply.new.self.state;
+      resolves = sym c.resolve.ensures ∙ c.in-Some.is;
+      step = c.request-reply.ensures.step;
+      names = lacks.0;
+      places = lacks.1;
+    } in
+    rw (← c.self.view_is) ([], Appends-nil _, (refl, sets))
 
 -- the state after a request
 pub invariant_of-self : goal.invariant_of-self

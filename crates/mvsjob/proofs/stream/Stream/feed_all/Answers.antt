@@ -8,7 +8,7 @@ use Rattle.mvsjob.proofs.stream.Stream.feed_all.Goals as goal
 pub returns-in_err-taken-clause-bytes : goal.returns-in_err-taken-clause-bytes
 returns-in_err-taken-clause-bytes g c = λ start told st.
     let p = err_from_is_err_and c.from_residual.result c.from_residual.ensures.1 in
-    rw (p.1) (some_stopped _ _ c.args.bytes.now _ c.loop-at.at _ c.feed_some.new.self.number _ (stage_of c.feed_some.new.self.stage) _ c.feed_some.new.self.line (take_rest c.args.bytes.now c.loop-at.at) start told (c.loop-at.invariant.stands start told st) c.in_err-taken.field-0.0 c.in_err-taken.ensures.bytes)
+    rw (p.1, p.2) (some_stopped _ _ c.args.bytes.now _ c.loop-at.at _ c.feed_some.new.self.number _ (stage_of c.feed_some.new.self.stage) _ c.feed_some.new.self.line (take_rest c.args.bytes.now c.loop-at.at) start told (c.loop-at.invariant.stands start told st) c.in_err-taken.field-0.0 c.in_err-taken.ensures.bytes)
 
 pub loop-at-preserved : goal.loop-at-preserved
 loop-at-preserved g c =

@@ -1,10 +1,10 @@
-use Rattle.std.proofs.Common.{arith, length}
+use Rattle.std.proofs.Common.{arith, length, ap, Err}
 use Rattle.mvsjob.specs.Serving.{stage_of}
 use Rattle.mvsjob.proofs.Feeding.{read_failed, read_end, read_end_stopped, read_on, read_fault, read_stopped}
 use Rattle.mvsjob.proofs.stream.Stream.turn.Goals as goal
 
 pub returns-in-Err-clause-turn : goal.returns-in-Err-clause-turn
-returns-in-Err-clause-turn g c = λ unread start count u. read_failed _ _ _ _ _ _ _ _ _ _ u c.in-Err.ensures.unwritten (length c.args.chunk.now) c.in-Err.ensures.bytes
+returns-in-Err-clause-turn g c = λ unread start count u. read_failed _ _ _ _ _ _ _ _ _ _ u c.in-Err.ensures.unwritten (length c.args.chunk.now) c.in-Err.fault (λ e. c.in-Err.ensures.not_memory (ap (λ x. Err x) e)) c.in-Err.ensures.bytes
 
 pub returns-in-Ok-finish-clause-turn : goal.returns-in-Ok-finish-clause-turn
 returns-in-Ok-finish-clause-turn g c = λ unread start count u.
@@ -12,7 +12,7 @@ returns-in-Ok-finish-clause-turn g c = λ unread start count u.
 
 pub returns-in-Err-finish-clause-turn : goal.returns-in-Err-finish-clause-turn
 returns-in-Err-finish-clause-turn g c = λ unread start count u.
-    read_end_stopped _ _ _ _ _ _ _ _ _ _ u c.in-Ok.ensures.unwritten _ _ c.in-Ok.count c.read.new.chunk (omega arith) c.if-count-eq0.true c.in-Ok.ensures.bytes c.in-Err-finish.stop c.in-Err-finish.ensures.bytes
+    read_end_stopped _ _ _ _ _ _ _ _ _ _ u c.in-Ok.ensures.unwritten _ _ c.in-Ok.count c.read.new.chunk (omega arith) c.if-count-eq0.true c.in-Ok.ensures.bytes c.in-Err-finish.stop _ c.fault_of.ensures c.in-Err-finish.ensures.bytes
 
 pub returns-in-Ok-true-clause-turn : goal.returns-in-Ok-true-clause-turn
 returns-in-Ok-true-clause-turn g c = λ unread start count u.
@@ -24,4 +24,4 @@ returns-in-Ok-false-clause-turn g c = λ unread start count u.
 
 pub returns-in-Err-feed_all-clause-turn : goal.returns-in-Err-feed_all-clause-turn
 returns-in-Err-feed_all-clause-turn g c = λ unread start count u.
-    read_stopped _ _ _ _ _ _ _ _ _ _ u c.in-Ok.ensures.unwritten _ (length c.args.chunk.now) c.in-Ok.count c.feed_all.new.self.number (stage_of c.feed_all.new.self.stage) c.feed_all.new.self.line c.read.new.chunk c.in-Ok.ensures.bytes c.in-Ok.ensures.bound (omega (arith, c.in-Ok.ensures.room)) c.in-Err-feed_all.stop c.in-Err-feed_all.ensures.bytes
+    read_stopped _ _ _ _ _ _ _ _ _ _ u c.in-Ok.ensures.unwritten _ (length c.args.chunk.now) c.in-Ok.count c.feed_all.new.self.number (stage_of c.feed_all.new.self.stage) c.feed_all.new.self.line c.read.new.chunk c.in-Ok.ensures.bytes c.in-Ok.ensures.bound (omega (arith, c.in-Ok.ensures.room)) c.in-Err-feed_all.stop _ c.fault_of-in-Err-feed_all.ensures c.in-Err-feed_all.ensures.bytes
