@@ -387,7 +387,7 @@ statement_ranged first task operation operands l e says =
           bind_has (λ l. IsLine first (Ok l)) (statement_of row.meaning (form_in operation operands) (by_key (behind_form row operands))) _ l says (λ s es e.
           some_has (λ l. IsLine first (Ok l)) _ l e (row_ranged first (padded task) (form_in operation operands) operation operands row s (row_found operation operands row found) place (ap (λ o. first_of (row_checks operands o)) (sym found) ∙ rest) es))
 
--- a line that is read is in its ranges, and REGION where it is the first statement and only there
+-- a line that is read is in its ranges, and the first statement is REGION
 pub line_ranged : (first : Bool) (bytes : List ℕ) (l : Line) → LineOf first bytes l → IsLine first (Ok l)
 line_ranged first bytes l is =
     (elim (says_nothing bytes) as (λ b. first_of (if b then [] else statement_checks first (task_in bytes) (operation_in bytes) (operands_of bytes)) ≡ None → (if b then Some line.Nothing else said_with (task_in bytes) (form_in (operation_in bytes) (operands_of bytes)) (operands_of bytes) (row_of (operation_in bytes) (operands_of bytes))) ≡ Some l → IsLine first (Ok l)) [

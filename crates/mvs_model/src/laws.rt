@@ -61,7 +61,7 @@ pub fn one_reading()
     ensures { OneReading }
 {}
 
-/// What a line that is read says is in its ranges; REGION is the first statement, and only there.
+/// What a line that is read says is in its ranges; the first statement is REGION.
 pub fn in_ranges()
     ensures { InRanges }
 {}

@@ -5,7 +5,7 @@ ghost use Rattle.std.specs.List.{flat_map};
 ghost use Rattle.mvs_model.specs.Texts.{reply_line, hex, code_text, abend_lines, data_lines, fault_number, fault_text, line_count};
 ghost use Rattle.mvs_model.specs.Name.{trimmed};
 ghost use Rattle.mvs_model.specs.Numbers.{line_bytes, most_shown};
-ghost use Rattle.mvsjob.specs.Writing.{WritesAll};
+ghost use Rattle.mvsjob.specs.Writing.{WritesAll, data_said};
 
 use crate::text::Text;
 use mvs_model::code::Code;
@@ -167,23 +167,23 @@ fn push_bytes(text: &mut Text, bytes: &[u8])
     }
 }
 
-// Prints a line of bytes: the offset of the first one, and two digits for each.
+// Prints a line of bytes behind its number and its task: the offset of the first one, and two digits for each.
 fn print_data_line<W: Write>(
     writer: &mut Watched<W>,
-    number: u32,
-    task: &Name,
-    offset: u32,
+    head: &[u8],
+    offset: u16,
     bytes: &[u8],
 ) -> Result<(), Failed>
-    requires { length bytes.now ≤ line_bytes }
-    ensures bytes { WritesAll (W.contents writer.old.inner) (W.contents writer.new.inner) result (reply_line number task.now (codes "DATA +" ++ hex 4 offset ++ codes " " ++ flat_map (hex 2) bytes.now)) }
+    requires head { length head.now ≤ 20 }
+    requires bytes { length bytes.now ≤ line_bytes }
+    ensures bytes { WritesAll (W.contents writer.old.inner) (W.contents writer.new.inner) result (head.now ++ data_said offset bytes.now ++ codes "\n") }
     ensures ok { OnOk result (writer.new.failed ≡ writer.old.failed) }
     ensures err { OnErr result (writer.new.failed ≡ true) }
 {
     let mut text = Text::new();
-    push_head(&mut text, number, task);
+    text.push_all(head);
     text.push_all(b"DATA +");
-    text.push_last(16, 4, offset);
+    text.push_word(offset);
     text.push_all(b" ");
     push_bytes(&mut text, bytes);
     text.push_all(b"\n");
@@ -202,12 +202,15 @@ pub fn print_data<W: Write>(
     ensures ok { OnOk result (writer.new.failed ≡ writer.old.failed) }
     ensures err { OnErr result (writer.new.failed ≡ true) }
 {
+    let mut text = Text::new();
+    push_head(&mut text, number, task);
+    let head = text.as_slice();
     let mut offset = 0;
     let mut rest = bytes;
     'lines: while !rest.is_empty() {
         let (line, more) = rest.split_at(rest.len().min(LINE_BYTES));
-        print_data_line(writer, number, task, offset, line)?;
-        offset += LINE_BYTES as u32;
+        print_data_line(writer, head, offset, line)?;
+        offset += LINE_BYTES as u16;
         rest = more;
     }
     Ok(())

@@ -67,8 +67,19 @@ impl Text {
         ensures text { self.new ≡ self.old ++ hex 2 byte }
         ensures len { length self.new ≡ length self.old + 2 }
     {
-        self.push(digit_glyph(byte / 16));
-        self.push(digit_glyph(byte % 16));
+        self.bytes[self.len] = digit_glyph(byte / 16);
+        self.bytes[self.len + 1] = digit_glyph(byte % 16);
+        self.len += 2;
+    }
+
+    /// The four hexadecimal digits of a number of sixteen bits.
+    pub fn push_word(&mut self, word: u16)
+        requires { length self.old + 4 ≤ 160 }
+        ensures text { self.new ≡ self.old ++ hex 4 word }
+        ensures len { length self.new ≡ length self.old + 4 }
+    {
+        self.push_byte((word / 256) as u8);
+        self.push_byte((word % 256) as u8);
     }
 
     /// A number in decimal, without leading zeros.
