@@ -1,6 +1,6 @@
 //! One pass in rising order over the pages of a region and the free runs of the subpool's own pages.
 
-ghost use Rattle.std.specs.Prelude.{◌≡◌, ◌<◌, ◌≤◌, ◌/◌, ◌%◌, ℕ, MatchOption, Some, false, true, length};
+ghost use Rattle.std.specs.Prelude.{◌≡◌, ◌<◌, ◌≤◌, ◌/◌, ◌%◌, ℕ, MatchOption, Some, None, false, true, length};
 ghost use Rattle.page_map.specs.Owners.{owner_of, is_usable};
 ghost use Rattle.subpool_store.specs.Search.{may_take, IsExact, IsNextRun};
 ghost use Rattle.subpool_store.specs.Walk.{IsNextPart, IsWalk};
@@ -30,6 +30,25 @@ pub struct Walk {
     pub steps: u32,
 }
 
+// Joins the pages from a free one on, up to the first one that is assigned.
+fn join_pages(held: &HeldMap, pages: &PageMap, subpool: SubpoolId, from: usize) -> Part
+    requires exact { IsExact held.now pages.now }
+    requires within { from < length held.now }
+    requires page { from % 512 ≡ 0 }
+    requires free { owner_of pages.now (from / 512) ≡ None }
+    ensures { IsNextPart held.now pages.now subpool from false result }
+{
+    let _ = held;
+    let _ = subpool;
+    let page = pages.first_assigned(from / 512);
+    Part {
+        start: from,
+        end: 512 * page,
+        inside: false,
+        examined: (page - from / 512) as u32,
+    }
+}
+
 // Passes the entries of other subpools' pages, up to the first one that is free or the subpool's own.
 fn pass_pages(held: &HeldMap, pages: &PageMap, subpool: SubpoolId, from: usize) -> Part
     requires exact { IsExact held.now pages.now }
@@ -48,21 +67,15 @@ fn pass_pages(held: &HeldMap, pages: &PageMap, subpool: SubpoolId, from: usize) 
     }
 }
 
-// Looks at the entry of the next page.
+// Looks at the entry of the next page, and of those behind it that are alike.
 fn examine_page(held: &HeldMap, pages: &PageMap, subpool: SubpoolId, from: usize) -> Part
     requires exact { IsExact held.now pages.now }
     requires within { from < length held.now }
     requires page { from % 512 ≡ 0 }
     ensures { IsNextPart held.now pages.now subpool from false result }
 {
-    let end = from + 512;
     match pages.owner(from / 512) {
-        None => Part {
-            start: from,
-            end,
-            inside: false,
-            examined: 1,
-        },
+        None => join_pages(held, pages, subpool, from),
         Some(owner) if owner == subpool => Part {
             start: from,
             end: from,
