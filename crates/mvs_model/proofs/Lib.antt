@@ -37,6 +37,7 @@ pub mod SmallLaws
 pub mod StorageLaws
 pub mod Stuck
 pub mod SubpoolSets
+pub mod GiftNumbers
 pub mod Tables
 pub mod TakenCells
 pub mod LinkLess

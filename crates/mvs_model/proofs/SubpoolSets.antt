@@ -140,7 +140,7 @@ no_subpools ws n is s h =
     let f : false ≡ true = sym (ap (λ xs. is_one_of xs s) (no_members ws n is)) ∙ e in absurd (cc)
 
 -- bits of a word
-bit_shr : (n k i : ℕ) → bit_at (n / 2 ^ k) i ≡ bit_at n (k + i)
+pub bit_shr : (n k i : ℕ) → bit_at (n / 2 ^ k) i ≡ bit_at n (k + i)
 bit_shr n k i = ap (λ x. x % 2) (div-div-eq-div-mul n (2 ^ k) (2 ^ i) ∙ ap (λ p. n / p) (sym (pow-add 2 k i)))
 
 pub none_from : (n k : ℕ) → n / 2 ^ k ≡ 0 → (i : ℕ) → k ≤ i → bit_at n i ≡ 0

@@ -1,7 +1,8 @@
 //! What a mother gives and shares by ATTACH.
 
-ghost use Rattle.std.specs.Prelude.{◌≡◌, SomeIff, IsTrue, ◌↔◌, ◌<◌};
-ghost use Rattle.mvs_model.specs.Gifts.{GiftsValue, IsGifts, gives, shares};
+ghost use Rattle.std.specs.Prelude.{◌≡◌, SomeIff, MatchOption, ℕ, true, false, ◌<◌, ◌≤◌};
+ghost use Rattle.mvs_model.specs.Numbers.{task_numbers};
+ghost use Rattle.mvs_model.specs.Gifts.{GiftsValue, IsGifts, gives, has_bit, shares};
 
 use crate::numbers::TASK_NUMBERS;
 use std::marker::Model;
@@ -26,6 +27,21 @@ impl Model for Gifts {
     ghost invariant = { λ g. IsGifts (record { given = g.given; shared = g.shared; zero = g.zero }) };
 
     ghost inverse = { λ g. record { given = g.given; shared = g.shared; zero = g.zero } };
+}
+
+// The first number of a set, at or after one.
+fn first_number(set: u128, from: u8) -> Option<u8>
+    requires { from < 128 }
+    ensures { MatchOption result
+        ((n : ℕ) → from ≤ n → has_bit set n ≡ false)
+        (λ n. (from ≤ n) × (n < 128) × (has_bit set n ≡ true) × ((i : ℕ) → from ≤ i → i < n → has_bit set i ≡ false)) }
+{
+    let rest = set >> from;
+    if rest == 0 {
+        None
+    } else {
+        Some(from + rest.trailing_zeros() as u8)
+    }
 }
 
 impl Gifts {
@@ -55,5 +71,33 @@ impl Gifts {
         ensures { result ≡ shares self.now number }
     {
         number < TASK_NUMBERS && ((self.shared >> number) & 1 == 1 || self.zero && number == 0)
+    }
+
+    /// The first number from one on that the mother gives.
+    pub fn first_given(&self, from: u8) -> Option<u8>
+        ensures { MatchOption result
+            ((n : ℕ) → from ≤ n → gives self.now n ≡ false)
+            (λ n. (from ≤ n) × (n < task_numbers) × (gives self.now n ≡ true) × ((i : ℕ) → from ≤ i → i < n → gives self.now i ≡ false)) }
+    {
+        if from < TASK_NUMBERS {
+            first_number(self.given, from)
+        } else {
+            None
+        }
+    }
+
+    /// The first number from one on that the mother shares.
+    pub fn first_shared(&self, from: u8) -> Option<u8>
+        ensures { MatchOption result
+            ((n : ℕ) → from ≤ n → shares self.now n ≡ false)
+            (λ n. (from ≤ n) × (n < task_numbers) × (shares self.now n ≡ true) × ((i : ℕ) → from ≤ i → i < n → shares self.now i ≡ false)) }
+    {
+        if from >= TASK_NUMBERS {
+            return None;
+        }
+        if self.zero && from == 0 {
+            return Some(0);
+        }
+        first_number(self.shared, from)
     }
 }

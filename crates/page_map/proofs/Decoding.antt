@@ -1,5 +1,5 @@
 -- Numbers of subpools, and the subpools of pages.
-use Rattle.std.proofs.Common.{◌≡◌, ◌≢◌, ℕ, zero, suc, ◌+◌, ◌-◌, ◌<◌, ◌≤◌, ◌⊎◌, inl, inr, Bool, true, false, cond, ◌||◌, List, [], ◌∷◌, length, length-drop, take, drop, get_or, map, count_by, set, replicate, Option, Some, None, eqb, ltb, refl, sym, ap, subst, ◌∙◌, arith}
+use Rattle.std.proofs.Common.{◌≡◌, ◌≢◌, ℕ, zero, suc, ◌+◌, ◌-◌, ◌<◌, ◌≤◌, ◌⊎◌, inl, inr, Bool, true, false, cond, ◌||◌, List, [], ◌∷◌, length, length-drop, take, drop, get_or, map, count_by, set, replicate, Option, Some, None, is_some, eqb, ltb, refl, sym, ap, subst, ◌∙◌, arith}
 use Rattle.std.proofs.lemmas.Bool.{cases_lt, cases_eq}
 use Rattle.std.proofs.lemmas.Bool.Decides.{nat_tests}
 use Rattle.std.proofs.lemmas.Grind.{get_or_default_zero}
@@ -37,15 +37,15 @@ refused_more test codes from page before within here p low high = elim (cases_eq
 ]
 
 -- several pages more
-pub refused_several : (own : ℕ) (codes part : List ℕ) (from page n : ℕ) → ((p : ℕ) → from ≤ p → p < page → is_usable own (owner_of (page_owners codes) p) ≡ false)
-    → ((p : ℕ) → p < n → get_or part p 65535 ≡ get_or codes (page + p) 65535) → ((p : ℕ) → p < n → is_usable own (decoded (get_or part p 65535)) ≡ false)
-    → (p : ℕ) → from ≤ p → p < page + n → is_usable own (owner_of (page_owners codes) p) ≡ false
-refused_several own codes part from page n before is each p low high = elim (cases_lt p page) [
+pub refused_several : (test : Option ℕ → Bool) (codes part : List ℕ) (from page n : ℕ) → ((p : ℕ) → from ≤ p → p < page → test (owner_of (page_owners codes) p) ≡ false)
+    → ((p : ℕ) → p < n → get_or part p 65535 ≡ get_or codes (page + p) 65535) → ((p : ℕ) → p < n → test (decoded (get_or part p 65535)) ≡ false)
+    → (p : ℕ) → from ≤ p → p < page + n → test (owner_of (page_owners codes) p) ≡ false
+refused_several test codes part from page n before is each p low high = elim (cases_lt p page) [
   | inl less ↦ before p low less
   | inr past ↦
       let place : page + (p - page) ≡ p = omega arith in
       let within : p - page < n = omega arith in
-      ap (is_usable own) (owner_is codes p ∙ ap (λ k. decoded (get_or codes k 65535)) (sym place) ∙ ap decoded (sym (is (p - page) within))) ∙ each (p - page) within
+      ap test (owner_is codes p ∙ ap (λ k. decoded (get_or codes k 65535)) (sym place) ∙ ap decoded (sym (is (p - page) within))) ∙ each (p - page) within
 ]
 
 -- a write of one page's number
@@ -70,9 +70,20 @@ same_count own low (x ∷ xs) =
     ∙ (λ i. cond (sym (same_test own x low) i) 1 0 + same_count own low xs i)
     ∙ sym (sum_by-cons (λ o. cond (is_of own o) 1 0) (decoded x) (page_owners xs))
 
-pub nothing_has : (test : ℕ → Bool) (o : Option ℕ) → ((s : ℕ) → o ≡ Some s → ⊥) → has test o ≡ false
-nothing_has test None h = refl
-nothing_has test (Some s) h = absurd (h s refl)
+-- free pages have no subpool that passes
+no_owner : (test : ℕ → Bool) (o : Option ℕ) → is_some o ≡ false → has test o ≡ false
+no_owner test None e = refl
+no_owner test (Some s) e = absurd (let f : true ≡ false = e in cc)
+
+pub none_of : (test : ℕ → Bool) (codes : List ℕ) (from to : ℕ) → ((p : ℕ) → from ≤ p → p < to → is_some (owner_of (page_owners codes) p) ≡ false) → (p : ℕ) → from ≤ p → p < to → has test (owner_of (page_owners codes) p) ≡ false
+none_of test codes from to free p low high = no_owner test (owner_of (page_owners codes) p) (free p low high)
+
+pub refused_free : (test : ℕ → Bool) (codes : List ℕ) (from page to : ℕ) → ((p : ℕ) → from ≤ p → p < page → has test (owner_of (page_owners codes) p) ≡ false) → ((p : ℕ) → page ≤ p → p < to → is_some (owner_of (page_owners codes) p) ≡ false)
+    → (p : ℕ) → from ≤ p → p < to → has test (owner_of (page_owners codes) p) ≡ false
+refused_free test codes from page to before free p low high = elim (cases_lt p page) [
+  | inl less ↦ before p low less
+  | inr past ↦ no_owner test (owner_of (page_owners codes) p) (free p past high)
+]
 
 pub part_length : (codes : List ℕ) (from to p : ℕ) → to ≤ length codes → from + p < to → p < length (take (to - from) (drop from codes))
 part_length codes from to p within low =

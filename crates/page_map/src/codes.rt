@@ -1,6 +1,6 @@
 //! The subpools of pages as bare numbers, of which several are looked at at once.
 
-ghost use Rattle.std.specs.Prelude.{◌≡◌, ◌<◌, ◌≤◌, ◌+◌, ◌⊎◌, ◌↔◌, ℕ, length, false, true, IsTrue, slice_index_or};
+ghost use Rattle.std.specs.Prelude.{◌≡◌, ◌<◌, ◌≤◌, ◌+◌, ◌⊎◌, ◌↔◌, ℕ, length, false, true, IsTrue, is_some, slice_index_or};
 ghost use Rattle.mvs_model.specs.Finite.{has};
 ghost use Rattle.mvs_model.specs.Numbers.{most_subpools};
 ghost use Rattle.mvs_model.specs.Storage.{is_one_of};
@@ -14,7 +14,7 @@ use mvs_model::subpool_set::SubpoolSet;
 pub(crate) const FREE: u16 = u16::MAX;
 
 // How many pages are looked at at once.
-const SEVERAL: usize = 64;
+const SEVERAL: usize = 16;
 
 // The subpool of a number.
 pub(crate) fn subpool_of(code: u16) -> Option<SubpoolId>
@@ -85,18 +85,74 @@ pub(crate) fn first_usable(codes: &[u16], own: u16, from: usize) -> usize
     codes.len()
 }
 
+// Whether one of some pages is assigned.
+fn is_one_assigned(codes: &[u16]) -> bool
+    requires { AreCodes codes.now }
+    ensures { result ≡ false → (p : ℕ) → p < length codes.now → is_some (decoded (slice_index_or codes.now p free_code)) ≡ false }
+{
+    let mut found = false;
+    for code in codes {
+        found |= *code != FREE;
+    }
+    found
+}
+
+// Passes several free pages at once, from one on.
+fn pass_free(codes: &[u16], from: usize) -> usize
+    requires codes { AreCodes codes.now }
+    requires from { from ≤ length codes.now }
+    ensures after { from ≤ result }
+    ensures within { result ≤ length codes.now }
+    ensures passed { (p : ℕ) → from ≤ p → p < result → is_some (owner_of (page_owners codes.now) p) ≡ false }
+{
+    let mut page = from;
+    'several: while SEVERAL <= codes.len() - page {
+        if is_one_assigned(&codes[page..page + SEVERAL]) {
+            return page;
+        }
+        page += SEVERAL;
+    }
+    page
+}
+
+// The first page from one on that a subpool has.
+pub(crate) fn first_assigned(codes: &[u16], from: usize) -> usize
+    requires codes { AreCodes codes.now }
+    requires from { from ≤ length codes.now }
+    ensures { IsFirst is_some (page_owners codes.now) from result }
+{
+    let start = pass_free(codes, from);
+    for page in start..codes.len() {
+        if codes[page] != FREE {
+            return page;
+        }
+    }
+    codes.len()
+}
+
+// Whether the page's subpool is one of the set.
+fn is_in(code: u16, subpools: &SubpoolSet) -> bool
+    requires { (code < most_subpools) ⊎ (code ≡ free_code) }
+    ensures { result ≡ has (is_one_of subpools.now) (decoded code) }
+{
+    match subpool_of(code) {
+        Some(subpool) => subpools.contains(subpool),
+        None => false,
+    }
+}
+
 // The first page from one on whose subpool is one of the set.
 pub(crate) fn first_of(codes: &[u16], subpools: &SubpoolSet, from: usize) -> usize
     requires codes { AreCodes codes.now }
     requires from { from ≤ length codes.now }
     ensures { IsFirst (has (is_one_of subpools.now)) (page_owners codes.now) from result }
 {
-    for page in from..codes.len() {
-        if let Some(subpool) = subpool_of(codes[page]) {
-            if subpools.contains(subpool) {
-                return page;
-            }
+    let mut page = first_assigned(codes, from);
+    'pages: while page < codes.len() {
+        if is_in(codes[page], subpools) {
+            return page;
         }
+        page = first_assigned(codes, page + 1);
     }
     codes.len()
 }

@@ -1,13 +1,13 @@
 //! Which subpool each page of a region is assigned to.
 #![tactic(auto)]
 
-ghost use Rattle.std.specs.Prelude.{◌≡◌, ◌<◌, ◌≤◌, Some, None, IfOk, length, slice_set, count_by, replicate};
+ghost use Rattle.std.specs.Prelude.{◌≡◌, ◌<◌, ◌≤◌, Some, None, IfOk, length, is_some, slice_set, count_by, replicate};
 ghost use Rattle.mvs_model.specs.Numbers.{most_pages_above};
 ghost use Rattle.mvs_model.specs.Finite.{has};
 ghost use Rattle.mvs_model.specs.Storage.{is_one_of};
 ghost use Rattle.page_map.specs.Owners.{owner_of, is_of, is_usable, IsFirst};
 
-use crate::codes::{FREE, first_of, first_usable, subpool_of};
+use crate::codes::{FREE, first_assigned, first_of, first_usable, subpool_of};
 use mvs_model::error::OutOfMemory;
 use mvs_model::subpool::SubpoolId;
 use mvs_model::subpool_set::SubpoolSet;
@@ -110,6 +110,14 @@ impl PageMap {
         ensures { IsFirst (is_usable subpool) self.now from result }
     {
         first_usable(&self.owners, subpool.get(), from)
+    }
+
+    /// The first page from one on that is assigned, or the number of pages.
+    pub fn first_assigned(&self, from: usize) -> usize
+        requires { from ≤ length self.now }
+        ensures { IsFirst is_some self.now from result }
+    {
+        first_assigned(&self.owners, from)
     }
 
     /// The first page from one on that is assigned to a subpool of the set, or the number of pages.

@@ -1,5 +1,5 @@
 -- The free runs that a pass has come by.
-use Rattle.std.proofs.Common.{◌≡◌, ◌∙◌, ℕ, ◌+◌, ◌-◌, ◌*◌, ◌/◌, ◌%◌, ◌<◌, ◌≤◌, ◌⊎◌, ◌&&◌, ◌||◌, not, Bool, true, false, List, Option, Some, None, length, get_or, eqb, refl, sym, ap, inl, inr, arith}
+use Rattle.std.proofs.Common.{◌≡◌, ◌∙◌, ℕ, ◌+◌, ◌-◌, ◌*◌, ◌/◌, ◌%◌, ◌<◌, ◌≤◌, ◌⊎◌, ◌&&◌, ◌||◌, not, Bool, true, false, List, Option, Some, None, is_some, length, get_or, eqb, refl, sym, ap, inl, inr, arith}
 use Rattle.std.proofs.lemmas.Bool.{and_from, both_ways, cases_eq, eq-eqb, ne_eqb}
 use Rattle.std.proofs.lemmas.List.{get_or_default}
 use Rattle.mvs_model.specs.Finite.{count_below}
@@ -55,13 +55,6 @@ module _ (m : MemoryState) (pages : List (Option ℕ)) (s : ℕ) where
         either : (b : Bool) → (b || true) ≡ true
         either true = refl
         either false = refl
-
-  -- a page that is none of s
-  pub page_counted : (from : ℕ) → from % 512 ≡ 0 → is_of s (owner_of pages (from / 512)) ≡ false → looked_at m pages s from false + 1 ≡ looked_at m pages s (from + 512) false
-  page_counted from on foreign =
-      let same : count_below (from + 512) (begins_run m.held pages s) ≡ count_below from (begins_run m.held pages s) = count_stays (begins_run m.held pages s) from (from + 512) (omega arith) (λ i low high.
-      let page : i / 512 ≡ from / 512 = omega (arith, on, low, high) in foreign_begins i (ap (λ p. is_of s (owner_of pages p)) page ∙ foreign)) in
-      omega (arith, same, on)
 
   -- pages that are none of s
   pub pages_counted : (from to : ℕ) → from % 512 ≡ 0 → from / 512 ≤ to → ((p : ℕ) → from / 512 ≤ p → p < to → is_of s (owner_of pages p) ≡ false) → looked_at m pages s from false + (to - from / 512) ≡ looked_at m pages s (512 * to) false
@@ -127,3 +120,8 @@ least_length want ok = record { least = omega arith; most = ok.ordered; whole = 
 pub not_own : (s : ℕ) (owner : Option ℕ) → is_usable s owner ≡ false → is_of s owner ≡ false
 not_own s None e = absurd (let f : true ≡ false = e in cc)
 not_own s (Some t) e = e
+
+-- a page that is not assigned has no owner
+pub no_owner : (owner : Option ℕ) → is_some owner ≡ false → owner ≡ None
+no_owner None e = refl
+no_owner (Some t) e = absurd (let f : true ≡ false = e in cc)

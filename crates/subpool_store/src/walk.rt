@@ -1,6 +1,6 @@
 //! One pass in rising order over the pages of a region and the free runs of the subpool's own pages.
 
-ghost use Rattle.std.specs.Prelude.{◌≡◌, ◌<◌, ◌≤◌, ◌/◌, ◌%◌, ◌⊎◌, ℕ, MatchOption, Some, false, true, length, slice_index_or};
+ghost use Rattle.std.specs.Prelude.{◌≡◌, ◌<◌, ◌≤◌, ◌/◌, ◌%◌, ◌⊎◌, ℕ, MatchOption, Some, None, false, true, length, slice_index_or};
 ghost use Rattle.free_queue.specs.Runs.{end};
 ghost use Rattle.page_map.specs.Owners.{owner_of, is_usable};
 ghost use Rattle.subpool_store.specs.Half.{IsOpened};
@@ -37,6 +37,26 @@ pub struct Walk {
     pub steps: u32,
 }
 
+// Joins the pages from a free one on, up to the first one that is assigned.
+fn join_pages(memory: &Memory, pages: &PageMap, subpool: SubpoolId, from: usize) -> Part
+    requires exact { IsExact memory.now.held pages.now }
+    requires within { from < length memory.now.held }
+    requires page { from % 512 ≡ 0 }
+    requires free { owner_of pages.now (from / 512) ≡ None }
+    ensures { IsNextPart memory.now pages.now subpool from false result }
+{
+    let _ = memory;
+    let _ = subpool;
+    let page = pages.first_assigned(from / 512);
+    Part {
+        start: from,
+        end: 512 * page,
+        inside: false,
+        queue: Head::none(),
+        examined: (page - from / 512) as u32,
+    }
+}
+
 // Passes the entries of other subpools' pages, up to the first one that is free or the subpool's own.
 fn pass_pages(memory: &Memory, pages: &PageMap, subpool: SubpoolId, from: usize) -> Part
     requires exact { IsExact memory.now.held pages.now }
@@ -56,8 +76,7 @@ fn pass_pages(memory: &Memory, pages: &PageMap, subpool: SubpoolId, from: usize)
     }
 }
 
-// Looks at the entry of the next page.
-#[tactic(auto, using(crate::proofs::Begun::page_counted))]
+// Looks at the entry of the next page, and of those behind it that are alike.
 fn examine_page(memory: &Memory, pages: &PageMap, subpool: SubpoolId, from: usize) -> Part
     requires exact { IsExact memory.now.held pages.now }
     requires within { from < length memory.now.held }
@@ -65,15 +84,8 @@ fn examine_page(memory: &Memory, pages: &PageMap, subpool: SubpoolId, from: usiz
     requires opened { IsOpened pages.now memory.now.bytes }
     ensures { IsNextPart memory.now pages.now subpool from false result }
 {
-    let end = from + 512;
     match pages.owner(from / 512) {
-        None => Part {
-            start: from,
-            end,
-            inside: false,
-            queue: Head::none(),
-            examined: 1,
-        },
+        None => join_pages(memory, pages, subpool, from),
         Some(owner) if owner == subpool => Part {
             start: from,
             end: from,

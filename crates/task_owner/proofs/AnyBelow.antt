@@ -1,5 +1,6 @@
 -- Tests of the numbers below a bound.
-use Rattle.std.proofs.Common.{◌≡◌, ℕ, zero, suc, ◌+◌, ◌<◌, ◌≢◌, ◌==◌, Bool, true, false, ◌||◌, sym, ap, refl, ◌∙◌, arith, ◌⊎◌, inl, inr}
+use Rattle.std.proofs.Common.{◌≡◌, ℕ, zero, suc, ◌+◌, ◌<◌, ◌≤◌, ◌≢◌, ◌==◌, Bool, true, false, ◌||◌, sym, ap, refl, ◌∙◌, arith, ◌⊎◌, inl, inr}
+use Rattle.std.proofs.lemmas.Bool.{cases_lt}
 use Rattle.mvs_model.specs.Finite.{any_below}
 use Rattle.task_owner.proofs.Places.{number_cases}
 use Rattle.task_owner.proofs.Bools.{or_true}
@@ -36,3 +37,15 @@ module _ (test : ℕ → Bool) where
     by : (b : Bool) → test n ≡ b → b ≡ false
     by false e = refl
     by true e = absurd (let f : true ≡ false = sym (found_below n m l e) ∙ h in cc)
+
+  -- a bound passes numbers that fail
+  pub none_to : (from to : ℕ) → from ≤ to → any_below test from ≡ false → ((n : ℕ) → from ≤ n → n < to → test n ≡ false) → any_below test to ≡ false
+  none_to from to le h fails = by (any_below test to) refl where
+    by : (b : Bool) → any_below test to ≡ b → b ≡ false
+    by false e = refl
+    by true e =
+        let p = passing_below to e in
+        elim (cases_lt p.0 from) [
+          | inl low ↦ absurd (let f : true ≡ false = sym p.2 ∙ fails_below p.0 from low h in cc)
+          | inr high ↦ absurd (let f : true ≡ false = sym p.2 ∙ fails p.0 high p.1 in cc)
+        ]

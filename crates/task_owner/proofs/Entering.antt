@@ -1,5 +1,5 @@
 -- A mother gets a subpool under each number that she shares.
-use Rattle.std.proofs.Common.{◌≡◌, ◌≢◌, ℕ, suc, ◌+◌, ◌<◌, [], unwrap_or, Bool, true, false, cond, not, ◌&&◌, Option, Some, None, eqb, sym, ap, subst, refl, ◌∙◌, arith, ◌⊎◌, inl, inr}
+use Rattle.std.proofs.Common.{◌≡◌, ◌≢◌, ℕ, zero, suc, ◌+◌, ◌-◌, ◌<◌, ◌≤◌, [], unwrap_or, Bool, true, false, cond, not, ◌&&◌, Option, Some, None, eqb, sym, ap, subst, refl, ◌∙◌, arith, ◌⊎◌, inl, inr}
 use Rattle.std.specs.FinMap.{get}
 use Rattle.std.specs.Option.{MatchOption}
 use Rattle.mvs_model.specs.declared.name.Name.{Name}
@@ -21,6 +21,15 @@ one_passed old now next t n gifts r h same = subst (λ v. SharesBelow old t gift
   made = (let e : suc n ≡ n + 1 = omega arith in subst (λ m. EntersBelow old.owners (name_of old t) (shares gifts) m now.owners) e (passed r.made h));
   names = r.names;
 })
+
+-- numbers that are not shared are passed
+pub passed_to : (old now : TasksValue) (t : ℕ) (gifts : GiftsValue) (from to : ℕ) → from ≤ to → SharesBelow old t gifts from now → ((n : ℕ) → from ≤ n → n < to → shares gifts n ≡ false) → SharesBelow old t gifts to now
+passed_to old now t gifts from to le r free = by (to - from) to le refl free where
+  by : (k to : ℕ) → from ≤ to → to - from ≡ k → ((n : ℕ) → from ≤ n → n < to → shares gifts n ≡ false) → SharesBelow old t gifts to now
+  by zero to le e free = (let same : from ≡ to = omega arith in subst (λ m. SharesBelow old t gifts m now) same r)
+  by (suc k) to le e free =
+      let last : to - 1 + 1 ≡ to = omega arith in
+      subst (λ m. SharesBelow old t gifts m now) last (one_passed old now now t (to - 1) gifts (by k (to - 1) (omega arith) (omega arith) (λ n low high. free n low (omega arith))) (free (to - 1) (omega arith) (omega arith)) refl)
 
 pub one_entered : (old now next : TasksValue) (t n : ℕ) (gifts : GiftsValue) → SharesBelow old t gifts n now → shares gifts n ≡ true → GetsEntry now.owners (name_of now t) n next.owners → ((id : ℕ) → name_at next id ≡ name_at now id)
     → SharesBelow old t gifts (n + 1) next

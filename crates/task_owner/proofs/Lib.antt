@@ -14,10 +14,12 @@ pub mod Ending
 pub mod Fallen
 pub mod Ended
 pub mod AnyBelow
+pub mod Gifts
 pub mod Entering
 pub mod Count
 pub mod Refusing
 pub mod Attaching
+pub mod Passing
 pub mod Admitting
 pub mod Admitted
 pub mod Keeping

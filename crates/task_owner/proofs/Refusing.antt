@@ -58,3 +58,6 @@ module _ (o : Owners) (mother name : Name) (gifts : GiftsValue) where
   pub not_refused : (r : Option Code) → r ≡ attach_refusal o mother name gifts → ((x : Code) → r ≡ Some x → ⊥) → attach_refusal o mother name gifts ≡ None
   not_refused None e h = sym e
   not_refused (Some x) e h = absurd (h x refl)
+
+pub not_given : (o : Owners) (mother : Name) (gifts : GiftsValue) (n : ℕ) → gives gifts n ≡ false → is_shared_gift o mother gifts n ≡ false
+not_given o mother gifts n e = ap (λ b. b && has (λ s. not (owns o mother s)) (entry o mother n)) e

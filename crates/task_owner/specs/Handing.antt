@@ -1,5 +1,5 @@
 -- What stands between while a mother hands over what she gives and shares. No public clause cites this module.
-use Rattle.std.specs.Prelude.{◌≡◌, ℕ, ◌<◌, ◌==◌, ◌&&◌, ◌||◌, List, Bool, not, Option, Some, None, if◌then◌else◌}
+use Rattle.std.specs.Prelude.{◌≡◌, ℕ, ◌<◌, ◌==◌, ◌&&◌, ◌||◌, List, Bool, not, Option, Some, None, nat_lt, if◌then◌else◌}
 use Rattle.mvs_model.specs.Gifts.{GiftsValue, gives, shares}
 use Rattle.std.specs.FinMap.{get}
 use Rattle.mvs_model.specs.declared.name.Name.{Name}
@@ -21,6 +21,13 @@ taken gifts numbers n = if gives gifts n || shares gifts n then item_at numbers 
 abbrev pub left_over : GiftsValue → List (Option ℕ) → ℕ → Option ℕ
 left_over gifts numbers n = if gives gifts n then None else item_at numbers n
 
+-- a subtask's numbers with what the mother shares, and with what she gives
+abbrev pub with_shared : GiftsValue → List (Option ℕ) → List (Option ℕ) → ℕ → Option ℕ
+with_shared gifts numbers subtask n = if shares gifts n then item_at numbers n else item_at subtask n
+
+abbrev pub with_given : GiftsValue → List (Option ℕ) → List (Option ℕ) → ℕ → Option ℕ
+with_given gifts numbers subtask n = if gives gifts n then item_at numbers n else item_at subtask n
+
 -- a task that no longer has what it gives
 pub record Leaves (gifts : GiftsValue) (old now : Seat) : Type 0 where
   pub name : now.name ≡ old.name
@@ -31,6 +38,16 @@ pub record Leaves (gifts : GiftsValue) (old now : Seat) : Type 0 where
 -- whether the mother at the key owns it and gives it
 abbrev pub is_handed : GiftsValue → ℕ → Owned → Bool
 is_handed gifts mother o = (o.owner == mother) && gives gifts o.number
+
+-- who owns a subpool of the mother once it is the other task's
+abbrev pub owned_anew : ℕ → ℕ → Option Owned → Option Owned
+owned_anew mother key None = None
+owned_anew mother key (Some o) = Some (if o.owner == mother then record { owner = key; number = o.number } else o)
+
+-- the same of one that she gives by a number below the bound
+abbrev pub passed_below : GiftsValue → ℕ → ℕ → ℕ → Option Owned → Option Owned
+passed_below gifts mother key bound None = None
+passed_below gifts mother key bound (Some o) = Some (if is_handed gifts mother o && nat_lt o.number bound then record { owner = key; number = o.number } else o)
 
 -- who owns it once the mother has given it to the task at the other key
 abbrev pub passed_on : GiftsValue → ℕ → ℕ → Option Owned → Option Owned

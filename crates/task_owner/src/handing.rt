@@ -1,40 +1,40 @@
 //! What a mother hands over to a subtask.
 
-ghost use Rattle.std.specs.Prelude.{◌≡◌, ◌≢◌, ◌<◌, ℕ, IsSome, Some, length};
+ghost use Rattle.std.specs.Prelude.{◌≡◌, ◌≢◌, ◌<◌, ℕ, true, IsSome, Some, length};
 ghost use Rattle.slab.specs.Slab.{get, slab_len};
-ghost use Rattle.mvs_model.specs.Numbers.{subpool_numbers};
+ghost use Rattle.mvs_model.specs.Gifts.{gives};
+ghost use Rattle.mvs_model.specs.Numbers.{most_subpools, subpool_numbers};
 ghost use Rattle.task_owner.specs.Seats.{item_at};
-ghost use Rattle.task_owner.specs.Handing.{taken, left_over, passed_on, Leaves};
+ghost use Rattle.task_owner.specs.Handing.{taken, left_over, with_given, with_shared, is_handed, owned_anew, passed_on, Leaves};
 ghost use Rattle.task_owner.specs.declared.seat.Seat.{Seat};
 ghost use Rattle.task_owner.specs.declared.seat.Owned.{Owned};
 
 use crate::seat::{Numbers, Owned, SLOTS, Seat};
 use mvs_model::gifts::Gifts;
-use mvs_model::numbers::SUBPOOL_NUMBERS;
 use mvs_model::subpool::SubpoolId;
 use slab::Slab;
 
-// What stands under the numbers that are given and shared.
-fn take(numbers: &Numbers, gifts: &Gifts) -> Numbers
-    ensures { (n : ℕ) → n < subpool_numbers → item_at result n ≡ taken gifts.now numbers.now n }
+// Puts what stands under the numbers that are shared into a subtask's.
+fn share(numbers: &Numbers, gifts: &Gifts, subtask: &mut Numbers)
+    ensures { (n : ℕ) → n < subpool_numbers → item_at subtask.new n ≡ with_shared gifts.now numbers.now subtask.old n }
 {
-    let mut subtask = [None; SLOTS];
-    for n in 0..SUBPOOL_NUMBERS {
-        if gifts.gives(n) || gifts.shares(n) {
-            subtask[n as usize] = numbers[n as usize];
-        }
+    let mut from = 0;
+    'shared: while let Some(number) = gifts.first_shared(from) {
+        subtask[number as usize] = numbers[number as usize];
+        from = number + 1;
     }
-    subtask
 }
 
-// Drops what stands under the numbers that are given.
-fn leave(numbers: &mut Numbers, gifts: &Gifts)
-    ensures { (n : ℕ) → n < subpool_numbers → item_at numbers.new n ≡ left_over gifts.now numbers.old n }
+// Moves what stands under the numbers that are given to a subtask's.
+fn give(numbers: &mut Numbers, gifts: &Gifts, subtask: &mut Numbers)
+    ensures left { (n : ℕ) → n < subpool_numbers → item_at numbers.new n ≡ left_over gifts.now numbers.old n }
+    ensures given { (n : ℕ) → n < subpool_numbers → item_at subtask.new n ≡ with_given gifts.now numbers.old subtask.old n }
 {
-    for n in 0..SUBPOOL_NUMBERS {
-        if gifts.gives(n) {
-            numbers[n as usize] = None;
-        }
+    let mut from = 0;
+    'given: while let Some(number) = gifts.first_given(from) {
+        subtask[number as usize] = numbers[number as usize];
+        numbers[number as usize] = None;
+        from = number + 1;
     }
 }
 
@@ -49,36 +49,52 @@ pub(crate) fn hand_over(active: &mut Slab<Seat>, mother: usize, gifts: &Gifts) -
 {
     match active.get_mut(mother) {
         Some(seat) => {
-            let numbers = take(&seat.numbers, gifts);
-            leave(&mut seat.numbers, gifts);
-            numbers
+            let mut subtask = [None; SLOTS];
+            share(&seat.numbers, gifts, &mut subtask);
+            give(&mut seat.numbers, gifts, &mut subtask);
+            subtask
         }
         None => unreachable!(),
     }
 }
 
-// Makes the task at the key the owner of each subpool that the mother gives.
-fn pass_each(owned: &mut [Option<Owned>], mother: usize, key: usize, gifts: &Gifts)
-    requires { (s : ℕ) (o : Owned) → item_at owned.old s ≡ Some o → o.number < subpool_numbers }
-    ensures { (s : ℕ) → item_at owned.new s ≡ passed_on gifts.now mother key (item_at owned.old s) }
+// Makes the task at the key the owner of a subpool that the mother owns.
+fn pass(owned: &mut Vec<Option<Owned>>, mother: usize, key: usize, subpool: SubpoolId)
+    requires { length owned.old.items ≡ most_subpools }
+    ensures here { item_at owned.new.items subpool ≡ owned_anew mother key (item_at owned.old.items subpool) }
+    ensures others { (s : ℕ) → s ≢ subpool → item_at owned.new.items s ≡ item_at owned.old.items s }
+    ensures len { length owned.new.items ≡ length owned.old.items }
 {
-    for s in 0..owned.len() {
-        if let Some(o) = owned[s] {
-            if o.owner == mother && gifts.gives(o.number) {
-                owned[s] = Some(Owned {
-                    owner: key,
-                    number: o.number,
-                });
-            }
+    let s = subpool.get() as usize;
+    if let Some(o) = owned[s] {
+        if o.owner == mother {
+            owned[s] = Some(Owned {
+                owner: key,
+                number: o.number,
+            });
         }
     }
 }
 
-// The same in the vector.
-pub(crate) fn pass_on(owned: &mut Vec<Option<Owned>>, mother: usize, key: usize, gifts: &Gifts)
-    requires { (s : ℕ) (o : Owned) → item_at owned.old.items s ≡ Some o → o.number < subpool_numbers }
+// Makes the task at the key the owner of each subpool that the mother gives. They stand under the numbers that are given.
+pub(crate) fn pass_on(
+    owned: &mut Vec<Option<Owned>>,
+    numbers: &Numbers,
+    mother: usize,
+    key: usize,
+    gifts: &Gifts,
+)
+    requires long { length owned.old.items ≡ most_subpools }
+    requires stand { (n s : ℕ) → gives gifts.now n ≡ true → item_at numbers.now n ≡ Some s → (o : Owned) × (item_at owned.old.items s ≡ Some o) × (o.number ≡ n) }
+    requires listed { (s : ℕ) (o : Owned) → item_at owned.old.items s ≡ Some o → is_handed gifts.now mother o ≡ true → item_at numbers.now o.number ≡ Some s }
     ensures passed { (s : ℕ) → item_at owned.new.items s ≡ passed_on gifts.now mother key (item_at owned.old.items s) }
     ensures len { length owned.new.items ≡ length owned.old.items }
 {
-    pass_each(owned.as_mut_slice(), mother, key, gifts);
+    let mut from = 0;
+    'given: while let Some(number) = gifts.first_given(from) {
+        if let Some(subpool) = numbers[number as usize] {
+            pass(owned, mother, key, subpool);
+        }
+        from = number + 1;
+    }
 }

@@ -25,7 +25,7 @@ use mvs_model::code::Code;
 use mvs_model::error::OutOfMemory;
 use mvs_model::gifts::Gifts;
 use mvs_model::name::Name;
-use mvs_model::numbers::{MOST_TASKS, TASK_NUMBERS};
+use mvs_model::numbers::MOST_TASKS;
 use mvs_model::request::Fallen;
 use mvs_model::subpool::{SubNo, SubpoolId};
 use mvs_model::subpool_set::SubpoolSet;
@@ -276,10 +276,12 @@ impl Tasks {
         requires { IsTask self.now mother }
         ensures { result ≡ gives_shared self.now.owners (name_of self.now mother) gifts.now }
     {
-        for n in 0..TASK_NUMBERS {
-            if gifts.gives(n) && self.is_shared(mother, number_at(n)) {
+        let mut from = 0;
+        'given: while let Some(number) = gifts.first_given(from) {
+            if self.is_shared(mother, number_at(number)) {
                 return true;
             }
+            from = number + 1;
         }
         false
     }
@@ -316,10 +318,10 @@ impl Tasks {
         requires { IsTask self.old mother }
         ensures { SharesBelow self.old mother gifts.now task_numbers self.new }
     {
-        for n in 0..TASK_NUMBERS {
-            if gifts.shares(n) {
-                self.enter_one(mother, number_at(n));
-            }
+        let mut from = 0;
+        'shared: while let Some(number) = gifts.first_shared(from) {
+            self.enter_one(mother, number_at(number));
+            from = number + 1;
         }
     }
 
@@ -335,13 +337,14 @@ impl Tasks {
         ensures others { (k : ℕ) → k ≢ result → name_at self.new k ≡ name_at self.old k }
     {
         let numbers = hand_over(&mut self.active, mother.key, gifts);
+        let key = self.active.vacant_key();
+        pass_on(&mut self.owned, &numbers, mother.key, key, gifts);
         let key = self.active.insert_reserved(Seat {
             name: *name,
             mother: Some(mother.key),
             residence,
             numbers,
         });
-        pass_on(&mut self.owned, mother.key, key, gifts);
         TaskId { key }
     }
 

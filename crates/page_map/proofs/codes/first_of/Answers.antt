@@ -1,12 +1,25 @@
-use Rattle.std.proofs.Common.{ap, sym, ◌∙◌, arith, Option, Some, None, false, refl}
+use Rattle.std.proofs.Common.{◌<◌, ◌≤◌, ◌+◌, length, sym, ◌∙◌, arith}
 use Rattle.mvs_model.specs.Finite.{has}
 use Rattle.mvs_model.specs.Storage.{is_one_of}
-use Rattle.page_map.proofs.Decoding.{refused_more, nothing_has}
+use Rattle.page_map.proofs.Decoding.{length_is, none_of, refused_more, refused_free}
 use Rattle.page_map.proofs.codes.first_of.Goals as goal
-use Rattle.page_map.proofs.codes.first_of.Goals.{in-Some+else-contains, in_default}
 
-pub loop-page-preserved : goal.loop-page-preserved
-loop-page-preserved c = refused_more (has (is_one_of c.args.subpools.now)) c.args.codes.now c.args.from c.loop-page.page c.loop-page.invariant (omega arith) (ap (has (is_one_of c.args.subpools.now)) (sym c.subpool_of.ensures) ∙ elim c.match-subpool_of.branch [
-  | in-Some+else-contains w ↦ ap (has (is_one_of c.args.subpools.now)) w.in-Some.is ∙ sym w.contains.ensures ∙ w.if-contains.false
-  | in_default w ↦ nothing_has (is_one_of c.args.subpools.now) c.subpool_of.result w.in_default.not-Some
-])
+pub pages-init : goal.pages-init
+pages-init c =
+    let first = c.first_assigned-page.ensures in record {
+      after = first.after;
+      within = omega (arith, first.within, length_is c.args.codes.now);
+      passed = none_of (is_one_of c.args.subpools.now) c.args.codes.now c.args.from c.first_assigned-page.result first.passed;
+    }
+
+pub pages-preserved : goal.pages-preserved
+pages-preserved c =
+    let first = c.first_assigned-page-in-pages.ensures in
+    let low : c.args.from ≤ c.pages.page = c.pages.invariant.after in
+    let next : c.pages.page + 1 ≤ c.first_assigned-page-in-pages.result = first.after in record {
+      after = omega arith;
+      within = omega (arith, first.within, length_is c.args.codes.now);
+      passed = refused_free (is_one_of c.args.subpools.now) c.args.codes.now c.args.from (c.pages.page + 1) c.first_assigned-page-in-pages.result
+          (refused_more (has (is_one_of c.args.subpools.now)) c.args.codes.now c.args.from c.pages.page c.pages.invariant.passed (omega arith) (sym c.is_in.ensures ∙ c.if-is_in.false))
+          first.passed;
+    }

@@ -1,5 +1,6 @@
 use Rattle.std.proofs.Common.{◌≤◌, ◌<◌, ◌+◌, ◌-◌, length, take, drop, refl, ◌∙◌, arith}
 use Rattle.std.proofs.lemmas.List.{get_or-take, get_or-drop}
+use Rattle.page_map.specs.Owners.{is_usable}
 use Rattle.page_map.proofs.Decoding.{refused_several, part_length}
 use Rattle.page_map.proofs.codes.pass_several.Goals as goal
 
@@ -7,7 +8,7 @@ pub several-preserved : goal.several-preserved
 several-preserved c = record {
   after = let low : c.args.from ≤ c.several.page = c.several.invariant.after in omega arith;
   within = omega arith;
-  passed = refused_several c.args.own c.args.codes.now (take (c.several.page + 64 - c.several.page) (drop c.several.page c.args.codes.now)) c.args.from c.several.page 64 c.several.invariant.passed
-      (λ p low. get_or-take (c.several.page + 64 - c.several.page) (drop c.several.page c.args.codes.now) p 65535 (omega (arith, low)) ∙ get_or-drop c.several.page c.args.codes.now p 65535)
-      (λ p low. c.is_one_usable.ensures c.if-is_one_usable.false p (part_length c.args.codes.now c.several.page (c.several.page + 64) p (omega arith) (omega (arith, low))));
+  passed = refused_several (is_usable c.args.own) c.args.codes.now (take (c.several.page + 16 - c.several.page) (drop c.several.page c.args.codes.now)) c.args.from c.several.page 16 c.several.invariant.passed
+      (λ p low. get_or-take (c.several.page + 16 - c.several.page) (drop c.several.page c.args.codes.now) p 65535 (omega (arith, low)) ∙ get_or-drop c.several.page c.args.codes.now p 65535)
+      (λ p low. c.is_one_usable.ensures c.if-is_one_usable.false p (part_length c.args.codes.now c.several.page (c.several.page + 16) p (omega arith) (omega (arith, low))));
 }
