@@ -22,3 +22,4 @@ pub mod Parts
 pub mod LentHalf
 pub mod Counts
 pub mod PagesDropped
+pub mod FewRuns

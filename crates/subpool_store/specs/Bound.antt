@@ -31,8 +31,17 @@ abbrev pub free_runs : Storage → ℕ → Side → ℕ
 free_runs st s Below = count_below first_doubleword_above (begins (holder st) s)
 free_runs st s Either = count_below (end_of st.regions) (begins (holder st) s)
 
+-- the pages of s in the regions that may be searched
+abbrev pub own_pages : Storage → ℕ → Side → ℕ
+own_pages st s Below = count_below (first_doubleword_above / 512) (has_page (holder st) s)
+own_pages st s Either = count_below (end_of st.regions / 512) (has_page (holder st) s)
+
 -- An obtain looks at one page entry at least, at no entry and no free run twice, and at all of them where there is no place.
 pub record IsBound (st : Storage) (s : ℕ) (side : Side) (place : Option PlaceValue) (steps : ℕ) : Type 0 where
   pub some : 1 ≤ steps
   pub at_most : steps ≤ page_entries st.regions side + free_runs st s side
   pub all : place ≡ None → steps ≡ page_entries st.regions side + free_runs st s side
+
+-- A page has at most 256 free runs: so an obtain looks at no more than that for each page of s, and one entry for each page.
+abbrev pub FewSteps : Type 0
+FewSteps = (st : Storage) (s : ℕ) (side : Side) (place : Option PlaceValue) (steps : ℕ) → IsBound st s side place steps → steps ≤ page_entries st.regions side + 256 * own_pages st s side

@@ -4,6 +4,7 @@
 mod dropping;
 mod free_runs;
 mod half;
+pub mod laws;
 mod memory;
 mod run;
 mod search;
