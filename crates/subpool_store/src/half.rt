@@ -8,7 +8,7 @@ ghost use Rattle.mvs_model.specs.Storage.{IsWhole};
 ghost use Rattle.mvs_model.specs.Want.{IsWant};
 ghost use Rattle.page_map.specs.Owners.{owner_of, is_usable};
 ghost use Rattle.subpool_store.specs.Bound.{to_look_at};
-ghost use Rattle.subpool_store.specs.Edits.{IsAssigned, IsGivenUp, IsDropped, IsMarked};
+ghost use Rattle.subpool_store.specs.Edits.{HasNoBit, IsAssigned, IsGivenUp, IsDropped, IsMarked};
 ghost use Rattle.subpool_store.specs.Half.{
   AllHeldIn,
   BestIn,
@@ -98,10 +98,27 @@ fn close_page(pages: &mut PageMap, memory: &mut Memory, page: usize)
     ensures unassigned { pages.new ≡ slice_set pages.old page None }
     ensures opened { IsOpened pages.new memory.new.bytes }
     ensures marked { IsMarked memory.old.held (512 * page) (512 * page + 512) false memory.new.held }
+    ensures same { HasNoBit memory.old.held page → memory.new.held ≡ memory.old.held }
     ensures stays { Stays memory.new.held memory.old.bytes memory.new.bytes }
 {
     pages.unassign(page);
     memory.close_page(page);
+}
+
+// Gives up a page, and closes it, if nothing of it is held.
+#[tactic(auto, using(crate::proofs::Marked::given_one, crate::proofs::Marked::kept_one))]
+fn give_up_page(pages: &mut PageMap, memory: &mut Memory, page: usize)
+    requires within { page < length pages.old }
+    requires assigned { IsSome (owner_of pages.old page) }
+    requires opened { IsOpened pages.old memory.old.bytes }
+    ensures given { IsGivenUp memory.old.held pages.old page (page + 1) pages.new }
+    ensures opened { IsOpened pages.new memory.new.bytes }
+    ensures held { memory.new.held ≡ memory.old.held }
+    ensures stays { Stays memory.old.held memory.old.bytes memory.new.bytes }
+{
+    if memory.is_whole(page) {
+        close_page(pages, memory, page);
+    }
 }
 
 // Gives up the pages of a range of which nothing is held, and closes them.
@@ -116,9 +133,7 @@ fn give_up_pages(pages: &mut PageMap, memory: &mut Memory, from: usize, to: usiz
     ensures stays { Stays memory.old.held memory.old.bytes memory.new.bytes }
 {
     for page in from..to {
-        if memory.is_whole(page) {
-            close_page(pages, memory, page);
-        }
+        give_up_page(pages, memory, page);
     }
 }
 
