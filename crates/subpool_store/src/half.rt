@@ -98,11 +98,24 @@ fn close_page(pages: &mut PageMap, memory: &mut Memory, page: usize)
     ensures unassigned { pages.new ≡ slice_set pages.old page None }
     ensures opened { IsOpened pages.new memory.new.bytes }
     ensures marked { IsMarked memory.old.held (512 * page) (512 * page + 512) false memory.new.held }
-    ensures same { HasNoBit memory.old.held page → memory.new.held ≡ memory.old.held }
     ensures stays { Stays memory.new.held memory.old.bytes memory.new.bytes }
 {
     pages.unassign(page);
     memory.close_page(page);
+}
+
+// The same of a page of which nothing is held: what is held stays as it is.
+fn close_free_page(pages: &mut PageMap, memory: &mut Memory, page: usize)
+    requires within { page < length pages.old }
+    requires assigned { IsSome (owner_of pages.old page) }
+    requires opened { IsOpened pages.old memory.old.bytes }
+    requires free { HasNoBit memory.old.held page }
+    ensures unassigned { pages.new ≡ slice_set pages.old page None }
+    ensures opened { IsOpened pages.new memory.new.bytes }
+    ensures held { memory.new.held ≡ memory.old.held }
+    ensures stays { Stays memory.old.held memory.old.bytes memory.new.bytes }
+{
+    close_page(pages, memory, page);
 }
 
 // Gives up a page, and closes it, if nothing of it is held.
@@ -117,7 +130,7 @@ fn give_up_page(pages: &mut PageMap, memory: &mut Memory, page: usize)
     ensures stays { Stays memory.old.held memory.old.bytes memory.new.bytes }
 {
     if memory.is_whole(page) {
-        close_page(pages, memory, page);
+        close_free_page(pages, memory, page);
     }
 }
 
