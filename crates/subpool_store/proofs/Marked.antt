@@ -57,28 +57,36 @@ marked_same a b page marked none = ext_get_or false b a marked.sizes (λ i _. ma
   | inr out ↦ cond-false _ _ _ out
 ])
 
--- one page more is looked at: it is given up, or something of it is held
-pub given_more : (bits : List Bool) (old mid : List (Option ℕ)) (from page : ℕ) → from ≤ page → page < length mid → IsGivenUp bits old from page mid → HasNoBit bits page → IsGivenUp bits old from (page + 1) (set mid page None)
-given_more bits old mid from page low within given none = record {
-  sizes = length-set mid page None ∙ given.sizes;
-  outside = λ p out.
-      let far : p ≡ page → ⊥ = λ is. false≢true (sym out ∙ in_range_from from (page + 1) p (omega (arith, is, low)) (omega (arith, is))) in
-      get_or-set_other mid page p None None far ∙ given.outside p (out_of_range_from from page p (λ begun. let past : page + 1 ≤ p = in_range_false from (page + 1) p out begun in omega (arith, past)));
-  inside = λ p hit. elim (cases_eq p page) [
-    | inl is ↦ inl (ap (owner_of (set mid page None)) is ∙ get_or-set_same mid page None None within, subst (HasNoBit bits) (sym is) none)
-    | inr other ↦
-        let at = in_range_true from (page + 1) p hit in
-        let same = get_or-set_other mid page p None None other in
-        elim (given.inside p (in_range_from from page p at.0 (omega (arith, at.1, other)))) [ inl gone ↦ inl (same ∙ gone.0, gone.1) | inr kept ↦ inr (same ∙ kept.0, kept.1) ]
-  ];
+-- one page is looked at: it is given up, or something of it is held
+pub given_one : (bits : List Bool) (old : List (Option ℕ)) (page : ℕ) → page < length old → HasNoBit bits page → IsGivenUp bits old page (page + 1) (set old page None)
+given_one bits old page within none = record {
+  sizes = length-set old page None;
+  outside = λ p out. get_or-set_other old page p None None (λ is. false≢true (sym out ∙ in_range_from page (page + 1) p (omega (arith, is)) (omega (arith, is))));
+  inside = λ p hit.
+      let at = in_range_true page (page + 1) p hit in let is : p ≡ page = omega (arith, at.0, at.1) in
+      inl (ap (owner_of (set old page None)) is ∙ get_or-set_same old page None None within, subst (HasNoBit bits) (sym is) none);
 }
 
-pub given_less : (bits : List Bool) (old mid : List (Option ℕ)) (from page : ℕ) → from ≤ page → IsGivenUp bits old from page mid → HasBit bits page → IsGivenUp bits old from (page + 1) mid
-given_less bits old mid from page low given some = record {
-  sizes = given.sizes;
-  outside = λ p out. given.outside p (out_of_range_from from page p (λ begun. let past : page + 1 ≤ p = in_range_false from (page + 1) p out begun in omega (arith, past)));
-  inside = λ p hit. elim (cases_eq p page) [
-    | inl is ↦ inr (given.outside p (out_of_range_from from page p (λ _. omega (arith, is))), subst (HasBit bits) (sym is) some)
-    | inr other ↦ let at = in_range_true from (page + 1) p hit in given.inside p (in_range_from from page p at.0 (omega (arith, at.1, other)))
+pub kept_one : (bits : List Bool) (old : List (Option ℕ)) (page : ℕ) → HasBit bits page → IsGivenUp bits old page (page + 1) old
+kept_one bits old page some = record {
+  sizes = refl;
+  outside = λ p out. refl;
+  inside = λ p hit. let at = in_range_true page (page + 1) p hit in let is : p ≡ page = omega (arith, at.0, at.1) in inr (refl, subst (HasBit bits) (sym is) some);
+}
+
+-- one page after others
+pub given_more : (bits : List Bool) (old mid new : List (Option ℕ)) (from page : ℕ) → from ≤ page → IsGivenUp bits old from page mid → IsGivenUp bits mid page (page + 1) new → IsGivenUp bits old from (page + 1) new
+given_more bits old mid new from page low one two = record {
+  sizes = two.sizes ∙ one.sizes;
+  outside = λ p out.
+      two.outside p (out_of_range_from page (page + 1) p (λ begun. in_range_false from (page + 1) p out (omega (arith, begun, low))))
+      ∙ one.outside p (out_of_range_from from page p (λ begun. let past : page + 1 ≤ p = in_range_false from (page + 1) p out begun in omega (arith, past)));
+  inside = λ p hit. let at = in_range_true from (page + 1) p hit in elim (cases_eq p page) [
+    | inl is ↦
+        let before = one.outside p (out_of_range_from from page p (λ _. omega (arith, is))) in
+        elim (two.inside p (in_range_from page (page + 1) p (omega (arith, is)) at.1)) [ inl gone ↦ inl gone | inr kept ↦ inr (kept.0 ∙ before, kept.1) ]
+    | inr other ↦
+        let same = two.outside p (out_of_range_from page (page + 1) p (λ begun. omega (arith, begun, other))) in
+        elim (one.inside p (in_range_from from page p at.0 (omega (arith, at.1, other)))) [ inl gone ↦ inl (same ∙ gone.0, gone.1) | inr kept ↦ inr (same ∙ kept.0, kept.1) ]
   ];
 }

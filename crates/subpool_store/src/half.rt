@@ -8,7 +8,7 @@ ghost use Rattle.mvs_model.specs.Storage.{IsWhole, is_one_of};
 ghost use Rattle.mvs_model.specs.Want.{IsWant};
 ghost use Rattle.page_map.specs.Owners.{owner_of, is_usable};
 ghost use Rattle.subpool_store.specs.Bound.{to_look_at};
-ghost use Rattle.subpool_store.specs.Edits.{IsAssigned, IsGivenUp, IsMarked};
+ghost use Rattle.subpool_store.specs.Edits.{HasNoBit, IsAssigned, IsGivenUp, IsMarked};
 ghost use Rattle.subpool_store.specs.Half.{
   AllHeldIn,
   BestIn,
@@ -106,6 +106,36 @@ pub fn close_page(pages: &mut PageMap, memory: &mut Memory, page: usize)
     memory.close_page(page);
 }
 
+// The same of a page of which nothing is held: what is held stays as it is.
+fn close_free_page(pages: &mut PageMap, memory: &mut Memory, page: usize)
+    requires within { page < length pages.old }
+    requires assigned { IsSome (owner_of pages.old page) }
+    requires opened { IsOpened pages.old memory.old.bytes }
+    requires free { HasNoBit memory.old.held page }
+    ensures unassigned { pages.new ≡ slice_set pages.old page None }
+    ensures opened { IsOpened pages.new memory.new.bytes }
+    ensures held { memory.new.held ≡ memory.old.held }
+    ensures stays { Stays memory.old.held memory.old.bytes memory.new.bytes }
+{
+    close_page(pages, memory, page);
+}
+
+// Gives up a page, and closes it, if nothing of it is held.
+#[tactic(auto, using(crate::proofs::Marked::given_one, crate::proofs::Marked::kept_one))]
+fn give_up_page(pages: &mut PageMap, memory: &mut Memory, page: usize)
+    requires within { page < length pages.old }
+    requires assigned { IsSome (owner_of pages.old page) }
+    requires opened { IsOpened pages.old memory.old.bytes }
+    ensures given { IsGivenUp memory.old.held pages.old page (page + 1) pages.new }
+    ensures opened { IsOpened pages.new memory.new.bytes }
+    ensures held { memory.new.held ≡ memory.old.held }
+    ensures stays { Stays memory.old.held memory.old.bytes memory.new.bytes }
+{
+    if memory.is_whole(page) {
+        close_free_page(pages, memory, page);
+    }
+}
+
 // Gives up the pages of a range of which nothing is held, and closes them.
 fn give_up_pages(pages: &mut PageMap, memory: &mut Memory, from: usize, to: usize)
     requires ordered { from ≤ to }
@@ -118,9 +148,7 @@ fn give_up_pages(pages: &mut PageMap, memory: &mut Memory, from: usize, to: usiz
     ensures stays { Stays memory.old.held memory.old.bytes memory.new.bytes }
 {
     for page in from..to {
-        if memory.is_whole(page) {
-            close_page(pages, memory, page);
-        }
+        give_up_page(pages, memory, page);
     }
 }
 
