@@ -1,6 +1,5 @@
 -- Bytes that are printed line by line.
 use Rattle.std.proofs.Common.{◌≡◌, ℕ, ◌+◌, ◌/◌, ◌<◌, ◌++◌, List, [], ◌∷◌, Option, length, take, drop, codes, decimal, refl, ap, sym, ◌∙◌, add-one, append_assoc, length-drop, arith, min}
-use Rattle.std.specs.List.{flat_map}
 use Rattle.std.proofs.lemmas.List.{take_min, drop_min}
 use Rattle.std.proofs.Math.Nat.{min_comm}
 use Rattle.std.specs.Io.KnownBytes.{Appends}

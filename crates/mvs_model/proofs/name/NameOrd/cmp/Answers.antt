@@ -1,4 +1,3 @@
-use Rattle.std.proofs.Common.{◌∙◌}
 use Rattle.mvs_model.proofs.NameKeys.{names_lie}
 use Rattle.mvs_model.proofs.name.NameOrd.cmp.Goals as goal
 
