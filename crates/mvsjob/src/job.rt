@@ -79,10 +79,7 @@ fn print_end<W: Write>(job: &Job, writer: &mut Watched<W>) -> Result<(), Failed>
 }
 
 // Ends the step that runs, if one does: its storage and its names are given up. Answers whether a task has abended so far.
-fn end_step<W: Write>(
-    stage: &mut Option<Job>,
-    writer: &mut Watched<W>,
-) -> Result<bool, Failed>
+fn end_step<W: Write>(stage: &mut Option<Job>, writer: &mut Watched<W>) -> Result<bool, Failed>
     ensures bytes { WritesAll (W.contents writer.old.inner) (W.contents writer.new.inner) result (ending stage.old) }
     ensures so_far { IfOk result (λ former. former ≡ has_abended stage.old) }
     ensures ok { OnOk result (writer.new.failed ≡ writer.old.failed) }
