@@ -22,6 +22,7 @@ def cases(folder):
     printed = FIRST.with_suffix(".out").read_text()
     link = Path(folder) / "link"
     link.symlink_to(TOP / "run")
+    patient = subprocess.Popen(["bash", "-c", f'(sleep 61; cat "{FIRST}") | "{TOP}/run"'], stdout=subprocess.PIPE, stderr=subprocess.PIPE)
     yield "a file", shell('"$RUN" "$FIRST"') == (0, printed, "")
     yield "standard input", shell('"$RUN"', stdin=FIRST.read_bytes()) == (0, printed, "")
     yield "a dash", shell('"$RUN" -', stdin=FIRST.read_bytes()) == (0, printed, "")
@@ -44,6 +45,8 @@ def cases(folder):
     shutil.copy(TOP / "run", bare)
     status, out, err = shell("./run x.job", cwd=bare, PATH="/usr/bin:/bin")
     yield "no kit", status == 16 and out == "" and "rt" in err and len(err.splitlines()) == 1
+    out, err = patient.communicate(timeout=300)
+    yield "a long run", (patient.returncode, out.decode(), err) == (0, printed, b"")
 
 
 def results():
