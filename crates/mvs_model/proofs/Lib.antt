@@ -65,3 +65,5 @@ pub mod ReadingTaken
 pub mod ReadingRanges
 pub mod ReadingWords
 pub mod ReadingLoops
+pub mod Spelling
+pub mod Allowed

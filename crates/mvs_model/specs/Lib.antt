@@ -32,6 +32,7 @@ pub mod Kept
 pub mod WellFormed
 pub mod Laws
 pub mod ReadingLaws
+pub mod Spelling
 pub mod Rows
 pub mod Checks
 -- Helpers: changes of finite maps, and how the crates' values are seen as one state.

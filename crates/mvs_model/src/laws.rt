@@ -4,6 +4,7 @@ ghost use Rattle.mvs_model.specs.Laws.{PagesKept, NeverStuck, PartsApart};
 ghost use Rattle.mvs_model.specs.Tidy.{TidyStep, TidyText, OneLabelText, PlacesDoNotMatter};
 ghost use Rattle.mvs_model.specs.Rows.{BusyReturn, GivenEnds, MovesOverlap};
 ghost use Rattle.mvs_model.specs.ReadingLaws.{InRanges, OneReading, OnlyWords};
+ghost use Rattle.mvs_model.specs.Spelling.{AllowedIsRead, CutApart};
 
 /// In every state of a run each page is of one subpool.
 pub fn page_rule()
@@ -69,4 +70,14 @@ pub fn in_ranges()
 /// More blanks between the words of a line and another remark change nothing.
 pub fn only_words()
     ensures { OnlyWords }
+{}
+
+/// A line that is put together from words is cut into them again.
+pub fn cut_apart()
+    ensures { CutApart }
+{}
+
+/// What a row of the table allows can be written, its keywords in any order, and is read as what the row means.
+pub fn allowed_is_read()
+    ensures { AllowedIsRead }
 {}

@@ -1,0 +1,105 @@
+-- How a line is put together: a task, an operation and its operands, and the texts of what stands in operands.
+use Rattle.std.specs.Prelude.{◌≡◌, ℕ, ◌+◌, ◌-◌, nat_le, nat_lt, ◌==◌, ◌&&◌, ◌||◌, not, Bool, true, false, if◌then◌else◌, List, [], ◌∷◌, ◌++◌, map, length, find, Some, option_map, slice_get, bytes_eq, codes, decimal}
+use Rattle.std.specs.List.{list_all, list_any, AllByRecursion}
+use Rattle.mvs_model.specs.declared.line.Line.TheVariants as line
+use Rattle.mvs_model.specs.declared.line.Statement.{Statement}
+use Rattle.mvs_model.specs.Name.{padded}
+use Rattle.mvs_model.specs.Texts.{hex}
+use Rattle.mvs_model.specs.Grammar.{Kind, Positional, Row, table}
+use Rattle.mvs_model.specs.Reading.{ByKey, LineOf, has_key, is_conflict, is_empty, is_half, is_name, is_of, is_one_of, is_twice, is_within, lacks_keyword, lacks_positional, operands_in, repeats, says_nothing, statement_of, task_in, words}
+use Rattle.mvs_model.specs.ReadingLaws.{keyed}
+
+-- texts with commas between
+abbrev pub joined : List (List ℕ) → List ℕ
+joined [] = []
+joined (text ∷ []) = text
+joined (text ∷ next ∷ texts) = text ++ 44 ∷ joined (next ∷ texts)
+
+-- a line: its task, its operation and its operands
+abbrev pub line_text : List ℕ → List ℕ → List (List ℕ) → List ℕ
+line_text task operation operands = task ++ (32 ∷ (operation ++ (32 ∷ joined operands)))
+
+-- whether a text closes its parentheses and those that are open before it, and has its commas within parentheses alone
+abbrev pub closes : ℕ → List ℕ → Bool
+closes opened [] = opened == 0
+closes opened (b ∷ bs) = not ((b == 44) && (opened == 0)) && closes (if b == 40 then opened + 1 else (if b == 41 then opened - 1 else opened)) bs
+
+-- A text that may stand alone as a word: one or more bytes from X'21' to X'7E'.
+pub record IsWord (text : List ℕ) : Type 0 where
+  pub some : is_empty text ≡ false
+  pub printed : list_all (λ b. nat_le 33 b && nat_le b 126) text ≡ true
+
+-- A text that may stand as an operand: a word that closes its parentheses.
+pub record IsOperand (text : List ℕ) : Type 0 where
+  pub word : IsWord text
+  pub closed : closes 0 text ≡ true
+
+-- The line is cut into the words and the operands that it was put together from.
+pub record IsCut (task operation : List ℕ) (operands : List (List ℕ)) (line : List ℕ) : Type 0 where
+  pub plain : list_all (λ b. nat_le 32 b && nat_le b 126) line ≡ true
+  pub says : says_nothing line ≡ false
+  pub task_is : task_in line ≡ task
+  pub operation_is : slice_get (words line) 1 ≡ Some operation
+  pub operands_are : operands_in (slice_get (words line) 2) ≡ operands
+
+-- Each line that is put together from words is cut into them again.
+abbrev pub CutApart : Type 0
+CutApart =
+    (task operation : List ℕ) (operands : List (List ℕ)) → is_name task ≡ true → IsWord operation → AllByRecursion IsOperand operands
+    → IsCut task operation operands (line_text task operation operands)
+
+-- ---- the operands of a row
+
+-- KEY=text
+abbrev pub keyword_text : List ℕ × List ℕ → List ℕ
+keyword_text pair = pair.0 ++ (61 ∷ pair.1)
+
+-- the operands of a statement: its form, where the row has forms, its positional operands, and its keywords in any order
+abbrev pub all_operands : Row → List ℕ → List (List ℕ) → List (List ℕ × List ℕ) → List (List ℕ)
+all_operands row form places pairs = if is_empty row.forms then places ++ map keyword_text pairs else form ∷ (places ++ map keyword_text pairs)
+
+-- what they say: the text under each key, and the one at each place
+abbrev pub said_by : List (List ℕ) → List (List ℕ × List ℕ) → ByKey
+said_by places pairs = record { under = λ key. option_map (λ p. p.1) (find (λ p. bytes_eq p.0 key) pairs); at = λ k. slice_get places k; count = length places }
+
+-- A text that fits a kind: well formed, in its range, with nothing twice in it.
+pub record Fits (kind : Kind) (text : List ℕ) : Type 0 where
+  pub of_kind : is_of kind text ≡ true
+  pub within : is_within kind text ≡ true
+  pub once : repeats kind text ≡ false
+  pub operand : IsOperand text
+
+-- the positional operands fit the row's, from the first one on, and have no keys
+abbrev pub FitPlaces : List Positional → List (List ℕ) → Type 0
+FitPlaces ps [] = Unit {0}
+FitPlaces [] (text ∷ texts) = ⊥
+FitPlaces (p ∷ ps) (text ∷ texts) = Fits p.kind text × (has_key text ≡ false) × FitPlaces ps texts
+
+-- The row has the key, and the text fits its kind.
+abbrev pub FitsKey : Row → List ℕ × List ℕ → Type 0
+FitsKey row pair = (kind : Kind) × (keyed row pair.0 ≡ Some kind) × Fits kind pair.1
+
+-- What a row of the table allows: a form that it has, operands that fit, no key twice, none that is required left out, none that
+-- excludes another.
+pub record IsAllowed (row : Row) (form : List ℕ) (places : List (List ℕ)) (pairs : List (List ℕ × List ℕ)) : Type 0 where
+  pub in_table : (k : ℕ) × (slice_get table k ≡ Some row)
+  pub field : row.has_field ≡ true
+  pub form_is : (is_empty row.forms || is_one_of row.forms form) ≡ true
+  pub places_fit : FitPlaces row.positional places
+  pub pairs_fit : AllByRecursion (FitsKey row) pairs
+  pub keys_once : is_twice bytes_eq (map (λ p. p.0) pairs) ≡ false
+  pub places_enough : lacks_positional row (said_by places pairs) ≡ false
+  pub keys_enough : lacks_keyword row (said_by places pairs) ≡ false
+  pub none_half : list_any (is_half (said_by places pairs)) row.rules ≡ false
+  pub no_conflict : list_any (is_conflict (said_by places pairs)) row.rules ≡ false
+
+-- What a row allows can be written, its keywords in any order: a line of at most 255 bytes that is put together from it is read, and
+-- says what the row means. The first statement of a script is REGION.
+abbrev pub AllowedIsRead : Type 0
+AllowedIsRead =
+    (first : Bool) (task : List ℕ) (row : Row) (form : List ℕ) (places : List (List ℕ)) (pairs : List (List ℕ × List ℕ)) (statement : Statement)
+    → is_name task ≡ true → IsAllowed row form places pairs
+    → (first && not (bytes_eq row.operation (codes "REGION"))) ≡ false
+    → nat_lt 255 (length (line_text task row.operation (all_operands row form places pairs))) ≡ false
+    → statement_of row.meaning form (said_by places pairs) ≡ Some statement
+    → LineOf first (line_text task row.operation (all_operands row form places pairs)) (line.Statement (padded task) statement)
