@@ -67,3 +67,4 @@ pub mod ReadingWords
 pub mod ReadingLoops
 pub mod Spelling
 pub mod Allowed
+pub mod ValueTexts

@@ -1,12 +1,13 @@
 -- How a line is put together: a task, an operation and its operands, and the texts of what stands in operands.
-use Rattle.std.specs.Prelude.{◌≡◌, ℕ, ◌+◌, ◌-◌, nat_le, nat_lt, ◌==◌, ◌&&◌, ◌||◌, not, Bool, true, false, if◌then◌else◌, List, [], ◌∷◌, ◌++◌, map, length, find, Some, option_map, slice_get, bytes_eq, codes, decimal}
+use Rattle.std.specs.Prelude.{◌≡◌, ℕ, ◌+◌, ◌-◌, ◌^◌, ◌<◌, ◌≤◌, nat_le, nat_lt, ◌==◌, ◌&&◌, ◌||◌, not, Bool, true, false, if◌then◌else◌, List, [], ◌∷◌, ◌++◌, map, length, find, flat_map, Some, option_map, slice_get, bytes_eq, codes, decimal}
 use Rattle.std.specs.List.{list_all, list_any, AllByRecursion}
 use Rattle.mvs_model.specs.declared.line.Line.TheVariants as line
 use Rattle.mvs_model.specs.declared.line.Statement.{Statement}
+use Rattle.mvs_model.specs.declared.line.Location.TheVariants.{Absolute, Named}
 use Rattle.mvs_model.specs.Name.{padded}
 use Rattle.mvs_model.specs.Texts.{hex}
-use Rattle.mvs_model.specs.Grammar.{Kind, Positional, Row, table}
-use Rattle.mvs_model.specs.Reading.{ByKey, LineOf, has_key, is_conflict, is_empty, is_half, is_name, is_of, is_one_of, is_twice, is_within, lacks_keyword, lacks_positional, operands_in, repeats, says_nothing, statement_of, task_in, words}
+use Rattle.mvs_model.specs.Grammar.{Kind, Number, HexByte, Name, Address, Bytes, Pair, NumberOrPair, Numbers, DistinctNumbers, DistinctNames, Addresses, Positional, Row, table}
+use Rattle.mvs_model.specs.Reading.{ByKey, LineOf, has_key, hex_bytes, hex_number, is_conflict, is_empty, is_half, is_name, is_of, is_one_of, is_twice, is_within, items, lacks_keyword, lacks_positional, largest, location, number, operands_in, quoted, repeats, says_nothing, smallest, statement_of, task_in, words}
 use Rattle.mvs_model.specs.ReadingLaws.{keyed}
 
 -- texts with commas between
@@ -103,3 +104,55 @@ AllowedIsRead =
     → nat_lt 255 (length (line_text task row.operation (all_operands row form places pairs))) ≡ false
     → statement_of row.meaning form (said_by places pairs) ≡ Some statement
     → LineOf first (line_text task row.operation (all_operands row form places pairs)) (line.Statement (padded task) statement)
+
+-- ---- the texts of values
+
+-- (a,b,..)
+abbrev pub list_text : List (List ℕ) → List ℕ
+list_text texts = 40 ∷ (joined texts ++ (41 ∷ []))
+
+-- X'..'
+abbrev pub quoted_text : List ℕ → List ℕ
+quoted_text digits = 88 ∷ 39 ∷ (digits ++ (39 ∷ []))
+
+-- an address in eight digits, and one by a name and a distance
+abbrev pub absolute_text : ℕ → List ℕ
+absolute_text a = quoted_text (hex 8 a)
+
+abbrev pub named_text : List ℕ → ℕ → List ℕ
+named_text name distance = name ++ (43 ∷ decimal distance)
+
+-- some bytes
+abbrev pub bytes_text : List ℕ → List ℕ
+bytes_text bytes = quoted_text (flat_map (hex 2) bytes)
+
+-- A text fits a kind, and may stand without a key.
+pub record FitsAlone (kind : Kind) (text : List ℕ) : Type 0 where
+  pub fits : Fits kind text
+  pub no_key : has_key text ≡ false
+
+-- the numbers that a list may have, each from a least to a greatest one
+abbrev pub AreBetween : ℕ → ℕ → List ℕ → Type 0
+AreBetween least most numbers = AllByRecursion (λ n. (least ≤ n) × (n ≤ most)) numbers
+
+-- Each value in range has a text that fits its kind and says the value. (ten digits are enough for each number of the table)
+pub record EachIsWritten : Type 0 where
+  pub number_is : (least most n : ℕ) → least ≤ n → n ≤ most → most < 10 ^ 10 → FitsAlone (Number least most) (decimal n) × (number (decimal n) ≡ n)
+  pub byte_is : (b : ℕ) → b < 256 → FitsAlone HexByte (hex 2 b) × (hex_number (hex 2 b) ≡ b)
+  pub name_is : (text : List ℕ) → is_name text ≡ true → FitsAlone Name text
+  pub absolute_is : (a : ℕ) → a < 2 ^ 31 → FitsAlone Address (absolute_text a) × (location (absolute_text a) ≡ Absolute a)
+  pub named_is : (name : List ℕ) (n : ℕ) → is_name name ≡ true → n < 2 ^ 25 → FitsAlone Address (named_text name n) × (location (named_text name n) ≡ Named (padded name) n)
+  pub bytes_are : (most : ℕ) (bytes : List ℕ) → is_empty bytes ≡ false → length bytes ≤ most → AllByRecursion (λ b. b < 256) bytes
+    → FitsAlone (Bytes most) (bytes_text bytes) × (hex_bytes (quoted (bytes_text bytes)) ≡ bytes)
+  pub pair_is : (least most large small : ℕ) → least ≤ small → small ≤ large → large ≤ most → most < 10 ^ 10
+    → Fits (Pair least most) (list_text (decimal large ∷ decimal small ∷ [])) × Fits (NumberOrPair least most) (list_text (decimal large ∷ decimal small ∷ []))
+    × (largest (list_text (decimal large ∷ decimal small ∷ [])) ≡ large) × (smallest (list_text (decimal large ∷ decimal small ∷ [])) ≡ small)
+  pub one_length : (least most n : ℕ) → least ≤ n → n ≤ most → most < 10 ^ 10 → Fits (NumberOrPair least most) (decimal n) × (largest (decimal n) ≡ n) × (smallest (decimal n) ≡ n)
+  pub numbers_are : (count least most : ℕ) (numbers : List ℕ) → is_empty numbers ≡ false → length numbers ≤ count → AreBetween least most numbers → most < 10 ^ 10
+    → Fits (Numbers count least most) (list_text (map decimal numbers)) × (map number (items (list_text (map decimal numbers))) ≡ numbers)
+  pub distinct_are : (least most : ℕ) (numbers : List ℕ) → is_empty numbers ≡ false → AreBetween least most numbers → most < 10 ^ 10 → is_twice ◌==◌ numbers ≡ false
+    → Fits (DistinctNumbers least most) (list_text (map decimal numbers)) × (map number (items (list_text (map decimal numbers))) ≡ numbers)
+  pub names_are : (count : ℕ) (texts : List (List ℕ)) → is_empty texts ≡ false → length texts ≤ count → AllByRecursion (λ text. is_name text ≡ true) texts → is_twice bytes_eq texts ≡ false
+    → Fits (DistinctNames count) (list_text texts) × (items (list_text texts) ≡ texts)
+  pub absolutes_are : (count : ℕ) (addresses : List ℕ) → is_empty addresses ≡ false → length addresses ≤ count → AllByRecursion (λ a. a < 2 ^ 31) addresses
+    → Fits (Addresses count) (list_text (map absolute_text addresses)) × (map location (items (list_text (map absolute_text addresses))) ≡ map (λ a. Absolute a) addresses)

@@ -4,7 +4,7 @@ ghost use Rattle.mvs_model.specs.Laws.{PagesKept, NeverStuck, PartsApart};
 ghost use Rattle.mvs_model.specs.Tidy.{TidyStep, TidyText, OneLabelText, PlacesDoNotMatter};
 ghost use Rattle.mvs_model.specs.Rows.{BusyReturn, GivenEnds, MovesOverlap};
 ghost use Rattle.mvs_model.specs.ReadingLaws.{InRanges, OneReading, OnlyWords};
-ghost use Rattle.mvs_model.specs.Spelling.{AllowedIsRead, CutApart};
+ghost use Rattle.mvs_model.specs.Spelling.{AllowedIsRead, CutApart, EachIsWritten};
 
 /// In every state of a run each page is of one subpool.
 pub fn page_rule()
@@ -80,4 +80,9 @@ pub fn cut_apart()
 /// What a row of the table allows can be written, its keywords in any order, and is read as what the row means.
 pub fn allowed_is_read()
     ensures { AllowedIsRead }
+{}
+
+/// Each value in range has a text that fits its kind and says the value.
+pub fn each_is_written()
+    ensures { EachIsWritten }
 {}

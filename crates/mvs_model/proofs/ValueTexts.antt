@@ -1,0 +1,583 @@
+-- Each value in range has a text that fits its kind and says the value.
+use Rattle.std.proofs.Common.{◌≡◌, refl, ◌||◌, ◌&&◌, not, true, false, Bool, ℕ, zero, suc, ◌+◌, ◌-◌, ◌*◌, ◌/◌, ◌%◌, ◌^◌, ◌<◌, ◌≤◌, ◌==◌, List, [], ◌∷◌, ◌++◌, map, length, take, drop, sym, ap, subst, ◌∙◌, inl, inr, arith, append_assoc, length-append, pow-suc, decimal}
+use Rattle.std.specs.Prelude.{nat_le, nat_lt, bytes_eq, codes, flat_map, slice_get, unwrap_or, if◌then◌else◌}
+use Rattle.std.specs.List.{list_all, list_any, after_first, before_first, onto_first, position_or_len, slice_split, AllByRecursion}
+use Rattle.std.proofs.lemmas.Bool.{cases_lt}
+use Rattle.std.proofs.lemmas.Bool.Decides.{nat_tests}
+use Rattle.std.proofs.lemmas.Fmt.{decimal_by_steps, length-decimal-le}
+use Rattle.std.proofs.lemmas.List.Splits.{slice_split-cons_no}
+use Rattle.mvs_model.specs.declared.line.Location.TheVariants.{Absolute, Named}
+use Rattle.mvs_model.specs.Name.{padded}
+use Rattle.mvs_model.specs.Texts.{glyph, hex, last_digits}
+use Rattle.mvs_model.specs.Grammar.{Number, HexByte, Name, Address, Bytes, Pair, NumberOrPair, Numbers, DistinctNumbers, DistinctNames, Addresses}
+use Rattle.mvs_model.specs.Reading.{has_key, hex_bytes, is_absolute, is_address, is_address_in_range, is_in_range, is_named, is_pair, is_pair_in_range, is_twice, largest, location, smallest, hex_digit, hex_number, is_digit, is_empty, is_equals, is_hex_digit, is_list, is_name, is_name_byte, is_number, is_plus, is_quoted, items, number, quoted}
+use Rattle.mvs_model.specs.Spelling.{EachIsWritten, Fits, FitsAlone, AreBetween, IsOperand, IsWord, absolute_text, bytes_text, closes, joined, list_text, named_text, quoted_text}
+use Rattle.mvs_model.proofs.Reading.{or_false}
+use Rattle.mvs_model.proofs.ReadingTaken.{and_true}
+use Rattle.mvs_model.proofs.ReadingLoops.{counted, counted_all, hex_counted, hex_counted_all}
+use Rattle.mvs_model.proofs.Spelling.{all_append, all_weaker, both_true, name_bytes, not_true, printed}
+
+-- ---- texts of simple bytes: printed, and none that parts or closes
+
+abbrev pub simple : ℕ → Bool
+simple b = nat_le 33 b && nat_le b 126 && not (b == 40) && not (b == 41) && not (b == 44) && not (b == 61)
+
+-- What is known of a byte that is simple.
+record Simple (b : ℕ) : Type 0 where
+  is_printed : printed b ≡ true
+  no_open : (b == 40) ≡ false
+  no_close : (b == 41) ≡ false
+  no_comma : (b == 44) ≡ false
+  no_equals : is_equals b ≡ false
+
+simple_is : (b : ℕ) → simple b ≡ true → Simple b
+simple_is b e = record {
+  is_printed = grind (arith, nat_tests);
+  no_open = grind (arith, nat_tests);
+  no_close = grind (arith, nat_tests);
+  no_comma = grind (arith, nat_tests);
+  no_equals = grind (arith, nat_tests);
+}
+
+digit_simple : (b : ℕ) → is_digit b ≡ true → simple b ≡ true
+digit_simple b e = grind (arith, nat_tests)
+
+hex_simple : (b : ℕ) → is_hex_digit b ≡ true → simple b ≡ true
+hex_simple b e = grind (arith, nat_tests)
+
+name_simple : (b : ℕ) → is_name_byte b ≡ true → simple b ≡ true
+name_simple b e = grind (arith, nat_tests)
+
+name_no_plus : (b : ℕ) → is_name_byte b ≡ true → is_plus b ≡ false
+name_no_plus b e = grind (arith, nat_tests)
+
+abbrev pub AllSimple : List ℕ → Type 0
+AllSimple text = list_all simple text ≡ true
+
+-- it opens and closes nothing
+closes_past : (opened : ℕ) (text rest : List ℕ) → AllSimple text → closes opened (text ++ rest) ≡ closes opened rest
+closes_past opened [] rest e = refl
+closes_past opened (b ∷ text) rest e =
+    let a = and_true (simple b) (list_all simple text) e in
+    let s = simple_is b a.0 in
+    (λ i. not (s.no_comma i && (opened == 0)) && closes (if s.no_open i then opened + 1 else (if s.no_close i then opened - 1 else opened)) (text ++ rest)) ∙ closes_past opened text rest a.1
+
+closes_alone : (text : List ℕ) → AllSimple text → closes 0 text ≡ true
+closes_alone [] e = refl
+closes_alone (b ∷ text) e =
+    let a = and_true (simple b) (list_all simple text) e in
+    let s = simple_is b a.0 in
+    (λ i. not (s.no_comma i && (0 == 0)) && closes (if s.no_open i then 1 else (if s.no_close i then 0 - 1 else 0)) text) ∙ closes_alone text a.1
+
+simple_printed : (text : List ℕ) → AllSimple text → list_all printed text ≡ true
+simple_printed text e = all_weaker simple printed (λ b f. (simple_is b f).is_printed) text e
+
+simple_keyless : (text : List ℕ) → AllSimple text → has_key text ≡ false
+simple_keyless [] e = refl
+simple_keyless (b ∷ text) e =
+    let a = and_true (simple b) (list_all simple text) e in
+    ap (λ t. t || has_key text) (simple_is b a.0).no_equals ∙ simple_keyless text a.1
+
+simple_operand : (text : List ℕ) → is_empty text ≡ false → AllSimple text → IsOperand text
+simple_operand text some e = record { word = record { some = some; printed = simple_printed text e }; closed = closes_alone text e }
+
+-- ---- decimal numbers
+
+-- Digits that write a number.
+pub record Writes (n : ℕ) (text : List ℕ) : Type 0 where
+  pub some : is_empty text ≡ false
+  pub digits : list_all is_digit text ≡ true
+  pub value : number text ≡ n
+
+counted_behind : (so_far : ℕ) (text : List ℕ) (b : ℕ) → counted so_far (text ++ (b ∷ [])) ≡ counted so_far text * 10 + (b - 48)
+counted_behind so_far [] b = refl
+counted_behind so_far (c ∷ text) b = counted_behind (so_far * 10 + (c - 48)) text b
+
+number_behind : (text : List ℕ) (b : ℕ) → number (text ++ (b ∷ [])) ≡ number text * 10 + (b - 48)
+number_behind text b = sym (counted_all (text ++ (b ∷ []))) ∙ counted_behind 0 text b ∙ ap (λ n. n * 10 + (b - 48)) (counted_all text)
+
+one_digit : (n : ℕ) → n < 10 → Writes n ((48 + n) ∷ [])
+one_digit n small = record { some = refl; digits = (let e : is_digit (48 + n) ≡ true = grind (arith, nat_tests) in both_true (is_digit (48 + n)) true e refl); value = (let e : (48 + n - 48) * 1 + 0 ≡ n = omega arith in e) }
+
+append_some : (text more : List ℕ) → is_empty text ≡ false → is_empty (text ++ more) ≡ false
+append_some [] more e = absurd (let f : true ≡ false = e in cc)
+append_some (b ∷ text) more e = refl
+
+digit_more : (n : ℕ) (text : List ℕ) → 10 ≤ n → Writes (n / 10) text → Writes n (text ++ ((48 + n % 10) ∷ []))
+digit_more n text large w = record {
+  some = append_some text _ w.some;
+  digits = all_append is_digit text _ w.digits (let e : is_digit (48 + n % 10) ≡ true = grind (arith, nat_tests) in both_true (is_digit (48 + n % 10)) true e refl);
+  value = number_behind text (48 + n % 10) ∙ ap (λ q. q * 10 + (48 + n % 10 - 48)) w.value ∙ (let e : n / 10 * 10 + (48 + n % 10 - 48) ≡ n = omega arith in e);
+}
+
+pub decimal_writes : (n : ℕ) → n < 2 ^ 64 → Writes n (decimal n)
+decimal_writes n small = decimal_by_steps Writes one_digit digit_more n small
+
+-- ---- hexadecimal digits
+
+hex_counted_behind : (so_far : ℕ) (text : List ℕ) (b : ℕ) → hex_counted so_far (text ++ (b ∷ [])) ≡ hex_counted so_far text * 16 + hex_digit b
+hex_counted_behind so_far [] b = refl
+hex_counted_behind so_far (c ∷ text) b = hex_counted_behind (so_far * 16 + hex_digit c) text b
+
+hex_number_behind : (text : List ℕ) (b : ℕ) → hex_number (text ++ (b ∷ [])) ≡ hex_number text * 16 + hex_digit b
+hex_number_behind text b = sym (hex_counted_all (text ++ (b ∷ []))) ∙ hex_counted_behind 0 text b ∙ ap (λ n. n * 16 + hex_digit b) (hex_counted_all text)
+
+-- the glyph of a digit is one, and says it
+glyph_says : (d : ℕ) → d < 16 → (is_hex_digit (glyph d) ≡ true) × (hex_digit (glyph d) ≡ d)
+glyph_says d small =
+    elim (cases_lt d 10) [
+      | inl l ↦
+          let low : nat_lt d 10 ≡ true = grind (arith, nat_tests) in
+          let g : glyph d ≡ 48 + d = ap (λ t. if t then 48 + d else 55 + d) low in
+          let digit : is_digit (48 + d) ≡ true = grind (arith, nat_tests) in
+          (ap is_hex_digit g ∙ ap (λ t. t || (nat_le 65 (48 + d) && nat_le (48 + d) 70)) digit,
+           ap hex_digit g ∙ ap (λ t. if t then 48 + d - 48 else 48 + d - 65 + 10) digit ∙ (let e : 48 + d - 48 ≡ d = omega arith in e))
+      | inr l ↦
+          let high : nat_lt d 10 ≡ false = grind (arith, nat_tests) in
+          let g : glyph d ≡ 55 + d = ap (λ t. if t then 48 + d else 55 + d) high in
+          let digit : is_digit (55 + d) ≡ false = grind (arith, nat_tests) in
+          let letter : (nat_le 65 (55 + d) && nat_le (55 + d) 70) ≡ true = grind (arith, nat_tests) in
+          (ap is_hex_digit g ∙ ap (λ t. t || (nat_le 65 (55 + d) && nat_le (55 + d) 70)) digit ∙ letter,
+           ap hex_digit g ∙ ap (λ t. if t then 55 + d - 48 else 55 + d - 65 + 10) digit ∙ (let e : 55 + d - 65 + 10 ≡ d = omega arith in e))
+    ]
+
+-- So many hexadecimal digits that write a number.
+pub record WritesHex (k n : ℕ) (text : List ℕ) : Type 0 where
+  pub many : length text ≡ k
+  pub digits : list_all is_hex_digit text ≡ true
+  pub value : hex_number text ≡ n
+
+pub hex_writes : (k n : ℕ) → n < 16 ^ k → WritesHex k n (hex k n)
+unfolding last_digits
+hex_writes zero n small = record { many = refl; digits = refl; value = (let e : 0 ≡ n = omega arith in e) }
+hex_writes (suc k) n small =
+    let w = hex_writes k (n / 16) (omega (arith, pow-suc 16 k)) in
+    let g = glyph_says (n % 16) (omega arith) in
+    record {
+      many = length-append (hex k (n / 16)) (glyph (n % 16) ∷ []) ∙ (let e : length (hex k (n / 16)) + 1 ≡ suc k = omega (arith, w.many) in e);
+      digits = all_append is_hex_digit (hex k (n / 16)) (glyph (n % 16) ∷ []) w.digits (both_true (is_hex_digit (glyph (n % 16))) true g.0 refl);
+      value = hex_number_behind (hex k (n / 16)) (glyph (n % 16)) ∙ (λ i. w.value i * 16 + g.1 i) ∙ (let e : n / 16 * 16 + n % 16 ≡ n = omega arith in e);
+    }
+
+-- ---- lists
+
+front_of : {X : Type 0} (xs ys : List X) → take (length xs) (xs ++ ys) ≡ xs
+front_of [] ys = refl
+front_of (x ∷ xs) ys = ap (λ l. x ∷ l) (front_of xs ys)
+
+back_of : {X : Type 0} (xs ys : List X) → drop (length xs) (xs ++ ys) ≡ ys
+back_of [] ys = refl
+back_of (x ∷ xs) ys = back_of xs ys
+
+abbrev EachSimple : List (List ℕ) → Type 0
+EachSimple texts = AllByRecursion AllSimple texts
+
+comma_behind : (text rest : List ℕ) → AllSimple text → slice_split (λ b. b == 44) (text ++ (44 ∷ rest)) ≡ text ∷ slice_split (λ b. b == 44) rest
+comma_behind [] rest e = refl
+comma_behind (b ∷ text) rest e =
+    let a = and_true (simple b) (list_all simple text) e in
+    slice_split-cons_no (λ b. b == 44) b (text ++ (44 ∷ rest)) (simple_is b a.0).no_comma ∙ ap (onto_first b) (comma_behind text rest a.1)
+
+no_comma : (text : List ℕ) → AllSimple text → slice_split (λ b. b == 44) text ≡ text ∷ []
+no_comma [] e = refl
+no_comma (b ∷ text) e =
+    let a = and_true (simple b) (list_all simple text) e in
+    slice_split-cons_no (λ b. b == 44) b text (simple_is b a.0).no_comma ∙ ap (onto_first b) (no_comma text a.1)
+
+split_joined : (text : List ℕ) (texts : List (List ℕ)) → EachSimple (text ∷ texts) → slice_split (λ b. b == 44) (joined (text ∷ texts)) ≡ text ∷ texts
+split_joined text [] each = no_comma text each.0
+split_joined text (next ∷ texts) each = comma_behind text (joined (next ∷ texts)) each.0 ∙ ap (λ l. text ∷ l) (split_joined next texts each.1)
+
+joined_past : (text : List ℕ) (texts : List (List ℕ)) (rest : List ℕ) → EachSimple (text ∷ texts) → closes 1 (joined (text ∷ texts) ++ rest) ≡ closes 1 rest
+joined_past text [] rest each = closes_past 1 text rest each.0
+joined_past text (next ∷ texts) rest each =
+    ap (closes 1) (append_assoc text (44 ∷ joined (next ∷ texts)) rest) ∙ closes_past 1 text (44 ∷ (joined (next ∷ texts) ++ rest)) each.0 ∙ joined_past next texts rest each.1
+
+joined_printed : (text : List ℕ) (texts : List (List ℕ)) → EachSimple (text ∷ texts) → list_all printed (joined (text ∷ texts)) ≡ true
+joined_printed text [] each = simple_printed text each.0
+joined_printed text (next ∷ texts) each = all_append printed text (44 ∷ joined (next ∷ texts)) (simple_printed text each.0) (joined_printed next texts each.1)
+
+-- What a list of simple texts is.
+pub record Lists (texts : List (List ℕ)) : Type 0 where
+  pub operand : IsOperand (list_text texts)
+  pub list : is_list (list_text texts) ≡ true
+  pub items_are : items (list_text texts) ≡ texts
+
+pub lists : (text : List ℕ) (texts : List (List ℕ)) → EachSimple (text ∷ texts) → Lists (text ∷ texts)
+lists text texts each =
+    let j = joined (text ∷ texts) in
+    let long : length (j ++ (41 ∷ [])) ≡ suc (length j) = length-append j (41 ∷ []) ∙ (let e : length j + 1 ≡ suc (length j) = omega arith in e) in
+    let inner : suc (length (j ++ (41 ∷ []))) - 2 ≡ length j = ap (λ n. suc n - 2) long ∙ (let e : suc (suc (length j)) - 2 ≡ length j = omega arith in e) in
+    let last : suc (length (j ++ (41 ∷ []))) - 1 ≡ suc (length j) = ap (λ n. suc n - 1) long ∙ (let e : suc (suc (length j)) - 1 ≡ suc (length j) = omega arith in e) in
+    let two : nat_le 2 (suc (length (j ++ (41 ∷ [])))) ≡ true = ap (λ n. nat_le 2 (suc n)) long ∙ (let e : nat_le 2 (suc (suc (length j))) ≡ true = grind (arith, nat_tests) in e) in
+    record {
+      operand = record {
+        word = record { some = refl; printed = all_append printed j (41 ∷ []) (joined_printed text texts each) refl };
+        closed = joined_past text texts (41 ∷ []) each;
+      };
+      list = (λ i. two i && true && bytes_eq (drop (last i) (40 ∷ (j ++ (41 ∷ [])))) (codes ")")) ∙ ap (λ l. bytes_eq l (codes ")")) (back_of j (41 ∷ []));
+      items_are = ap (λ n. slice_split (λ b. b == 44) (take n (j ++ (41 ∷ [])))) inner ∙ ap (slice_split (λ b. b == 44)) (front_of j (41 ∷ [])) ∙ split_joined text texts each;
+    }
+
+-- ---- X'..'
+
+pub record Quotes (digits : List ℕ) : Type 0 where
+  pub quotes : is_quoted (quoted_text digits) ≡ true
+  pub inside : quoted (quoted_text digits) ≡ digits
+  pub all_simple : AllSimple (quoted_text digits)
+
+pub quoting : (digits : List ℕ) → list_all is_hex_digit digits ≡ true → Quotes digits
+quoting digits e =
+    let long : length (digits ++ (39 ∷ [])) ≡ suc (length digits) = length-append digits (39 ∷ []) ∙ (let e : length digits + 1 ≡ suc (length digits) = omega arith in e) in
+    let inner : suc (suc (length (digits ++ (39 ∷ [])))) - 3 ≡ length digits = ap (λ n. suc (suc n) - 3) long ∙ (let e : suc (suc (suc (length digits))) - 3 ≡ length digits = omega arith in e) in
+    let last : suc (suc (length (digits ++ (39 ∷ [])))) - 1 ≡ suc (suc (length digits)) = ap (λ n. suc (suc n) - 1) long ∙ (let e : suc (suc (suc (length digits))) - 1 ≡ suc (suc (length digits)) = omega arith in e) in
+    let three : nat_le 3 (suc (suc (length (digits ++ (39 ∷ []))))) ≡ true = ap (λ n. nat_le 3 (suc (suc n))) long ∙ (let e : nat_le 3 (suc (suc (suc (length digits)))) ≡ true = grind (arith, nat_tests) in e) in
+    record {
+      quotes = (λ i. three i && true && bytes_eq (drop (last i) (88 ∷ 39 ∷ (digits ++ (39 ∷ [])))) (codes "'")) ∙ ap (λ l. bytes_eq l (codes "'")) (back_of digits (39 ∷ []));
+      inside = ap (λ n. take n (digits ++ (39 ∷ []))) inner ∙ front_of digits (39 ∷ []);
+      all_simple = all_append simple digits (39 ∷ []) (all_weaker is_hex_digit simple hex_simple digits e) refl;
+    }
+
+-- ---- numbers
+
+and_right : (a b : Bool) → b ≡ false → (a && b) ≡ false
+and_right true b e = e
+and_right false b e = refl
+
+le_true : (a b : ℕ) → a ≤ b → nat_le a b ≡ true
+le_true a b l = grind (arith, nat_tests)
+
+short_decimal : (n : ℕ) → n < 10 ^ 10 → length (decimal n) ≤ 10
+short_decimal n small = length-decimal-le 10 n (omega arith) (omega arith) (omega arith)
+
+number_text : (n : ℕ) → n < 10 ^ 10 → is_number (decimal n) ≡ true
+number_text n small = let w = decimal_writes n (omega arith) in both_true (not (is_empty (decimal n))) _ (ap not w.some) w.digits
+
+in_range : (least most n : ℕ) → least ≤ n → n ≤ most → n < 10 ^ 10 → is_in_range least most (decimal n) ≡ true
+in_range least most n low high small =
+    let w = decimal_writes n (omega arith) in
+    both_true (nat_le (length (decimal n)) 10 && nat_le least (number (decimal n))) _
+        (both_true (nat_le (length (decimal n)) 10) _ (le_true _ 10 (short_decimal n small)) (ap (nat_le least) w.value ∙ le_true least n low))
+        (ap (λ m. nat_le m most) w.value ∙ le_true n most high)
+
+decimal_simple : (n : ℕ) → n < 10 ^ 10 → AllSimple (decimal n)
+decimal_simple n small = all_weaker is_digit simple digit_simple (decimal n) (decimal_writes n (omega arith)).digits
+
+number_is : (least most n : ℕ) → least ≤ n → n ≤ most → most < 10 ^ 10 → FitsAlone (Number least most) (decimal n) × (number (decimal n) ≡ n)
+number_is least most n low high few =
+    let small : n < 10 ^ 10 = omega arith in
+    let w = decimal_writes n (omega arith) in
+    (record {
+      fits = record { of_kind = number_text n small; within = in_range least most n low high small; once = refl; operand = simple_operand (decimal n) w.some (decimal_simple n small) };
+      no_key = simple_keyless (decimal n) (decimal_simple n small);
+    }, w.value)
+
+-- ---- a byte
+
+some_of : (text : List ℕ) (k : ℕ) → length text ≡ suc k → is_empty text ≡ false
+some_of [] k e = absurd (omega arith)
+some_of (b ∷ text) k e = refl
+
+byte_is : (b : ℕ) → b < 256 → FitsAlone HexByte (hex 2 b) × (hex_number (hex 2 b) ≡ b)
+byte_is b small =
+    let w = hex_writes 2 b (omega arith) in
+    let s = all_weaker is_hex_digit simple hex_simple (hex 2 b) w.digits in
+    (record {
+      fits = record { of_kind = both_true (length (hex 2 b) == 2) _ (ap (λ n. n == 2) w.many) w.digits; within = refl; once = refl; operand = simple_operand (hex 2 b) (some_of (hex 2 b) 1 w.many) s };
+      no_key = simple_keyless (hex 2 b) s;
+    }, w.value)
+
+-- ---- names and addresses
+
+name_all : (text : List ℕ) → is_name text ≡ true → AllSimple text
+name_all text e = all_weaker is_name_byte simple name_simple text (name_bytes text e).1
+
+name_is : (text : List ℕ) → is_name text ≡ true → FitsAlone Name text
+name_is text e = record {
+  fits = record { of_kind = e; within = refl; once = refl; operand = simple_operand text (name_bytes text e).0 (name_all text e) };
+  no_key = simple_keyless text (name_all text e);
+}
+
+absolute_simple : (a : ℕ) → a < 2 ^ 31 → AllSimple (absolute_text a)
+absolute_simple a small = (quoting (hex 8 a) (hex_writes 8 a (omega arith)).digits).all_simple
+
+absolute_is : (a : ℕ) → a < 2 ^ 31 → FitsAlone Address (absolute_text a) × (location (absolute_text a) ≡ Absolute a)
+absolute_is a small =
+    let text = absolute_text a in
+    let w = hex_writes 8 a (omega arith) in
+    let q = quoting (hex 8 a) w.digits in
+    let eight : (nat_le 1 (length (hex 8 a)) && nat_le (length (hex 8 a)) 8) ≡ true = ap (λ n. nat_le 1 n && nat_le n 8) w.many in
+    let range : nat_le a 0x7FFFFFFF ≡ true = le_true a 0x7FFFFFFF (omega arith) in
+    (record {
+      fits = record {
+        of_kind = (λ i. if q.quotes i then is_absolute (q.inside i) else is_named text) ∙ both_true (nat_le 1 (length (hex 8 a)) && nat_le (length (hex 8 a)) 8) _ eight w.digits;
+        within = (λ i. if q.quotes i then nat_le (hex_number (q.inside i)) 0x7FFFFFFF else (not (list_any is_plus text) || is_in_range 0 33554431 (after_first is_plus text))) ∙ ap (λ n. nat_le n 0x7FFFFFFF) w.value ∙ range;
+        once = refl;
+        operand = simple_operand text refl q.all_simple;
+      };
+      no_key = simple_keyless text q.all_simple;
+    }, (λ i. if q.quotes i then Absolute (hex_number (q.inside i)) else Named (padded (before_first is_plus text)) (number (after_first is_plus text))) ∙ ap (λ n. Absolute n) w.value)
+
+-- the plus sign behind a name
+plus_at : (name text : List ℕ) → list_all is_name_byte name ≡ true → position_or_len is_plus (name ++ (43 ∷ text)) ≡ length name
+plus_at [] text e = refl
+plus_at (b ∷ name) text e =
+    let a = and_true (is_name_byte b) (list_all is_name_byte name) e in
+    ap (λ t. if not t then 1 + position_or_len is_plus (name ++ (43 ∷ text)) else 0) (name_no_plus b a.0) ∙ ap (λ n. 1 + n) (plus_at name text a.1) ∙ omega arith
+
+has_plus : (name text : List ℕ) → list_any is_plus (name ++ (43 ∷ text)) ≡ true
+has_plus [] text = refl
+has_plus (b ∷ name) text = or_right (is_plus b) _ (has_plus name text)
+  where
+    or_right : (a b : Bool) → b ≡ true → (a || b) ≡ true
+    or_right true b e = refl
+    or_right false b e = e
+
+behind_plus : (name text : List ℕ) → drop (suc (length name)) (name ++ (43 ∷ text)) ≡ text
+behind_plus [] text = refl
+behind_plus (b ∷ name) text = behind_plus name text
+
+-- a name is not the beginning of X'..'
+no_quote : (name text : List ℕ) → is_empty name ≡ false → list_all is_name_byte name ≡ true → bytes_eq (take 2 (name ++ (43 ∷ text))) (codes "X'") ≡ false
+no_quote [] text some e = absurd (let f : true ≡ false = some in cc)
+no_quote (b ∷ []) text some e = and_right (b == 88) false refl
+no_quote (b ∷ c ∷ name) text some e =
+    let a = and_true (is_name_byte b) (list_all is_name_byte (c ∷ name)) e in
+    let d = and_true (is_name_byte c) (list_all is_name_byte name) a.1 in
+    let no : (c == 39) ≡ false = grind (arith, nat_tests, d.0) in
+    and_right (b == 88) _ (ap (λ t. t && true) no)
+
+not_quoted : (a b c : Bool) → b ≡ false → (a && b && c) ≡ false
+not_quoted a b c e = ap (λ t. a && t && c) e ∙ (elim a as (λ a. (a && false && c) ≡ false) [ true ↦ refl | false ↦ refl ])
+
+named_is : (name : List ℕ) (n : ℕ) → is_name name ≡ true → n < 2 ^ 25 → FitsAlone Address (named_text name n) × (location (named_text name n) ≡ Named (padded name) n)
+named_is name n e small =
+    let text = named_text name n in
+    let bytes = name_bytes name e in
+    let w = decimal_writes n (omega arith) in
+    let unquoted : is_quoted text ≡ false = not_quoted (nat_le 3 (length text)) _ _ (no_quote name (decimal n) bytes.0 bytes.1) in
+    let before : before_first is_plus text ≡ name = ap (λ k. take k text) (plus_at name (decimal n) bytes.1) ∙ front_of name (43 ∷ decimal n) in
+    let one : length name + 1 ≡ suc (length name) = omega arith in
+    let after : after_first is_plus text ≡ decimal n = ap (λ k. drop (k + 1) text) (plus_at name (decimal n) bytes.1) ∙ ap (λ k. drop k text) one ∙ behind_plus name (decimal n) in
+    let s : AllSimple text = all_append simple name (43 ∷ decimal n) (name_all name e) (decimal_simple n (omega arith)) in
+    let some : is_empty text ≡ false = append_some name (43 ∷ decimal n) bytes.0 in
+    (record {
+      fits = record {
+        of_kind = (λ i. if unquoted i then is_absolute (quoted text) else (is_name (before i) && (not (has_plus name (decimal n) i) || is_number (after i)))) ∙ both_true (is_name name) _ e (number_text n (omega arith));
+        within = (λ i. if unquoted i then nat_le (hex_number (quoted text)) 0x7FFFFFFF else (not (has_plus name (decimal n) i) || is_in_range 0 33554431 (after i))) ∙ in_range 0 33554431 n (omega arith) (omega arith) (omega arith);
+        once = refl;
+        operand = simple_operand text some s;
+      };
+      no_key = simple_keyless text s;
+    }, (λ i. if unquoted i then Absolute (hex_number (quoted text)) else Named (padded (before i)) (number (after i))) ∙ ap (λ m. Named (padded name) m) w.value)
+
+-- ---- bytes
+
+first_pair : (text rest : List ℕ) → length text ≡ 2 → hex_bytes (text ++ rest) ≡ hex_number text ∷ hex_bytes rest
+first_pair [] rest e = absurd (omega arith)
+first_pair (b ∷ []) rest e = absurd (omega arith)
+first_pair (b ∷ c ∷ []) rest e = refl
+first_pair (b ∷ c ∷ d ∷ text) rest e = absurd (omega arith)
+
+-- the digits of some bytes
+record Digits (bytes text : List ℕ) : Type 0 where
+  many : length text ≡ 2 * length bytes
+  digits : list_all is_hex_digit text ≡ true
+  values : hex_bytes text ≡ bytes
+
+digits_of : (bytes : List ℕ) → AllByRecursion (λ b. b < 256) bytes → Digits bytes (flat_map (hex 2) bytes)
+digits_of [] small = record { many = refl; digits = refl; values = refl }
+digits_of (b ∷ bytes) small =
+    let w = hex_writes 2 b (let l : b < 256 = small.0 in omega arith) in
+    let d = digits_of bytes small.1 in
+    record {
+      many = length-append (hex 2 b) (flat_map (hex 2) bytes) ∙ (let e : length (hex 2 b) + length (flat_map (hex 2) bytes) ≡ 2 * suc (length bytes) = omega (arith, w.many, d.many) in e);
+      digits = all_append is_hex_digit (hex 2 b) (flat_map (hex 2) bytes) w.digits d.digits;
+      values = first_pair (hex 2 b) (flat_map (hex 2) bytes) w.many ∙ (λ i. w.value i ∷ d.values i);
+    }
+
+bytes_are : (most : ℕ) (bytes : List ℕ) → is_empty bytes ≡ false → length bytes ≤ most → AllByRecursion (λ b. b < 256) bytes
+    → FitsAlone (Bytes most) (bytes_text bytes) × (hex_bytes (quoted (bytes_text bytes)) ≡ bytes)
+bytes_are most [] some few small = absurd (let f : true ≡ false = some in cc)
+bytes_are most (b ∷ bytes) some few small =
+    let digits = flat_map (hex 2) (b ∷ bytes) in
+    let d = digits_of (b ∷ bytes) small in
+    let q = quoting digits d.digits in
+    let there : not (is_empty digits) ≡ true = ap not (some_of digits (1 + 2 * length bytes) (d.many ∙ omega arith)) in
+    let even : (length digits % 2 == 0) ≡ true = ap (λ n. n % 2 == 0) d.many ∙ (let e : (2 * suc (length bytes) % 2 == 0) ≡ true = grind (arith, nat_tests) in e) in
+    let room : nat_le (length digits) (2 * most) ≡ true = le_true _ (2 * most) (let l : suc (length bytes) ≤ most = few in omega (arith, d.many)) in
+    (record {
+      fits = record {
+        of_kind = (λ i. q.quotes i && not (is_empty (q.inside i)) && (length (q.inside i) % 2 == 0) && list_all is_hex_digit (q.inside i)) ∙ (λ i. there i && even i && d.digits i);
+        within = ap (λ l. nat_le (length l) (2 * most)) q.inside ∙ room;
+        once = refl;
+        operand = simple_operand (quoted_text digits) refl q.all_simple;
+      };
+      no_key = simple_keyless (quoted_text digits) q.all_simple;
+    }, ap hex_bytes q.inside ∙ d.values)
+
+-- ---- lengths
+
+pair_is : (least most large small : ℕ) → least ≤ small → small ≤ large → large ≤ most → most < 10 ^ 10
+    → Fits (Pair least most) (list_text (decimal large ∷ decimal small ∷ [])) × Fits (NumberOrPair least most) (list_text (decimal large ∷ decimal small ∷ []))
+    × (largest (list_text (decimal large ∷ decimal small ∷ [])) ≡ large) × (smallest (list_text (decimal large ∷ decimal small ∷ [])) ≡ small)
+pair_is least most large small low ordered high few =
+    let text = list_text (decimal large ∷ decimal small ∷ []) in
+    let is = lists (decimal large) (decimal small ∷ []) (decimal_simple large (omega arith), (decimal_simple small (omega arith), tt)) in
+    let w = decimal_writes large (omega arith) in
+    let v = decimal_writes small (omega arith) in
+    let a = both_true (is_number (decimal large)) _ (number_text large (omega arith)) (both_true (is_number (decimal small)) true (number_text small (omega arith)) refl) in
+    let b = both_true (is_in_range least most (decimal large)) _ (in_range least most large (omega arith) high (omega arith)) (both_true (is_in_range least most (decimal small)) true (in_range least most small low (omega arith) (omega arith)) refl) in
+    let most_is : largest text ≡ large = (λ i. if is.list i then number (unwrap_or (slice_get (is.items_are i) 0) []) else number text) ∙ w.value in
+    let least_is : smallest text ≡ small = (λ i. if is.list i then number (unwrap_or (slice_get (is.items_are i) 1) []) else number text) ∙ v.value in
+    let pair : is_pair text ≡ true = (λ i. is.list i && (length (is.items_are i) == 2) && list_all is_number (is.items_are i)) ∙ a in
+    let range : is_pair_in_range least most text ≡ true =
+        (λ i. list_all (is_in_range least most) (is.items_are i) && nat_le (least_is i) (most_is i)) ∙ both_true (list_all (is_in_range least most) (decimal large ∷ decimal small ∷ [])) _ b (le_true small large ordered) in
+    (record { of_kind = pair; within = range; once = refl; operand = is.operand },
+     record { of_kind = pair; within = ap (λ t. if t then is_pair_in_range least most text else is_in_range least most text) is.list ∙ range; once = refl; operand = is.operand },
+     most_is, least_is)
+
+not_list : (text : List ℕ) → list_all is_digit text ≡ true → is_empty text ≡ false → is_list text ≡ false
+not_list [] e some = absurd (let f : true ≡ false = some in cc)
+not_list (b ∷ text) e some =
+    let a = and_true (is_digit b) (list_all is_digit text) e in
+    let no : (b == 40) ≡ false = grind (arith, nat_tests, a.0) in
+    not_quoted (nat_le 2 (suc (length text))) ((b == 40) && true) _ (ap (λ t. t && true) no)
+
+one_length : (least most n : ℕ) → least ≤ n → n ≤ most → most < 10 ^ 10 → Fits (NumberOrPair least most) (decimal n) × (largest (decimal n) ≡ n) × (smallest (decimal n) ≡ n)
+one_length least most n low high few =
+    let small : n < 10 ^ 10 = omega arith in
+    let w = decimal_writes n (omega arith) in
+    let no = not_list (decimal n) w.digits w.some in
+    (record {
+      of_kind = ap (λ t. t || is_pair (decimal n)) (number_text n small);
+      within = ap (λ t. if t then is_pair_in_range least most (decimal n) else is_in_range least most (decimal n)) no ∙ in_range least most n low high small;
+      once = refl;
+      operand = simple_operand (decimal n) w.some (decimal_simple n small);
+    },
+     (λ i. if no i then number (unwrap_or (slice_get (items (decimal n)) 0) []) else number (decimal n)) ∙ w.value,
+     (λ i. if no i then number (unwrap_or (slice_get (items (decimal n)) 1) []) else number (decimal n)) ∙ w.value)
+
+-- ---- lists
+
+-- the texts of some numbers
+record Decimals (least most : ℕ) (numbers : List ℕ) : Type 0 where
+  each_simple : EachSimple (map decimal numbers)
+  each_number : list_all is_number (map decimal numbers) ≡ true
+  each_within : list_all (is_in_range least most) (map decimal numbers) ≡ true
+  values : map number (map decimal numbers) ≡ numbers
+  many : length (map decimal numbers) ≡ length numbers
+
+decimals : (least most : ℕ) (numbers : List ℕ) → most < 10 ^ 10 → AreBetween least most numbers → Decimals least most numbers
+decimals least most [] few are = record { each_simple = tt; each_number = refl; each_within = refl; values = refl; many = refl }
+decimals least most (n ∷ numbers) few are =
+    let d = decimals least most numbers few are.1 in
+    let low : least ≤ n = are.0.0 in
+    let high : n ≤ most = are.0.1 in
+    let small : n < 10 ^ 10 = omega arith in
+    record {
+      each_simple = (decimal_simple n small, d.each_simple);
+      each_number = both_true (is_number (decimal n)) _ (number_text n small) d.each_number;
+      each_within = both_true (is_in_range least most (decimal n)) _ (in_range least most n low high small) d.each_within;
+      values = (λ i. (decimal_writes n (let l : n < 2 ^ 64 = omega arith in l)).value i ∷ d.values i);
+      many = ap suc d.many;
+    }
+
+numbers_are : (count least most : ℕ) (numbers : List ℕ) → is_empty numbers ≡ false → length numbers ≤ count → AreBetween least most numbers → most < 10 ^ 10
+    → Fits (Numbers count least most) (list_text (map decimal numbers)) × (map number (items (list_text (map decimal numbers))) ≡ numbers)
+numbers_are count least most [] some room are few = absurd (let f : true ≡ false = some in cc)
+numbers_are count least most (n ∷ numbers) some room are few =
+    let d = decimals least most (n ∷ numbers) few are in
+    let is = lists (decimal n) (map decimal numbers) d.each_simple in
+    let fits : nat_le (length (map decimal (n ∷ numbers))) count ≡ true = ap (λ k. nat_le k count) d.many ∙ le_true _ count room in
+    (record {
+      of_kind = (λ i. is.list i && list_all is_number (is.items_are i)) ∙ d.each_number;
+      within = (λ i. nat_le (length (is.items_are i)) count && list_all (is_in_range least most) (is.items_are i)) ∙ both_true (nat_le (length (map decimal (n ∷ numbers))) count) _ fits d.each_within;
+      once = refl;
+      operand = is.operand;
+    }, ap (map number) is.items_are ∙ d.values)
+
+distinct_are : (least most : ℕ) (numbers : List ℕ) → is_empty numbers ≡ false → AreBetween least most numbers → most < 10 ^ 10 → is_twice ◌==◌ numbers ≡ false
+    → Fits (DistinctNumbers least most) (list_text (map decimal numbers)) × (map number (items (list_text (map decimal numbers))) ≡ numbers)
+distinct_are least most [] some are few once = absurd (let f : true ≡ false = some in cc)
+distinct_are least most (n ∷ numbers) some are few once =
+    let d = decimals least most (n ∷ numbers) few are in
+    let is = lists (decimal n) (map decimal numbers) d.each_simple in
+    let values : map number (items (list_text (map decimal (n ∷ numbers)))) ≡ n ∷ numbers = ap (map number) is.items_are ∙ d.values in
+    (record {
+      of_kind = (λ i. is.list i && list_all is_number (is.items_are i)) ∙ d.each_number;
+      within = ap (λ l. list_all (is_in_range least most) l) is.items_are ∙ d.each_within;
+      once = ap (is_twice ◌==◌) values ∙ once;
+      operand = is.operand;
+    }, values)
+
+names_simple : (texts : List (List ℕ)) → AllByRecursion (λ text. is_name text ≡ true) texts → EachSimple texts
+names_simple [] are = tt
+names_simple (text ∷ texts) are = (name_all text are.0, names_simple texts are.1)
+
+each_name : (texts : List (List ℕ)) → AllByRecursion (λ text. is_name text ≡ true) texts → list_all is_name texts ≡ true
+each_name [] are = refl
+each_name (text ∷ texts) are = both_true (is_name text) _ are.0 (each_name texts are.1)
+
+names_are : (count : ℕ) (texts : List (List ℕ)) → is_empty texts ≡ false → length texts ≤ count → AllByRecursion (λ text. is_name text ≡ true) texts → is_twice bytes_eq texts ≡ false
+    → Fits (DistinctNames count) (list_text texts) × (items (list_text texts) ≡ texts)
+names_are count [] some room are once = absurd (let f : true ≡ false = some in cc)
+names_are count (text ∷ texts) some room are once =
+    let is = lists text texts (names_simple (text ∷ texts) are) in
+    (record {
+      of_kind = (λ i. is.list i && list_all is_name (is.items_are i)) ∙ each_name (text ∷ texts) are;
+      within = ap (λ l. nat_le (length l) count) is.items_are ∙ le_true _ count room;
+      once = ap (is_twice bytes_eq) is.items_are ∙ once;
+      operand = is.operand;
+    }, is.items_are)
+
+-- the texts of some addresses
+record Absolutes (addresses : List ℕ) : Type 0 where
+  each_simple : EachSimple (map absolute_text addresses)
+  each_address : list_all is_address (map absolute_text addresses) ≡ true
+  each_within : list_all is_address_in_range (map absolute_text addresses) ≡ true
+  values : map location (map absolute_text addresses) ≡ map (λ a. Absolute a) addresses
+  many : length (map absolute_text addresses) ≡ length addresses
+
+absolutes : (addresses : List ℕ) → AllByRecursion (λ a. a < 2 ^ 31) addresses → Absolutes addresses
+absolutes [] small = record { each_simple = tt; each_address = refl; each_within = refl; values = refl; many = refl }
+absolutes (a ∷ addresses) small =
+    let s = absolutes addresses small.1 in
+    let is = absolute_is a small.0 in
+    record {
+      each_simple = (absolute_simple a small.0, s.each_simple);
+      each_address = both_true (is_address (absolute_text a)) _ is.0.fits.of_kind s.each_address;
+      each_within = both_true (is_address_in_range (absolute_text a)) _ is.0.fits.within s.each_within;
+      values = (λ i. is.1 i ∷ s.values i);
+      many = ap suc s.many;
+    }
+
+absolutes_are : (count : ℕ) (addresses : List ℕ) → is_empty addresses ≡ false → length addresses ≤ count → AllByRecursion (λ a. a < 2 ^ 31) addresses
+    → Fits (Addresses count) (list_text (map absolute_text addresses)) × (map location (items (list_text (map absolute_text addresses))) ≡ map (λ a. Absolute a) addresses)
+absolutes_are count [] some room small = absurd (let f : true ≡ false = some in cc)
+absolutes_are count (a ∷ addresses) some room small =
+    let s = absolutes (a ∷ addresses) small in
+    let is = lists (absolute_text a) (map absolute_text addresses) s.each_simple in
+    let fits : nat_le (length (map absolute_text (a ∷ addresses))) count ≡ true = ap (λ k. nat_le k count) s.many ∙ le_true _ count room in
+    (record {
+      of_kind = (λ i. is.list i && list_all is_address (is.items_are i)) ∙ s.each_address;
+      within = (λ i. nat_le (length (is.items_are i)) count && list_all is_address_in_range (is.items_are i)) ∙ both_true (nat_le (length (map absolute_text (a ∷ addresses))) count) _ fits s.each_within;
+      once = refl;
+      operand = is.operand;
+    }, ap (map location) is.items_are ∙ s.values)
+
+pub each_is_written : EachIsWritten
+each_is_written = record {
+  number_is = number_is;
+  byte_is = byte_is;
+  name_is = name_is;
+  absolute_is = absolute_is;
+  named_is = named_is;
+  bytes_are = bytes_are;
+  pair_is = pair_is;
+  one_length = one_length;
+  numbers_are = numbers_are;
+  distinct_are = distinct_are;
+  names_are = names_are;
+  absolutes_are = absolutes_are;
+}
