@@ -68,3 +68,4 @@ pub mod ReadingLoops
 pub mod Spelling
 pub mod Allowed
 pub mod ValueTexts
+pub mod Spellings

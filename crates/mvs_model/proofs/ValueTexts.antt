@@ -240,7 +240,7 @@ quoting digits e =
 
 -- ---- numbers
 
-and_right : (a b : Bool) → b ≡ false → (a && b) ≡ false
+pub and_right : (a b : Bool) → b ≡ false → (a && b) ≡ false
 and_right true b e = e
 and_right false b e = refl
 
@@ -437,7 +437,7 @@ pair_is least most large small low ordered high few =
      record { of_kind = pair; within = ap (λ t. if t then is_pair_in_range least most text else is_in_range least most text) is.list ∙ range; once = refl; operand = is.operand },
      most_is, least_is)
 
-not_list : (text : List ℕ) → list_all is_digit text ≡ true → is_empty text ≡ false → is_list text ≡ false
+pub not_list : (text : List ℕ) → list_all is_digit text ≡ true → is_empty text ≡ false → is_list text ≡ false
 not_list [] e some = absurd (let f : true ≡ false = some in cc)
 not_list (b ∷ text) e some =
     let a = and_true (is_digit b) (list_all is_digit text) e in

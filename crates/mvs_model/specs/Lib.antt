@@ -33,6 +33,7 @@ pub mod WellFormed
 pub mod Laws
 pub mod ReadingLaws
 pub mod Spelling
+pub mod Spellings
 pub mod Rows
 pub mod Checks
 -- Helpers: changes of finite maps, and how the crates' values are seen as one state.

@@ -5,6 +5,7 @@ ghost use Rattle.mvs_model.specs.Tidy.{TidyStep, TidyText, OneLabelText, PlacesD
 ghost use Rattle.mvs_model.specs.Rows.{BusyReturn, GivenEnds, MovesOverlap};
 ghost use Rattle.mvs_model.specs.ReadingLaws.{InRanges, OneReading, OnlyWords};
 ghost use Rattle.mvs_model.specs.Spelling.{AllowedIsRead, CutApart, EachIsWritten};
+ghost use Rattle.mvs_model.specs.Spellings.{EachIsSaid};
 
 /// In every state of a run each page is of one subpool.
 pub fn page_rule()
@@ -85,4 +86,9 @@ pub fn allowed_is_read()
 /// Each value in range has a text that fits its kind and says the value.
 pub fn each_is_written()
     ensures { EachIsWritten }
+{}
+
+/// Each statement is written as the table of the script language says, and is read as that statement.
+pub fn each_is_said()
+    ensures { EachIsSaid }
 {}
