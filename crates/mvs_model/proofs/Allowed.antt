@@ -12,7 +12,7 @@ use Rattle.mvs_model.specs.Name.{padded}
 use Rattle.mvs_model.specs.Grammar.{Kind, Keyword, Positional, Row, table, region, getmain_fixed, getmain_fixed_placed, getmain_variable, getmain_variable_placed, getmain_list, storage_obtain, freemain_or_whole, freemain_place, freemain_area, freemain_list, storage_release, cpool_build, cpool_get, cpool_free, cpool_delete, attach, return_row, abend, put, show, move, where_row, report}
 use Rattle.mvs_model.specs.Reading.{◌when◌, ◌>>=◌, ByKey, LineOf, by_key, behind_form, checks, first_of, form_in, has, has_key, if_kind, is_conflict, is_empty, is_equals, is_for, is_half, is_name, is_of, is_one_of, is_twice, is_within, key_of, kind_of, lacks_keyword, lacks_positional, line_said, operand_checks, operands_in, operands_of, positionals, repeats, row_checks, row_of, rows_of, says_nothing, statement_checks, statement_of, takes_form, task_in, text_of, value_of, with_left, words}
 use Rattle.mvs_model.specs.ReadingLaws.{keyed}
-use Rattle.mvs_model.specs.Spelling.{AllowedIsRead, Fits, FitPlaces, FitsKey, IsAllowed, IsCut, IsOperand, IsWord, all_operands, closes, joined, keyword_text, line_text, said_by}
+use Rattle.mvs_model.specs.Spelling.{AllowedIsRead, InAnyOrder, Fits, FitPlaces, FitsKey, IsAllowed, IsCut, IsOperand, IsWord, all_operands, closes, joined, keyword_text, line_text, said_by}
 use Rattle.mvs_model.proofs.Reading.{or_false, not_false, said_with}
 use Rattle.mvs_model.proofs.ReadingTaken.{and_true, bytes_same}
 use Rattle.mvs_model.proofs.Spelling.{all_append, all_weaker, both_true, cut_apart, not_true, printed}
@@ -534,3 +534,115 @@ allowed_is_read first task row form places pairs statement named ok begins short
   says = line_says task row.operation (operands first task row form places pairs named ok) _ (cut first task row form places pairs named ok) (field first task row form places pairs named ok)
       ∙ said first task row form places pairs named ok ∙ (λ i. says i >>= λ s. Some (line.Statement (padded task) s));
 }
+
+-- ---- keywords in another order
+
+abbrev Pair : Type 0
+Pair = List ℕ × List ℕ
+
+eq_turned : (a b : ℕ) → (a == b) ≡ (b == a)
+eq_turned a b = grind (arith, nat_tests)
+
+bytes_turned : (xs ys : List ℕ) → bytes_eq xs ys ≡ bytes_eq ys xs
+bytes_turned [] [] = refl
+bytes_turned [] (y ∷ ys) = refl
+bytes_turned (x ∷ xs) [] = refl
+bytes_turned (x ∷ xs) (y ∷ ys) = λ i. eq_turned x y i && bytes_turned xs ys i
+
+or_exchanged : (a b c : Bool) → (a || (b || c)) ≡ (b || (a || c))
+or_exchanged true true c = refl
+or_exchanged true false c = refl
+or_exchanged false b c = refl
+
+abbrev keys_of : List Pair → List (List ℕ)
+keys_of pairs = map (λ p. p.0) pairs
+
+any_exchanged : (test : List ℕ → Bool) (front : List Pair) (a b : Pair) (rest : List Pair) → list_any test (keys_of (front ++ (a ∷ b ∷ rest))) ≡ list_any test (keys_of (front ++ (b ∷ a ∷ rest)))
+any_exchanged test [] a b rest = or_exchanged (test a.0) (test b.0) (list_any test (keys_of rest))
+any_exchanged test (p ∷ front) a b rest = ap (λ t. test p.0 || t) (any_exchanged test front a b rest)
+
+-- what the first keys have to do with each other does not depend on their order
+four_exchanged : (ab an bn n : Bool) → ((ab || an) || (bn || n)) ≡ ((ab || bn) || (an || n))
+four_exchanged true an bn n = refl
+four_exchanged false true true n = refl
+four_exchanged false true false n = refl
+four_exchanged false false true n = refl
+four_exchanged false false false n = refl
+
+twice_exchanged : (front : List Pair) (a b : Pair) (rest : List Pair) → is_twice bytes_eq (keys_of (front ++ (a ∷ b ∷ rest))) ≡ is_twice bytes_eq (keys_of (front ++ (b ∷ a ∷ rest)))
+twice_exchanged [] a b rest =
+    four_exchanged (bytes_eq a.0 b.0) (list_any (bytes_eq a.0) (keys_of rest)) (list_any (bytes_eq b.0) (keys_of rest)) (is_twice bytes_eq (keys_of rest))
+    ∙ ap (λ t. (t || list_any (bytes_eq b.0) (keys_of rest)) || (list_any (bytes_eq a.0) (keys_of rest) || is_twice bytes_eq (keys_of rest))) (bytes_turned a.0 b.0)
+twice_exchanged (p ∷ front) a b rest = λ i. any_exchanged (bytes_eq p.0) front a b rest i || twice_exchanged front a b rest i
+
+-- two keys are not the same
+apart : (front : List Pair) (a b : Pair) (rest : List Pair) → is_twice bytes_eq (keys_of (front ++ (a ∷ b ∷ rest))) ≡ false → bytes_eq a.0 b.0 ≡ false
+apart [] a b rest once = (or_false (bytes_eq a.0 b.0) _ (or_false (bytes_eq a.0 b.0 || list_any (bytes_eq a.0) (keys_of rest)) _ once).0).0
+apart (p ∷ front) a b rest once = apart front a b rest (or_false (list_any (bytes_eq p.0) (keys_of (front ++ (a ∷ b ∷ rest)))) _ once).1
+
+same_key : (xs : List ℕ) → bytes_eq xs xs ≡ true
+same_key [] = refl
+same_key (x ∷ xs) = both_true (x == x) _ (let e : (x == x) ≡ true = grind (arith, nat_tests) in e) (same_key xs)
+
+found_exchanged : (key : List ℕ) (front : List Pair) (a b : Pair) (rest : List Pair) → bytes_eq a.0 b.0 ≡ false
+    → find (λ p. bytes_eq p.0 key) (front ++ (a ∷ b ∷ rest)) ≡ find (λ p. bytes_eq p.0 key) (front ++ (b ∷ a ∷ rest))
+found_exchanged key [] a b rest differ = by (bytes_eq a.0 key) (bytes_eq b.0 key) refl refl
+  where
+    by : (x y : Bool) → bytes_eq a.0 key ≡ x → bytes_eq b.0 key ≡ y
+        → (if x then Some a else (if y then Some b else find (λ p. bytes_eq p.0 key) rest)) ≡ (if y then Some b else (if x then Some a else find (λ p. bytes_eq p.0 key) rest))
+    by true true e f =
+        let same : a.0 ≡ b.0 = bytes_same a.0 key e ∙ sym (bytes_same b.0 key f) in
+        let g : true ≡ false = sym (same_key b.0) ∙ ap (λ k. bytes_eq k b.0) (sym same) ∙ differ in
+        absurd (let h : true ≡ false = g in cc)
+    by true false e f = refl
+    by false true e f = refl
+    by false false e f = refl
+found_exchanged key (p ∷ front) a b rest differ = ap (λ o. if bytes_eq p.0 key then Some p else o) (found_exchanged key front a b rest differ)
+
+said_exchanged : (places : List (List ℕ)) (front : List Pair) (a b : Pair) (rest : List Pair) → bytes_eq a.0 b.0 ≡ false
+    → said_by places (front ++ (a ∷ b ∷ rest)) ≡ said_by places (front ++ (b ∷ a ∷ rest))
+said_exchanged places front a b rest differ = λ i. record {
+  under = λ key. option_map (λ p. p.1) (found_exchanged key front a b rest differ i);
+  at = λ k. slice_get places k;
+  count = length places;
+}
+
+fit_exchanged : (row : Row) (front : List Pair) (a b : Pair) (rest : List Pair) → AllByRecursion (FitsKey row) (front ++ (a ∷ b ∷ rest)) → AllByRecursion (FitsKey row) (front ++ (b ∷ a ∷ rest))
+fit_exchanged row [] a b rest fit = (fit.1.0, (fit.0, fit.1.1))
+fit_exchanged row (p ∷ front) a b rest fit = (fit.0, fit_exchanged row front a b rest fit.1)
+
+allowed_exchanged : (row : Row) (form : List ℕ) (places : List (List ℕ)) (front : List Pair) (a b : Pair) (rest : List Pair)
+    → IsAllowed row form places (front ++ (a ∷ b ∷ rest)) → IsAllowed row form places (front ++ (b ∷ a ∷ rest))
+allowed_exchanged row form places front a b rest ok =
+    let same = said_exchanged places front a b rest (apart front a b rest ok.keys_once) in
+    record {
+      in_table = ok.in_table;
+      field = ok.field;
+      form_is = ok.form_is;
+      places_fit = ok.places_fit;
+      pairs_fit = fit_exchanged row front a b rest ok.pairs_fit;
+      keys_once = sym (twice_exchanged front a b rest) ∙ ok.keys_once;
+      places_enough = ap (lacks_positional row) (sym same) ∙ ok.places_enough;
+      keys_enough = ap (lacks_keyword row) (sym same) ∙ ok.keys_enough;
+      none_half = ap (λ os. list_any (is_half os) row.rules) (sym same) ∙ ok.none_half;
+      no_conflict = ap (λ os. list_any (is_conflict os) row.rules) (sym same) ∙ ok.no_conflict;
+    }
+
+-- what an allowed line says
+allowed_says : (first : Bool) (task : List ℕ) (row : Row) (form : List ℕ) (places : List (List ℕ)) (pairs : List Pair) → is_name task ≡ true → IsAllowed row form places pairs
+    → line_said (line_text task row.operation (all_operands row form places pairs)) ≡ (statement_of row.meaning form (said_by places pairs) >>= λ s. Some (line.Statement (padded task) s))
+allowed_says first task row form places pairs named ok =
+    line_says task row.operation (operands first task row form places pairs named ok) _ (cut first task row form places pairs named ok) (field first task row form places pairs named ok)
+    ∙ said first task row form places pairs named ok
+
+pub in_any_order : InAnyOrder
+in_any_order first task row form places front a b rest l named ok begins short is =
+    let pairs = front ++ (b ∷ a ∷ rest) in
+    let turned = allowed_exchanged row form places front a b rest ok in
+    record {
+      no_fault = line_checks first task row.operation (operands first task row form places pairs named turned) _ (cut first task row form places pairs named turned) short (field first task row form places pairs named turned)
+          ∙ statement_none first task row form places pairs named turned begins;
+      says = allowed_says first task row form places pairs named turned
+          ∙ (λ i. statement_of row.meaning form (sym (said_exchanged places front a b rest (apart front a b rest ok.keys_once)) i) >>= λ s. Some (line.Statement (padded task) s))
+          ∙ sym (allowed_says first task row form places (front ++ (a ∷ b ∷ rest)) named ok) ∙ is.says;
+    }

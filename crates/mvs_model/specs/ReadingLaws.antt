@@ -389,13 +389,7 @@ getmain_ru_text task number ask area =
     task ++ codes " GETMAIN RU,LV=" ++ decimal ask.most ++ codes ",A=" ++ area ++ codes ",SP=" ++ decimal number ++ codes ",LOC=" ++ loc_text ask.loc
     ++ codes ",STARTBDY=" ++ decimal ask.start ++ within_text ask.within
 
--- Each request for one length that GETMAIN RU can make is read from its spelling.
-abbrev pub SpellsGetmainRu : Type 0
-SpellsGetmainRu =
-    (task area : List ℕ) (number : ℕ) (ask : AskValue) → is_name task ≡ true → is_name area ≡ true → number ≤ 255 → IsAsk ask → ask.least ≡ ask.most
-    → LineOf false (getmain_ru_text task number ask area) (line.Statement (padded task) (says.Request (written.Obtain form.Ru number ask false (padded area))))
-
--- some of these
+-- its edges
 pub record SpellingExamples : Type 0 where
   pub least : LineOf false (getmain_ru_text (codes "T") 0 (record { least = 1; most = 1; start = 3; within = None; loc = loc.Below }) (codes "X")) (line.Statement (padded (codes "T")) (says.Request (written.Obtain form.Ru 0 (record { least = 1; most = 1; start = 3; within = None; loc = loc.Below }) false (padded (codes "X")))))
   pub most : LineOf false (getmain_ru_text (codes "ABCDEFGH") 255 (record { least = 2147483647; most = 2147483647; start = 31; within = Some 31; loc = loc.Any }) (codes "@#$45678")) (line.Statement (codes "ABCDEFGH") (says.Request (written.Obtain form.Ru 255 (record { least = 2147483647; most = 2147483647; start = 31; within = Some 31; loc = loc.Any }) false (codes "@#$45678"))))

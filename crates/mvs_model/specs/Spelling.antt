@@ -1,6 +1,7 @@
 -- How a line is put together: a task, an operation and its operands, and the texts of what stands in operands.
 use Rattle.std.specs.Prelude.{◌≡◌, ℕ, ◌+◌, ◌-◌, ◌^◌, ◌<◌, ◌≤◌, nat_le, nat_lt, ◌==◌, ◌&&◌, ◌||◌, not, Bool, true, false, if◌then◌else◌, List, [], ◌∷◌, ◌++◌, map, length, find, flat_map, Some, option_map, slice_get, bytes_eq, codes, decimal}
 use Rattle.std.specs.List.{list_all, list_any, AllByRecursion}
+use Rattle.mvs_model.specs.declared.line.Line.{Line}
 use Rattle.mvs_model.specs.declared.line.Line.TheVariants as line
 use Rattle.mvs_model.specs.declared.line.Statement.{Statement}
 use Rattle.mvs_model.specs.declared.line.Location.TheVariants.{Absolute, Named}
@@ -156,3 +157,13 @@ pub record EachIsWritten : Type 0 where
     → Fits (DistinctNames count) (list_text texts) × (items (list_text texts) ≡ texts)
   pub absolutes_are : (count : ℕ) (addresses : List ℕ) → is_empty addresses ≡ false → length addresses ≤ count → AllByRecursion (λ a. a < 2 ^ 31) addresses
     → Fits (Addresses count) (list_text (map absolute_text addresses)) × (map location (items (list_text (map absolute_text addresses))) ≡ map (λ a. Absolute a) addresses)
+
+-- Two keywords that stand side by side may be exchanged: the line says the same. (so any order of them says the same)
+abbrev pub InAnyOrder : Type 0
+InAnyOrder =
+    (first : Bool) (task : List ℕ) (row : Row) (form : List ℕ) (places : List (List ℕ)) (front : List (List ℕ × List ℕ)) (one other : List ℕ × List ℕ) (rest : List (List ℕ × List ℕ)) (l : Line)
+    → is_name task ≡ true → IsAllowed row form places (front ++ (one ∷ other ∷ rest))
+    → (first && not (bytes_eq row.operation (codes "REGION"))) ≡ false
+    → nat_lt 255 (length (line_text task row.operation (all_operands row form places (front ++ (other ∷ one ∷ rest))))) ≡ false
+    → LineOf first (line_text task row.operation (all_operands row form places (front ++ (one ∷ other ∷ rest)))) l
+    → LineOf first (line_text task row.operation (all_operands row form places (front ++ (other ∷ one ∷ rest)))) l

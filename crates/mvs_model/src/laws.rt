@@ -4,7 +4,7 @@ ghost use Rattle.mvs_model.specs.Laws.{PagesKept, NeverStuck, PartsApart};
 ghost use Rattle.mvs_model.specs.Tidy.{TidyStep, TidyText, OneLabelText, PlacesDoNotMatter};
 ghost use Rattle.mvs_model.specs.Rows.{BusyReturn, GivenEnds, MovesOverlap};
 ghost use Rattle.mvs_model.specs.ReadingLaws.{InRanges, OneReading, OnlyWords};
-ghost use Rattle.mvs_model.specs.Spelling.{AllowedIsRead, CutApart, EachIsWritten};
+ghost use Rattle.mvs_model.specs.Spelling.{AllowedIsRead, CutApart, EachIsWritten, InAnyOrder};
 ghost use Rattle.mvs_model.specs.Spellings.{EachIsSaid};
 
 /// In every state of a run each page is of one subpool.
@@ -91,4 +91,9 @@ pub fn each_is_written()
 /// Each statement is written as the table of the script language says, and is read as that statement.
 pub fn each_is_said()
     ensures { EachIsSaid }
+{}
+
+/// Two keywords of a line that stand side by side may be exchanged.
+pub fn in_any_order()
+    ensures { InAnyOrder }
 {}
