@@ -1,21 +1,20 @@
 -- What a row of the table allows is read.
 use Rattle.std.proofs.Common.{◌≡◌, refl, ◌||◌, ◌&&◌, not, true, false, Bool, ℕ, zero, suc, ◌+◌, ◌-◌, ◌==◌, List, [], ◌∷◌, ◌++◌, map, length, take, drop, sym, ap, subst, ◌∙◌, arith, append_assoc, length-append}
-use Rattle.std.specs.Prelude.{Option, Some, None, nat_le, nat_lt, is_some, bytes_eq, codes, filter, find, flat_map, option_map, slice_get, unwrap_or, if◌then◌else◌}
+use Rattle.std.specs.Prelude.{Some, None, nat_le, nat_lt, is_some, bytes_eq, codes, find, flat_map, option_map, slice_get, unwrap_or, if◌then◌else◌}
 use Rattle.std.specs.List.{list_all, list_any, after_first, position_or_len, AllByRecursion}
 use Rattle.std.proofs.lemmas.Bool.Decides.{nat_tests}
 use Rattle.std.proofs.lemmas.List.{append-nil}
 use Rattle.mvs_model.specs.declared.line.Fault.{Fault}
 use Rattle.mvs_model.specs.declared.line.Fault.TheVariants.{TooLong, InvalidByte, UnknownOperation, InvalidOperand, MissingOperand, OutOfRange, Repeated, Conflicting, OutOfPlace}
-use Rattle.mvs_model.specs.declared.line.Line.{Line}
 use Rattle.mvs_model.specs.declared.line.Line.TheVariants as line
 use Rattle.mvs_model.specs.Name.{padded}
-use Rattle.mvs_model.specs.Grammar.{Kind, Keyword, Positional, Row, table, region, getmain_fixed, getmain_fixed_placed, getmain_variable, getmain_variable_placed, getmain_list, storage_obtain, freemain_or_whole, freemain_place, freemain_area, freemain_list, storage_release, cpool_build, cpool_get, cpool_free, cpool_delete, attach, return_row, abend, put, show, move, where_row, report}
-use Rattle.mvs_model.specs.Reading.{◌when◌, ◌>>=◌, ByKey, LineOf, by_key, behind_form, checks, first_of, form_in, has, has_key, if_kind, is_conflict, is_empty, is_equals, is_for, is_half, is_name, is_of, is_one_of, is_twice, is_within, key_of, kind_of, lacks_keyword, lacks_positional, line_said, operand_checks, operands_in, operands_of, positionals, repeats, row_checks, row_of, rows_of, says_nothing, statement_checks, statement_of, takes_form, task_in, text_of, value_of, with_left, words}
+use Rattle.mvs_model.specs.Grammar.{Kind, Keyword, Positional, Row, table, getmain_fixed, getmain_fixed_placed, getmain_variable, getmain_variable_placed, getmain_list, storage_obtain, freemain_or_whole, freemain_place, freemain_area, freemain_list, storage_release, cpool_build, cpool_get, cpool_free, cpool_delete, report}
+use Rattle.mvs_model.specs.Reading.{◌when◌, ◌>>=◌, ByKey, by_key, behind_form, checks, first_of, form_in, has, has_key, if_kind, is_conflict, is_empty, is_equals, is_for, is_half, is_name, is_of, is_one_of, is_twice, is_within, key_of, kind_of, lacks_keyword, lacks_positional, line_said, operand_checks, operands_in, positionals, repeats, row_checks, row_of, rows_of, statement_checks, statement_of, takes_form, text_of, value_of, with_left, words}
 use Rattle.mvs_model.specs.ReadingLaws.{keyed}
-use Rattle.mvs_model.specs.Spelling.{AllowedIsRead, InAnyOrder, Fits, FitPlaces, FitsKey, IsAllowed, IsCut, IsOperand, IsWord, all_operands, closes, joined, keyword_text, line_text, said_by}
-use Rattle.mvs_model.proofs.Reading.{or_false, not_false, said_with}
+use Rattle.mvs_model.specs.Spelling.{AllowedIsRead, InAnyOrder, Fits, FitPlaces, FitsKey, IsAllowed, IsCut, IsOperand, IsWord, all_operands, closes, keyword_text, line_text, said_by}
+use Rattle.mvs_model.proofs.Reading.{or_false, said_with}
 use Rattle.mvs_model.proofs.ReadingTaken.{and_true, bytes_same}
-use Rattle.mvs_model.proofs.Spelling.{all_append, all_weaker, both_true, cut_apart, not_true, printed}
+use Rattle.mvs_model.proofs.Spelling.{all_weaker, both_true, cut_apart, not_true, printed}
 
 -- ---- a line by its parts
 
@@ -179,7 +178,7 @@ found_behind test (x ∷ xs) ys e =
     ]) e
 
 has_found : (key : List ℕ) (os : List (List ℕ)) → has key os ≡ is_some (find (is_for key) os)
-has_found key os = elim (find (is_for key) os) as (λ o. is_some (option_map text_of o) ≡ is_some o) [ | None ↦ refl | Some x ↦ refl ]
+has_found key os = elim (find (is_for key) os) as (λ o. is_some (option_map text_of o) ≡ is_some o) [ None ↦ refl | Some x ↦ refl ]
 
 -- whether an operand has the key: not without an equals sign, and with one by what stands before it
 not_for : (key text : List ℕ) → has_key text ≡ false → is_for key text ≡ false
@@ -278,10 +277,11 @@ keys_pass row left (pair ∷ pairs) letters fit once absent =
     let there = keyed_has_key pair.0 pair.1 in
     let key = key_is pair.0 pair.1 letters.0 in
     let kind : kind_of row left (keyword_text pair) ≡ keyed row pair.0 =
-        ap (λ t. if t then keyed row (key_of (keyword_text pair)) else (if list_any has_key left then None else option_map (λ p. p.kind) (slice_get row.positional (length left)))) there ∙ ap (keyed row) key in
-    let new : (has_key (keyword_text pair) && has (key_of (keyword_text pair)) left) ≡ false = (λ i. there i && has (key i) left) ∙ absent.0 in
-    (passes row left (keyword_text pair) pair.1 fit.0.0 (text_is pair.0 pair.1 letters.0) (kind ∙ fit.0.1) fit.0.2 new,
-     keys_pass row (left ++ (keyword_text pair ∷ [])) pairs letters.1 fit.1 o.1 (still_absent left pair pairs letters.0 o.0 absent.1))
+    ap (λ t. if t then keyed row (key_of (keyword_text pair)) else (if list_any has_key left then None else option_map (λ p. p.kind) (slice_get row.positional (length left)))) there ∙ ap (keyed row) key in
+    let new : (has_key (keyword_text pair) && has (key_of (keyword_text pair)) left) ≡ false = (λ i. there i && has (key i) left) ∙ absent.0 in (
+      passes row left (keyword_text pair) pair.1 fit.0.0 (text_is pair.0 pair.1 letters.0) (kind ∙ fit.0.1) fit.0.2 new,
+      keys_pass row (left ++ (keyword_text pair ∷ [])) pairs letters.1 fit.1 o.1 (still_absent left pair pairs letters.0 o.0 absent.1),
+    )
 
 keyless : (ps : List Positional) (texts : List (List ℕ)) → FitPlaces ps texts → NoKeys texts
 keyless ps [] fit = tt
@@ -297,10 +297,11 @@ places_pass row left (p ∷ ps) (text ∷ texts) keys none at fit rest =
     let here : slice_get row.positional (length left) ≡ Some p = ap (slice_get row.positional) (let e : length left ≡ length left + 0 = omega arith in e) ∙ at 0 in
     let said : text_of text ≡ text = ap (λ t. if t then after_first is_equals text else text) fit.1 in
     let kind : kind_of row left text ≡ Some p.kind =
-        (λ i. if fit.1 i then keyed row (key_of text) else (if none i then None else option_map (λ p. p.kind) (here i))) in
-    (passes row left text text p.kind said kind fit.0 (ap (λ t. t && has (key_of text) left) fit.1),
-     places_pass row (left ++ (text ∷ [])) ps texts keys (any_append left text none fit.1) (λ k. next k) fit.2
-         (subst (λ l. EachPasses row l keys) (sym (append_assoc left (text ∷ []) texts)) rest))
+    (λ i. if fit.1 i then keyed row (key_of text) else (if none i then None else option_map (λ p. p.kind) (here i))) in (
+      passes row left text text p.kind said kind fit.0 (ap (λ t. t && has (key_of text) left) fit.1),
+      places_pass row (left ++ (text ∷ [])) ps texts keys (any_append left text none fit.1) (λ k. next k) fit.2
+          (subst (λ l. EachPasses row l keys) (sym (append_assoc left (text ∷ []) texts)) rest),
+    )
   where
     any_append : (xs : List (List ℕ)) (x : List ℕ) → list_any has_key xs ≡ false → has_key x ≡ false → list_any has_key (xs ++ (x ∷ [])) ≡ false
     any_append [] x e f = ap (λ t. t || false) f
@@ -317,7 +318,7 @@ each_passes : (row : Row) (places : List (List ℕ)) (pairs : List (List ℕ × 
     → is_twice bytes_eq (map (λ p. p.0) pairs) ≡ false → EachPasses row [] (places ++ map keyword_text pairs)
 each_passes row places pairs letters fit keys once =
     places_pass row [] row.positional places (map keyword_text pairs) refl (λ k. ap (slice_get row.positional) (let e : 0 + k ≡ k = omega arith in e)) fit
-        (keys_pass row places pairs letters keys once (absent_from places pairs (keyless row.positional places fit)))
+    (keys_pass row places pairs letters keys once (absent_from places pairs (keyless row.positional places fit)))
 
 -- ---- the table
 
@@ -485,7 +486,7 @@ module _ (first : Bool) (task : List ℕ) (row : Row) (form : List ℕ) (places 
   each : AllByRecursion IsOperand operands
   each =
       form_and (is_empty row.forms) form list (λ e. let f = and_true (not (is_empty form)) (list_all is_letter form) (a_form e) in letters_operand form (not_true _ f.0) f.1)
-          (all_join IsOperand places (map keyword_text pairs) (places_operands row.positional places ok.places_fit) (pairs_operands row pairs letters ok.pairs_fit))
+      (all_join IsOperand places (map keyword_text pairs) (places_operands row.positional places ok.places_fit) (pairs_operands row pairs letters ok.pairs_fit))
 
   cut : IsCut task row.operation operands (line_text task row.operation operands)
   cut = cut_apart task row.operation operands named is.word each
@@ -505,7 +506,7 @@ module _ (first : Bool) (task : List ℕ) (row : Row) (form : List ℕ) (places 
   row_none : first_of (row_checks operands (Some row)) ≡ None
   row_none =
       row_passes row operands list (said_by places pairs) front same (each_passes row places pairs letters ok.places_fit ok.pairs_fit ok.keys_once)
-          ok.places_enough ok.keys_enough ok.none_half ok.no_conflict
+      ok.places_enough ok.keys_enough ok.none_half ok.no_conflict
 
   statement_none : (first && not (bytes_eq row.operation (codes "REGION"))) ≡ false → first_of (statement_checks first task row.operation operands) ≡ None
   statement_none begins =

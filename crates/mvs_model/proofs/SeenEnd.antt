@@ -1,15 +1,12 @@
 -- The end of a task, over a store and the owners.
-use Rattle.std.proofs.Common.{◌≡◌, ℕ, ◌+◌, ◌/◌, ◌<◌, Bool, true, false, cond, List, [], ◌∷◌, ◌++◌, length, take, get_or, Option, Some, None, refl, sym, ap, ◌∙◌, subst, arith}
-use Rattle.std.specs.Prelude.{not, ◌||◌, ◌==◌, ◌↔◌}
+use Rattle.std.proofs.Common.{◌≡◌, ℕ, ◌/◌, true, false, cond, List, [], Option, Some, None, refl, sym, ap, subst}
+use Rattle.std.specs.Prelude.{not, ◌↔◌}
 use Rattle.std.specs.List.{Contains}
-use Rattle.std.proofs.lemmas.Bool.Decides.{nat_tests}
-use Rattle.std.proofs.lemmas.List.{take_more}
-use Rattle.std.proofs.lemmas.List.Folds.{list_any-append}
 use Rattle.std.specs.FinMap.{FinMap, get}
 use Rattle.mvs_model.specs.declared.name.Name.{Name}
 use Rattle.mvs_model.specs.Name.{name_cmp}
 use Rattle.mvs_model.specs.Finite.{Keeps, kept, has}
-use Rattle.mvs_model.specs.Storage.{Storage, holder as held_by, IsStorage, ReleaseAll, is_one_of, ReleaseEach}
+use Rattle.mvs_model.specs.Storage.{Storage, holder as held_by, IsStorage, is_one_of, ReleaseEach}
 use Rattle.mvs_model.specs.Owners.{Owners, IsFallen, ends_with, Ends}
 use Rattle.mvs_model.specs.Pools.{Pool}
 use Rattle.mvs_model.specs.View.{state_of}

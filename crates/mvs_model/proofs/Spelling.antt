@@ -1,13 +1,12 @@
 -- A line that is put together from words is cut into them again.
 use Rattle.std.proofs.Common.{◌≡◌, refl, ◌||◌, ◌&&◌, not, true, false, Bool, ℕ, suc, ◌+◌, ◌-◌, ◌==◌, List, [], ◌∷◌, ◌++◌, take, length, ap, ◌∙◌, arith}
-use Rattle.std.specs.Prelude.{Some, nat_le, filter, slice_get, slice_index, if◌then◌else◌}
-use Rattle.std.specs.List.{list_all, before_first, position_or_len, prefix_len, slice_split, onto_first, AllByRecursion}
+use Rattle.std.specs.Prelude.{nat_le, filter, slice_get, slice_index, if◌then◌else◌}
+use Rattle.std.specs.List.{list_all, before_first, position_or_len, slice_split, onto_first, AllByRecursion}
 use Rattle.std.proofs.lemmas.Bool.Decides.{nat_tests}
-use Rattle.std.proofs.lemmas.List.Splits.{slice_split-cons_no, slice_split-cons_yes}
-use Rattle.mvs_model.specs.Reading.{is_empty, is_name, is_name_byte, is_digit, says_nothing, task_in, words, operands_in, parts_within}
+use Rattle.std.proofs.lemmas.List.Splits.{slice_split-cons_no}
+use Rattle.mvs_model.specs.Reading.{is_empty, is_name, is_name_byte, is_digit, says_nothing, words, operands_in, parts_within}
 use Rattle.mvs_model.specs.Spelling.{joined, line_text, closes, IsWord, IsOperand, IsCut, CutApart}
 use Rattle.mvs_model.proofs.ReadingTaken.{and_true}
-use Rattle.mvs_model.proofs.Reading.{not_false}
 
 -- ---- tests
 

@@ -1,5 +1,5 @@
 -- Each value in range has a text that fits its kind and says the value.
-use Rattle.std.proofs.Common.{◌≡◌, refl, ◌||◌, ◌&&◌, not, true, false, Bool, ℕ, zero, suc, ◌+◌, ◌-◌, ◌*◌, ◌/◌, ◌%◌, ◌^◌, ◌<◌, ◌≤◌, ◌==◌, List, [], ◌∷◌, ◌++◌, map, length, take, drop, sym, ap, subst, ◌∙◌, inl, inr, arith, append_assoc, length-append, pow-suc, decimal}
+use Rattle.std.proofs.Common.{◌≡◌, refl, ◌||◌, ◌&&◌, not, true, false, Bool, ℕ, zero, suc, ◌+◌, ◌-◌, ◌*◌, ◌/◌, ◌%◌, ◌^◌, ◌<◌, ◌≤◌, ◌==◌, List, [], ◌∷◌, ◌++◌, map, length, take, drop, sym, ap, ◌∙◌, inl, inr, arith, append_assoc, length-append, pow-suc, decimal}
 use Rattle.std.specs.Prelude.{nat_le, nat_lt, bytes_eq, codes, flat_map, slice_get, unwrap_or, if◌then◌else◌}
 use Rattle.std.specs.List.{list_all, list_any, after_first, before_first, onto_first, position_or_len, slice_split, AllByRecursion}
 use Rattle.std.proofs.lemmas.Bool.{cases_lt}
@@ -11,11 +11,10 @@ use Rattle.mvs_model.specs.Name.{padded}
 use Rattle.mvs_model.specs.Texts.{glyph, hex, last_digits}
 use Rattle.mvs_model.specs.Grammar.{Number, HexByte, Name, Address, Bytes, Pair, NumberOrPair, Numbers, DistinctNumbers, DistinctNames, Addresses}
 use Rattle.mvs_model.specs.Reading.{has_key, hex_bytes, is_absolute, is_address, is_address_in_range, is_in_range, is_named, is_pair, is_pair_in_range, is_twice, largest, location, smallest, hex_digit, hex_number, is_digit, is_empty, is_equals, is_hex_digit, is_list, is_name, is_name_byte, is_number, is_plus, is_quoted, items, number, quoted}
-use Rattle.mvs_model.specs.Spelling.{EachIsWritten, Fits, FitsAlone, AreBetween, IsOperand, IsWord, absolute_text, bytes_text, closes, joined, list_text, named_text, quoted_text}
-use Rattle.mvs_model.proofs.Reading.{or_false}
+use Rattle.mvs_model.specs.Spelling.{EachIsWritten, Fits, FitsAlone, AreBetween, IsOperand, absolute_text, bytes_text, closes, joined, list_text, named_text, quoted_text}
 use Rattle.mvs_model.proofs.ReadingTaken.{and_true}
 use Rattle.mvs_model.proofs.ReadingLoops.{counted, counted_all, hex_counted, hex_counted_all}
-use Rattle.mvs_model.proofs.Spelling.{all_append, all_weaker, both_true, name_bytes, not_true, printed}
+use Rattle.mvs_model.proofs.Spelling.{all_append, all_weaker, both_true, name_bytes, printed}
 
 -- ---- texts of simple bytes: printed, and none that parts or closes
 
@@ -129,16 +128,18 @@ glyph_says d small =
       | inl l ↦
           let low : nat_lt d 10 ≡ true = grind (arith, nat_tests) in
           let g : glyph d ≡ 48 + d = ap (λ t. if t then 48 + d else 55 + d) low in
-          let digit : is_digit (48 + d) ≡ true = grind (arith, nat_tests) in
-          (ap is_hex_digit g ∙ ap (λ t. t || (nat_le 65 (48 + d) && nat_le (48 + d) 70)) digit,
-           ap hex_digit g ∙ ap (λ t. if t then 48 + d - 48 else 48 + d - 65 + 10) digit ∙ (let e : 48 + d - 48 ≡ d = omega arith in e))
+          let digit : is_digit (48 + d) ≡ true = grind (arith, nat_tests) in (
+            ap is_hex_digit g ∙ ap (λ t. t || (nat_le 65 (48 + d) && nat_le (48 + d) 70)) digit,
+            ap hex_digit g ∙ ap (λ t. if t then 48 + d - 48 else 48 + d - 65 + 10) digit ∙ (let e : 48 + d - 48 ≡ d = omega arith in e),
+          )
       | inr l ↦
           let high : nat_lt d 10 ≡ false = grind (arith, nat_tests) in
           let g : glyph d ≡ 55 + d = ap (λ t. if t then 48 + d else 55 + d) high in
           let digit : is_digit (55 + d) ≡ false = grind (arith, nat_tests) in
-          let letter : (nat_le 65 (55 + d) && nat_le (55 + d) 70) ≡ true = grind (arith, nat_tests) in
-          (ap is_hex_digit g ∙ ap (λ t. t || (nat_le 65 (55 + d) && nat_le (55 + d) 70)) digit ∙ letter,
-           ap hex_digit g ∙ ap (λ t. if t then 55 + d - 48 else 55 + d - 65 + 10) digit ∙ (let e : 55 + d - 65 + 10 ≡ d = omega arith in e))
+          let letter : (nat_le 65 (55 + d) && nat_le (55 + d) 70) ≡ true = grind (arith, nat_tests) in (
+            ap is_hex_digit g ∙ ap (λ t. t || (nat_le 65 (55 + d) && nat_le (55 + d) 70)) digit ∙ letter,
+            ap hex_digit g ∙ ap (λ t. if t then 55 + d - 48 else 55 + d - 65 + 10) digit ∙ (let e : 55 + d - 65 + 10 ≡ d = omega arith in e),
+          )
     ]
 
 -- So many hexadecimal digits that write a number.
@@ -257,8 +258,8 @@ in_range : (least most n : ℕ) → least ≤ n → n ≤ most → n < 10 ^ 10 �
 in_range least most n low high small =
     let w = decimal_writes n (omega arith) in
     both_true (nat_le (length (decimal n)) 10 && nat_le least (number (decimal n))) _
-        (both_true (nat_le (length (decimal n)) 10) _ (le_true _ 10 (short_decimal n small)) (ap (nat_le least) w.value ∙ le_true least n low))
-        (ap (λ m. nat_le m most) w.value ∙ le_true n most high)
+    (both_true (nat_le (length (decimal n)) 10) _ (le_true _ 10 (short_decimal n small)) (ap (nat_le least) w.value ∙ le_true least n low))
+    (ap (λ m. nat_le m most) w.value ∙ le_true n most high)
 
 decimal_simple : (n : ℕ) → n < 10 ^ 10 → AllSimple (decimal n)
 decimal_simple n small = all_weaker is_digit simple digit_simple (decimal n) (decimal_writes n (omega arith)).digits
@@ -266,11 +267,13 @@ decimal_simple n small = all_weaker is_digit simple digit_simple (decimal n) (de
 number_is : (least most n : ℕ) → least ≤ n → n ≤ most → most < 10 ^ 10 → FitsAlone (Number least most) (decimal n) × (number (decimal n) ≡ n)
 number_is least most n low high few =
     let small : n < 10 ^ 10 = omega arith in
-    let w = decimal_writes n (omega arith) in
-    (record {
-      fits = record { of_kind = number_text n small; within = in_range least most n low high small; once = refl; operand = simple_operand (decimal n) w.some (decimal_simple n small) };
-      no_key = simple_keyless (decimal n) (decimal_simple n small);
-    }, w.value)
+    let w = decimal_writes n (omega arith) in (
+      record {
+        fits = record { of_kind = number_text n small; within = in_range least most n low high small; once = refl; operand = simple_operand (decimal n) w.some (decimal_simple n small) };
+        no_key = simple_keyless (decimal n) (decimal_simple n small);
+      },
+      w.value,
+    )
 
 -- ---- a byte
 
@@ -281,11 +284,13 @@ some_of (b ∷ text) k e = refl
 byte_is : (b : ℕ) → b < 256 → FitsAlone HexByte (hex 2 b) × (hex_number (hex 2 b) ≡ b)
 byte_is b small =
     let w = hex_writes 2 b (omega arith) in
-    let s = all_weaker is_hex_digit simple hex_simple (hex 2 b) w.digits in
-    (record {
-      fits = record { of_kind = both_true (length (hex 2 b) == 2) _ (ap (λ n. n == 2) w.many) w.digits; within = refl; once = refl; operand = simple_operand (hex 2 b) (some_of (hex 2 b) 1 w.many) s };
-      no_key = simple_keyless (hex 2 b) s;
-    }, w.value)
+    let s = all_weaker is_hex_digit simple hex_simple (hex 2 b) w.digits in (
+      record {
+        fits = record { of_kind = both_true (length (hex 2 b) == 2) _ (ap (λ n. n == 2) w.many) w.digits; within = refl; once = refl; operand = simple_operand (hex 2 b) (some_of (hex 2 b) 1 w.many) s };
+        no_key = simple_keyless (hex 2 b) s;
+      },
+      w.value,
+    )
 
 -- ---- names and addresses
 
@@ -307,16 +312,18 @@ absolute_is a small =
     let w = hex_writes 8 a (omega arith) in
     let q = quoting (hex 8 a) w.digits in
     let eight : (nat_le 1 (length (hex 8 a)) && nat_le (length (hex 8 a)) 8) ≡ true = ap (λ n. nat_le 1 n && nat_le n 8) w.many in
-    let range : nat_le a 0x7FFFFFFF ≡ true = le_true a 0x7FFFFFFF (omega arith) in
-    (record {
-      fits = record {
-        of_kind = (λ i. if q.quotes i then is_absolute (q.inside i) else is_named text) ∙ both_true (nat_le 1 (length (hex 8 a)) && nat_le (length (hex 8 a)) 8) _ eight w.digits;
-        within = (λ i. if q.quotes i then nat_le (hex_number (q.inside i)) 0x7FFFFFFF else (not (list_any is_plus text) || is_in_range 0 33554431 (after_first is_plus text))) ∙ ap (λ n. nat_le n 0x7FFFFFFF) w.value ∙ range;
-        once = refl;
-        operand = simple_operand text refl q.all_simple;
-      };
-      no_key = simple_keyless text q.all_simple;
-    }, (λ i. if q.quotes i then Absolute (hex_number (q.inside i)) else Named (padded (before_first is_plus text)) (number (after_first is_plus text))) ∙ ap (λ n. Absolute n) w.value)
+    let range : nat_le a 0x7FFFFFFF ≡ true = le_true a 0x7FFFFFFF (omega arith) in (
+      record {
+        fits = record {
+          of_kind = (λ i. if q.quotes i then is_absolute (q.inside i) else is_named text) ∙ both_true (nat_le 1 (length (hex 8 a)) && nat_le (length (hex 8 a)) 8) _ eight w.digits;
+          within = (λ i. if q.quotes i then nat_le (hex_number (q.inside i)) 0x7FFFFFFF else (not (list_any is_plus text) || is_in_range 0 33554431 (after_first is_plus text))) ∙ ap (λ n. nat_le n 0x7FFFFFFF) w.value ∙ range;
+          once = refl;
+          operand = simple_operand text refl q.all_simple;
+        };
+        no_key = simple_keyless text q.all_simple;
+      },
+      (λ i. if q.quotes i then Absolute (hex_number (q.inside i)) else Named (padded (before_first is_plus text)) (number (after_first is_plus text))) ∙ ap (λ n. Absolute n) w.value,
+    )
 
 -- the plus sign behind a name
 plus_at : (name text : List ℕ) → list_all is_name_byte name ≡ true → position_or_len is_plus (name ++ (43 ∷ text)) ≡ length name
@@ -360,16 +367,18 @@ named_is name n e small =
     let one : length name + 1 ≡ suc (length name) = omega arith in
     let after : after_first is_plus text ≡ decimal n = ap (λ k. drop (k + 1) text) (plus_at name (decimal n) bytes.1) ∙ ap (λ k. drop k text) one ∙ behind_plus name (decimal n) in
     let s : AllSimple text = all_append simple name (43 ∷ decimal n) (name_all name e) (decimal_simple n (omega arith)) in
-    let some : is_empty text ≡ false = append_some name (43 ∷ decimal n) bytes.0 in
-    (record {
-      fits = record {
-        of_kind = (λ i. if unquoted i then is_absolute (quoted text) else (is_name (before i) && (not (has_plus name (decimal n) i) || is_number (after i)))) ∙ both_true (is_name name) _ e (number_text n (omega arith));
-        within = (λ i. if unquoted i then nat_le (hex_number (quoted text)) 0x7FFFFFFF else (not (has_plus name (decimal n) i) || is_in_range 0 33554431 (after i))) ∙ in_range 0 33554431 n (omega arith) (omega arith) (omega arith);
-        once = refl;
-        operand = simple_operand text some s;
-      };
-      no_key = simple_keyless text s;
-    }, (λ i. if unquoted i then Absolute (hex_number (quoted text)) else Named (padded (before i)) (number (after i))) ∙ ap (λ m. Named (padded name) m) w.value)
+    let some : is_empty text ≡ false = append_some name (43 ∷ decimal n) bytes.0 in (
+      record {
+        fits = record {
+          of_kind = (λ i. if unquoted i then is_absolute (quoted text) else (is_name (before i) && (not (has_plus name (decimal n) i) || is_number (after i)))) ∙ both_true (is_name name) _ e (number_text n (omega arith));
+          within = (λ i. if unquoted i then nat_le (hex_number (quoted text)) 0x7FFFFFFF else (not (has_plus name (decimal n) i) || is_in_range 0 33554431 (after i))) ∙ in_range 0 33554431 n (omega arith) (omega arith) (omega arith);
+          once = refl;
+          operand = simple_operand text some s;
+        };
+        no_key = simple_keyless text s;
+      },
+      (λ i. if unquoted i then Absolute (hex_number (quoted text)) else Named (padded (before i)) (number (after i))) ∙ ap (λ m. Named (padded name) m) w.value,
+    )
 
 -- ---- bytes
 
@@ -405,16 +414,18 @@ bytes_are most (b ∷ bytes) some few small =
     let q = quoting digits d.digits in
     let there : not (is_empty digits) ≡ true = ap not (some_of digits (1 + 2 * length bytes) (d.many ∙ omega arith)) in
     let even : (length digits % 2 == 0) ≡ true = ap (λ n. n % 2 == 0) d.many ∙ (let e : (2 * suc (length bytes) % 2 == 0) ≡ true = grind (arith, nat_tests) in e) in
-    let room : nat_le (length digits) (2 * most) ≡ true = le_true _ (2 * most) (let l : suc (length bytes) ≤ most = few in omega (arith, d.many)) in
-    (record {
-      fits = record {
-        of_kind = (λ i. q.quotes i && not (is_empty (q.inside i)) && (length (q.inside i) % 2 == 0) && list_all is_hex_digit (q.inside i)) ∙ (λ i. there i && even i && d.digits i);
-        within = ap (λ l. nat_le (length l) (2 * most)) q.inside ∙ room;
-        once = refl;
-        operand = simple_operand (quoted_text digits) refl q.all_simple;
-      };
-      no_key = simple_keyless (quoted_text digits) q.all_simple;
-    }, ap hex_bytes q.inside ∙ d.values)
+    let room : nat_le (length digits) (2 * most) ≡ true = le_true _ (2 * most) (let l : suc (length bytes) ≤ most = few in omega (arith, d.many)) in (
+      record {
+        fits = record {
+          of_kind = (λ i. q.quotes i && not (is_empty (q.inside i)) && (length (q.inside i) % 2 == 0) && list_all is_hex_digit (q.inside i)) ∙ (λ i. there i && even i && d.digits i);
+          within = ap (λ l. nat_le (length l) (2 * most)) q.inside ∙ room;
+          once = refl;
+          operand = simple_operand (quoted_text digits) refl q.all_simple;
+        };
+        no_key = simple_keyless (quoted_text digits) q.all_simple;
+      },
+      ap hex_bytes q.inside ∙ d.values,
+    )
 
 -- ---- lengths
 
@@ -432,10 +443,12 @@ pair_is least most large small low ordered high few =
     let least_is : smallest text ≡ small = (λ i. if is.list i then number (unwrap_or (slice_get (is.items_are i) 1) []) else number text) ∙ v.value in
     let pair : is_pair text ≡ true = (λ i. is.list i && (length (is.items_are i) == 2) && list_all is_number (is.items_are i)) ∙ a in
     let range : is_pair_in_range least most text ≡ true =
-        (λ i. list_all (is_in_range least most) (is.items_are i) && nat_le (least_is i) (most_is i)) ∙ both_true (list_all (is_in_range least most) (decimal large ∷ decimal small ∷ [])) _ b (le_true small large ordered) in
-    (record { of_kind = pair; within = range; once = refl; operand = is.operand },
-     record { of_kind = pair; within = ap (λ t. if t then is_pair_in_range least most text else is_in_range least most text) is.list ∙ range; once = refl; operand = is.operand },
-     most_is, least_is)
+    (λ i. list_all (is_in_range least most) (is.items_are i) && nat_le (least_is i) (most_is i)) ∙ both_true (list_all (is_in_range least most) (decimal large ∷ decimal small ∷ [])) _ b (le_true small large ordered) in (
+      record { of_kind = pair; within = range; once = refl; operand = is.operand },
+      record { of_kind = pair; within = ap (λ t. if t then is_pair_in_range least most text else is_in_range least most text) is.list ∙ range; once = refl; operand = is.operand },
+      most_is,
+      least_is,
+    )
 
 pub not_list : (text : List ℕ) → list_all is_digit text ≡ true → is_empty text ≡ false → is_list text ≡ false
 not_list [] e some = absurd (let f : true ≡ false = some in cc)
@@ -448,15 +461,16 @@ one_length : (least most n : ℕ) → least ≤ n → n ≤ most → most < 10 ^
 one_length least most n low high few =
     let small : n < 10 ^ 10 = omega arith in
     let w = decimal_writes n (omega arith) in
-    let no = not_list (decimal n) w.digits w.some in
-    (record {
-      of_kind = ap (λ t. t || is_pair (decimal n)) (number_text n small);
-      within = ap (λ t. if t then is_pair_in_range least most (decimal n) else is_in_range least most (decimal n)) no ∙ in_range least most n low high small;
-      once = refl;
-      operand = simple_operand (decimal n) w.some (decimal_simple n small);
-    },
-     (λ i. if no i then number (unwrap_or (slice_get (items (decimal n)) 0) []) else number (decimal n)) ∙ w.value,
-     (λ i. if no i then number (unwrap_or (slice_get (items (decimal n)) 1) []) else number (decimal n)) ∙ w.value)
+    let no = not_list (decimal n) w.digits w.some in (
+      record {
+        of_kind = ap (λ t. t || is_pair (decimal n)) (number_text n small);
+        within = ap (λ t. if t then is_pair_in_range least most (decimal n) else is_in_range least most (decimal n)) no ∙ in_range least most n low high small;
+        once = refl;
+        operand = simple_operand (decimal n) w.some (decimal_simple n small);
+      },
+      (λ i. if no i then number (unwrap_or (slice_get (items (decimal n)) 0) []) else number (decimal n)) ∙ w.value,
+      (λ i. if no i then number (unwrap_or (slice_get (items (decimal n)) 1) []) else number (decimal n)) ∙ w.value,
+    )
 
 -- ---- lists
 
@@ -489,13 +503,15 @@ numbers_are count least most [] some room are few = absurd (let f : true ≡ fal
 numbers_are count least most (n ∷ numbers) some room are few =
     let d = decimals least most (n ∷ numbers) few are in
     let is = lists (decimal n) (map decimal numbers) d.each_simple in
-    let fits : nat_le (length (map decimal (n ∷ numbers))) count ≡ true = ap (λ k. nat_le k count) d.many ∙ le_true _ count room in
-    (record {
-      of_kind = (λ i. is.list i && list_all is_number (is.items_are i)) ∙ d.each_number;
-      within = (λ i. nat_le (length (is.items_are i)) count && list_all (is_in_range least most) (is.items_are i)) ∙ both_true (nat_le (length (map decimal (n ∷ numbers))) count) _ fits d.each_within;
-      once = refl;
-      operand = is.operand;
-    }, ap (map number) is.items_are ∙ d.values)
+    let fits : nat_le (length (map decimal (n ∷ numbers))) count ≡ true = ap (λ k. nat_le k count) d.many ∙ le_true _ count room in (
+      record {
+        of_kind = (λ i. is.list i && list_all is_number (is.items_are i)) ∙ d.each_number;
+        within = (λ i. nat_le (length (is.items_are i)) count && list_all (is_in_range least most) (is.items_are i)) ∙ both_true (nat_le (length (map decimal (n ∷ numbers))) count) _ fits d.each_within;
+        once = refl;
+        operand = is.operand;
+      },
+      ap (map number) is.items_are ∙ d.values,
+    )
 
 distinct_are : (least most : ℕ) (numbers : List ℕ) → is_empty numbers ≡ false → AreBetween least most numbers → most < 10 ^ 10 → is_twice ◌==◌ numbers ≡ false
     → Fits (DistinctNumbers least most) (list_text (map decimal numbers)) × (map number (items (list_text (map decimal numbers))) ≡ numbers)
@@ -503,13 +519,15 @@ distinct_are least most [] some are few once = absurd (let f : true ≡ false = 
 distinct_are least most (n ∷ numbers) some are few once =
     let d = decimals least most (n ∷ numbers) few are in
     let is = lists (decimal n) (map decimal numbers) d.each_simple in
-    let values : map number (items (list_text (map decimal (n ∷ numbers)))) ≡ n ∷ numbers = ap (map number) is.items_are ∙ d.values in
-    (record {
-      of_kind = (λ i. is.list i && list_all is_number (is.items_are i)) ∙ d.each_number;
-      within = ap (λ l. list_all (is_in_range least most) l) is.items_are ∙ d.each_within;
-      once = ap (is_twice ◌==◌) values ∙ once;
-      operand = is.operand;
-    }, values)
+    let values : map number (items (list_text (map decimal (n ∷ numbers)))) ≡ n ∷ numbers = ap (map number) is.items_are ∙ d.values in (
+      record {
+        of_kind = (λ i. is.list i && list_all is_number (is.items_are i)) ∙ d.each_number;
+        within = ap (λ l. list_all (is_in_range least most) l) is.items_are ∙ d.each_within;
+        once = ap (is_twice ◌==◌) values ∙ once;
+        operand = is.operand;
+      },
+      values,
+    )
 
 names_simple : (texts : List (List ℕ)) → AllByRecursion (λ text. is_name text ≡ true) texts → EachSimple texts
 names_simple [] are = tt
@@ -523,13 +541,15 @@ names_are : (count : ℕ) (texts : List (List ℕ)) → is_empty texts ≡ false
     → Fits (DistinctNames count) (list_text texts) × (items (list_text texts) ≡ texts)
 names_are count [] some room are once = absurd (let f : true ≡ false = some in cc)
 names_are count (text ∷ texts) some room are once =
-    let is = lists text texts (names_simple (text ∷ texts) are) in
-    (record {
-      of_kind = (λ i. is.list i && list_all is_name (is.items_are i)) ∙ each_name (text ∷ texts) are;
-      within = ap (λ l. nat_le (length l) count) is.items_are ∙ le_true _ count room;
-      once = ap (is_twice bytes_eq) is.items_are ∙ once;
-      operand = is.operand;
-    }, is.items_are)
+    let is = lists text texts (names_simple (text ∷ texts) are) in (
+      record {
+        of_kind = (λ i. is.list i && list_all is_name (is.items_are i)) ∙ each_name (text ∷ texts) are;
+        within = ap (λ l. nat_le (length l) count) is.items_are ∙ le_true _ count room;
+        once = ap (is_twice bytes_eq) is.items_are ∙ once;
+        operand = is.operand;
+      },
+      is.items_are,
+    )
 
 -- the texts of some addresses
 record Absolutes (addresses : List ℕ) : Type 0 where
@@ -558,13 +578,15 @@ absolutes_are count [] some room small = absurd (let f : true ≡ false = some i
 absolutes_are count (a ∷ addresses) some room small =
     let s = absolutes (a ∷ addresses) small in
     let is = lists (absolute_text a) (map absolute_text addresses) s.each_simple in
-    let fits : nat_le (length (map absolute_text (a ∷ addresses))) count ≡ true = ap (λ k. nat_le k count) s.many ∙ le_true _ count room in
-    (record {
-      of_kind = (λ i. is.list i && list_all is_address (is.items_are i)) ∙ s.each_address;
-      within = (λ i. nat_le (length (is.items_are i)) count && list_all is_address_in_range (is.items_are i)) ∙ both_true (nat_le (length (map absolute_text (a ∷ addresses))) count) _ fits s.each_within;
-      once = refl;
-      operand = is.operand;
-    }, ap (map location) is.items_are ∙ s.values)
+    let fits : nat_le (length (map absolute_text (a ∷ addresses))) count ≡ true = ap (λ k. nat_le k count) s.many ∙ le_true _ count room in (
+      record {
+        of_kind = (λ i. is.list i && list_all is_address (is.items_are i)) ∙ s.each_address;
+        within = (λ i. nat_le (length (is.items_are i)) count && list_all is_address_in_range (is.items_are i)) ∙ both_true (nat_le (length (map absolute_text (a ∷ addresses))) count) _ fits s.each_within;
+        once = refl;
+        operand = is.operand;
+      },
+      ap (map location) is.items_are ∙ s.values,
+    )
 
 pub each_is_written : EachIsWritten
 each_is_written = record {

@@ -1,8 +1,8 @@
 -- Laws of the reading of a line.
-use Rattle.std.specs.Prelude.{◌≡◌, ℕ, Bool, true, false, List, [], ◌∷◌, ◌++◌, None, Some, codes, Option, option_map, find, bytes_eq, ◌&&◌, decimal, ◌≤◌, nat_lt, nat_le, length, slice_get, Ok}
+use Rattle.std.specs.Prelude.{◌≡◌, ℕ, Bool, true, false, List, [], ◌∷◌, ◌++◌, None, Some, codes, Option, option_map, find, bytes_eq, ◌&&◌, decimal, nat_lt, nat_le, length, slice_get, Ok}
 use Rattle.mvs_model.specs.Lines.{IsLine}
 use Rattle.std.specs.List.{list_all}
-use Rattle.mvs_model.specs.Want.{AskValue, IsAsk}
+use Rattle.mvs_model.specs.Want.{AskValue}
 use Rattle.mvs_model.specs.declared.line.Fault.{Fault}
 use Rattle.mvs_model.specs.declared.line.Fault.TheVariants.{UnknownOperation, InvalidOperand, MissingOperand, OutOfRange, Repeated, Conflicting, OutOfPlace}
 use Rattle.mvs_model.specs.declared.line.Line.{Line}
@@ -16,7 +16,7 @@ use Rattle.mvs_model.specs.declared.want.Loc.TheVariants as loc
 use Rattle.mvs_model.specs.declared.want.Residence.TheVariants as residence
 use Rattle.mvs_model.specs.Name.{padded}
 use Rattle.mvs_model.specs.Grammar.{Row, Kind}
-use Rattle.mvs_model.specs.Reading.{LineOf, FaultOf, first_of, checks, if_kind, is_of, is_within, repeats, kind_of, text_of, has_key, key_of, has, is_name, says_nothing, task_in, words}
+use Rattle.mvs_model.specs.Reading.{LineOf, FaultOf, first_of, checks, if_kind, is_of, is_within, repeats, kind_of, text_of, has_key, key_of, has, says_nothing, task_in, words}
 
 -- The line is read, or it has a fault.
 pub data Reading (first : Bool) (bytes : List ℕ) : Type 0 where

@@ -144,19 +144,19 @@ pub record EachIsWritten : Type 0 where
   pub absolute_is : (a : ℕ) → a < 2 ^ 31 → FitsAlone Address (absolute_text a) × (location (absolute_text a) ≡ Absolute a)
   pub named_is : (name : List ℕ) (n : ℕ) → is_name name ≡ true → n < 2 ^ 25 → FitsAlone Address (named_text name n) × (location (named_text name n) ≡ Named (padded name) n)
   pub bytes_are : (most : ℕ) (bytes : List ℕ) → is_empty bytes ≡ false → length bytes ≤ most → AllByRecursion (λ b. b < 256) bytes
-    → FitsAlone (Bytes most) (bytes_text bytes) × (hex_bytes (quoted (bytes_text bytes)) ≡ bytes)
+      → FitsAlone (Bytes most) (bytes_text bytes) × (hex_bytes (quoted (bytes_text bytes)) ≡ bytes)
   pub pair_is : (least most large small : ℕ) → least ≤ small → small ≤ large → large ≤ most → most < 10 ^ 10
-    → Fits (Pair least most) (list_text (decimal large ∷ decimal small ∷ [])) × Fits (NumberOrPair least most) (list_text (decimal large ∷ decimal small ∷ []))
-    × (largest (list_text (decimal large ∷ decimal small ∷ [])) ≡ large) × (smallest (list_text (decimal large ∷ decimal small ∷ [])) ≡ small)
+      → Fits (Pair least most) (list_text (decimal large ∷ decimal small ∷ [])) × Fits (NumberOrPair least most) (list_text (decimal large ∷ decimal small ∷ []))
+      × (largest (list_text (decimal large ∷ decimal small ∷ [])) ≡ large) × (smallest (list_text (decimal large ∷ decimal small ∷ [])) ≡ small)
   pub one_length : (least most n : ℕ) → least ≤ n → n ≤ most → most < 10 ^ 10 → Fits (NumberOrPair least most) (decimal n) × (largest (decimal n) ≡ n) × (smallest (decimal n) ≡ n)
   pub numbers_are : (count least most : ℕ) (numbers : List ℕ) → is_empty numbers ≡ false → length numbers ≤ count → AreBetween least most numbers → most < 10 ^ 10
-    → Fits (Numbers count least most) (list_text (map decimal numbers)) × (map number (items (list_text (map decimal numbers))) ≡ numbers)
+      → Fits (Numbers count least most) (list_text (map decimal numbers)) × (map number (items (list_text (map decimal numbers))) ≡ numbers)
   pub distinct_are : (least most : ℕ) (numbers : List ℕ) → is_empty numbers ≡ false → AreBetween least most numbers → most < 10 ^ 10 → is_twice ◌==◌ numbers ≡ false
-    → Fits (DistinctNumbers least most) (list_text (map decimal numbers)) × (map number (items (list_text (map decimal numbers))) ≡ numbers)
+      → Fits (DistinctNumbers least most) (list_text (map decimal numbers)) × (map number (items (list_text (map decimal numbers))) ≡ numbers)
   pub names_are : (count : ℕ) (texts : List (List ℕ)) → is_empty texts ≡ false → length texts ≤ count → AllByRecursion (λ text. is_name text ≡ true) texts → is_twice bytes_eq texts ≡ false
-    → Fits (DistinctNames count) (list_text texts) × (items (list_text texts) ≡ texts)
+      → Fits (DistinctNames count) (list_text texts) × (items (list_text texts) ≡ texts)
   pub absolutes_are : (count : ℕ) (addresses : List ℕ) → is_empty addresses ≡ false → length addresses ≤ count → AllByRecursion (λ a. a < 2 ^ 31) addresses
-    → Fits (Addresses count) (list_text (map absolute_text addresses)) × (map location (items (list_text (map absolute_text addresses))) ≡ map (λ a. Absolute a) addresses)
+      → Fits (Addresses count) (list_text (map absolute_text addresses)) × (map location (items (list_text (map absolute_text addresses))) ≡ map (λ a. Absolute a) addresses)
 
 -- Two keywords that stand side by side may be exchanged: the line says the same. (so any order of them says the same)
 abbrev pub InAnyOrder : Type 0

@@ -68,43 +68,43 @@ abbrev pub SaysFixed : List ℕ → Form → Type 0
 SaysFixed word f =
     (n area sp bndry : List ℕ) → IsLength n → Fits Name area → IsSubpool sp → IsBoundary bndry
     → Says (codes "GETMAIN") (word ∷ (codes "LV=" ++ n) ∷ (codes "A=" ++ area) ∷ (codes "SP=" ++ sp) ∷ (codes "BNDRY=" ++ bndry) ∷ [])
-        (says.Request (written.Obtain f (number sp) (record { least = number n; most = number n; start = boundary_said bndry; within = None; loc = loc.Res }) false (padded area)))
+    (says.Request (written.Obtain f (number sp) (record { least = number n; most = number n; start = boundary_said bndry; within = None; loc = loc.Res }) false (padded area)))
 
 -- one length, a location and the powers of two of boundaries
 abbrev pub SaysPlaced : List ℕ → Form → Type 0
 SaysPlaced word f =
     (n area sp place start within : List ℕ) → IsLength n → Fits Name area → IsSubpool sp → IsLoc place → IsPower start → IsPower within
     → Says (codes "GETMAIN") (word ∷ (codes "LV=" ++ n) ∷ (codes "A=" ++ area) ∷ (codes "SP=" ++ sp) ∷ (codes "LOC=" ++ place) ∷ (codes "STARTBDY=" ++ start) ∷ (codes "CONTBDY=" ++ within) ∷ [])
-        (says.Request (written.Obtain f (number sp) (record { least = number n; most = number n; start = number start; within = Some (number within); loc = loc_said place }) false (padded area)))
+    (says.Request (written.Obtain f (number sp) (record { least = number n; most = number n; start = number start; within = Some (number within); loc = loc_said place }) false (padded area)))
 
 -- a largest and a smallest length, a boundary
 abbrev pub SaysVariable : List ℕ → Form → Type 0
 SaysVariable word f =
     (n area sp bndry : List ℕ) → Fits (Pair 1 2147483647) n → Fits Name area → IsSubpool sp → IsBoundary bndry
     → Says (codes "GETMAIN") (word ∷ (codes "LV=" ++ n) ∷ (codes "A=" ++ area) ∷ (codes "SP=" ++ sp) ∷ (codes "BNDRY=" ++ bndry) ∷ [])
-        (says.Request (written.Obtain f (number sp) (record { least = smallest n; most = largest n; start = boundary_said bndry; within = None; loc = loc.Res }) true (padded area)))
+    (says.Request (written.Obtain f (number sp) (record { least = smallest n; most = largest n; start = boundary_said bndry; within = None; loc = loc.Res }) true (padded area)))
 
 abbrev pub SaysVariablePlaced : List ℕ → Form → Type 0
 SaysVariablePlaced word f =
     (n area sp place start within : List ℕ) → Fits (Pair 1 2147483647) n → Fits Name area → IsSubpool sp → IsLoc place → IsPower start → IsPower within
     → Says (codes "GETMAIN") (word ∷ (codes "LV=" ++ n) ∷ (codes "A=" ++ area) ∷ (codes "SP=" ++ sp) ∷ (codes "LOC=" ++ place) ∷ (codes "STARTBDY=" ++ start) ∷ (codes "CONTBDY=" ++ within) ∷ [])
-        (says.Request (written.Obtain f (number sp) (record { least = smallest n; most = largest n; start = number start; within = Some (number within); loc = loc_said place }) true (padded area)))
+    (says.Request (written.Obtain f (number sp) (record { least = smallest n; most = largest n; start = number start; within = Some (number within); loc = loc_said place }) true (padded area)))
 
 -- lists of lengths and of names, as many of each
 abbrev pub SaysList : List ℕ → Form → Type 0
 SaysList word f =
     (n areas sp bndry : List ℕ) → Fits (Numbers 16 1 2147483647) n → Fits (DistinctNames 16) areas → (length (items n) == length (items areas)) ≡ true → IsSubpool sp → IsBoundary bndry
     → Says (codes "GETMAIN") (word ∷ (codes "LA=" ++ n) ∷ (codes "A=" ++ areas) ∷ (codes "SP=" ++ sp) ∷ (codes "BNDRY=" ++ bndry) ∷ [])
-        (says.Request (written.ObtainList f (number sp) (map number (items n)) (boundary_said bndry) (map padded (items areas))))
+    (says.Request (written.ObtainList f (number sp) (map number (items n)) (boundary_said bndry) (map padded (items areas))))
 
 -- STORAGE OBTAIN, by whether COND=YES is written: one length, or a largest and a smallest one
 abbrev pub SaysObtain : Type 0
 SaysObtain =
     (n area sp place start within cond : List ℕ) → Fits (NumberOrPair 1 2147483647) n → Fits Name area → IsSubpool sp → IsLoc place → IsPower start → IsPower within → IsYesNo cond
     → Says (codes "STORAGE")
-        (codes "OBTAIN" ∷ (codes "LENGTH=" ++ n) ∷ (codes "ADDR=" ++ area) ∷ (codes "SP=" ++ sp) ∷ (codes "LOC=" ++ place) ∷ (codes "STARTBDY=" ++ start) ∷ (codes "CONTBDY=" ++ within) ∷ (codes "COND=" ++ cond) ∷ [])
-        (says.Request (written.Obtain (if bytes_eq cond (codes "YES") then form.StorageConditional else form.Storage) (number sp)
-            (record { least = smallest n; most = largest n; start = number start; within = Some (number within); loc = loc_said place }) (is_list n) (padded area)))
+    (codes "OBTAIN" ∷ (codes "LENGTH=" ++ n) ∷ (codes "ADDR=" ++ area) ∷ (codes "SP=" ++ sp) ∷ (codes "LOC=" ++ place) ∷ (codes "STARTBDY=" ++ start) ∷ (codes "CONTBDY=" ++ within) ∷ (codes "COND=" ++ cond) ∷ [])
+    (says.Request (written.Obtain (if bytes_eq cond (codes "YES") then form.StorageConditional else form.Storage) (number sp)
+    (record { least = smallest n; most = largest n; start = number start; within = Some (number within); loc = loc_said place }) (is_list n) (padded area)))
 
 -- ---- FREEMAIN and STORAGE RELEASE
 
@@ -128,20 +128,20 @@ abbrev pub SaysReleaseList : List ℕ → Form → Type 0
 SaysReleaseList word f =
     (n addresses sp : List ℕ) → Fits (Numbers 16 1 2147483647) n → Fits (Addresses 16) addresses → (length (items n) == length (items addresses)) ≡ true → IsSubpool sp
     → Says (codes "FREEMAIN") (word ∷ (codes "LA=" ++ n) ∷ (codes "A=" ++ addresses) ∷ (codes "SP=" ++ sp) ∷ [])
-        (says.Request (written.ReleaseList f (number sp) (map location (items addresses)) (map number (items n))))
+    (says.Request (written.ReleaseList f (number sp) (map location (items addresses)) (map number (items n))))
 
 -- STORAGE RELEASE, of a place and of a whole subpool
 abbrev pub SaysStorageRelease : Type 0
 SaysStorageRelease =
     (n address sp cond : List ℕ) → IsLength n → Fits Address address → IsSubpool sp → IsYesNo cond
     → Says (codes "STORAGE") (codes "RELEASE" ∷ (codes "LENGTH=" ++ n) ∷ (codes "ADDR=" ++ address) ∷ (codes "SP=" ++ sp) ∷ (codes "COND=" ++ cond) ∷ [])
-        (says.Request (written.Release (if bytes_eq cond (codes "YES") then form.StorageConditional else form.Storage) (number sp) (location address) (number n)))
+    (says.Request (written.Release (if bytes_eq cond (codes "YES") then form.StorageConditional else form.Storage) (number sp) (location address) (number n)))
 
 abbrev pub SaysStorageWhole : Type 0
 SaysStorageWhole =
     (sp cond : List ℕ) → IsSubpool sp → IsYesNo cond
     → Says (codes "STORAGE") (codes "RELEASE" ∷ (codes "SP=" ++ sp) ∷ (codes "COND=" ++ cond) ∷ [])
-        (says.Request (written.ReleaseWhole (if bytes_eq cond (codes "YES") then form.StorageConditional else form.Storage) (number sp)))
+    (says.Request (written.ReleaseWhole (if bytes_eq cond (codes "YES") then form.StorageConditional else form.Storage) (number sp)))
 
 -- ---- CPOOL
 
@@ -149,7 +149,7 @@ abbrev pub SaysBuild : Type 0
 SaysBuild =
     (pool size primary secondary sp place : List ℕ) → Fits Name pool → Fits (Number 4 65536) size → Fits (Number 1 65536) primary → Fits (Number 1 65536) secondary → IsSubpool sp → IsLoc place
     → Says (codes "CPOOL") (codes "BUILD" ∷ (codes "CPID=" ++ pool) ∷ (codes "CSIZE=" ++ size) ∷ (codes "PCELLCT=" ++ primary) ∷ (codes "SCELLCT=" ++ secondary) ∷ (codes "SP=" ++ sp) ∷ (codes "LOC=" ++ place) ∷ [])
-        (says.Request (written.Build (padded pool) (number sp) (number size) (number primary) (number secondary) (loc_said place)))
+    (says.Request (written.Build (padded pool) (number sp) (number size) (number primary) (number secondary) (loc_said place)))
 
 -- by the word behind GET, or without one
 abbrev pub SaysGet : List (List ℕ) → Bool → Type 0
@@ -173,22 +173,22 @@ SaysAttach =
     (name given shared zero home : List ℕ) → Fits Name name → Fits (DistinctNumbers 1 127) given → is_list given ≡ true → Fits (DistinctNumbers 1 127) shared → is_list shared ≡ true → IsYesNo zero → IsResidence home
     → list_any (λ n. list_any (◌==◌ n) (map number (items shared))) (map number (items given)) ≡ false
     → Says (codes "ATTACH") ((codes "TASK=" ++ name) ∷ (codes "GSPL=" ++ given) ∷ (codes "SHSPL=" ++ shared) ∷ (codes "SZERO=" ++ zero) ∷ (codes "RES=" ++ home) ∷ [])
-        (says.Request (written.Attach (padded name)
-            (record { given = set_of (map number (items given)); shared = set_of (map number (items shared)); zero = not (bytes_eq zero (codes "NO")) }) (residence_said home)))
+    (says.Request (written.Attach (padded name)
+    (record { given = set_of (map number (items given)); shared = set_of (map number (items shared)); zero = not (bytes_eq zero (codes "NO")) }) (residence_said home)))
 
 -- without numbers
 abbrev pub SaysBareAttach : Type 0
 SaysBareAttach =
     (name zero home : List ℕ) → Fits Name name → IsYesNo zero → IsResidence home
     → Says (codes "ATTACH") ((codes "TASK=" ++ name) ∷ (codes "SZERO=" ++ zero) ∷ (codes "RES=" ++ home) ∷ [])
-        (says.Request (written.Attach (padded name) (record { given = 0; shared = 0; zero = not (bytes_eq zero (codes "NO")) }) (residence_said home)))
+    (says.Request (written.Attach (padded name) (record { given = 0; shared = 0; zero = not (bytes_eq zero (codes "NO")) }) (residence_said home)))
 
 -- ---- each statement, but RETURN, which has no operands
 
 pub record EachIsSaid : Type 0 where
   pub region : (first : Bool) (below above fill home : List ℕ) → Fits (Number 1 2048) below → Fits (Number 0 8192) above → Fits HexByte fill → IsResidence home
-    → SaysAs first (codes "REGION") ((codes "BELOW=" ++ below) ∷ (codes "ABOVE=" ++ above) ∷ (codes "FILL=" ++ fill) ∷ (codes "RES=" ++ home) ∷ [])
-        (says.Region (number below) (number above) (hex_number fill) (residence_said home))
+      → SaysAs first (codes "REGION") ((codes "BELOW=" ++ below) ∷ (codes "ABOVE=" ++ above) ∷ (codes "FILL=" ++ fill) ∷ (codes "RES=" ++ home) ∷ [])
+      (says.Region (number below) (number above) (hex_number fill) (residence_said home))
   pub getmain_r : SaysFixed (codes "R") form.R
   pub getmain_ec : SaysFixed (codes "EC") form.Ec
   pub getmain_eu : SaysFixed (codes "EU") form.Eu
@@ -229,7 +229,7 @@ pub record EachIsSaid : Type 0 where
   pub put : (to bytes : List ℕ) → FitsAlone Address to → FitsAlone (Bytes 100) bytes → Says (codes "PUT") (to ∷ bytes ∷ []) (says.Request (written.Put (location to) (hex_bytes (quoted bytes))))
   pub show : (from n : List ℕ) → FitsAlone Address from → FitsAlone (Number 1 4096) n → Says (codes "SHOW") (from ∷ n ∷ []) (says.Request (written.Show (location from) (number n)))
   pub move : (to from n : List ℕ) → FitsAlone Address to → FitsAlone Address from → FitsAlone (Number 1 65536) n
-    → Says (codes "MOVE") (to ∷ from ∷ n ∷ []) (says.Request (written.Move (location to) (location from) (number n)))
+      → Says (codes "MOVE") (to ∷ from ∷ n ∷ []) (says.Request (written.Move (location to) (location from) (number n)))
   pub where_is : (area : List ℕ) → FitsAlone Name area → Says (codes "WHERE") (area ∷ []) (says.Where (padded area))
   pub report_sp : Says (codes "REPORT") (codes "SP" ∷ []) says.ReportSubpools
   pub report_map : Says (codes "REPORT") (codes "MAP" ∷ []) says.ReportMap

@@ -1,4 +1,4 @@
-use Rattle.std.proofs.Common.{◌≡◌, ◌≤◌, ◌+◌, ◌*◌, ◌/◌, length, subst, sym, inl, inr, refl, arith, ap, ◌∙◌, true}
+use Rattle.std.proofs.Common.{◌≡◌, ◌≤◌, ◌+◌, ◌*◌, ◌/◌, sym, inl, inr, refl, arith, ap, ◌∙◌}
 use Rattle.std.proofs.lemmas.Bool.{cases_lt}
 use Rattle.mvs_model.specs.Storage.{is_one_of}
 use Rattle.mvs_model.proofs.SubpoolSets.{in_set, none_before, none_in_word, in_word, none_past}
