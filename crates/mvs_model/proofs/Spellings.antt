@@ -4,17 +4,20 @@ use Rattle.std.specs.Prelude.{None, Some, bytes_eq, codes, slice_get, unwrap_or,
 use Rattle.std.specs.List.{list_all, list_any}
 use Rattle.mvs_model.specs.declared.code.Form.{Form}
 use Rattle.mvs_model.specs.declared.code.Form.TheVariants as form
+use Rattle.mvs_model.specs.declared.line.Fault.TheVariants.{TooLong, InvalidByte, UnknownOperation}
+use Rattle.mvs_model.specs.declared.line.Line.TheVariants as line
 use Rattle.mvs_model.specs.declared.line.Statement.TheVariants as says
 use Rattle.mvs_model.specs.declared.line.Written.TheVariants as written
 use Rattle.mvs_model.specs.declared.want.Loc.TheVariants as loc
 use Rattle.mvs_model.specs.Name.{padded}
 use Rattle.mvs_model.specs.Grammar.{Pair, Word, Row, region, getmain_fixed, getmain_fixed_placed, getmain_variable, getmain_variable_placed, getmain_list, storage_obtain, freemain_or_whole, freemain_place, freemain_area, freemain_list, storage_release, cpool_build, cpool_get, cpool_free, cpool_delete, attach, abend, put, show, move, where_row, report}
-use Rattle.mvs_model.specs.Reading.{ByKey, form_of, is_digit, is_empty, is_list, is_number, is_one_of, items, largest, location, number, set_of, smallest}
-use Rattle.mvs_model.specs.Spelling.{Fits, IsOperand, said_by}
-use Rattle.mvs_model.specs.Spellings.{EachIsSaid, IsLength, SaysFixed, SaysPlaced, SaysVariable, SaysVariablePlaced, SaysList, SaysObtain, SaysRelease, SaysWhole, SaysArea, SaysReleaseList, SaysStorageRelease, SaysStorageWhole, SaysBuild, SaysGet, SaysFree, SaysDelete, SaysAttach, SaysBareAttach, boundary_said, loc_said, residence_said}
+use Rattle.mvs_model.specs.Reading.{◌when◌, first_of, form_in, operands_in, operands_of, row_of, rows_of, statement_checks, words, ByKey, form_of, is_digit, is_empty, is_list, is_number, is_one_of, items, largest, location, number, set_of, smallest}
+use Rattle.mvs_model.specs.Spelling.{line_text, Fits, IsOperand, said_by}
+use Rattle.mvs_model.specs.Spellings.{EachIsSaid, IsLength, Says, SaysFixed, SaysPlaced, SaysVariable, SaysVariablePlaced, SaysList, SaysObtain, SaysRelease, SaysWhole, SaysArea, SaysReleaseList, SaysStorageRelease, SaysStorageWhole, SaysBuild, SaysGet, SaysFree, SaysDelete, SaysAttach, SaysBareAttach, boundary_said, loc_said, residence_said}
 use Rattle.mvs_model.proofs.Allowed.{allowed_is_read}
+use Rattle.mvs_model.proofs.Reading.{said_with}
 use Rattle.mvs_model.proofs.ReadingTaken.{and_true}
-use Rattle.mvs_model.proofs.Spelling.{not_true}
+use Rattle.mvs_model.proofs.Spelling.{cut_apart, not_true}
 use Rattle.mvs_model.proofs.ValueTexts.{and_right, not_list}
 
 -- ---- lengths
@@ -440,6 +443,19 @@ attach_bare name zero home fits_name fits_zero fits_home task named short =
     }) refl short
     refl
 
+return_read : Says (codes "RETURN") [] (says.Request written.Return)
+return_read task named short =
+    let bytes = line_text task (codes "RETURN") [] in
+    let cut = cut_apart task (codes "RETURN") [] named (record { some = refl; printed = refl }) tt in
+    let none : operands_of bytes ≡ [] = (λ i. if list_any (λ row. row.has_field) (rows_of (unwrap_or (cut.operation_is i) [])) then operands_in (slice_get (words bytes) 2) else []) in
+    record {
+      no_fault =
+          (λ i. first_of (TooLong when short i ∷ InvalidByte when not (cut.plain i) ∷ (if cut.says i then [] else statement_checks false (cut.task_is i) (unwrap_or (cut.operation_is i) []) (none i))))
+          ∙ (λ i. first_of (UnknownOperation when not (named i) ∷ []));
+      says =
+          (λ i. if cut.says i then Some line.Nothing else said_with (cut.task_is i) (form_in (unwrap_or (cut.operation_is i) []) (none i)) (none i) (row_of (unwrap_or (cut.operation_is i) []) (none i)));
+    }
+
 -- ---- each statement
 
 pub each_is_said : EachIsSaid
@@ -494,6 +510,7 @@ each_is_said = record {
   delete = delete;
   attach = attach_numbers;
   attach_bare = attach_bare;
+  return = return_read;
   abend = λ code fits task named short. allowed_is_read false task abend [] (code ∷ []) [] _ named
       (record {
         in_table = (18, refl);

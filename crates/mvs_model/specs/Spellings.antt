@@ -183,7 +183,7 @@ SaysBareAttach =
     → Says (codes "ATTACH") ((codes "TASK=" ++ name) ∷ (codes "SZERO=" ++ zero) ∷ (codes "RES=" ++ home) ∷ [])
     (says.Request (written.Attach (padded name) (record { given = 0; shared = 0; zero = not (bytes_eq zero (codes "NO")) }) (residence_said home)))
 
--- ---- each statement, but RETURN, which has no operands
+-- ---- each statement
 
 pub record EachIsSaid : Type 0 where
   pub region : (first : Bool) (below above fill home : List ℕ) → Fits (Number 1 2048) below → Fits (Number 0 8192) above → Fits HexByte fill → IsResidence home
@@ -225,6 +225,7 @@ pub record EachIsSaid : Type 0 where
   pub delete : SaysDelete
   pub attach : SaysAttach
   pub attach_bare : SaysBareAttach
+  pub return : Says (codes "RETURN") [] (says.Request written.Return)
   pub abend : (code : List ℕ) → FitsAlone (Number 0 4095) code → Says (codes "ABEND") (code ∷ []) (says.Request (written.Abend (number code)))
   pub put : (to bytes : List ℕ) → FitsAlone Address to → FitsAlone (Bytes 100) bytes → Says (codes "PUT") (to ∷ bytes ∷ []) (says.Request (written.Put (location to) (hex_bytes (quoted bytes))))
   pub show : (from n : List ℕ) → FitsAlone Address from → FitsAlone (Number 1 4096) n → Says (codes "SHOW") (from ∷ n ∷ []) (says.Request (written.Show (location from) (number n)))
