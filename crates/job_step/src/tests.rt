@@ -24,7 +24,7 @@ fn each_call(rt: HostRuntime) -> Result<(), Fail> {
     assert!(rt; step.is_active(&job));
     assert!(rt; step.bytes(place).is_none());
     assert!(rt; step.subpool_line(&job, 0).is_none());
-    let Reply::Granted(granted) = step.request(&job, &obtain) else {
+    let Reply::Obtained(granted) = step.request(&job, &obtain) else {
         panic!(rt; "a grant");
     };
     assert_eq!(rt; granted, place);

@@ -17,7 +17,7 @@ use Rattle.mvs_model.specs.declared.code.Code.TheVariants.{System, User}
 use Rattle.mvs_model.specs.declared.request.Request.{Request}
 use Rattle.mvs_model.specs.declared.request.Request.TheVariants.{Obtain, ObtainList, Release, ReleaseList, ReleaseWhole, Build, Get, Free, Delete, Attach, Return, Abend, Show, Put, Move}
 use Rattle.mvs_model.specs.declared.request.Reply.{Reply}
-use Rattle.mvs_model.specs.declared.request.Reply.TheVariants.{NotRun, Rc0, Rc4, Granted, Listed, Cell, NoCell, Attached, Ended, Done, Abended}
+use Rattle.mvs_model.specs.declared.request.Reply.TheVariants.{NotRun, Rc0, Rc4, Obtained, Listed, Cell, NoCell, Attached, Ended, Done, Abended}
 use Rattle.mvs_model.specs.Place.{PlaceValue, place_at, round8}
 use Rattle.mvs_model.specs.Want.{WantValue, want_of, fixed_want}
 use Rattle.mvs_model.specs.Gifts.{GiftsValue}
@@ -125,10 +125,10 @@ area_some old t number want even ordered =
 
 obtain_some : (old : State) (t : Name) (form : Form) (number : ℕ) (want : WantValue) → want.least % 8 ≡ 0 → want.least ≤ want.most → Some2 (ObtainStep old t form number want)
 obtain_some old t form number want even ordered = either_some (is_invalid number) (λ _. abends_some old t (bad_subpool (family form) true)) (λ _. choice) where
-  choice : Some2 (λ reply new. (ShortOf old (keeper old.owners t number) number want × Fails (is_conditional form) old t (short (family form)) reply new) ⊎ ((p : PlaceValue) × (reply ≡ Granted p) × GrantTo old (keeper old.owners t number) number want p new))
+  choice : Some2 (λ reply new. (ShortOf old (keeper old.owners t number) number want × Fails (is_conditional form) old t (short (family form)) reply new) ⊎ ((p : PlaceValue) × (reply ≡ Obtained p) × GrantTo old (keeper old.owners t number) number want p new))
   choice = elim (area_some old (keeper old.owners t number) number want even ordered) [
     | inl short_of ↦ let f = fails_some (is_conditional form) old t (short (family form)) in (f.0, (f.1.0, inl (short_of, f.1.1)))
-    | inr g ↦ (Granted g.0, (g.1, inr (g.0, refl, g.2)))
+    | inr g ↦ (Obtained g.0, (g.1, inr (g.0, refl, g.2)))
   ]
 
 list_some : (t : Name) (number start : ℕ) (lengths : List ℕ) (old : State) → ListShort old t number (map (λ n. fixed_want n start Below) lengths) ⊎ ((ps : List PlaceValue) × (new : State) × ListGrant old t number (map (λ n. fixed_want n start Below) lengths) ps new)

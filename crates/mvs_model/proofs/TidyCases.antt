@@ -8,7 +8,7 @@ use Rattle.mvs_model.specs.declared.code.Code.{Code}
 use Rattle.mvs_model.specs.declared.line.Written.{Written}
 use Rattle.mvs_model.specs.declared.request.Request.{Request}
 use Rattle.mvs_model.specs.declared.request.Reply.{Reply}
-use Rattle.mvs_model.specs.declared.request.Reply.TheVariants.{Rc4, Granted, Listed, Abended}
+use Rattle.mvs_model.specs.declared.request.Reply.TheVariants.{Rc4, Obtained, Listed, Abended}
 use Rattle.mvs_model.specs.Place.{PlaceValue, round8}
 use Rattle.mvs_model.specs.Want.{WantValue}
 use Rattle.mvs_model.specs.Owners.{keeper, IsFallen, Ends, ends_with}
@@ -136,7 +136,7 @@ module _ (number : ℕ) (job new : JobValue) (m : Labels) (k : Link job m) (t : 
   bad form n ns areas told invalid l = (l.0, taken (labels.Abends number m t (bad_subpool (family form) true) text l.0) _ (is_invalid n) invalid l.1, l.2)
 
   pub obtains : (form : Form) (n most : ℕ) (want : WantValue) (area : Name) (told : List ℕ) (r : Request) (reply : Reply) → names_set a ≡ area ∷ []
-      → ((p : PlaceValue) → p.len ≡ round8 most → reply_text number t job a (Granted p) ≡ reply_line number t told) → InFull r reply → (reply ≡ Rc4 → ⊥) → ((p : PlaceValue) → reply ≡ Granted p → p.len ≡ round8 most)
+      → ((p : PlaceValue) → p.len ≡ round8 most → reply_text number t job a (Obtained p) ≡ reply_line number t told) → InFull r reply → (reply ≡ Rc4 → ⊥) → ((p : PlaceValue) → reply ≡ Obtained p → p.len ≡ round8 most)
       → Answer reply → ObtainStep job.state t form n want reply new.state → Linked (labels.Obtains number m t form n (most ∷ []) (area ∷ []) told text)
   obtains form n most want area told r reply sets said full answered largest made h =
       by_test (is_invalid n) h
@@ -144,7 +144,7 @@ module _ (number : ℕ) (job new : JobValue) (m : Labels) (k : Link job m) (t : 
       (λ valid x. elim x [
         | inl s ↦ absurd (not_short (is_conditional form) form r reply full answered s.1)
         | inr g ↦
-            let now = turned reply (Granted g.0) g.1 made in
+            let now = turned reply (Obtained g.0) g.1 made in
             let size = largest g.0 g.1 in
             let one = grant_one job m k (keeper m.owners t n) n (round8 most) want g.0 new.state (subst (λ o. GrantTo job.state (keeper o t n) n want g.0 new.state) k.owners g.2) size in
             obtained n form (most ∷ []) (area ∷ []) (g.0 ∷ []) told valid (now.names ∙ ap (λ names. all_set job.names names (g.0 ∷ [])) sets) (now.abended ∙ or_false job.abended) (now.text_is ∙ said g.0 size)

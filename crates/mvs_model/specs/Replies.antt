@@ -6,7 +6,7 @@ use Rattle.mvs_model.specs.declared.name.Name.{Name}
 use Rattle.mvs_model.specs.declared.line.Written.{Written}
 use Rattle.mvs_model.specs.declared.line.Written.TheVariants as written
 use Rattle.mvs_model.specs.declared.request.Reply.{Reply}
-use Rattle.mvs_model.specs.declared.request.Reply.TheVariants.{NotRun, Rc0, Rc4, Granted, Listed, Cell, NoCell, Attached, Ended, Done, Abended}
+use Rattle.mvs_model.specs.declared.request.Reply.TheVariants.{NotRun, Rc0, Rc4, Obtained, Listed, Cell, NoCell, Attached, Ended, Done, Abended}
 use Rattle.mvs_model.specs.Place.{PlaceValue}
 use Rattle.mvs_model.specs.State.{State}
 use Rattle.mvs_model.specs.Texts.{not_run, no_name, rc_0, rc_4, rc_0_length, cell, no_cell, attached, ended, ok, at_text, reply_line, abend_lines, data_lines, line_count}
@@ -43,7 +43,7 @@ abbrev pub reply_text : ℕ → Name → JobValue → Written → Reply → List
 reply_text number t old a NotRun = reply_line number t not_run
 reply_text number t old a Rc0 = reply_line number t rc_0
 reply_text number t old a Rc4 = reply_line number t rc_4
-reply_text number t old a (Granted p) = reply_line number t (grant_text a p)
+reply_text number t old a (Obtained p) = reply_line number t (grant_text a p)
 reply_text number t old a (Listed ps) = reply_line number t rc_0
 reply_text number t old a (Cell p) = reply_line number t cell
 reply_text number t old a NoCell = reply_line number t no_cell

@@ -10,7 +10,7 @@ use Rattle.mvs_model.specs.declared.line.Written.TheVariants as written
 use Rattle.mvs_model.specs.declared.request.Request.{Request}
 use Rattle.mvs_model.specs.declared.request.Request.TheVariants as request
 use Rattle.mvs_model.specs.declared.request.Reply.{Reply}
-use Rattle.mvs_model.specs.declared.request.Reply.TheVariants.{Granted, Listed, Cell}
+use Rattle.mvs_model.specs.declared.request.Reply.TheVariants.{Obtained, Listed, Cell}
 use Rattle.mvs_model.specs.Place.{PlaceValue, place_at}
 use Rattle.mvs_model.specs.Name.{name_cmp}
 
@@ -54,7 +54,7 @@ names_set _ = []
 
 -- the places that a reply gives to the names
 abbrev pub places_in : Reply → List PlaceValue
-places_in (Granted p) = p ∷ []
+places_in (Obtained p) = p ∷ []
 places_in (Listed ps) = ps
 places_in (Cell p) = p ∷ []
 places_in _ = []

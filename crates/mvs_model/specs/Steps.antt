@@ -18,7 +18,7 @@ use Rattle.mvs_model.specs.declared.code.Code.TheVariants.{User}
 use Rattle.mvs_model.specs.declared.request.Request.{Request}
 use Rattle.mvs_model.specs.declared.request.Request.TheVariants.{Obtain, ObtainList, Release, ReleaseList, ReleaseWhole, Build, Get, Free, Delete, Attach, Return, Abend, Show, Put, Move}
 use Rattle.mvs_model.specs.declared.request.Reply.{Reply}
-use Rattle.mvs_model.specs.declared.request.Reply.TheVariants.{NotRun, Rc0, Rc4, Granted, Listed, Cell, NoCell, Attached, Ended, Done, Abended}
+use Rattle.mvs_model.specs.declared.request.Reply.TheVariants.{NotRun, Rc0, Rc4, Obtained, Listed, Cell, NoCell, Attached, Ended, Done, Abended}
 use Rattle.mvs_model.specs.Place.{PlaceValue, place_at, round8}
 use Rattle.mvs_model.specs.Subpool.{is_subpool_number}
 use Rattle.mvs_model.specs.Want.{WantValue, IsAsk, want_of, fixed_want, side_of}
@@ -65,7 +65,7 @@ ObtainStep old t form number want reply new =
     MatchBool (is_invalid number)
     (Abends old t (bad_subpool (family form) true) reply new)
     ((ShortOf old (keeper old.owners t number) number want × Fails (is_conditional form) old t (short (family form)) reply new)
-    ⊎ ((p : PlaceValue) × (reply ≡ Granted p) × GrantTo old (keeper old.owners t number) number want p new))
+    ⊎ ((p : PlaceValue) × (reply ≡ Obtained p) × GrantTo old (keeper old.owners t number) number want p new))
 
 -- The same for a list: all its places are granted, or none. (Assembler Services Reference, GETMAIN)
 abbrev pub ObtainListStep : State → Name → Form → ℕ → List WantValue → Reply → State → Type 0

@@ -19,7 +19,7 @@ use Rattle.mvs_model.specs.declared.outcome.Outcome.TheVariants.{ScriptFault}
 use Rattle.mvs_model.specs.declared.request.Request.{Request}
 use Rattle.mvs_model.specs.declared.request.Request.TheVariants as request
 use Rattle.mvs_model.specs.declared.request.Reply.{Reply}
-use Rattle.mvs_model.specs.declared.request.Reply.TheVariants.{Rc4, Granted, Abended}
+use Rattle.mvs_model.specs.declared.request.Reply.TheVariants.{Rc4, Obtained, Abended}
 use Rattle.mvs_model.specs.Place.{PlaceValue, place_at, round8}
 use Rattle.mvs_model.specs.Finite.{has}
 use Rattle.mvs_model.specs.Owners.{is_active}
@@ -97,7 +97,7 @@ is_obtain _ = false
 
 -- A variable request has its largest length.
 abbrev pub HasLargest : Request → Reply → Type 0
-HasLargest (request.Obtain form n ask) reply = (p : PlaceValue) → reply ≡ Granted p → p.len ≡ round8 ask.most
+HasLargest (request.Obtain form n ask) reply = (p : PlaceValue) → reply ≡ Obtained p → p.len ≡ round8 ask.most
 HasLargest _ reply = Unit {0}
 
 -- The request was not refused for want of a place, and has its largest length.

@@ -137,7 +137,7 @@ pub enum Reply {
     NotRun,
     Rc0,
     Rc4,
-    Granted(Place),
+    Obtained(Place),
     Listed(Places),
     Cell(Place),
     NoCell,

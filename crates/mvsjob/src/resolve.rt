@@ -107,7 +107,7 @@ fn places_in(reply: &Reply) -> &[Place]
     ensures { result.now ≡ places_in reply.now }
 {
     match reply {
-        Reply::Granted(place) | Reply::Cell(place) => slice::from_ref(place),
+        Reply::Obtained(place) | Reply::Cell(place) => slice::from_ref(place),
         Reply::Listed(places) => places.as_slice(),
         _ => &[],
     }

@@ -72,10 +72,10 @@ fn print_reply<W: Write>(
 {
     match (reply, written) {
         (Reply::NotRun, _) => print_line(writer, number, task, b"NOT RUN"),
-        (Reply::Granted(place), Written::Obtain { variable: true, .. }) => {
+        (Reply::Obtained(place), Written::Obtain { variable: true, .. }) => {
             print_line(writer, number, task, length_said(place.len()).as_slice())
         }
-        (Reply::Rc0 | Reply::Granted(_) | Reply::Listed(_), _) => {
+        (Reply::Rc0 | Reply::Obtained(_) | Reply::Listed(_), _) => {
             print_line(writer, number, task, b"RC 0")
         }
         (Reply::Rc4, _) => print_line(writer, number, task, b"RC 4"),

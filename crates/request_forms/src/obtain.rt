@@ -64,7 +64,7 @@ impl Machine {
         };
         let side = form_side(form, side(ask.loc(), self.tasks.residence_of(name)));
         match self.obtain_area(name, number, &ask.want(side)) {
-            Some(place) => Ok(Reply::Granted(place)),
+            Some(place) => Ok(Reply::Obtained(place)),
             None => refused(form, short(form)),
         }
     }

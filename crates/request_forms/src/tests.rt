@@ -79,7 +79,7 @@ fn rc(answer: &Result<Reply, Code>) -> Option<u8> {
 
 fn granted(answer: &Result<Reply, Code>) -> Option<Place> {
     match answer {
-        Ok(Reply::Granted(place)) => Some(*place),
+        Ok(Reply::Obtained(place)) => Some(*place),
         _ => None,
     }
 }
