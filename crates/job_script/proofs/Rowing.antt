@@ -194,3 +194,9 @@ pub form_parts : (field form : List ℕ) (more : Option (Bor (List ℕ))) → (l
 form_parts [] form more e parts = absurd (let f : true ≡ false = e in cc)
 form_parts (b ∷ bs) form None e parts = parts
 form_parts (b ∷ bs) form (Some rest) e parts = parts
+
+-- where none is missing and none excludes another
+pub none_conflict : (lacks conflict : Bool) → first_of (MissingOperand when lacks ∷ Conflicting when conflict ∷ []) ≡ None → conflict ≡ false
+none_conflict lacks conflict e =
+    let a = none_first (MissingOperand when lacks) (Conflicting when conflict ∷ []) e in
+    (none_first (Conflicting when conflict) [] a.1).0

@@ -1,18 +1,18 @@
 //! The operands of a statement, read by its row of the table.
 
-ghost use Rattle.std.specs.Prelude.{◌≡◌, ◌<◌, [], ℕ, List, length, true, false, position, bytes_eq, flat_map, None, Some, MatchOption, MatchResult, IfSome};
+ghost use Rattle.std.specs.Prelude.{◌≡◌, ◌<◌, [], ℕ, List, length, true, false, find, position, bytes_eq, flat_map, None, Some, MatchOption, MatchResult, IfSome};
 ghost use Rattle.mvs_model.specs.Reading.{parts_within, operands_in, has_key, key_of, text_of, first_of, operand_checks, with_left};
 ghost use Rattle.job_script.specs.Kinds.{as_kind};
 ghost use Rattle.job_script.specs.Rows.{key_text, row_at};
-ghost use Rattle.job_script.specs.Places.{place_in, HasKeyword};
+ghost use Rattle.job_script.specs.Places.{HasKeyword};
 
-use crate::keys::Key;
+use crate::keys::{KEYS, Key};
 use crate::kinds::{Kind, check};
 use crate::parted::{next_operand, parted};
 use crate::rows::{Keyword, Row};
 use mvs_model::line::Fault;
 
-/// The operands of a statement: the texts of those that were read so far, in the places that the row has for them.
+/// The operands of a statement: the texts of those that were read so far, in the places that the row and the keys have for them.
 #[derive(Drop)]
 pub struct Given<'a> {
     /// What the statement takes.
@@ -22,7 +22,7 @@ pub struct Given<'a> {
     /// How many positional operands were read.
     pub count: usize,
     pub places: [Option<&'a [u8]>; 3],
-    pub texts: [Option<&'a [u8]>; 8],
+    pub texts: [Option<&'a [u8]>; KEYS],
 }
 
 // Where a keyword stands in its table, by the text before the equals sign.
@@ -33,23 +33,15 @@ fn place(keywords: &[Keyword], text: &[u8]) -> Option<usize>
     keywords.iter().position(|keyword| keyword.key.is(text))
 }
 
-// Where a keyword of a row stands, by the text before the equals sign, and its kind.
+// The place of a key that a row takes, and the kind of its text.
 fn keyword_at(row: Row, key: &[u8]) -> Option<(usize, Kind)>
-    ensures { MatchOption result (place_in (row_at row) key.now ≡ None) (λ r. HasKeyword (row_at row) key.now r.0 (as_kind r.1)) }
+    ensures { MatchOption result (find (λ k. bytes_eq k.key key.now) (row_at row).keywords ≡ None) (λ r. HasKeyword (row_at row) key.now r.0 (as_kind r.1)) }
 {
     let keywords = row.keywords();
     match place(keywords, key) {
         None => None,
-        Some(place) => Some((place, keywords[place].kind)),
+        Some(place) => Some((keywords[place].key.index(), keywords[place].kind)),
     }
-}
-
-// Where a keyword stands in its table.
-fn place_of(keywords: &[Keyword], key: Key) -> Option<usize>
-    ensures place { result ≡ position (λ k. bytes_eq (key_text k.key) (key_text key)) keywords.now }
-    ensures within { IfSome result (λ i. i < length keywords.now) }
-{
-    keywords.iter().position(|keyword| keyword.key == key)
 }
 
 impl<'a> Given<'a> {
@@ -66,7 +58,7 @@ impl<'a> Given<'a> {
             keyed: false,
             count: 0,
             places: [None; 3],
-            texts: [None; 8],
+            texts: [None; KEYS],
         }
     }
 
@@ -153,10 +145,7 @@ impl<'a> Given<'a> {
         ensures said { MatchOption result ((by_place self.now).under (key_text key) ≡ None) (λ text. (by_place self.now).under (key_text key) ≡ Some text.now) }
         ensures taken { IfSome result (λ text. IsTaken (row_at self.now.row) (key_text key) text.now) }
     {
-        match place_of(self.row.keywords(), key) {
-            None => None,
-            Some(place) => self.texts[place],
-        }
+        self.texts[key.index()]
     }
 
     /// The positional operand at a place, counted from 0.

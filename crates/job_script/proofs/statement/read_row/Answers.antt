@@ -5,7 +5,7 @@ use Rattle.job_script.specs.Given.{option_now}
 use Rattle.job_script.specs.Kinds.{fault_in}
 use Rattle.job_script.specs.Rows.{row_at}
 use Rattle.job_script.specs.Said.{filled}
-use Rattle.job_script.proofs.Rowing.{row_not_taken, row_lacks, row_said}
+use Rattle.job_script.proofs.Rowing.{row_not_taken, row_lacks, row_said, none_conflict}
 use Rattle.job_script.proofs.statement.read_row.Goals as goal
 
 pub returns-in-Err : goal.returns-in-Err
@@ -22,3 +22,6 @@ pub returns : goal.returns
 returns c =
     row_said c.take_field.new.self c.args.row c.args.task c.args.form.now (operands_in (option_now c.args.field)) (filled c.fill.new.line c.fill.result) c.in_default.ensures.0 (c.in_default.ensures.1 ∙ c.none-given.ensures.row)
     (sym c.check.ensures ∙ ap fault_in c.in_default-check.is) c.fill.ensures
+
+pub fill-requires-clause-apart : goal.fill-requires-clause-apart
+fill-requires-clause-apart c = none_conflict _ _ (sym c.check.ensures ∙ ap fault_in c.in_default-check.is)

@@ -2,14 +2,15 @@ use Rattle.std.proofs.Common.{◌≡◌, ◌<◌, length, arith, refl, sym, ap, 
 use Rattle.mvs_model.specs.Reading.{key_of, has, first_of}
 use Rattle.job_script.specs.Kinds.{as_kind, fault_in, checks_of}
 use Rattle.job_script.specs.Rows.{row_at}
-use Rattle.job_script.specs.Places.{place_in, HasKeyword}
+use Rattle.std.specs.Prelude.{find, bytes_eq}
+use Rattle.job_script.specs.Places.{HasKeyword}
 use Rattle.job_script.proofs.Taking.{key_unknown, key_checks, key_again, key_given}
 use Rattle.job_script.proofs.given.Given.take_keyword.Goals as goal
 
 pub returns-in_default : goal.returns-in_default
 returns-in_default c = λ operand e key text left given.
     let g = c.args.self.now in
-    key_unknown g left operand given e (ap (place_in (row_at g.row)) key ∙ c.in_default.ensures)
+    key_unknown g left operand given e (ap (λ key. find (λ k. bytes_eq k.key key) (row_at g.row).keywords) key ∙ c.in_default.ensures)
 
 pub returns-in-Err : goal.returns-in-Err
 returns-in-Err c = λ operand e key text left given.
@@ -27,5 +28,5 @@ returns c = λ operand e key text left given.
     let again = c.is_some.result in
     let k = subst (λ x. HasKeyword (row_at g.row) x c.in-Some.place kind) (sym key) c.in-Some.ensures in
     let again_is : has (key_of operand) left ≡ again = key_again g left operand given c.in-Some.place k.here ∙ sym c.is_some.ensures in
-    let room : c.in-Some.place < length g.texts = (let within = k.within in let eight = given.eight in omega arith) in
+    let room : c.in-Some.place < length g.texts = (let within = k.within in let keys = given.keys in omega arith) in
     (key_given g left operand given e c.in-Some.place k.here room c.args.text (sym text) kind again k.kind_is again_is (ap (λ t. first_of (checks_of kind again t)) text ∙ sym c.check.ensures ∙ ap fault_in c.in_default-check.is), refl)
