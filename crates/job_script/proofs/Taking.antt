@@ -21,6 +21,7 @@ use Rattle.job_script.specs.declared.rows.Positional.{Positional}
 use Rattle.job_script.specs.Kinds.{checks_of, as_kind}
 use Rattle.job_script.specs.Rows.{row_at, key_text, as_keyword, as_positional}
 use Rattle.job_script.specs.Places.{place_by, place_in}
+use Rattle.job_script.specs.Parted.{field_in}
 use Rattle.job_script.proofs.KeyPlaces.{mapped_some, same_place}
 use Rattle.job_script.specs.Given.{option_now, kept, text_at, by_place, IsPlaced, IsGiven}
 
@@ -442,7 +443,7 @@ module _ (g : Given) (left : List (List ℕ)) (operand : List ℕ) (given : IsGi
 -- what is known when the operands on the left of a text were taken
 pub record TakesOn (old now : Given) (field rest : List ℕ) : Type 0 where
   pub left : List (List ℕ)
-  pub parts : parts_within 0 field ≡ left ++ parts_within 0 rest
+  pub parts : parts_within 0 (field_in field) ≡ left ++ parts_within 0 (field_in rest)
   pub given : IsGiven now left
   pub row : now.row ≡ old.row
 
@@ -468,6 +469,6 @@ nothing_given g p t k n = record {
 }
 
 -- there is an operand more
-pub some_operand : (P : List (List ℕ)) (o : List ℕ) (more : Option (Bor (List ℕ))) → MatchOption more (P ≡ o ∷ []) (λ rest. P ≡ o ∷ parts_within 0 rest.now) → (behind : List (List ℕ)) × (P ≡ o ∷ behind)
+pub some_operand : (P : List (List ℕ)) (o : List ℕ) (more : Option (Bor (List ℕ))) → MatchOption more (P ≡ o ∷ []) (λ rest. P ≡ o ∷ parts_within 0 (field_in rest.now)) → (behind : List (List ℕ)) × (P ≡ o ∷ behind)
 some_operand P o None e = ([], e)
-some_operand P o (Some rest) e = (parts_within 0 rest.now, e)
+some_operand P o (Some rest) e = (parts_within 0 (field_in rest.now), e)

@@ -9,11 +9,17 @@ use Rattle.mvs_model.specs.Grammar as grammar
 use Rattle.job_script.specs.declared.given.Given.{Given}
 use Rattle.job_script.specs.Rows.{row_at}
 use Rattle.job_script.specs.Places.{place_in}
+use Rattle.job_script.specs.Parted.{field_in}
 
 -- a text that a reference points to
 abbrev pub option_now : Option (Bor (List ℕ)) → Option (List ℕ)
 option_now None = None
 option_now (Some text) = Some text.now
+
+-- the field that such a text starts with
+abbrev pub field_now : Option (Bor (List ℕ)) → Option (List ℕ)
+field_now None = None
+field_now (Some text) = Some (field_in text.now)
 
 -- the text in a place, where there is one
 abbrev pub kept : Option (Option (Bor (List ℕ))) → Option (List ℕ)

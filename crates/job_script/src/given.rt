@@ -45,7 +45,8 @@ fn keyword_at(row: Row, key: &[u8]) -> Option<(usize, Kind)>
 }
 
 impl<'a> Given<'a> {
-    ghost use Rattle.job_script.specs.Given.{IsGiven, IsRead, IsPlaced, Takes, by_place, option_now};
+    ghost use Rattle.job_script.specs.Given.{IsGiven, IsRead, IsPlaced, Takes, by_place, option_now, field_now};
+    ghost use Rattle.job_script.specs.Parted.{field_in};
     ghost use Rattle.mvs_model.specs.ReadingLaws.{IsTaken};
 
     /// No operand.
@@ -105,12 +106,12 @@ impl<'a> Given<'a> {
         }
     }
 
-    /// Takes the operands of a field from left to right, or answers what is wrong with the first that is not taken.
+    /// Takes the operands of the field that a text starts with from left to right, or answers what is wrong with the first that is not taken.
     pub fn take_all(&mut self, field: &'a [u8]) -> Result<(), Fault>
         requires { IsGiven self.old [] }
         ensures { MatchResult result
-            (λ _. IsGiven self.new (parts_within 0 field.now) × (self.new.row ≡ self.old.row))
-            (λ fault. first_of (flat_map (operand_checks (row_at self.old.row)) (with_left (parts_within 0 field.now))) ≡ Some fault) }
+            (λ _. IsGiven self.new (parts_within 0 (field_in field.now)) × (self.new.row ≡ self.old.row))
+            (λ fault. first_of (flat_map (operand_checks (row_at self.old.row)) (with_left (parts_within 0 (field_in field.now)))) ≡ Some fault) }
     {
         let mut rest = field;
         'operands: loop {
@@ -129,8 +130,8 @@ impl<'a> Given<'a> {
     pub fn take_field(&mut self, field: Option<&'a [u8]>) -> Result<(), Fault>
         requires { IsGiven self.old [] }
         ensures { MatchResult result
-            (λ _. IsGiven self.new (operands_in (option_now field.entry)) × (self.new.row ≡ self.old.row))
-            (λ fault. first_of (flat_map (operand_checks (row_at self.old.row)) (with_left (operands_in (option_now field.entry)))) ≡ Some fault) }
+            (λ _. IsGiven self.new (operands_in (field_now field.entry)) × (self.new.row ≡ self.old.row))
+            (λ fault. first_of (flat_map (operand_checks (row_at self.old.row)) (with_left (operands_in (field_now field.entry)))) ≡ Some fault) }
     {
         match field {
             None => Ok(()),

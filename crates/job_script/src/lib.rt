@@ -6,13 +6,14 @@ ghost use Rattle.std.specs.List.{list_all};
 ghost use Rattle.mvs_model.specs.Lines.{IsLine};
 ghost use Rattle.mvs_model.specs.Reading.{IsReading, says_nothing};
 ghost use Rattle.job_script.specs.Operations.{operation_text};
+ghost use Rattle.job_script.specs.Parted.{field_in};
 ghost use Rattle.job_script.specs.Said.{filled};
 ghost use Rattle.job_script.specs.Stated.{is_in_place, field_of, StatementReading};
 
 use crate::addresses::{is_name, name};
 pub use crate::line_buffer::{LineBuffer, Pushed};
 use crate::operations::{Operation, read_operation};
-use crate::parted::{next_word, parted};
+use crate::parted::{behind_blanks, next_word, parted};
 use crate::statement::read_operands;
 use mvs_model::line::{Fault, Line};
 
@@ -72,13 +73,13 @@ fn is_in_place(first: bool, operation: Operation) -> bool
     !first || matches!(operation, Operation::Region)
 }
 
-// The field of operands behind an operation. What follows RETURN is a remark.
+// The text that starts with the field of operands behind an operation. What follows RETURN is a remark.
 fn field_of<'a>(operation: Operation, rest: &'a [u8]) -> &'a [u8]
-    ensures { result.now ≡ field_of operation rest.now }
+    ensures { field_in result.now ≡ field_of operation rest.now }
 {
     match operation {
         Operation::Return => &[],
-        _ => next_word(rest).0,
+        _ => behind_blanks(rest),
     }
 }
 
