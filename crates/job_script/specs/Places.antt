@@ -1,5 +1,5 @@
 -- The places of keys.
-use Rattle.std.specs.Prelude.{◌≡◌, ◌<◌, ℕ, suc, List, [], ◌∷◌, Bool, if◌then◌else◌, Option, Some, None, bytes_eq, find}
+use Rattle.std.specs.Prelude.{◌≡◌, ℕ, suc, List, [], ◌∷◌, Bool, if◌then◌else◌, Option, Some, None, bytes_eq, find}
 use Rattle.std.specs.Option.{option_map}
 use Rattle.mvs_model.specs.Grammar as grammar
 use Rattle.job_script.specs.declared.keys.Key.{Key}
@@ -52,5 +52,4 @@ place_in text = place_by (λ k. bytes_eq (key_text k) text) keys
 -- A row takes a key, which has this place, and its text is to be of this kind.
 pub record HasKeyword (row : grammar.Row) (key : List ℕ) (place : ℕ) (kind : grammar.Kind) : Type 0 where
   pub here : place_in key ≡ Some place
-  pub within : place < 26
   pub kind_is : option_map (λ k. k.kind) (find (λ k. bytes_eq k.key key) row.keywords) ≡ Some kind

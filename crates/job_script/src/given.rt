@@ -4,10 +4,10 @@ ghost use Rattle.std.specs.Prelude.{◌≡◌, ◌<◌, [], ℕ, List, length, t
 ghost use Rattle.mvs_model.specs.Reading.{parts_within, operands_in, has_key, key_of, text_of, first_of, operand_checks, with_left};
 ghost use Rattle.job_script.specs.Kinds.{as_kind};
 ghost use Rattle.job_script.specs.Rows.{key_text, row_at};
-ghost use Rattle.job_script.specs.Places.{HasKeyword};
+ghost use Rattle.job_script.specs.Places.{HasKeyword, key_index};
 
 use crate::keys::{KEYS, Key};
-use crate::kinds::{Kind, check};
+use crate::kinds::check;
 use crate::parted::{next_operand, parted};
 use crate::rows::{Keyword, Row};
 use mvs_model::line::Fault;
@@ -33,14 +33,14 @@ fn place(keywords: &[Keyword], text: &[u8]) -> Option<usize>
     keywords.iter().position(|keyword| keyword.key.is(text))
 }
 
-// The place of a key that a row takes, and the kind of its text.
-fn keyword_at(row: Row, key: &[u8]) -> Option<(usize, Kind)>
-    ensures { MatchOption result (find (λ k. bytes_eq k.key key.now) (row_at row).keywords ≡ None) (λ r. HasKeyword (row_at row) key.now r.0 (as_kind r.1)) }
+// The keyword of a row that has this key.
+fn keyword_at(row: Row, key: &[u8]) -> Option<&'static Keyword>
+    ensures { MatchOption result (find (λ k. bytes_eq k.key key.now) (row_at row).keywords ≡ None) (λ k. HasKeyword (row_at row) key.now (key_index k.now.key) (as_kind k.now.kind)) }
 {
     let keywords = row.keywords();
     match place(keywords, key) {
         None => None,
-        Some(place) => Some((keywords[place].key.index(), keywords[place].kind)),
+        Some(place) => Some(&keywords[place]),
     }
 }
 
@@ -74,7 +74,7 @@ impl<'a> Given<'a> {
         let Some(positional) = self.row.positional().get(self.count) else {
             return Err(Fault::InvalidOperand);
         };
-        check(positional.kind, operand, false)?;
+        check(&positional.kind, operand, false)?;
         self.places[self.count] = Some(operand);
         self.count += 1;
         Ok(())
@@ -84,10 +84,11 @@ impl<'a> Given<'a> {
     fn take_keyword(&mut self, key: &[u8], text: &'a [u8]) -> Result<(), Fault>
         ensures { (operand : List ℕ) → has_key operand ≡ true → key_of operand ≡ key.now → text_of operand ≡ text.now → Takes self.old self.new operand result }
     {
-        let Some((place, kind)) = keyword_at(self.row, key) else {
+        let Some(keyword) = keyword_at(self.row, key) else {
             return Err(Fault::InvalidOperand);
         };
-        if let Err(fault) = check(kind, text, self.texts[place].is_some()) {
+        let place = keyword.key.index();
+        if let Err(fault) = check(&keyword.kind, text, self.texts[place].is_some()) {
             return Err(fault);
         }
         self.texts[place] = Some(text);

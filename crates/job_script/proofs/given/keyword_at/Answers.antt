@@ -20,7 +20,6 @@ returns-in-Some c =
     let found : place_by (λ k. bytes_eq (key_text k.key) text) kws ≡ Some c.in-Some.place = sym (place_is (λ k. bytes_eq (key_text k.key) text) kws) ∙ sym c.in-Some.ensures.place in
     let is = bytes_same _ text (place_passes (λ k. bytes_eq (key_text k.key) text) kws c.in-Some.place found _) in
     record {
-      here = ap place_in (sym is) ∙ key_place _ ∙ ap (λ i. Some i) (sym c.index.ensures.index);
-      within = c.index.ensures.within;
+      here = ap place_in (sym is) ∙ key_place _;
       kind_is = place_kind kws row c.keywords-keywords.ensures.row text c.in-Some.place there c.in-Some.ensures.within _;
     }

@@ -15,18 +15,20 @@ returns-in_default c = λ operand e key text left given.
 pub returns-in-Err : goal.returns-in-Err
 returns-in-Err c = λ operand e key text left given.
     let g = c.args.self.now in
-    let kind = as_kind c.in-Some.kind in
+    let kind = as_kind c.in-Some.keyword.now.kind in
     let again = c.is_some.result in
-    let k = subst (λ x. HasKeyword (row_at g.row) x c.in-Some.place kind) (sym key) c.in-Some.ensures in
-    let again_is : has (key_of operand) left ≡ again = key_again g left operand given c.in-Some.place k.here ∙ sym c.is_some.ensures in
+    let place = c.index-place.result in
+    let k = subst (λ x. HasKeyword (row_at g.row) x place kind) (sym key) (subst (λ i. HasKeyword (row_at g.row) c.args.key.now i kind) (sym c.index-place.ensures.index) c.in-Some.ensures) in
+    let again_is : has (key_of operand) left ≡ again = key_again g left operand given place k.here ∙ sym c.is_some.ensures in
     key_checks g left operand given e kind again k.kind_is again_is ∙ ap (λ t. first_of (checks_of kind again t)) text ∙ sym c.check.ensures ∙ ap fault_in c.in-Err.is
 
 pub returns : goal.returns
 returns c = λ operand e key text left given.
     let g = c.args.self.now in
-    let kind = as_kind c.in-Some.kind in
+    let kind = as_kind c.in-Some.keyword.now.kind in
     let again = c.is_some.result in
-    let k = subst (λ x. HasKeyword (row_at g.row) x c.in-Some.place kind) (sym key) c.in-Some.ensures in
-    let again_is : has (key_of operand) left ≡ again = key_again g left operand given c.in-Some.place k.here ∙ sym c.is_some.ensures in
-    let room : c.in-Some.place < length g.texts = (let within = k.within in let keys = given.keys in omega arith) in
-    (key_given g left operand given e c.in-Some.place k.here room c.args.text (sym text) kind again k.kind_is again_is (ap (λ t. first_of (checks_of kind again t)) text ∙ sym c.check.ensures ∙ ap fault_in c.in_default-check.is), refl)
+    let place = c.index-place.result in
+    let k = subst (λ x. HasKeyword (row_at g.row) x place kind) (sym key) (subst (λ i. HasKeyword (row_at g.row) c.args.key.now i kind) (sym c.index-place.ensures.index) c.in-Some.ensures) in
+    let again_is : has (key_of operand) left ≡ again = key_again g left operand given place k.here ∙ sym c.is_some.ensures in
+    let room : place < length g.texts = (let within = c.index-place.ensures.within in let keys = given.keys in omega arith) in
+    (key_given g left operand given e place k.here room c.args.text (sym text) kind again k.kind_is again_is (ap (λ t. first_of (checks_of kind again t)) text ∙ sym c.check.ensures ∙ ap fault_in c.in_default-check.is), refl)
