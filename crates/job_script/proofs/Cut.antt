@@ -6,7 +6,7 @@ use Rattle.std.proofs.lemmas.List.{take_all, drop_all}
 use Rattle.std.proofs.lemmas.List.Splits.{slice_split_first}
 use Rattle.std.proofs.lemmas.Bool.Decides.{nat_tests}
 use Rattle.mvs_model.specs.Reading.{words, is_empty}
-use Rattle.job_script.specs.Parted.{starts_word}
+use Rattle.job_script.specs.Parted.{starts_word, field_in}
 
 -- where there is no place before the end, no byte passes
 none_passes : (p : ℕ → Bool) (xs : List ℕ) → length xs ≤ position_or_len p xs → list_any p xs ≡ false
@@ -78,6 +78,21 @@ before_some b bs e = rw e (at (position_or_len (λ b. b == 32) bs)) where
 first_kept : (word : List ℕ) (rest : List (List ℕ)) → is_empty word ≡ false → filter (λ word. not (is_empty word)) (word ∷ rest) ≡ word ∷ filter (λ word. not (is_empty word)) rest
 first_kept word rest e = rw e refl
 
+-- the field that a text starts with
+at_blank : (bs : List ℕ) → field_in bs ≡ before_first (λ b. b == 32) bs
+at_blank [] = refl
+at_blank (b ∷ bs) = elim (b == 32) as (λ t. cond t [] (b ∷ field_in bs) ≡ take (cond (not t) (1 + position_or_len (λ b. b == 32) bs) 0) (b ∷ bs)) [
+  | true ↦ refl
+  | false ↦ ap (λ bs. b ∷ bs) (at_blank bs) ∙ ap (λ n. take n (b ∷ bs)) (let n : suc (position_or_len (λ b. b == 32) bs) ≡ 1 + position_or_len (λ b. b == 32) bs = omega arith in n)
+]
+
+behind_field : (bs : List ℕ) → (behind : List (List ℕ)) × (slice_split (λ b. b == 32) bs ≡ field_in bs ∷ behind)
+behind_field [] = ([], refl)
+behind_field (b ∷ bs) = elim (b == 32) as (λ t. (behind : List (List ℕ)) × (cond t ([] ∷ slice_split (λ b. b == 32) bs) (onto_first b (slice_split (λ b. b == 32) bs)) ≡ cond t [] (b ∷ field_in bs) ∷ behind)) [
+  | true ↦ (slice_split (λ b. b == 32) bs, refl)
+  | false ↦ let more = behind_field bs in (more.0, ap (onto_first b) more.1)
+]
+
 -- the first word of a text that starts with it, and those behind it
 pub first_word : (text word : List ℕ) (behind : List (List ℕ)) → starts_word text ≡ true → word ≡ before_first (λ b. b == 32) text → slice_split (λ b. b == 32) text ≡ word ∷ behind
     → (word ≡ unwrap_or (slice_get (words text) 0) []) × (filter (λ word. not (is_empty word)) behind ≡ drop 1 (words text))
@@ -91,3 +106,8 @@ first_word (b ∷ bs) word behind s w e =
       not_true : (b : Bool) → not b ≡ true → b ≡ false
       not_true true e = absurd (let f : false ≡ true = e in cc)
       not_true false e = refl
+
+pub field_first : (text : List ℕ) → starts_word text ≡ true → field_in text ≡ unwrap_or (slice_get (words text) 0) []
+field_first text s =
+    let more = behind_field text in
+    (first_word text (field_in text) more.0 s (at_blank text) more.1).0

@@ -3,6 +3,7 @@ pub mod Cut
 pub mod SameNumbers
 pub mod ListItems
 pub mod Unknown
+pub mod KeyPlaces
 pub mod Taking
 pub mod Conflicts
 pub mod ListsRead

@@ -1,6 +1,6 @@
 -- Operands, read by their row.
 use Rattle.std.proofs.Common.{◌≡◌, ℕ, List, [], ◌∷◌, drop, refl, sym, ap, subst, ◌∙◌, true, false, Bool, Option, Some, None, Result, Ok, Err}
-use Rattle.std.specs.Prelude.{◌==◌, ◌&&◌, ◌||◌, not, is_some, length, MatchOption, flat_map, if◌then◌else◌}
+use Rattle.std.specs.Prelude.{◌&&◌, ◌||◌, not, is_some, MatchOption, flat_map, if◌then◌else◌}
 use Rattle.std.specs.Option.{option_map}
 use Rattle.std.specs.List.{list_any}
 use denote.Bor.{Bor}
@@ -19,7 +19,8 @@ use Rattle.job_script.specs.declared.rows.Row.TheVariants as row
 use Rattle.job_script.specs.declared.operations.Operation.{Operation}
 use Rattle.job_script.specs.declared.operations.Operation.TheVariants as operation
 use Rattle.job_script.specs.Rows.{row_at}
-use Rattle.job_script.specs.Given.{IsGiven, by_place, option_now}
+use Rattle.job_script.specs.Given.{IsGiven, by_place, field_now}
+use Rattle.job_script.specs.Parted.{field_in}
 use Rattle.job_script.specs.Operations.{operation_text, row_with}
 use Rattle.job_script.specs.Rowed.{RowReading, FormReading, checks_behind, form_checks, as_field}
 use Rattle.job_script.specs.Said.{said_line}
@@ -189,8 +190,14 @@ form_there operation form behind e = ap (λ b. takes_form operation && b) e ∙ 
   and_last false = refl
 
 -- the operands of a field that is not empty: its form and those behind it
-pub form_parts : (field form : List ℕ) (more : Option (Bor (List ℕ))) → (length field == 0) ≡ false → MatchOption more (parts_within 0 field ≡ form ∷ []) (λ rest. parts_within 0 field ≡ form ∷ parts_within 0 rest.now)
-    → operands_in (as_field field) ≡ form ∷ operands_in (option_now more)
+pub form_parts : (field form : List ℕ) (more : Option (Bor (List ℕ))) → is_empty field ≡ false → MatchOption more (parts_within 0 field ≡ form ∷ []) (λ rest. parts_within 0 field ≡ form ∷ parts_within 0 (field_in rest.now))
+    → operands_in (as_field field) ≡ form ∷ operands_in (field_now more)
 form_parts [] form more e parts = absurd (let f : true ≡ false = e in cc)
 form_parts (b ∷ bs) form None e parts = parts
 form_parts (b ∷ bs) form (Some rest) e parts = parts
+
+-- where none is missing and none excludes another
+pub none_conflict : (lacks conflict : Bool) → first_of (MissingOperand when lacks ∷ Conflicting when conflict ∷ []) ≡ None → conflict ≡ false
+none_conflict lacks conflict e =
+    let a = none_first (MissingOperand when lacks) (Conflicting when conflict ∷ []) e in
+    (none_first (Conflicting when conflict) [] a.1).0

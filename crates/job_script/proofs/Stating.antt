@@ -53,6 +53,22 @@ operands_by operation.Move field rest e = e
 operands_by operation.Where field rest e = e
 operands_by operation.Report field rest e = e
 
+-- the field behind an operation that has one
+pub field_behind : (o : Operation) (rest : List ℕ) → (o ≡ operation.Return → ⊥) → field_of o rest ≡ unwrap_or (slice_get (words rest) 0) []
+field_behind operation.Region rest other = refl
+field_behind operation.Getmain rest other = refl
+field_behind operation.Freemain rest other = refl
+field_behind operation.Storage rest other = refl
+field_behind operation.Cpool rest other = refl
+field_behind operation.Attach rest other = refl
+field_behind operation.Return rest other = absurd (other refl)
+field_behind operation.Abend rest other = refl
+field_behind operation.Put rest other = refl
+field_behind operation.Show rest other = refl
+field_behind operation.Move rest other = refl
+field_behind operation.Where rest other = refl
+field_behind operation.Report rest other = refl
+
 -- what is known of a line when its operation is known
 pub record Split (line task : List ℕ) (o : Operation) (field : List ℕ) : Type 0 where
   pub task_is : task_in line ≡ task

@@ -1,5 +1,5 @@
 -- Operands, taken one after the other.
-use Rattle.std.proofs.Common.{◌≡◌, ℕ, zero, suc, ◌+◌, ◌<◌, List, [], ◌∷◌, ◌++◌, length, map, get_or, arith, refl, sym, ap, ◌∙◌, true, false, Bool, cond, Option, Some, None, length-append, append-nil}
+use Rattle.std.proofs.Common.{◌≡◌, ℕ, zero, suc, ◌+◌, ◌<◌, List, [], ◌∷◌, ◌++◌, length, map, get_or, replicate, arith, refl, sym, ap, ◌∙◌, true, false, Bool, cond, Option, Some, None, length-append, append-nil}
 use Rattle.std.proofs.Math.ListN.{set, length-set}
 use Rattle.std.specs.Prelude.{◌==◌, ◌&&◌, ◌||◌, not, bytes_eq, find, filter, position, slice_get, is_some, flat_map, nat_lt, if◌then◌else◌, IfSome, MatchOption}
 use Rattle.std.specs.Option.{option_map}
@@ -21,6 +21,8 @@ use Rattle.job_script.specs.declared.rows.Positional.{Positional}
 use Rattle.job_script.specs.Kinds.{checks_of, as_kind}
 use Rattle.job_script.specs.Rows.{row_at, key_text, as_keyword, as_positional}
 use Rattle.job_script.specs.Places.{place_by, place_in}
+use Rattle.job_script.specs.Parted.{field_in}
+use Rattle.job_script.proofs.KeyPlaces.{mapped_some, same_place}
 use Rattle.job_script.specs.Given.{option_now, kept, text_at, by_place, IsPlaced, IsGiven}
 
 -- ---- places of an array
@@ -110,10 +112,6 @@ place_none p (x ∷ xs) e =
       | false ↦ λ e. place_none p xs (not_mapped (place_by p xs) e)
     ]) e
 
-mapped_some : (o : Option ℕ) (i : ℕ) → option_map (λ i. suc i) o ≡ Some i → (j : ℕ) × (o ≡ Some j) × (i ≡ suc j)
-mapped_some None i e = absurd (let f : None ≡ Some i = e in cc)
-mapped_some (Some j) i e = (j, refl, (let f : Some (suc j) ≡ Some i = e in cc))
-
 pub place_some : {X : Type 0} (p : X → Bool) (xs : List X) (i : ℕ) → place_by p xs ≡ Some i → find p xs ≡ slice_get xs i
 place_some p [] i e = absurd (let f : None ≡ Some i = e in cc)
 place_some p (x ∷ xs) i e =
@@ -130,10 +128,13 @@ get_map f (x ∷ xs) zero = refl
 get_map f (x ∷ xs) (suc i) = get_map f xs i
 
 -- a table's place of a key, and its kind there
-pub key_place : (kws : List Keyword) (row : grammar.Row) → map as_keyword kws ≡ row.keywords → (key : List ℕ) → position (λ k. bytes_eq (key_text k.key) key) kws ≡ place_in row key
-key_place kws row e key = place_is (λ k. bytes_eq (key_text k.key) key) kws ∙ place_map as_keyword (λ k. bytes_eq k.key key) kws ∙ ap (place_by (λ k. bytes_eq k.key key)) e
+abbrev table_place : List Keyword → List ℕ → Option ℕ
+table_place kws key = position (λ k. bytes_eq (key_text k.key) key) kws
 
-pub place_kind : (kws : List Keyword) (row : grammar.Row) → map as_keyword kws ≡ row.keywords → (key : List ℕ) (i : ℕ) → place_in row key ≡ Some i → i < length kws → (d : Keyword)
+pub row_place : (kws : List Keyword) (row : grammar.Row) → map as_keyword kws ≡ row.keywords → (key : List ℕ) → table_place kws key ≡ place_by (λ k. bytes_eq k.key key) row.keywords
+row_place kws row e key = place_is (λ k. bytes_eq (key_text k.key) key) kws ∙ place_map as_keyword (λ k. bytes_eq k.key key) kws ∙ ap (place_by (λ k. bytes_eq k.key key)) e
+
+pub place_kind : (kws : List Keyword) (row : grammar.Row) → map as_keyword kws ≡ row.keywords → (key : List ℕ) (i : ℕ) → place_by (λ k. bytes_eq k.key key) row.keywords ≡ Some i → i < length kws → (d : Keyword)
     → option_map (λ k. k.kind) (find (λ k. bytes_eq k.key key) row.keywords) ≡ Some (as_kind (get_or kws i d).kind)
 place_kind kws row e key i place within d =
     ap (option_map (λ k. k.kind)) (place_some (λ k. bytes_eq k.key key) row.keywords i place ∙ ap (λ ks. slice_get ks i) (sym e) ∙ get_map as_keyword kws i ∙ ap (option_map as_keyword) (slice_get-get_or kws i d within))
@@ -141,29 +142,6 @@ place_kind kws row e key i place within d =
 pub positional_kind : (ps : List Positional) (row : grammar.Row) → map as_positional ps ≡ row.positional → (i : ℕ) (p : Positional) → slice_get ps i ≡ Some p
     → option_map (λ p. p.kind) (slice_get row.positional i) ≡ Some (as_kind p.kind)
 positional_kind ps row e i p is = ap (λ ps. option_map (λ p. p.kind) (slice_get ps i)) (sym e) ∙ ap (option_map (λ p. p.kind)) (get_map as_positional ps i ∙ ap (option_map as_positional) is)
-
--- two keys do not stand at one place
-same_place : (ks : List grammar.Keyword) (a b : List ℕ) (i : ℕ) → place_by (λ k. bytes_eq k.key a) ks ≡ Some i → place_by (λ k. bytes_eq k.key b) ks ≡ Some i → a ≡ b
-same_place [] a b i ea eb = absurd (let f : None ≡ Some i = ea in cc)
-same_place (k ∷ ks) a b i ea eb =
-    (elim (bytes_eq k.key a) as (λ t. bytes_eq k.key a ≡ t → (if t then Some 0 else option_map (λ i. suc i) (place_by (λ k. bytes_eq k.key a) ks)) ≡ Some i → a ≡ b) [
-      | true ↦ λ ta ea.
-          (elim (bytes_eq k.key b) as (λ t. bytes_eq k.key b ≡ t → (if t then Some 0 else option_map (λ i. suc i) (place_by (λ k. bytes_eq k.key b) ks)) ≡ Some i → a ≡ b) [
-            | true ↦ λ tb eb. sym (bytes_same k.key a ta) ∙ bytes_same k.key b tb
-            | false ↦ λ tb eb.
-                let m = mapped_some (place_by (λ k. bytes_eq k.key b) ks) i eb in
-                absurd (let f : Some 0 ≡ Some (suc m.0) = ea ∙ ap (λ i. Some i) m.2 in cc)
-          ]) refl eb
-      | false ↦ λ ta ea.
-          let m = mapped_some (place_by (λ k. bytes_eq k.key a) ks) i ea in
-          (elim (bytes_eq k.key b) as (λ t. bytes_eq k.key b ≡ t → (if t then Some 0 else option_map (λ i. suc i) (place_by (λ k. bytes_eq k.key b) ks)) ≡ Some i → a ≡ b) [
-            | true ↦ λ tb eb. absurd (let f : Some 0 ≡ Some (suc m.0) = eb ∙ ap (λ i. Some i) m.2 in cc)
-            | false ↦ λ tb eb.
-                let n = mapped_some (place_by (λ k. bytes_eq k.key b) ks) i eb in
-                let same : n.0 ≡ m.0 = (let f : suc n.0 ≡ suc m.0 = sym n.2 ∙ m.2 in cc) in
-                same_place ks a b m.0 m.1 (n.1 ∙ ap (λ i. Some i) same)
-          ]) refl eb
-    ]) refl ea
 
 -- ---- checks
 
@@ -347,7 +325,7 @@ module _ (g : Given) (left : List (List ℕ)) (operand : List ℕ) (given : IsGi
       let longer : length (left ++ operand ∷ []) ≡ length left + 1 = length-append left (operand ∷ []) in
       record {
         three = length-set g.places g.count (Some t) ∙ given.three;
-        eight = given.eight;
+        keys = given.keys;
         same = λ i. record { under = λ key. (ap (λ b. b.under key) given.same ∙ sym (plain_under e key)) i; at = λ n. plain_at e t is room n i; count = more i };
         keyed = k ∙ sym (any_push has_key left operand ∙ (λ i. (sym given.keyed ∙ k) i || e i));
         plain = λ _. ap (λ n. n + 1) (given.plain k) ∙ sym longer;
@@ -368,8 +346,8 @@ module _ (g : Given) (left : List (List ℕ)) (operand : List ℕ) (given : IsGi
 
   -- ---- an operand with a key
 
-  key_under : has_key operand ≡ true → (i : ℕ) → place_in (row_at g.row) (key_of operand) ≡ Some i → i < length g.texts → (t : Bor (List ℕ)) → t.now ≡ text_of operand → has (key_of operand) left ≡ false → (key : List ℕ)
-      → text_at (set g.texts i (Some t)) (place_in (row_at g.row) key) ≡ value_of key (left ++ operand ∷ [])
+  key_under : has_key operand ≡ true → (i : ℕ) → place_in (key_of operand) ≡ Some i → i < length g.texts → (t : Bor (List ℕ)) → t.now ≡ text_of operand → has (key_of operand) left ≡ false → (key : List ℕ)
+      → text_at (set g.texts i (Some t)) (place_in key) ≡ value_of key (left ++ operand ∷ [])
   key_under e i place room t is once key = at (bytes_eq (key_of operand) key) refl where
     row : grammar.Row
     row = row_at g.row
@@ -386,22 +364,22 @@ module _ (g : Given) (left : List (List ℕ)) (operand : List ℕ) (given : IsGi
     some_left None = refl
     some_left (Some x) = refl
 
-    other : (o : Option ℕ) → place_in row key ≡ o → bytes_eq (key_of operand) key ≡ false → text_at (set g.texts i (Some t)) o ≡ text_at g.texts o
+    other : (o : Option ℕ) → place_in key ≡ o → bytes_eq (key_of operand) key ≡ false → text_at (set g.texts i (Some t)) o ≡ text_at g.texts o
     other None p f = refl
     other (Some j) p f = kept_set g.texts i t j room ∙ apart (is_place j i) refl where
       apart : (b : Bool) → is_place j i ≡ b → (if b then Some t.now else kept (slice_get g.texts j)) ≡ kept (slice_get g.texts j)
       apart true q = absurd (
-          let here : place_in row key ≡ Some i = p ∙ ap (λ n. Some n) (one_place j i q) in
-          let same : key_of operand ≡ key = same_place row.keywords (key_of operand) key i place here in
+          let here : place_in key ≡ Some i = p ∙ ap (λ n. Some n) (one_place j i q) in
+          let same : key_of operand ≡ key = same_place (key_of operand) key i place here in
           let f : true ≡ false = sym (bytes_itself key) ∙ ap (λ k. bytes_eq k key) (sym same) ∙ f in
           cc
           )
       apart false q = refl
 
-    at : (b : Bool) → bytes_eq (key_of operand) key ≡ b → text_at (set g.texts i (Some t)) (place_in row key) ≡ value_of key (left ++ operand ∷ [])
+    at : (b : Bool) → bytes_eq (key_of operand) key ≡ b → text_at (set g.texts i (Some t)) (place_in key) ≡ value_of key (left ++ operand ∷ [])
     at true b =
         let same : key_of operand ≡ key = bytes_same (key_of operand) key b in
-        let here : place_in row key ≡ Some i = ap (place_in row) (sym same) ∙ place in
+        let here : place_in key ≡ Some i = ap place_in (sym same) ∙ place in
         let once_here : has key left ≡ false = ap (λ k. has k left) (sym same) ∙ once in
         ap (text_at (set g.texts i (Some t))) here
         ∙ kept_set g.texts i t i room
@@ -410,7 +388,7 @@ module _ (g : Given) (left : List (List ℕ)) (operand : List ℕ) (given : IsGi
         ∙ sym (said ∙ ap (λ b. option_map text_of (if is_some (find (is_for key) left) then find (is_for key) left else (if b then Some operand else None))) b
         ∙ ap (option_map text_of) (none_left (find (is_for key) left) once_here))
     at false b =
-        other (place_in row key) refl b
+        other (place_in key) refl b
         ∙ ap (λ b. b.under key) given.same
         ∙ sym (said ∙ ap (λ b. option_map text_of (if is_some (find (is_for key) left) then find (is_for key) left else (if b then Some operand else None))) b ∙ ap (option_map text_of) (some_left (find (is_for key) left)))
 
@@ -429,17 +407,16 @@ module _ (g : Given) (left : List (List ℕ)) (operand : List ℕ) (given : IsGi
   key_checks e kind again kind_is a = there (row_at g.row) left operand kind again (text_of operand) (key_kind e ∙ kind_is) (ap (λ b. b && has (key_of operand) left) e ∙ a) refl
 
   -- a key that the row does not have
-  pub key_unknown : has_key operand ≡ true → place_in (row_at g.row) (key_of operand) ≡ None → first_of (operand_checks (row_at g.row) (left, operand)) ≡ Some InvalidOperand
-  key_unknown e place =
-      not_there (row_at g.row) left operand (key_kind e ∙ ap (option_map (λ k. k.kind)) (place_none (λ k. bytes_eq k.key (key_of operand)) (row_at g.row).keywords place))
+  pub key_unknown : has_key operand ≡ true → find (λ k. bytes_eq k.key (key_of operand)) (row_at g.row).keywords ≡ None → first_of (operand_checks (row_at g.row) (left, operand)) ≡ Some InvalidOperand
+  key_unknown e none = not_there (row_at g.row) left operand (key_kind e ∙ ap (option_map (λ k. k.kind)) none)
 
   -- whether the key stands on the left is seen at its place
-  pub key_again : (i : ℕ) → place_in (row_at g.row) (key_of operand) ≡ Some i → has (key_of operand) left ≡ is_some (get_or g.texts i None)
+  pub key_again : (i : ℕ) → place_in (key_of operand) ≡ Some i → has (key_of operand) left ≡ is_some (get_or g.texts i None)
   key_again i place =
       ap is_some (sym (ap (λ b. b.under (key_of operand)) given.same)) ∙ ap (λ o. is_some (text_at g.texts o)) place ∙ ap is_some (kept_at g.texts i) ∙ some_now (get_or g.texts i None)
 
   -- an operand with a key is taken
-  pub key_given : has_key operand ≡ true → (i : ℕ) → place_in (row_at g.row) (key_of operand) ≡ Some i → i < length g.texts → (t : Bor (List ℕ)) → t.now ≡ text_of operand → (kind : grammar.Kind) (again : Bool)
+  pub key_given : has_key operand ≡ true → (i : ℕ) → place_in (key_of operand) ≡ Some i → i < length g.texts → (t : Bor (List ℕ)) → t.now ≡ text_of operand → (kind : grammar.Kind) (again : Bool)
       → option_map (λ k. k.kind) (find (λ k. bytes_eq k.key (key_of operand)) (row_at g.row).keywords) ≡ Some kind → has (key_of operand) left ≡ again → first_of (checks_of kind again (text_of operand)) ≡ None
       → IsGiven (record g { keyed = true; texts = set g.texts i (Some t) }) (left ++ operand ∷ [])
   key_given e i place room t is kind again kind_is again_is none =
@@ -448,7 +425,7 @@ module _ (g : Given) (left : List (List ℕ)) (operand : List ℕ) (given : IsGi
       let once : has (key_of operand) left ≡ false = again_is ∙ (or_false again (repeats kind (text_of operand)) second.0).0 in
       record {
         three = given.three;
-        eight = length-set g.texts i (Some t) ∙ given.eight;
+        keys = length-set g.texts i (Some t) ∙ given.keys;
         same = λ j. record {
           under = λ key. key_under e i place room t is once key j;
           at = λ n. (ap (λ b. b.at n) given.same ∙ ap (λ xs. slice_get xs n) (sym (key_positionals e))) j;
@@ -466,42 +443,32 @@ module _ (g : Given) (left : List (List ℕ)) (operand : List ℕ) (given : IsGi
 -- what is known when the operands on the left of a text were taken
 pub record TakesOn (old now : Given) (field rest : List ℕ) : Type 0 where
   pub left : List (List ℕ)
-  pub parts : parts_within 0 field ≡ left ++ parts_within 0 rest
+  pub parts : parts_within 0 (field_in field) ≡ left ++ parts_within 0 (field_in rest)
   pub given : IsGiven now left
   pub row : now.row ≡ old.row
 
-pub nothing_given : (g : Given) → g.places ≡ None ∷ None ∷ None ∷ [] → g.texts ≡ None ∷ None ∷ None ∷ None ∷ None ∷ None ∷ None ∷ None ∷ [] → g.keyed ≡ false → g.count ≡ 0 → IsGiven g []
+-- nothing stands in any place of an array of nothing
+none_kept : (n m : ℕ) → kept (slice_get (replicate n None) m) ≡ None
+none_kept zero m = refl
+none_kept (suc n) zero = refl
+none_kept (suc n) (suc m) = none_kept n m
+
+nowhere : (n : ℕ) (o : Option ℕ) → text_at (replicate n None) o ≡ None
+nowhere n None = refl
+nowhere n (Some m) = none_kept n m
+
+pub nothing_given : (g : Given) → g.places ≡ replicate 3 None → g.texts ≡ replicate 26 None → g.keyed ≡ false → g.count ≡ 0 → IsGiven g []
 nothing_given g p t k n = record {
   three = ap length p;
-  eight = ap length t;
-  same = λ i. record { under = λ key. (ap (λ ts. text_at ts (place_in (row_at g.row) key)) t ∙ nowhere (place_in (row_at g.row) key)) i; at = λ m. (ap (λ ps. text_at ps (Some m)) p ∙ no_place m) i; count = n i };
+  keys = ap length t;
+  same = λ i. record { under = λ key. (ap (λ ts. text_at ts (place_in key)) t ∙ nowhere 26 (place_in key)) i; at = λ m. (ap (λ ps. text_at ps (Some m)) p ∙ none_kept 3 m) i; count = n i };
   keyed = k;
   plain = λ _. n;
   taken = refl;
-  placed = λ m text said. absurd (let f : None ≡ Some text = sym (ap (λ ps. text_at ps (Some m)) p ∙ no_place m) ∙ said in cc);
-} where
-  no_place : (m : ℕ) → text_at (None ∷ None ∷ None ∷ []) (Some m) ≡ None
-  no_place zero = refl
-  no_place (suc zero) = refl
-  no_place (suc (suc zero)) = refl
-  no_place (suc (suc (suc m))) = refl
-
-  eight_none : (m : ℕ) → text_at (None ∷ None ∷ None ∷ None ∷ None ∷ None ∷ None ∷ None ∷ []) (Some m) ≡ None
-  eight_none zero = refl
-  eight_none (suc zero) = refl
-  eight_none (suc (suc zero)) = refl
-  eight_none (suc (suc (suc zero))) = refl
-  eight_none (suc (suc (suc (suc zero)))) = refl
-  eight_none (suc (suc (suc (suc (suc zero))))) = refl
-  eight_none (suc (suc (suc (suc (suc (suc zero)))))) = refl
-  eight_none (suc (suc (suc (suc (suc (suc (suc zero))))))) = refl
-  eight_none (suc (suc (suc (suc (suc (suc (suc (suc m)))))))) = refl
-
-  nowhere : (o : Option ℕ) → text_at (None ∷ None ∷ None ∷ None ∷ None ∷ None ∷ None ∷ None ∷ []) o ≡ None
-  nowhere None = refl
-  nowhere (Some m) = eight_none m
+  placed = λ m text said. absurd (let f : None ≡ Some text = sym (ap (λ ps. text_at ps (Some m)) p ∙ none_kept 3 m) ∙ said in cc);
+}
 
 -- there is an operand more
-pub some_operand : (P : List (List ℕ)) (o : List ℕ) (more : Option (Bor (List ℕ))) → MatchOption more (P ≡ o ∷ []) (λ rest. P ≡ o ∷ parts_within 0 rest.now) → (behind : List (List ℕ)) × (P ≡ o ∷ behind)
+pub some_operand : (P : List (List ℕ)) (o : List ℕ) (more : Option (Bor (List ℕ))) → MatchOption more (P ≡ o ∷ []) (λ rest. P ≡ o ∷ parts_within 0 (field_in rest.now)) → (behind : List (List ℕ)) × (P ≡ o ∷ behind)
 some_operand P o None e = ([], e)
-some_operand P o (Some rest) e = (parts_within 0 rest.now, e)
+some_operand P o (Some rest) e = (parts_within 0 (field_in rest.now), e)

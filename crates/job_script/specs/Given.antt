@@ -9,11 +9,17 @@ use Rattle.mvs_model.specs.Grammar as grammar
 use Rattle.job_script.specs.declared.given.Given.{Given}
 use Rattle.job_script.specs.Rows.{row_at}
 use Rattle.job_script.specs.Places.{place_in}
+use Rattle.job_script.specs.Parted.{field_in}
 
 -- a text that a reference points to
 abbrev pub option_now : Option (Bor (List ℕ)) → Option (List ℕ)
 option_now None = None
 option_now (Some text) = Some text.now
+
+-- the field that such a text starts with
+abbrev pub field_now : Option (Bor (List ℕ)) → Option (List ℕ)
+field_now None = None
+field_now (Some text) = Some (field_in text.now)
 
 -- the text in a place, where there is one
 abbrev pub kept : Option (Option (Bor (List ℕ))) → Option (List ℕ)
@@ -26,7 +32,7 @@ text_at texts (Some i) = kept (slice_get texts i)
 
 -- what was read, by keys and by places
 abbrev pub by_place : Given → ByKey
-by_place g = record { under = λ key. text_at g.texts (place_in (row_at g.row) key); at = λ k. text_at g.places (Some k); count = g.count }
+by_place g = record { under = λ key. text_at g.texts (place_in key); at = λ k. text_at g.places (Some k); count = g.count }
 
 -- a text in a place is of the kind there, and in its range
 pub record IsPlaced (row : grammar.Row) (place : ℕ) (text : List ℕ) : Type 0 where
@@ -36,7 +42,7 @@ pub record IsPlaced (row : grammar.Row) (place : ℕ) (text : List ℕ) : Type 0
 -- These operands were read, and no check is against them.
 pub record IsGiven (g : Given) (left : List (List ℕ)) : Type 0 where
   pub three : length g.places ≡ 3
-  pub eight : length g.texts ≡ 8
+  pub keys : length g.texts ≡ 26
   pub same : by_place g ≡ by_key left
   pub keyed : g.keyed ≡ list_any has_key left
   pub plain : g.keyed ≡ false → g.count ≡ length left

@@ -1,18 +1,18 @@
 //! The operands of a statement, read by its row of the table.
 
-ghost use Rattle.std.specs.Prelude.{◌≡◌, ◌<◌, [], ℕ, List, length, true, false, position, bytes_eq, flat_map, None, Some, MatchOption, MatchResult, IfSome};
+ghost use Rattle.std.specs.Prelude.{◌≡◌, ◌<◌, [], ℕ, List, length, true, false, find, position, bytes_eq, flat_map, None, Some, MatchOption, MatchResult, IfSome};
 ghost use Rattle.mvs_model.specs.Reading.{parts_within, operands_in, has_key, key_of, text_of, first_of, operand_checks, with_left};
 ghost use Rattle.job_script.specs.Kinds.{as_kind};
 ghost use Rattle.job_script.specs.Rows.{key_text, row_at};
-ghost use Rattle.job_script.specs.Places.{place_in, HasKeyword};
+ghost use Rattle.job_script.specs.Places.{HasKeyword, key_index};
 
-use crate::keys::Key;
-use crate::kinds::{Kind, check};
+use crate::keys::{KEYS, Key};
+use crate::kinds::check;
 use crate::parted::{next_operand, parted};
 use crate::rows::{Keyword, Row};
 use mvs_model::line::Fault;
 
-/// The operands of a statement: the texts of those that were read so far, in the places that the row has for them.
+/// The operands of a statement: the texts of those that were read so far, in the places that the row and the keys have for them.
 #[derive(Drop)]
 pub struct Given<'a> {
     /// What the statement takes.
@@ -22,7 +22,7 @@ pub struct Given<'a> {
     /// How many positional operands were read.
     pub count: usize,
     pub places: [Option<&'a [u8]>; 3],
-    pub texts: [Option<&'a [u8]>; 8],
+    pub texts: [Option<&'a [u8]>; KEYS],
 }
 
 // Where a keyword stands in its table, by the text before the equals sign.
@@ -33,27 +33,20 @@ fn place(keywords: &[Keyword], text: &[u8]) -> Option<usize>
     keywords.iter().position(|keyword| keyword.key.is(text))
 }
 
-// Where a keyword of a row stands, by the text before the equals sign, and its kind.
-fn keyword_at(row: Row, key: &[u8]) -> Option<(usize, Kind)>
-    ensures { MatchOption result (place_in (row_at row) key.now ≡ None) (λ r. HasKeyword (row_at row) key.now r.0 (as_kind r.1)) }
+// The keyword of a row that has this key.
+fn keyword_at(row: Row, key: &[u8]) -> Option<&'static Keyword>
+    ensures { MatchOption result (find (λ k. bytes_eq k.key key.now) (row_at row).keywords ≡ None) (λ k. HasKeyword (row_at row) key.now (key_index k.now.key) (as_kind k.now.kind)) }
 {
     let keywords = row.keywords();
     match place(keywords, key) {
         None => None,
-        Some(place) => Some((place, keywords[place].kind)),
+        Some(place) => Some(&keywords[place]),
     }
 }
 
-// Where a keyword stands in its table.
-fn place_of(keywords: &[Keyword], key: Key) -> Option<usize>
-    ensures place { result ≡ position (λ k. bytes_eq (key_text k.key) (key_text key)) keywords.now }
-    ensures within { IfSome result (λ i. i < length keywords.now) }
-{
-    keywords.iter().position(|keyword| keyword.key == key)
-}
-
 impl<'a> Given<'a> {
-    ghost use Rattle.job_script.specs.Given.{IsGiven, IsRead, IsPlaced, Takes, by_place, option_now};
+    ghost use Rattle.job_script.specs.Given.{IsGiven, IsRead, IsPlaced, Takes, by_place, option_now, field_now};
+    ghost use Rattle.job_script.specs.Parted.{field_in};
     ghost use Rattle.mvs_model.specs.ReadingLaws.{IsTaken};
 
     /// No operand.
@@ -66,7 +59,7 @@ impl<'a> Given<'a> {
             keyed: false,
             count: 0,
             places: [None; 3],
-            texts: [None; 8],
+            texts: [None; KEYS],
         }
     }
 
@@ -81,7 +74,7 @@ impl<'a> Given<'a> {
         let Some(positional) = self.row.positional().get(self.count) else {
             return Err(Fault::InvalidOperand);
         };
-        check(positional.kind, operand, false)?;
+        check(&positional.kind, operand, false)?;
         self.places[self.count] = Some(operand);
         self.count += 1;
         Ok(())
@@ -91,10 +84,11 @@ impl<'a> Given<'a> {
     fn take_keyword(&mut self, key: &[u8], text: &'a [u8]) -> Result<(), Fault>
         ensures { (operand : List ℕ) → has_key operand ≡ true → key_of operand ≡ key.now → text_of operand ≡ text.now → Takes self.old self.new operand result }
     {
-        let Some((place, kind)) = keyword_at(self.row, key) else {
+        let Some(keyword) = keyword_at(self.row, key) else {
             return Err(Fault::InvalidOperand);
         };
-        if let Err(fault) = check(kind, text, self.texts[place].is_some()) {
+        let place = keyword.key.index();
+        if let Err(fault) = check(&keyword.kind, text, self.texts[place].is_some()) {
             return Err(fault);
         }
         self.texts[place] = Some(text);
@@ -113,12 +107,12 @@ impl<'a> Given<'a> {
         }
     }
 
-    /// Takes the operands of a field from left to right, or answers what is wrong with the first that is not taken.
+    /// Takes the operands of the field that a text starts with from left to right, or answers what is wrong with the first that is not taken.
     pub fn take_all(&mut self, field: &'a [u8]) -> Result<(), Fault>
         requires { IsGiven self.old [] }
         ensures { MatchResult result
-            (λ _. IsGiven self.new (parts_within 0 field.now) × (self.new.row ≡ self.old.row))
-            (λ fault. first_of (flat_map (operand_checks (row_at self.old.row)) (with_left (parts_within 0 field.now))) ≡ Some fault) }
+            (λ _. IsGiven self.new (parts_within 0 (field_in field.now)) × (self.new.row ≡ self.old.row))
+            (λ fault. first_of (flat_map (operand_checks (row_at self.old.row)) (with_left (parts_within 0 (field_in field.now)))) ≡ Some fault) }
     {
         let mut rest = field;
         'operands: loop {
@@ -137,8 +131,8 @@ impl<'a> Given<'a> {
     pub fn take_field(&mut self, field: Option<&'a [u8]>) -> Result<(), Fault>
         requires { IsGiven self.old [] }
         ensures { MatchResult result
-            (λ _. IsGiven self.new (operands_in (option_now field.entry)) × (self.new.row ≡ self.old.row))
-            (λ fault. first_of (flat_map (operand_checks (row_at self.old.row)) (with_left (operands_in (option_now field.entry)))) ≡ Some fault) }
+            (λ _. IsGiven self.new (operands_in (field_now field.entry)) × (self.new.row ≡ self.old.row))
+            (λ fault. first_of (flat_map (operand_checks (row_at self.old.row)) (with_left (operands_in (field_now field.entry)))) ≡ Some fault) }
     {
         match field {
             None => Ok(()),
@@ -153,10 +147,7 @@ impl<'a> Given<'a> {
         ensures said { MatchOption result ((by_place self.now).under (key_text key) ≡ None) (λ text. (by_place self.now).under (key_text key) ≡ Some text.now) }
         ensures taken { IfSome result (λ text. IsTaken (row_at self.now.row) (key_text key) text.now) }
     {
-        match place_of(self.row.keywords(), key) {
-            None => None,
-            Some(place) => self.texts[place],
-        }
+        self.texts[key.index()]
     }
 
     /// The positional operand at a place, counted from 0.

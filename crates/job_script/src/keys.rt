@@ -1,7 +1,11 @@
 //! The keys of operands, in the order in which the statements bring them.
 
-ghost use Rattle.std.specs.Prelude.{◌≡◌, bytes_eq};
+ghost use Rattle.std.specs.Prelude.{◌≡◌, ◌<◌, bytes_eq};
 ghost use Rattle.job_script.specs.Rows.{key_text};
+ghost use Rattle.job_script.specs.Places.{key_index};
+
+/// How many keys there are.
+pub const KEYS: usize = 26;
 
 /// The key of an operand KEY=value.
 #[derive(Clone, Copy, Debug, PartialEq, Eq)]
@@ -35,6 +39,14 @@ pub enum Key {
 }
 
 impl Key {
+    /// The place of the key among all.
+    pub fn index(self) -> usize
+        ensures index { result ≡ key_index self }
+        ensures within { result < 26 }
+    {
+        self as usize
+    }
+
     /// Whether a text is the key as a script writes it.
     pub fn is(self, text: &[u8]) -> bool
         ensures { result ≡ bytes_eq (key_text self) text.now }

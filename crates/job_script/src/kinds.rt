@@ -236,8 +236,24 @@ pub fn is_within(kind: Kind, text: &[u8]) -> bool
     }
 }
 
-/// What is wrong with the text of an operand of a kind; `again` says whether its key stands on the left too.
-pub fn check(kind: Kind, text: &[u8], again: bool) -> Result<(), Fault>
+// What is wrong with the text of an operand that is to be a number.
+fn check_number(least: u32, most: u32, text: &[u8], again: bool) -> Result<(), Fault>
+    ensures { fault_in result ≡ first_of (checks_of (grammar.Number least most) again text.now) }
+{
+    if !is_number(text) {
+        return Err(Fault::InvalidOperand);
+    }
+    if again {
+        return Err(Fault::Repeated);
+    }
+    if !is_in_range(least, most, text) {
+        return Err(Fault::OutOfRange);
+    }
+    Ok(())
+}
+
+// What is wrong with the text of an operand of any kind.
+fn check_text(kind: Kind, text: &[u8], again: bool) -> Result<(), Fault>
     ensures { fault_in result ≡ first_of (checks_of (as_kind kind) again text.now) }
 {
     if !is_of(kind, text) {
@@ -250,4 +266,14 @@ pub fn check(kind: Kind, text: &[u8], again: bool) -> Result<(), Fault>
         return Err(Fault::OutOfRange);
     }
     Ok(())
+}
+
+/// What is wrong with the text of an operand of a kind; `again` says whether its key stands on the left too.
+pub fn check(kind: &Kind, text: &[u8], again: bool) -> Result<(), Fault>
+    ensures { fault_in result ≡ first_of (checks_of (as_kind kind.now) again text.now) }
+{
+    match kind {
+        Kind::Number(least, most) => check_number(*least, *most, text, again),
+        _ => check_text(*kind, text, again),
+    }
 }

@@ -5,15 +5,15 @@ ghost use Rattle.std.specs.Prelude.{◌≡◌, ◌==◌, ◌&&◌, nat_le};
 ghost use Rattle.std.specs.List.{list_all};
 ghost use Rattle.mvs_model.specs.Lines.{IsLine};
 ghost use Rattle.mvs_model.specs.Reading.{IsReading, says_nothing};
-ghost use Rattle.mvs_model.specs.declared.line.Line.TheVariants.{Nothing};
 ghost use Rattle.job_script.specs.Operations.{operation_text};
+ghost use Rattle.job_script.specs.Parted.{field_in};
 ghost use Rattle.job_script.specs.Said.{filled};
 ghost use Rattle.job_script.specs.Stated.{is_in_place, field_of, StatementReading};
 
 use crate::addresses::{is_name, name};
 pub use crate::line_buffer::{LineBuffer, Pushed};
 use crate::operations::{Operation, read_operation};
-use crate::parted::{next_word, parted};
+use crate::parted::{behind_blanks, next_word, parted};
 use crate::statement::read_operands;
 use mvs_model::line::{Fault, Line};
 
@@ -73,13 +73,13 @@ fn is_in_place(first: bool, operation: Operation) -> bool
     !first || matches!(operation, Operation::Region)
 }
 
-// The field of operands behind an operation. What follows RETURN is a remark.
+// The text that starts with the field of operands behind an operation. What follows RETURN is a remark.
 fn field_of<'a>(operation: Operation, rest: &'a [u8]) -> &'a [u8]
-    ensures { result.now ≡ field_of operation rest.now }
+    ensures { field_in result.now ≡ field_of operation rest.now }
 {
     match operation {
         Operation::Return => &[],
-        _ => next_word(rest).0,
+        _ => behind_blanks(rest),
     }
 }
 
@@ -104,9 +104,8 @@ fn read_statement(line: &[u8], first: bool, read: &mut Line) -> Result<(), Fault
     read_operands(name(task), operation, field_of(operation, rest), read)
 }
 
-// Reads a line in the place of one that says nothing, and answers the first fault that applies.
+// Reads a line, and answers the first fault that applies.
 fn read_into(line: &[u8], first: bool, read: &mut Line) -> Result<(), Fault>
-    requires { read.old ≡ Nothing }
     ensures { IsReading first line.now (filled read.new result) }
 {
     if line.len() > LONGEST {
@@ -116,22 +115,19 @@ fn read_into(line: &[u8], first: bool, read: &mut Line) -> Result<(), Fault>
         return Err(Fault::InvalidByte);
     }
     if says_nothing(line) {
+        *read = Line::Nothing;
         return Ok(());
     }
     read_statement(line, first, read)
 }
 
-/// Reads a line without its end, and answers the first fault that applies; `first` says whether no statement came before it. Of a line that is too
-/// long any front of more than 255 bytes serves. The notation is this project's own.
-pub fn read_line(line: &[u8], first: bool) -> Result<Line, Fault>
-    ensures reading { IsReading first line.now result }
-    ensures in_range { IsLine first result }
+/// Reads a line without its end into `read`, and answers the first fault that applies; `first` says whether no statement came before it. Of a line
+/// that is too long any front of more than 255 bytes serves. The notation is this project's own.
+pub fn read_line(line: &[u8], first: bool, read: &mut Line) -> Result<(), Fault>
+    ensures reading { IsReading first line.now (filled read.new result) }
+    ensures in_range { IsLine first (filled read.new result) }
 {
-    let mut read = Line::Nothing;
-    if let Err(fault) = read_into(line, first, &mut read) {
-        return Err(fault);
-    }
-    Ok(read)
+    read_into(line, first, read)
 }
 
 #[cfg(test)]

@@ -3,7 +3,7 @@
 ghost use Rattle.std.specs.Prelude.{◌≡◌, ◌≤◌, ◌<◌, ◌+◌, ◌^◌, ◌==◌, ◌∷◌, [], true, false, length, drop, position, slice_get, unwrap_or, MatchOption};
 ghost use Rattle.std.specs.List.{before_first, after_first, list_any, slice_split};
 ghost use Rattle.mvs_model.specs.Reading.{words, parts_within};
-ghost use Rattle.job_script.specs.Parted.{starts_word, splits_at, opened_after, end_from};
+ghost use Rattle.job_script.specs.Parted.{starts_word, field_in, ends_at, opened_after, end_from};
 
 // Where the first of these bytes stands.
 fn place(text: &[u8], byte: u8) -> Option<usize>
@@ -27,8 +27,8 @@ pub fn parted(text: &[u8], byte: u8) -> (&[u8], Option<&[u8]>)
     }
 }
 
-// The text from its first byte on that is no blank.
-fn behind_blanks(text: &[u8]) -> &[u8]
+/// The text from its first byte on that is no blank.
+pub fn behind_blanks(text: &[u8]) -> &[u8]
     ensures words { words result.now ≡ words text.now }
     ensures start { starts_word result.now ≡ true }
 {
@@ -52,11 +52,11 @@ pub fn next_word(text: &[u8]) -> (&[u8], &[u8])
     }
 }
 
-// Whether a byte, where so many parentheses are open, parts two operands.
-fn splits(opened: usize, byte: u8) -> bool
-    ensures { result ≡ splits_at opened byte }
+// Whether a byte, where so many parentheses are open, ends an operand: it is a blank, or a comma outside them.
+fn ends(opened: usize, byte: u8) -> bool
+    ensures { result ≡ ends_at opened byte }
 {
-    byte == b',' && opened == 0
+    byte == b' ' || byte == b',' && opened == 0
 }
 
 // How many parentheses are open behind a byte. One that closes nothing counts for nothing.
@@ -72,7 +72,7 @@ fn next_opened(opened: usize, byte: u8) -> usize
     }
 }
 
-// Where the first operand ends: at a comma outside parentheses, or at the end.
+// Where the first operand ends: at a comma outside parentheses, at a blank, or at the end.
 #[tactic(auto, using(crate::proofs::Parts::end_more, crate::proofs::Parts::end_here))]
 fn operand_end(text: &[u8]) -> usize
     ensures end { result ≡ end_from 0 text.now }
@@ -81,7 +81,7 @@ fn operand_end(text: &[u8]) -> usize
     let mut opened = 0usize;
     for (i, byte) in text.iter().enumerate() {
         if *byte <= b',' {
-            if splits(opened, *byte) {
+            if ends(opened, *byte) {
                 return i;
             }
             opened = next_opened(opened, *byte);
@@ -90,16 +90,16 @@ fn operand_end(text: &[u8]) -> usize
     text.len()
 }
 
-/// The first operand of a field, and the text behind its comma, where there is one.
+/// The first operand of the field that a text starts with, and the text behind its comma, where there is one.
 pub fn next_operand(text: &[u8]) -> (&[u8], Option<&[u8]>)
-    ensures parts { MatchOption result.1 (parts_within 0 text.now ≡ result.0.now ∷ [])
-        (λ rest. (parts_within 0 text.now ≡ result.0.now ∷ parts_within 0 rest.now)) }
+    ensures parts { MatchOption result.1 (parts_within 0 (field_in text.now) ≡ result.0.now ∷ [])
+        (λ rest. (parts_within 0 (field_in text.now) ≡ result.0.now ∷ parts_within 0 (field_in rest.now))) }
     ensures less { MatchOption result.1 (Unit {0}) (λ rest. length rest.now < length text.now) }
 {
     let end = operand_end(text);
-    if end < text.len() {
+    if end < text.len() && text[end] == b',' {
         (&text[..end], Some(&text[end + 1..]))
     } else {
-        (text, None)
+        (&text[..end], None)
     }
 }

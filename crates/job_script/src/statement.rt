@@ -2,12 +2,13 @@
 
 ghost use Rattle.std.specs.Prelude.{◌≡◌, true, false};
 ghost use Rattle.std.specs.List.{list_any};
-ghost use Rattle.mvs_model.specs.Reading.{has_key, is_conflict, operands_in, statement_of, takes_form};
-ghost use Rattle.job_script.specs.Given.{IsRead, by_place, option_now};
+ghost use Rattle.mvs_model.specs.Reading.{has_key, is_conflict, is_empty, operands_in, statement_of, takes_form};
+ghost use Rattle.job_script.specs.Given.{IsRead, by_place, field_now};
 ghost use Rattle.job_script.specs.Operations.{operation_text};
 ghost use Rattle.job_script.specs.Rowed.{RowReading, FormReading, as_field};
 ghost use Rattle.job_script.specs.Rows.{row_at};
 ghost use Rattle.job_script.specs.Said.{filled, said_line};
+ghost use Rattle.job_script.specs.Parted.{field_in};
 
 use crate::given::Given;
 use crate::keys::Key;
@@ -71,7 +72,7 @@ fn read_row(
     field: Option<&[u8]>,
     line: &mut Line,
 ) -> Result<(), Fault>
-    ensures { RowReading (row_at row) task form.now (operands_in (option_now field.entry)) (filled line.new result) }
+    ensures { RowReading (row_at row) task form.now (operands_in (field_now field.entry)) (filled line.new result) }
 {
     let mut given = Given::none(row);
     if let Err(fault) = given.take_field(field) {
@@ -90,6 +91,16 @@ fn has_key(operand: &[u8]) -> bool
     operand.iter().any(|byte| *byte == b'=')
 }
 
+// Whether the field that a text starts with is empty.
+fn is_empty(field: &[u8]) -> bool
+    ensures { result ≡ is_empty (field_in field.now) }
+{
+    match field {
+        [] => true,
+        [first, ..] => *first == b' ',
+    }
+}
+
 // Reads the form of an operation and the operands behind it.
 fn read_with_form(
     task: Name,
@@ -98,9 +109,9 @@ fn read_with_form(
     line: &mut Line,
 ) -> Result<(), Fault>
     requires { takes_form (operation_text operation) ≡ true }
-    ensures { FormReading (operation_text operation) task (operands_in (as_field field.now)) (filled line.new result) }
+    ensures { FormReading (operation_text operation) task (operands_in (as_field (field_in field.now))) (filled line.new result) }
 {
-    if field.is_empty() {
+    if is_empty(field) {
         return Err(Fault::MissingOperand);
     }
     let (form, rest) = next_operand(field);
@@ -113,12 +124,13 @@ fn read_with_form(
     read_row(task, row, form, rest, line)
 }
 
-// A field, which has no operands where it is empty.
+// The text of a field, where it has operands: it has none where it is empty.
 fn as_field(field: &[u8]) -> Option<&[u8]>
-    ensures { option_now result ≡ as_field field.now }
+    ensures { field_now result ≡ as_field (field_in field.now) }
 {
     match field {
         [] => None,
+        [b' ', ..] => None,
         _ => Some(field),
     }
 }
@@ -131,7 +143,7 @@ fn read_without_form(
     line: &mut Line,
 ) -> Result<(), Fault>
     requires { takes_form (operation_text operation) ≡ false }
-    ensures { FormReading (operation_text operation) task (operands_in (as_field field.now)) (filled line.new result) }
+    ensures { FormReading (operation_text operation) task (operands_in (as_field (field_in field.now))) (filled line.new result) }
 {
     let Some(row) = operation.row(&[]) else {
         return Err(Fault::UnknownOperation);
@@ -139,14 +151,14 @@ fn read_without_form(
     read_row(task, row, &[], as_field(field), line)
 }
 
-/// Reads what an operation says with the operands of a field, which has none where it is empty.
+/// Reads what an operation says with the operands of the field that a text starts with, which has none where it is empty.
 pub fn read_operands(
     task: Name,
     operation: Operation,
     field: &[u8],
     line: &mut Line,
 ) -> Result<(), Fault>
-    ensures { FormReading (operation_text operation) task (operands_in (as_field field.now)) (filled line.new result) }
+    ensures { FormReading (operation_text operation) task (operands_in (as_field (field_in field.now))) (filled line.new result) }
 {
     if operation.takes_form() {
         read_with_form(task, operation, field, line)

@@ -182,15 +182,15 @@ pub fn run_line<W: Write>(
     ensures ok { OnOk result (writer.new.failed ≡ writer.old.failed) }
     ensures write { IsErrOf result Stop.Write → writer.new.failed ≡ true }
 {
-    let read = read_line(line, stage.is_none());
-    let line = match &read {
-        Ok(line) => line,
+    let mut read = Line::Nothing;
+    match read_line(line, stage.is_none(), &mut read) {
+        Ok(()) => {}
         Err(fault) => {
-            print_fault(writer, number, *fault)?;
+            print_fault(writer, number, fault)?;
             return Ok(false);
         }
-    };
-    match line {
+    }
+    match &read {
         Line::Nothing => Ok(true),
         Line::Statement(task, statement) => {
             match run_statement(stage, alloc, placement, number, task, statement, writer) {

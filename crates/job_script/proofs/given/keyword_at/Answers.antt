@@ -1,17 +1,25 @@
-use Rattle.std.proofs.Common.{◌≡◌, Some, sym, ◌∙◌, arith}
-use Rattle.job_script.specs.Rows.{row_at}
-use Rattle.job_script.specs.Places.{place_in}
-use Rattle.job_script.proofs.Taking.{key_place, place_kind}
+use Rattle.std.proofs.Common.{◌≡◌, Some, sym, ap, ◌∙◌}
+use Rattle.std.specs.Prelude.{bytes_eq}
+use Rattle.mvs_model.proofs.ReadingTaken.{bytes_same}
+use Rattle.job_script.specs.Rows.{row_at, key_text}
+use Rattle.job_script.specs.Places.{place_by, place_in}
+use Rattle.job_script.proofs.KeyPlaces.{key_place, place_passes}
+use Rattle.job_script.proofs.Taking.{row_place, place_kind, place_none, place_is}
 use Rattle.job_script.proofs.given.keyword_at.Goals as goal
 
 pub returns-in-None : goal.returns-in-None
-returns-in-None c = sym (key_place c.keywords-keywords.result.now (row_at c.args.row) c.keywords-keywords.ensures.row c.args.key.now) ∙ sym c.in-None.ensures.place
+returns-in-None c =
+    place_none (λ k. bytes_eq k.key c.args.key.now) (row_at c.args.row).keywords (sym (row_place c.keywords-keywords.result.now (row_at c.args.row) c.keywords-keywords.ensures.row c.args.key.now) ∙ sym c.in-None.ensures.place)
 
 pub returns-in-Some : goal.returns-in-Some
 returns-in-Some c =
     let kws = c.keywords-keywords.result.now in
     let row = row_at c.args.row in
-    let here : place_in row c.args.key.now ≡ Some c.in-Some.place = sym (key_place kws row c.keywords-keywords.ensures.row c.args.key.now) ∙ sym c.in-Some.ensures.place in
-    let few = c.keywords-keywords.ensures.few in
-    let within = c.in-Some.ensures.within in
-    record { here = here; within = omega arith; kind_is = place_kind kws row c.keywords-keywords.ensures.row c.args.key.now c.in-Some.place here within _ }
+    let text = c.args.key.now in
+    let there : place_by (λ k. bytes_eq k.key text) row.keywords ≡ Some c.in-Some.place = sym (row_place kws row c.keywords-keywords.ensures.row text) ∙ sym c.in-Some.ensures.place in
+    let found : place_by (λ k. bytes_eq (key_text k.key) text) kws ≡ Some c.in-Some.place = sym (place_is (λ k. bytes_eq (key_text k.key) text) kws) ∙ sym c.in-Some.ensures.place in
+    let is = bytes_same _ text (place_passes (λ k. bytes_eq (key_text k.key) text) kws c.in-Some.place found _) in
+    record {
+      here = ap place_in (sym is) ∙ key_place _;
+      kind_is = place_kind kws row c.keywords-keywords.ensures.row text c.in-Some.place there c.in-Some.ensures.within _;
+    }

@@ -2,8 +2,9 @@ use Rattle.std.proofs.Common.{◌≡◌, ◌∷◌, refl, sym, ap, subst, ◌∙
 use Rattle.std.specs.Prelude.{not}
 use Rattle.mvs_model.specs.declared.line.Fault.TheVariants.{UnknownOperation}
 use Rattle.mvs_model.specs.Reading.{operands_in, has_key, is_empty}
-use Rattle.job_script.specs.Given.{option_now}
+use Rattle.job_script.specs.Given.{field_now}
 use Rattle.job_script.specs.Operations.{operation_text}
+use Rattle.job_script.specs.Parted.{field_in}
 use Rattle.job_script.specs.Rowed.{FormReading}
 use Rattle.job_script.specs.Rows.{row_at}
 use Rattle.job_script.specs.Said.{filled}
@@ -14,8 +15,8 @@ pub returns-in_default : goal.returns-in_default
 returns-in_default c =
     let op = operation_text c.args.operation in
     let form = c.next_operand.result.0.now in
-    let behind = operands_in (option_now c.next_operand.result.1) in
-    let parts = form_parts c.args.field.now form c.next_operand.result.1 (sym c.is_empty.ensures ∙ c.if-is_empty.false) c.next_operand.ensures.parts in
+    let behind = operands_in (field_now c.next_operand.result.1) in
+    let parts = form_parts (field_in c.args.field.now) form c.next_operand.result.1 (sym c.is_empty.ensures ∙ c.if-is_empty.false) c.next_operand.ensures.parts in
     let plain : has_key form ≡ false = sym c.has_key.ensures ∙ c.if-has_key.false in
     subst (λ os. FormReading op c.args.task os (Err UnknownOperation)) (sym parts) (form_unknown op c.args.task (form ∷ behind) (form_there op form behind plain) c.in_default.ensures.row)
 
@@ -23,8 +24,8 @@ pub returns : goal.returns
 returns c =
     let op = operation_text c.args.operation in
     let form = c.next_operand.result.0.now in
-    let behind = operands_in (option_now c.next_operand.result.1) in
-    let parts = form_parts c.args.field.now form c.next_operand.result.1 (sym c.is_empty.ensures ∙ c.if-is_empty.false) c.next_operand.ensures.parts in
+    let behind = operands_in (field_now c.next_operand.result.1) in
+    let parts = form_parts (field_in c.args.field.now) form c.next_operand.result.1 (sym c.is_empty.ensures ∙ c.if-is_empty.false) c.next_operand.ensures.parts in
     let plain : has_key form ≡ false = sym c.has_key.ensures ∙ c.if-has_key.false in
     let formed : is_empty (row_at c.in-Some.row).forms ≡ false = c.in-Some.ensures.formed ∙ ap not c.requires in
     subst (λ os. FormReading op c.args.task os (filled c.read_row.new.line c.read_row.result)) (sym parts)
