@@ -1,6 +1,8 @@
 pub mod Ranges
 pub mod Queued
 pub mod PageChange
+pub mod PageParts
+pub mod PageOpened
 pub mod PageTaken
 pub mod PageWritten
 pub mod Marked
@@ -9,6 +11,7 @@ pub mod Begun
 pub mod HalfCount
 pub mod StoreCount
 pub mod Scan
+pub mod Short
 pub mod Exact
 pub mod Cover
 pub mod Change
@@ -17,7 +20,6 @@ pub mod Methods
 pub mod Both
 pub mod Choice
 pub mod Opened
-pub mod Taken
 pub mod Parts
 pub mod LentHalf
 pub mod Counts

@@ -1,5 +1,5 @@
 -- The pages of a region, in which the queues of what is free lie: which doublewords are held, and the bytes.
-use Rattle.std.specs.Prelude.{◌≡◌, ℕ, ◌+◌, ◌-◌, ◌*◌, ◌/◌, ◌%◌, ◌<◌, ◌≤◌, ◌↔◌, ◌&&◌, ◌||◌, ◌==◌, not, Bool, true, false, List, [], ◌∷◌, length, map, slice_index, slice_index_or, if◌then◌else◌, refl}
+use Rattle.std.specs.Prelude.{◌≡◌, ℕ, ◌+◌, ◌-◌, ◌*◌, ◌/◌, ◌%◌, ◌<◌, ◌≤◌, ◌↔◌, ◌&&◌, ◌||◌, ◌==◌, not, Bool, true, false, List, [], ◌∷◌, Some, length, map, slice_index, slice_index_or, if◌then◌else◌, refl}
 use Rattle.std.specs.Coded.{Coded, code_by, coded×, coded_bool, coded_list, coded_ℕ, coded_option}
 use Rattle.std.specs.List.{range_with_len}
 use Rattle.free_queue.specs.Runs.{IsFree, Queue, Run, page_of, runs_of}
@@ -47,6 +47,10 @@ pub record Turns (old : Pages) (page : ℕ) (now_open : Bool) (new : Pages) : Ty
 -- the bytes of what is held are as before
 abbrev pub Stays : List Bool → Pages → Pages → Type 0
 Stays held old new = (k : ℕ) → slice_index_or held (k / 8) false ≡ true → byte_of new k ≡ byte_of old k
+
+-- each byte of some doublewords has the value
+abbrev pub IsFilled : ℕ → ℕ → ℕ → Pages → Type 0
+IsFilled from to value bytes = (k : ℕ) → 8 * from ≤ k → k < 8 * to → byte_of bytes k ≡ Some value
 
 -- Which pages are open is as before, and so are the bytes of what is held.
 pub record KeepsHeld (held : List Bool) (old new : Pages) : Type 0 where

@@ -21,7 +21,7 @@ ghost use Rattle.subpool_store.specs.Half.{
   OwnsPage,
   cell,
 };
-ghost use Rattle.subpool_store.specs.Memory.{Stays};
+ghost use Rattle.subpool_store.specs.Memory.{IsFilled, Stays};
 ghost use Rattle.subpool_store.specs.Search.{IsCounted};
 ghost use Rattle.subpool_store.specs.LendsHalf.{LendsHalf};
 
@@ -52,43 +52,59 @@ fn run_of(first: u32, place: Place) -> Run
     }
 }
 
-// Assigns a page that the subpool may use to it, and opens it, if it is not assigned yet.
-fn open_page(pages: &mut PageMap, memory: &mut Memory, subpool: SubpoolId, page: usize, fill: u8)
-    requires within { page < length pages.old }
-    requires usable { is_usable subpool (owner_of pages.old page) ≡ true }
-    requires opened { IsOpened pages.old memory.old.bytes }
-    ensures assigned { pages.new ≡ slice_set pages.old page (Some subpool) }
-    ensures opened { IsOpened pages.new memory.new.bytes }
-    ensures held { memory.new.held ≡ memory.old.held }
-    ensures stays { Stays memory.old.held memory.old.bytes memory.new.bytes }
-{
-    if pages.owner(page).is_some() {
-        return;
-    }
-    pages.assign(page, subpool);
-    memory.open_page(page, fill);
-}
-
-// Assigns the pages of a range that are not assigned, and opens them.
-fn open_pages(
+// Takes free doublewords of a page that the subpool may use, and fills them. A page that is not assigned is assigned to
+// it, and opened.
+fn take_part(
     pages: &mut PageMap,
     memory: &mut Memory,
     subpool: SubpoolId,
-    from: usize,
-    to: usize,
+    page: usize,
+    run: Run,
     fill: u8,
 )
-    requires ordered { from ≤ to }
-    requires within { to ≤ length pages.old }
-    requires usable { (p : ℕ) → from ≤ p → p < to → is_usable subpool (owner_of pages.old p) ≡ true }
+    requires within { page < length pages.old }
+    requires few { length pages.old ≤ 8192 }
+    requires usable { is_usable subpool (owner_of pages.old page) ≡ true }
     requires opened { IsOpened pages.old memory.old.bytes }
-    ensures assigned { IsAssigned pages.old from to subpool pages.new }
+    requires some { run.start < run.end }
+    requires first { 512 * page ≤ run.start }
+    requires last { run.end ≤ 512 * page + 512 }
+    requires free { (i : ℕ) → run.start ≤ i → i < run.end → slice_index_or memory.old.held i false ≡ false }
+    ensures assigned { pages.new ≡ slice_set pages.old page (Some subpool) }
     ensures opened { IsOpened pages.new memory.new.bytes }
-    ensures held { memory.new.held ≡ memory.old.held }
+    ensures marked { IsMarked memory.old.held run.start run.end true memory.new.held }
     ensures stays { Stays memory.old.held memory.old.bytes memory.new.bytes }
+    ensures filled { IsFilled run.start run.end fill memory.new.bytes }
 {
-    for page in from..to {
-        open_page(pages, memory, subpool, page, fill);
+    if pages.owner(page).is_some() {
+        memory.take(page, run.start, run.end, fill);
+        return;
+    }
+    pages.assign(page, subpool);
+    memory.open_page(page, run.start, run.end, fill);
+}
+
+// The same of the doublewords of a run, page by page.
+fn take_run(pages: &mut PageMap, memory: &mut Memory, subpool: SubpoolId, run: Run, fill: u8)
+    requires some { run.start < run.end }
+    requires within { run.end ≤ 512 * length pages.old }
+    requires few { length pages.old ≤ 8192 }
+    requires usable { (p : ℕ) → run.start / 512 ≤ p → p < (run.end - 1) / 512 + 1 → is_usable subpool (owner_of pages.old p) ≡ true }
+    requires opened { IsOpened pages.old memory.old.bytes }
+    requires free { (i : ℕ) → run.start ≤ i → i < run.end → slice_index_or memory.old.held i false ≡ false }
+    ensures assigned { IsAssigned pages.old (run.start / 512) ((run.end - 1) / 512 + 1) subpool pages.new }
+    ensures opened { IsOpened pages.new memory.new.bytes }
+    ensures marked { IsMarked memory.old.held run.start run.end true memory.new.held }
+    ensures stays { Stays memory.old.held memory.old.bytes memory.new.bytes }
+    ensures filled { IsFilled run.start run.end fill memory.new.bytes }
+{
+    let mut at = run.start;
+    let mut page = at / 512;
+    'pages: while at < run.end {
+        let end = run.end.min(512 * page + 512);
+        take_part(pages, memory, subpool, page, Run { start: at, end }, fill);
+        at = end;
+        page += 1;
     }
 }
 
@@ -295,17 +311,7 @@ impl Half {
         ensures sound { IsSound self.new }
     {
         let run = run_of(self.first, place);
-        open_pages(
-            &mut self.pages,
-            &mut self.memory,
-            subpool,
-            run.start / 512,
-            (run.end - 1) / 512 + 1,
-            fill,
-        );
-        self.memory.take(run);
-        self.memory
-            .fill(8 * run.start, 8 * (run.end - run.start), fill);
+        take_run(&mut self.pages, &mut self.memory, subpool, run, fill);
     }
 
     // Whether the subpool holds each doubleword of the place.

@@ -5,7 +5,7 @@ ghost use Rattle.std.specs.Borrow.{sem};
 ghost use Rattle.region_raw.specs.Pages.{IsBlank, Writes, byte_of, is_open, with_part};
 ghost use Rattle.region_raw.specs.Rows.{IsApart};
 ghost use Rattle.subpool_store.specs.Edits.{IsClear, IsMarked, IsFreeRun, HasNoBit, HasBit};
-ghost use Rattle.subpool_store.specs.Memory.{IsCursor, IsHeldPart, KeepsHeld, Stays, Turns};
+ghost use Rattle.subpool_store.specs.Memory.{IsCursor, IsFilled, IsHeldPart, KeepsHeld, Stays, Turns};
 
 use crate::run::Run;
 use free_queue::queue::{self, Head};
@@ -50,15 +50,21 @@ impl Memory {
         }
     }
 
-    // Opens a blank page: all of it is free.
-    pub fn open_page(&mut self, page: usize, fill: u8)
-        requires { IsBlank self.old.bytes page }
-        ensures held { self.new.held ≡ self.old.held }
+    // Opens a blank page: some doublewords of it are held then, each byte of them the value, and the others are free.
+    pub fn open_page(&mut self, page: usize, from: usize, to: usize, value: u8)
+        requires blank { IsBlank self.old.bytes page }
+        requires some { from < to }
+        requires first { 512 * page ≤ from }
+        requires last { to ≤ 512 * page + 512 }
+        ensures marked { IsMarked self.old.held from to true self.new.held }
         ensures opened { Turns self.old.bytes page true self.new.bytes }
         ensures stays { Stays self.old.held self.old.bytes self.new.bytes }
+        ensures filled { IsFilled from to value self.new.bytes }
     {
-        self.region.open_page(page, fill);
-        self.heads[page] = queue::start(&mut self.region, page);
+        let at = 8 * (from - 512 * page) as u32;
+        let len = 8 * (to - from) as u32;
+        self.region.open_page(page, value);
+        self.heads[page] = queue::start(&mut self.region, page, at, len);
     }
 
     // Makes an open page blank.
@@ -86,6 +92,22 @@ impl Memory {
         self.heads[page] = queue::take(&mut self.region, page, self.heads[page], at, len);
     }
 
+    // The same, with the value in each byte of them.
+    pub fn take(&mut self, page: usize, from: usize, to: usize, value: u8)
+        requires few { page < 8192 }
+        requires some { from < to }
+        requires first { 512 * page ≤ from }
+        requires last { to ≤ 512 * page + 512 }
+        requires there { is_open self.old.bytes page ≡ true }
+        requires free { (i : ℕ) → from ≤ i → i < to → slice_index_or self.old.held i false ≡ false }
+        ensures marked { IsMarked self.old.held from to true self.new.held }
+        ensures keeps { KeepsHeld self.old.held self.old.bytes self.new.bytes }
+        ensures filled { IsFilled from to value self.new.bytes }
+    {
+        self.take_in(page, from, to);
+        self.fill(8 * from, 8 * (to - from), value);
+    }
+
     // Gives doublewords of a page back that are held: they are free then.
     fn give_in(&mut self, page: usize, from: usize, to: usize)
         requires some { from < to }
@@ -99,24 +121,6 @@ impl Memory {
         let at = 8 * (from - 512 * page) as u32;
         let len = 8 * (to - from) as u32;
         self.heads[page] = queue::give(&mut self.region, page, self.heads[page], at, len);
-    }
-
-    // Takes free doublewords of open pages: they are held then.
-    pub fn take(&mut self, run: Run)
-        requires some { run.start ≤ run.end }
-        requires few { run.end ≤ 4194304 }
-        requires there { (i : ℕ) → run.start ≤ i → i < run.end → is_open self.old.bytes (i / 512) ≡ true }
-        requires free { (i : ℕ) → run.start ≤ i → i < run.end → slice_index_or self.old.held i false ≡ false }
-        ensures marked { IsMarked self.old.held run.start run.end true self.new.held }
-        ensures keeps { KeepsHeld self.old.held self.old.bytes self.new.bytes }
-    {
-        let mut at = run.start;
-        'pages: while at < run.end {
-            let page = at / 512;
-            let stop = run.end.min(512 * page + 512);
-            self.take_in(page, at, stop);
-            at = stop;
-        }
     }
 
     // Gives doublewords back that are held: they are free then.
@@ -175,7 +179,7 @@ impl Memory {
     }
 
     // Gives each of some bytes that are held the value.
-    pub fn fill(&mut self, at: usize, n: usize, value: u8)
+    fn fill(&mut self, at: usize, n: usize, value: u8)
         requires { IsHeldPart self.old.held at n }
         ensures held { self.new.held ≡ self.old.held }
         ensures writes { Writes self.old.bytes at (replicate n value) self.new.bytes }

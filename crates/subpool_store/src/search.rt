@@ -67,6 +67,14 @@ fn only_length(want: &Want) -> Option<u32>
     }
 }
 
+// The doublewords of the least length that is wanted.
+fn least_doublewords(want: &Want) -> usize
+    ensures least { 8 * result ≡ want.now.least }
+    ensures some { 1 ≤ result }
+{
+    (want.least() / 8) as usize
+}
+
 // A longest place of a run: the lowest one, where one length alone is wanted.
 fn lowest_in(run: Place, want: &Want, only: Option<u32>) -> Option<Place>
     requires run { IsRun run }
@@ -175,9 +183,10 @@ pub fn find(
     ensures wanted { IsWant want.now }
 {
     let only = only_length(want);
+    let least = least_doublewords(want);
     let mut walk = Walk::new();
     let mut best = None;
-    'runs: while let Some(run) = walk.next_run(memory, pages, subpool) {
+    'runs: while let Some(run) = walk.next_run(memory, pages, subpool, least) {
         best = preferred(
             placement,
             best,

@@ -5,12 +5,13 @@ ghost use Rattle.free_queue.specs.Runs.{end};
 ghost use Rattle.page_map.specs.Owners.{owner_of, is_usable};
 ghost use Rattle.subpool_store.specs.Half.{IsOpened};
 ghost use Rattle.subpool_store.specs.Memory.{IsCursor};
-ghost use Rattle.subpool_store.specs.Search.{may_take, IsExact, IsNextRun};
-ghost use Rattle.subpool_store.specs.Walk.{IsNextPart, IsWalk};
+ghost use Rattle.subpool_store.specs.Search.{may_take, IsExact, IsNextRun, NoneFits};
+ghost use Rattle.subpool_store.specs.Walk.{progress, IsNextPart, IsWalk};
 
 use crate::memory::Memory;
 use crate::run::Run;
 use free_queue::queue::Head;
+use mvs_model::numbers::PAGE_DOUBLEWORDS;
 use mvs_model::subpool::SubpoolId;
 use page_map::PageMap;
 
@@ -112,7 +113,8 @@ fn examine_run(
     requires opened { IsOpened pages.now memory.now.bytes }
     requires cursor { IsCursor memory.now (from / 512) from queue }
     requires fresh { (from % 512 ≡ 0) ⊎ (slice_index_or memory.now.held from false ≡ true) }
-    ensures { IsNextPart memory.now pages.now subpool from true result }
+    ensures part { IsNextPart memory.now pages.now subpool from true result }
+    ensures stops { result.inside ≡ true → may_take memory.now.held pages.now subpool result.end ≡ false }
 {
     let page = from / 512;
     let end = 512 * page + 512;
@@ -148,35 +150,84 @@ impl Walk {
         }
     }
 
-    // Makes one step.
-    fn examine(&self, memory: &Memory, pages: &PageMap, subpool: SubpoolId) -> Part
-        requires exact { IsExact memory.now.held pages.now }
-        requires opened { IsOpened pages.now memory.now.bytes }
-        requires walk { IsWalk memory.now pages.now subpool self.now }
-        requires within { self.now.end < length memory.now.held }
-        ensures { IsNextPart memory.now pages.now subpool self.now.end self.now.inside result }
-    {
-        if self.inside {
-            examine_run(memory, pages, subpool, self.end, self.queue)
-        } else {
-            examine_page(memory, pages, subpool, self.end)
-        }
-    }
-
-    // The next run of doublewords that the subpool may take, joined across pages.
-    pub fn next_run(&mut self, memory: &Memory, pages: &PageMap, subpool: SubpoolId) -> Option<Run>
+    // Passes free runs of a page that are shorter than the least length and end before the page does; gives what comes
+    // behind them.
+    fn pass_short(
+        &mut self,
+        memory: &Memory,
+        pages: &PageMap,
+        subpool: SubpoolId,
+        least: usize,
+    ) -> Part
         requires exact { IsExact memory.now.held pages.now }
         requires opened { IsOpened pages.now memory.now.bytes }
         requires walk { IsWalk memory.now pages.now subpool self.old }
+        requires inside { self.old.inside ≡ true }
+        requires empty { self.old.start ≡ self.old.end }
+        ensures walk { IsWalk memory.now pages.now subpool self.new }
+        ensures inside { self.new.inside ≡ true }
+        ensures after { self.old.start ≤ self.new.start }
+        ensures on { self.old.end ≤ self.new.end }
+        ensures none { NoneFits (may_take memory.now.held pages.now subpool) least self.old.start self.new.start }
+        ensures part { IsNextPart memory.now pages.now subpool self.new.end true result }
+    {
+        let mut part = examine_run(memory, pages, subpool, self.end, self.queue);
+        'runs: while part.inside && part.end - part.start < least {
+            *self = Walk {
+                start: part.end,
+                end: part.end,
+                inside: true,
+                queue: part.queue,
+                steps: self.steps + part.examined,
+            };
+            part = examine_run(memory, pages, subpool, self.end, self.queue);
+        }
+        part
+    }
+
+    // Looks at what comes next, behind free runs that are too short.
+    fn examine(&mut self, memory: &Memory, pages: &PageMap, subpool: SubpoolId, least: usize) -> Part
+        requires exact { IsExact memory.now.held pages.now }
+        requires opened { IsOpened pages.now memory.now.bytes }
+        requires walk { IsWalk memory.now pages.now subpool self.old }
+        requires within { self.old.end < length memory.now.held }
+        ensures walk { IsWalk memory.now pages.now subpool self.new }
+        ensures after { self.old.start ≤ self.new.start }
+        ensures on { progress self.old.end self.old.inside ≤ progress self.new.end self.new.inside }
+        ensures none { NoneFits (may_take memory.now.held pages.now subpool) least self.old.start self.new.start }
+        ensures part { IsNextPart memory.now pages.now subpool self.new.end self.new.inside result }
+    {
+        if !self.inside {
+            return examine_page(memory, pages, subpool, self.end);
+        }
+        if self.start < self.end {
+            return examine_run(memory, pages, subpool, self.end, self.queue);
+        }
+        self.pass_short(memory, pages, subpool, least)
+    }
+
+    // The next run of doublewords that the subpool may take, joined across pages, which is no shorter than the least
+    // length.
+    pub fn next_run(
+        &mut self,
+        memory: &Memory,
+        pages: &PageMap,
+        subpool: SubpoolId,
+        least: usize,
+    ) -> Option<Run>
+        requires exact { IsExact memory.now.held pages.now }
+        requires opened { IsOpened pages.now memory.now.bytes }
+        requires walk { IsWalk memory.now pages.now subpool self.old }
+        requires least { 1 ≤ least }
         ensures walk { IsWalk memory.now pages.now subpool self.new }
         ensures run { MatchOption result
-            ((i : ℕ) → self.old.start ≤ i → may_take memory.now.held pages.now subpool i ≡ false)
-            (λ run. IsNextRun (may_take memory.now.held pages.now subpool) self.old.start run.start run.end self.new.start) }
+            ((to : ℕ) → NoneFits (may_take memory.now.held pages.now subpool) least self.old.start to)
+            (λ run. IsNextRun (may_take memory.now.held pages.now subpool) least self.old.start run.start run.end self.new.start) }
         ensures all { MatchOption result (self.new.end ≡ length memory.now.held) (λ _. 0 < self.new.end) }
     {
-        let total = 512 * pages.pages();
+        let total = PAGE_DOUBLEWORDS * pages.pages();
         'parts: while self.end < total {
-            let part = self.examine(memory, pages, subpool);
+            let part = self.examine(memory, pages, subpool, least);
             let run = Run {
                 start: self.start,
                 end: self.end,
@@ -187,7 +238,7 @@ impl Walk {
             self.steps += part.examined;
             if part.start != run.end {
                 self.start = part.start;
-                if run.start < run.end {
+                if least <= run.end - run.start {
                     return Some(run);
                 }
             }
@@ -197,6 +248,6 @@ impl Walk {
             end: self.end,
         };
         self.start = self.end;
-        if run.start < run.end { Some(run) } else { None }
+        if least <= run.end - run.start { Some(run) } else { None }
     }
 }

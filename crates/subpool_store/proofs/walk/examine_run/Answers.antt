@@ -4,8 +4,8 @@ use Rattle.page_map.specs.Owners.{is_usable, owner_of}
 use Rattle.subpool_store.proofs.Begun.{free_passes, rest_counted, run_counted}
 use Rattle.subpool_store.proofs.walk.examine_run.Goals as goal
 
-pub returns-in-None : goal.returns-in-None
-returns-in-None c = record {
+pub returns-in-None-clause-part : goal.returns-in-None-clause-part
+returns-in-None-clause-part c = record {
   after = search rules;
   ordered = search rules;
   within = search rules;
@@ -17,8 +17,8 @@ returns-in-None c = record {
   counted = rest_counted c.args.memory.now c.args.pages.now c.args.subpool c.args.from c.in-None.ensures;
 }
 
-pub returns-in-Some : goal.returns-in-Some
-returns-in-Some c = let run = c.in-Some.ensures.0 in record {
+pub returns-in-Some-clause-part : goal.returns-in-Some-clause-part
+returns-in-Some-clause-part c = let run = c.in-Some.ensures.0 in record {
   after = search rules;
   ordered = search rules;
   within = search rules;

@@ -5,7 +5,7 @@ use Rattle.subpool_store.specs.Half.{value_at}
 use Rattle.subpool_store.proofs.Exact.{cell_some}
 use Rattle.subpool_store.proofs.Methods.{bits_of_run, cells_held, cells_of_run, half_sound, held_inside, give_half, give_changes}
 use Rattle.subpool_store.proofs.Opened.{stays_held}
-use Rattle.subpool_store.proofs.Taken.{stays_given}
+use Rattle.subpool_store.proofs.Marked.{stays_given}
 use Rattle.subpool_store.proofs.half.Half.give.Goals as goal
 
 pub run_of-run-requires : goal.run_of-run-requires
