@@ -48,6 +48,13 @@ impl Head {
     {
         Head { offset: crate::END }
     }
+
+    /// Whether it is the head of a page of which nothing is free.
+    pub fn is_none(self) -> bool
+        ensures { IsTrue result ↔ self ≡ end }
+    {
+        self.offset == crate::END
+    }
 }
 
 /// Makes all of a page free but `n` bytes from an offset on, at least 8, which keep what they are. What all others hold

@@ -20,6 +20,10 @@ pub record Stands (m : MemoryState) (pages : List (Option ℕ)) (s at : ℕ) (in
 abbrev pub begins_run : List Bool → List (Option ℕ) → ℕ → ℕ → Bool
 begins_run bits pages s i = not (slice_index_or bits i false) && (is_of s (owner_of pages (i / 512)) && (i % 512 == 0 || slice_index_or bits (i - 1) false))
 
+-- the page is of s, and each of its doublewords is held
+abbrev pub IsFull : List Bool → List (Option ℕ) → ℕ → ℕ → Type 0
+IsFull bits pages s p = (owner_of pages p ≡ Some s) × ((i : ℕ) → i / 512 ≡ p → slice_index_or bits i false ≡ true)
+
 -- how many page entries and free runs a pass has looked at: those before an index, and the entry of the page that it stands inside
 abbrev pub looked_at : MemoryState → List (Option ℕ) → ℕ → ℕ → Bool → ℕ
 looked_at m pages s at inside = at / 512 + digit inside + count_below at (begins_run m.held pages s)

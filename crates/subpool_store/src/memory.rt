@@ -149,6 +149,15 @@ impl Memory {
         queue::is_whole(&self.region, page, self.heads[page])
     }
 
+    // Whether all doublewords of an open page are held.
+    pub fn is_full(&self, page: usize) -> bool
+        requires { is_open self.now.bytes page ≡ true }
+        ensures { IsTrue result ↔ ((i : ℕ) → i / 512 ≡ page → slice_index_or self.now.held i false ≡ true) }
+    {
+        let _ = &self.region;
+        self.heads[page].is_none()
+    }
+
     // The queue of what is free in an open page.
     pub fn first(&self, page: usize) -> Head
         requires { is_open self.now.bytes page ≡ true }

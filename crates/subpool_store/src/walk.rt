@@ -1,12 +1,12 @@
 //! One pass in rising order over the pages of a region and the free runs of the subpool's own pages.
 
-ghost use Rattle.std.specs.Prelude.{◌≡◌, ◌<◌, ◌≤◌, ◌/◌, ◌%◌, ◌⊎◌, ℕ, MatchOption, Some, None, false, true, length, slice_index_or};
+ghost use Rattle.std.specs.Prelude.{◌≡◌, ◌<◌, ◌≤◌, ◌+◌, ◌/◌, ◌%◌, ◌⊎◌, ◌↔◌, ℕ, IsTrue, MatchOption, Some, None, false, true, length, slice_index_or};
 ghost use Rattle.free_queue.specs.Runs.{end};
 ghost use Rattle.page_map.specs.Owners.{owner_of, is_usable};
 ghost use Rattle.subpool_store.specs.Half.{IsOpened};
 ghost use Rattle.subpool_store.specs.Memory.{IsCursor};
 ghost use Rattle.subpool_store.specs.Search.{may_take, IsExact, IsNextRun, NoneFits};
-ghost use Rattle.subpool_store.specs.Walk.{progress, IsNextPart, IsWalk};
+ghost use Rattle.subpool_store.specs.Walk.{progress, IsFull, IsNextPart, IsWalk};
 
 use crate::memory::Memory;
 use crate::run::Run;
@@ -77,6 +77,65 @@ fn pass_pages(memory: &Memory, pages: &PageMap, subpool: SubpoolId, from: usize)
     }
 }
 
+// Whether a page is the subpool's own and nothing of it is free.
+fn is_full(memory: &Memory, pages: &PageMap, subpool: SubpoolId, page: usize) -> bool
+    requires within { page < length pages.now }
+    requires opened { IsOpened pages.now memory.now.bytes }
+    ensures { IsTrue result ↔ IsFull memory.now.held pages.now subpool page }
+{
+    if !pages.is_of(page, subpool) {
+        return false;
+    }
+    memory.is_full(page)
+}
+
+// The first page from one on that is not the subpool's own or of which something is free, or the number of pages.
+fn pass_full(memory: &Memory, pages: &PageMap, subpool: SubpoolId, from: usize) -> usize
+    requires within { from ≤ length pages.now }
+    requires opened { IsOpened pages.now memory.now.bytes }
+    ensures after { from ≤ result }
+    ensures within { result ≤ length pages.now }
+    ensures full { (p : ℕ) → from ≤ p → p < result → IsFull memory.now.held pages.now subpool p }
+{
+    let mut page = from;
+    'pages: while page < pages.pages() {
+        if !is_full(memory, pages, subpool, page) {
+            return page;
+        }
+        page += 1;
+    }
+    page
+}
+
+// Looks at the entry of a page of the subpool's own, and passes those behind it of which nothing is free, if nothing
+// of this one is.
+fn examine_own(memory: &Memory, pages: &PageMap, subpool: SubpoolId, from: usize) -> Part
+    requires exact { IsExact memory.now.held pages.now }
+    requires within { from < length memory.now.held }
+    requires page { from % 512 ≡ 0 }
+    requires own { owner_of pages.now (from / 512) ≡ Some subpool }
+    requires opened { IsOpened pages.now memory.now.bytes }
+    ensures { IsNextPart memory.now pages.now subpool from false result }
+{
+    let page = pass_full(memory, pages, subpool, from / 512);
+    if from < 512 * page {
+        return Part {
+            start: 512 * page,
+            end: 512 * page,
+            inside: false,
+            queue: Head::none(),
+            examined: (page - from / 512) as u32,
+        };
+    }
+    Part {
+        start: from,
+        end: from,
+        inside: true,
+        queue: memory.first(page),
+        examined: 1,
+    }
+}
+
 // Looks at the entry of the next page, and of those behind it that are alike.
 fn examine_page(memory: &Memory, pages: &PageMap, subpool: SubpoolId, from: usize) -> Part
     requires exact { IsExact memory.now.held pages.now }
@@ -87,13 +146,7 @@ fn examine_page(memory: &Memory, pages: &PageMap, subpool: SubpoolId, from: usiz
 {
     match pages.owner(from / 512) {
         None => join_pages(memory, pages, subpool, from),
-        Some(owner) if owner == subpool => Part {
-            start: from,
-            end: from,
-            inside: true,
-            queue: memory.first(from / 512),
-            examined: 1,
-        },
+        Some(owner) if owner == subpool => examine_own(memory, pages, subpool, from),
         Some(_) => pass_pages(memory, pages, subpool, from),
     }
 }
@@ -104,19 +157,21 @@ fn examine_run(
     memory: &Memory,
     pages: &PageMap,
     subpool: SubpoolId,
+    page: usize,
     from: usize,
     queue: Head,
 ) -> Part
     requires exact { IsExact memory.now.held pages.now }
     requires within { from < length memory.now.held }
-    requires own { owner_of pages.now (from / 512) ≡ Some subpool }
+    requires page { from / 512 ≡ page }
+    requires own { owner_of pages.now page ≡ Some subpool }
     requires opened { IsOpened pages.now memory.now.bytes }
-    requires cursor { IsCursor memory.now (from / 512) from queue }
+    requires cursor { IsCursor memory.now page from queue }
     requires fresh { (from % 512 ≡ 0) ⊎ (slice_index_or memory.now.held from false ≡ true) }
     ensures part { IsNextPart memory.now pages.now subpool from true result }
     ensures stops { result.inside ≡ true → may_take memory.now.held pages.now subpool result.end ≡ false }
+    ensures page { result.inside ≡ true → result.end / 512 ≡ page }
 {
-    let page = from / 512;
     let end = 512 * page + 512;
     match memory.next_free(page, from, queue) {
         None => Part {
@@ -171,7 +226,8 @@ impl Walk {
         ensures none { NoneFits (may_take memory.now.held pages.now subpool) least self.old.start self.new.start }
         ensures part { IsNextPart memory.now pages.now subpool self.new.end true result }
     {
-        let mut part = examine_run(memory, pages, subpool, self.end, self.queue);
+        let page = self.end / PAGE_DOUBLEWORDS;
+        let mut part = examine_run(memory, pages, subpool, page, self.end, self.queue);
         'runs: while part.inside && part.end - part.start < least {
             *self = Walk {
                 start: part.end,
@@ -180,13 +236,29 @@ impl Walk {
                 queue: part.queue,
                 steps: self.steps + part.examined,
             };
-            part = examine_run(memory, pages, subpool, self.end, self.queue);
+            part = examine_run(memory, pages, subpool, page, self.end, self.queue);
         }
         part
     }
 
+    // Whether the run that is joined so far is still of use: it may go on in the page that the pass has entered, or it is
+    // no shorter than the least length.
+    fn is_of_use(&self, least: usize) -> bool
+        requires { self.now.start ≤ self.now.end }
+        ensures { result ≡ false → self.now.end < self.now.start + least × ((self.now.start ≡ self.now.end) ⊎ (self.now.end % 512 ≡ 0 → ⊥)) }
+    {
+        let len = self.end - self.start;
+        least <= len || (0 < len && self.end % PAGE_DOUBLEWORDS == 0)
+    }
+
     // Looks at what comes next, behind free runs that are too short.
-    fn examine(&mut self, memory: &Memory, pages: &PageMap, subpool: SubpoolId, least: usize) -> Part
+    fn examine(
+        &mut self,
+        memory: &Memory,
+        pages: &PageMap,
+        subpool: SubpoolId,
+        least: usize,
+    ) -> Part
         requires exact { IsExact memory.now.held pages.now }
         requires opened { IsOpened pages.now memory.now.bytes }
         requires walk { IsWalk memory.now pages.now subpool self.old }
@@ -200,9 +272,11 @@ impl Walk {
         if !self.inside {
             return examine_page(memory, pages, subpool, self.end);
         }
-        if self.start < self.end {
-            return examine_run(memory, pages, subpool, self.end, self.queue);
+        if self.is_of_use(least) {
+            let page = self.end / PAGE_DOUBLEWORDS;
+            return examine_run(memory, pages, subpool, page, self.end, self.queue);
         }
+        self.start = self.end;
         self.pass_short(memory, pages, subpool, least)
     }
 
@@ -248,6 +322,10 @@ impl Walk {
             end: self.end,
         };
         self.start = self.end;
-        if least <= run.end - run.start { Some(run) } else { None }
+        if least <= run.end - run.start {
+            Some(run)
+        } else {
+            None
+        }
     }
 }

@@ -24,6 +24,6 @@ returns-clause-filled c =
     let at = 8 * c.args.from in let n = 8 * (c.args.to - c.args.from) in
     let size = length-replicate n c.args.value in
     λ k low high.
-        let page : k / 4096 ≡ c.args.page = omega (arith, low, high, c.requires.first, c.requires.last) in
-        c.fill.ensures.writes.bytes k low (omega (arith, high, size)) (ap (is_open c.take_in.new.self.bytes) page ∙ c.take_in.ensures.keeps.pages c.args.page ∙ c.requires.there)
-        ∙ ap Some (get_or-replicate n (k - at) c.args.value 0 (omega (arith, low, high)))
+    let page : k / 4096 ≡ c.args.page = omega (arith, low, high, c.requires.first, c.requires.last) in
+    c.fill.ensures.writes.bytes k low (omega (arith, high, size)) (ap (is_open c.take_in.new.self.bytes) page ∙ c.take_in.ensures.keeps.pages c.args.page ∙ c.requires.there)
+    ∙ ap Some (get_or-replicate n (k - at) c.args.value 0 (omega (arith, low, high)))

@@ -28,5 +28,7 @@ runs-preserved c =
       after = omega (arith, now.after, now.empty, now.part.after, now.part.ordered);
       none = fits_short test c.args.least c.args.self.now.start part.start part.end past (now.stops inside) (fits_skip test c.args.least c.args.self.now.start self.start part.start some now.none (λ i low high. now.part.skipped i (omega (arith, low, now.empty)) high));
       part = c.examine_run-part-in-runs.ensures.part;
+      page = now.stays inside;
+      stays = c.examine_run-part-in-runs.ensures.page;
       stops = c.examine_run-part-in-runs.ensures.stops;
     }
