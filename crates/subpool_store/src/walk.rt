@@ -107,8 +107,8 @@ fn pass_full(memory: &Memory, pages: &PageMap, subpool: SubpoolId, from: usize) 
     page
 }
 
-// Looks at the entry of a page of the subpool's own, and passes those behind it of which nothing is free, if nothing
-// of this one is.
+// Passes pages of the subpool's own of which nothing is free, and looks at the entry of the page behind them, if it is
+// the subpool's own as well.
 fn examine_own(memory: &Memory, pages: &PageMap, subpool: SubpoolId, from: usize) -> Part
     requires exact { IsExact memory.now.held pages.now }
     requires within { from < length memory.now.held }
@@ -118,21 +118,22 @@ fn examine_own(memory: &Memory, pages: &PageMap, subpool: SubpoolId, from: usize
     ensures { IsNextPart memory.now pages.now subpool from false result }
 {
     let page = pass_full(memory, pages, subpool, from / 512);
-    if from < 512 * page {
+    let passed = (page - from / 512) as u32;
+    if page < pages.pages() && pages.is_of(page, subpool) {
         return Part {
             start: 512 * page,
             end: 512 * page,
-            inside: false,
-            queue: Head::none(),
-            examined: (page - from / 512) as u32,
+            inside: true,
+            queue: memory.first(page),
+            examined: passed + 1,
         };
     }
     Part {
-        start: from,
-        end: from,
-        inside: true,
-        queue: memory.first(page),
-        examined: 1,
+        start: 512 * page,
+        end: 512 * page,
+        inside: false,
+        queue: Head::none(),
+        examined: passed,
     }
 }
 
