@@ -4,6 +4,7 @@ use Rattle.std.specs.Ordering.{nat_cmp}
 use Rattle.std.specs.FinMap.{FinMap, get, code}
 use Rattle.std.specs.Coded.{Coded, code_by, coded×, coded_ℕ}
 use Rattle.mvs_model.specs.Finite.{Changes, Keeps, has}
+use Rattle.mvs_model.specs.Numbers.{first_doubleword_above, page_bytes, page_doublewords}
 use Rattle.mvs_model.specs.Place.{PlaceValue}
 use Rattle.mvs_model.specs.Storage.{Covers, IsLength, LiesIn, MayTake, Meets, PageRule, covers, has_address}
 use Rattle.mvs_model.specs.Table.{table}
@@ -19,7 +20,7 @@ shifted first f d = if nat_le first d then f (d - first) else None
 
 -- the subpool that holds the doubleword at an index: its page's, if its bit is set
 abbrev pub cell : List Bool → List (Option ℕ) → ℕ → Option ℕ
-cell bits pages i = if slice_index_or bits i false then owner_of pages (i / 512) else None
+cell bits pages i = if slice_index_or bits i false then owner_of pages (i / page_doublewords) else None
 
 -- What one region holds: its first doubleword, how many pages it has, who holds which doubleword, and the bytes of what is held.
 pub record HalfState : Type 0 where
@@ -60,19 +61,19 @@ pub record IsOpened (pages : List (Option ℕ)) (bytes : Pages) : Type 0 where
 -- What is kept of the doublewords and the pages of one region.
 pub record IsHalf (first : ℕ) (bits : List Bool) (pages : List (Option ℕ)) : Type 0 where
   pub exact : IsExact bits pages
-  pub aligned : first % 512 ≡ 0
+  pub aligned : first % page_doublewords ≡ 0
   pub end : 8 * (first + length bits) ≤ 2 ^ 31
-  pub one_side : first < 2097152 → first + length bits ≤ 2097152
+  pub one_side : first < first_doubleword_above → first + length bits ≤ first_doubleword_above
 
 -- What is held lies in the region, each page is of one subpool, and there are bytes just where something is held.
 pub record IsSound (h : HalfState) : Type 0 where
-  pub bounded : (d t : ℕ) → get h.held d ≡ Some t → (h.first ≤ d) × (d < h.first + 512 * h.pages)
+  pub bounded : (d t : ℕ) → get h.held d ≡ Some t → (h.first ≤ d) × (d < h.first + page_doublewords * h.pages)
   pub rule : PageRule (get h.held)
   pub bytes : (a : ℕ) → is_some (get h.bytes a) ≡ is_some (get h.held (a / 8))
 
 -- All of the place lies in the region, and s may take each of its doublewords.
 pub record OpenIn (h : HalfState) (s : ℕ) (p : PlaceValue) : Type 0 where
-  pub inside : LiesIn (8 * h.first) (8 * h.first + 4096 * h.pages) p
+  pub inside : LiesIn (8 * h.first) (8 * h.first + page_bytes * h.pages) p
   pub each : (d : ℕ) → Covers p d → MayTake (get h.held) s d
 
 -- each doubleword of the place is held by s in the region
@@ -86,8 +87,8 @@ AllHeldIn h p = (d : ℕ) → Covers p d → IsSome (get h.held d)
 -- the subpool is the one that holds a doubleword of the page; there is none where nothing of the page is held
 abbrev pub OwnsPage : HalfState → ℕ → Option ℕ → Type 0
 OwnsPage h p owner = MatchOption owner
-    ((d : ℕ) → d / 512 ≡ p → get h.held d ≡ None)
-    (λ s. (d : ℕ) × (d / 512 ≡ p) × (get h.held d ≡ Some s))
+    ((d : ℕ) → d / page_doublewords ≡ p → get h.held d ≡ None)
+    (λ s. (d : ℕ) × (d / page_doublewords ≡ p) × (get h.held d ≡ Some s))
 
 -- A place of a length that is wanted is open in the region and meets what is wanted; none of them is longer.
 pub record IsBest (h : HalfState) (s : ℕ) (want : WantValue) (p : PlaceValue) : Type 0 where

@@ -3,6 +3,7 @@ use Rattle.std.specs.Prelude.{◌≡◌, ℕ, ◌≤◌, ◌⊎◌, Option, None
 use Rattle.std.specs.Ordering.{nat_cmp}
 use Rattle.std.specs.FinMap.{FinMap, get}
 use Rattle.mvs_model.specs.Finite.{Changes}
+use Rattle.mvs_model.specs.Numbers.{above_begins, first_doubleword_above, first_doubleword_below, most_pages_above, most_pages_below}
 use Rattle.mvs_model.specs.Place.{PlaceValue}
 use Rattle.mvs_model.specs.Storage.{Storage, Regions, covers, has_address}
 use Rattle.mvs_model.specs.Table.{table}
@@ -11,6 +12,7 @@ use Rattle.mvs_model.specs.declared.want.Side.TheVariants.{Below, Either}
 use Rattle.subpool_store.specs.Bound.{to_look_at}
 use Rattle.subpool_store.specs.Half.{HalfState, IsSound, BestIn}
 use Rattle.subpool_store.specs.Search.{IsCounted}
+use Rattle.subpool_store.specs.Sizes.{all_addresses, all_doublewords}
 
 -- one map up to a key, and another from there on
 abbrev pub joined_at : ℕ → FinMap nat_cmp ℕ → FinMap nat_cmp ℕ → ℕ → Option ℕ
@@ -26,15 +28,15 @@ regions_of b a fill = record { below = b.pages; above = a.pages; fill = fill }
 
 -- the storage of the two halves
 abbrev pub store_of : HalfState → HalfState → ℕ → Storage
-store_of b a fill = record { regions = regions_of b a fill; held = joined 268435456 2097152 b.held a.held; bytes = joined 2147483648 16777216 b.bytes a.bytes }
+store_of b a fill = record { regions = regions_of b a fill; held = joined all_doublewords first_doubleword_above b.held a.held; bytes = joined all_addresses above_begins b.bytes a.bytes }
 
 -- The region below and the region above.
 pub record IsStore (b a : HalfState) : Type 0 where
-  pub first_below : b.first ≡ 3072
-  pub first_above : a.first ≡ 2097152
+  pub first_below : b.first ≡ first_doubleword_below
+  pub first_above : a.first ≡ first_doubleword_above
   pub some_below : 1 ≤ b.pages
-  pub few_below : b.pages ≤ 2048
-  pub few_above : a.pages ≤ 8192
+  pub few_below : b.pages ≤ most_pages_below
+  pub few_above : a.pages ≤ most_pages_above
   pub sound_below : IsSound b
   pub sound_above : IsSound a
 

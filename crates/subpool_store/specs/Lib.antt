@@ -1,4 +1,5 @@
 pub mod Bits
+pub mod Sizes
 pub mod Edits
 pub mod Half
 pub mod Memory

@@ -4,6 +4,7 @@ ghost use Rattle.std.specs.Prelude.{◌≡◌, ◌<◌, ◌≤◌, ◌+◌, ◌-
 ghost use Rattle.std.specs.Borrow.{sem};
 ghost use Rattle.std.specs.FinMap.{get, empty};
 ghost use Rattle.mvs_model.specs.Finite.{count_below, has};
+ghost use Rattle.mvs_model.specs.Numbers.{first_doubleword_above, most_pages_above, page_bytes, page_doublewords};
 ghost use Rattle.mvs_model.specs.Storage.{IsWhole, is_one_of};
 ghost use Rattle.mvs_model.specs.Want.{IsWant};
 ghost use Rattle.page_map.specs.Owners.{owner_of, is_usable};
@@ -24,6 +25,7 @@ ghost use Rattle.subpool_store.specs.Half.{
 ghost use Rattle.subpool_store.specs.Memory.{IsFilled, Stays};
 ghost use Rattle.subpool_store.specs.Search.{IsCounted};
 ghost use Rattle.subpool_store.specs.LendsHalf.{LendsHalf};
+ghost use Rattle.subpool_store.specs.Sizes.{most_doublewords};
 
 use crate::dropping::drop_pages;
 use crate::free_runs::{self, are_held, are_held_in};
@@ -31,6 +33,7 @@ use crate::memory::Memory;
 use crate::run::Run;
 use crate::search::{Found, find};
 use mvs_model::error::OutOfMemory;
+use mvs_model::numbers::{PAGE_BYTES, PAGE_DOUBLEWORDS};
 use mvs_model::place::{Addr, Place};
 use mvs_model::subpool::SubpoolId;
 use mvs_model::subpool_set::SubpoolSet;
@@ -63,12 +66,12 @@ fn take_part(
     fill: u8,
 )
     requires within { page < length pages.old }
-    requires few { length pages.old ≤ 8192 }
+    requires few { length pages.old ≤ most_pages_above }
     requires usable { is_usable subpool (owner_of pages.old page) ≡ true }
     requires opened { IsOpened pages.old memory.old.bytes }
     requires some { run.start < run.end }
-    requires first { 512 * page ≤ run.start }
-    requires last { run.end ≤ 512 * page + 512 }
+    requires first { page_doublewords * page ≤ run.start }
+    requires last { run.end ≤ page_doublewords * page + page_doublewords }
     requires free { (i : ℕ) → run.start ≤ i → i < run.end → slice_index_or memory.old.held i false ≡ false }
     ensures assigned { pages.new ≡ slice_set pages.old page (Some subpool) }
     ensures opened { IsOpened pages.new memory.new.bytes }
@@ -87,21 +90,21 @@ fn take_part(
 // The same of the doublewords of a run, page by page.
 fn take_run(pages: &mut PageMap, memory: &mut Memory, subpool: SubpoolId, run: Run, fill: u8)
     requires some { run.start < run.end }
-    requires within { run.end ≤ 512 * length pages.old }
-    requires few { length pages.old ≤ 8192 }
-    requires usable { (p : ℕ) → run.start / 512 ≤ p → p < (run.end - 1) / 512 + 1 → is_usable subpool (owner_of pages.old p) ≡ true }
+    requires within { run.end ≤ page_doublewords * length pages.old }
+    requires few { length pages.old ≤ most_pages_above }
+    requires usable { (p : ℕ) → run.start / page_doublewords ≤ p → p < (run.end - 1) / page_doublewords + 1 → is_usable subpool (owner_of pages.old p) ≡ true }
     requires opened { IsOpened pages.old memory.old.bytes }
     requires free { (i : ℕ) → run.start ≤ i → i < run.end → slice_index_or memory.old.held i false ≡ false }
-    ensures assigned { IsAssigned pages.old (run.start / 512) ((run.end - 1) / 512 + 1) subpool pages.new }
+    ensures assigned { IsAssigned pages.old (run.start / page_doublewords) ((run.end - 1) / page_doublewords + 1) subpool pages.new }
     ensures opened { IsOpened pages.new memory.new.bytes }
     ensures marked { IsMarked memory.old.held run.start run.end true memory.new.held }
     ensures stays { Stays memory.old.held memory.old.bytes memory.new.bytes }
     ensures filled { IsFilled run.start run.end fill memory.new.bytes }
 {
     let mut at = run.start;
-    let mut page = at / 512;
+    let mut page = at / PAGE_DOUBLEWORDS;
     'pages: while at < run.end {
-        let end = run.end.min(512 * page + 512);
+        let end = run.end.min(PAGE_DOUBLEWORDS * page + PAGE_DOUBLEWORDS);
         take_part(pages, memory, subpool, page, Run { start: at, end }, fill);
         at = end;
         page += 1;
@@ -115,7 +118,7 @@ pub fn close_page(pages: &mut PageMap, memory: &mut Memory, page: usize)
     requires opened { IsOpened pages.old memory.old.bytes }
     ensures unassigned { pages.new ≡ slice_set pages.old page None }
     ensures opened { IsOpened pages.new memory.new.bytes }
-    ensures marked { IsMarked memory.old.held (512 * page) (512 * page + 512) false memory.new.held }
+    ensures marked { IsMarked memory.old.held (page_doublewords * page) (page_doublewords * page + page_doublewords) false memory.new.held }
     ensures stays { Stays memory.new.held memory.old.bytes memory.new.bytes }
 {
     pages.unassign(page);
@@ -186,12 +189,17 @@ fn are_of(pages: &PageMap, subpool: SubpoolId, from: usize, to: usize) -> bool
 fn holds_run(memory: &Memory, pages: &PageMap, subpool: SubpoolId, run: Run) -> bool
     requires some { run.start < run.end }
     requires within { run.end ≤ length memory.now.held }
-    requires sizes { length memory.now.held ≡ 512 * length pages.now }
-    requires few { length pages.now ≤ 8192 }
+    requires sizes { length memory.now.held ≡ page_doublewords * length pages.now }
+    requires few { length pages.now ≤ most_pages_above }
     requires opened { IsOpened pages.now memory.now.bytes }
     ensures { IsTrue result ↔ ((i : ℕ) → run.start ≤ i → i < run.end → cell memory.now.held pages.now i ≡ Some subpool) }
 {
-    if !are_of(pages, subpool, run.start / 512, (run.end - 1) / 512 + 1) {
+    if !are_of(
+        pages,
+        subpool,
+        run.start / PAGE_DOUBLEWORDS,
+        (run.end - 1) / PAGE_DOUBLEWORDS + 1,
+    ) {
         return false;
     }
     are_held(memory, run)
@@ -207,10 +215,10 @@ fn is_own(pages: &PageMap, subpool: SubpoolId, page: usize) -> bool
 
 // How many doublewords of a page the subpool holds.
 fn count_page(memory: &Memory, pages: &PageMap, subpool: SubpoolId, page: usize) -> u32
-    requires few { length pages.now ≤ 8192 }
+    requires few { length pages.now ≤ most_pages_above }
     requires within { page < length pages.now }
     requires opened { IsOpened pages.now memory.now.bytes }
-    ensures { result ≡ count_below 512 (λ i. has (λ t. t == subpool) (cell memory.now.held pages.now (512 * page + i))) }
+    ensures { result ≡ count_below page_doublewords (λ i. has (λ t. t == subpool) (cell memory.now.held pages.now (page_doublewords * page + i))) }
 {
     if is_own(pages, subpool, page) {
         free_runs::count(memory, page)
@@ -221,9 +229,9 @@ fn count_page(memory: &Memory, pages: &PageMap, subpool: SubpoolId, page: usize)
 
 // How many doublewords the subpool holds.
 fn count(memory: &Memory, pages: &PageMap, subpool: SubpoolId) -> u32
-    requires few { length pages.now ≤ 8192 }
+    requires few { length pages.now ≤ most_pages_above }
     requires opened { IsOpened pages.now memory.now.bytes }
-    ensures { result ≡ count_below (512 * length pages.now) (λ i. has (λ t. t == subpool) (cell memory.now.held pages.now i)) }
+    ensures { result ≡ count_below (page_doublewords * length pages.now) (λ i. has (λ t. t == subpool) (cell memory.now.held pages.now i)) }
 {
     let mut count = 0;
     for page in 0..pages.pages() {
@@ -234,15 +242,15 @@ fn count(memory: &Memory, pages: &PageMap, subpool: SubpoolId) -> u32
 
 // Who holds a doubleword.
 fn cell(memory: &Memory, pages: &PageMap, index: usize) -> Option<SubpoolId>
-    requires within { index < 512 * length pages.now }
-    requires few { length pages.now ≤ 8192 }
+    requires within { index < page_doublewords * length pages.now }
+    requires few { length pages.now ≤ most_pages_above }
     requires opened { IsOpened pages.now memory.now.bytes }
     ensures { result ≡ cell memory.now.held pages.now index }
 {
-    let Some(owner) = pages.owner(index / 512) else {
+    let Some(owner) = pages.owner(index / PAGE_DOUBLEWORDS) else {
         return None;
     };
-    if are_held_in(memory, index / 512, index, index + 1) {
+    if are_held_in(memory, index / PAGE_DOUBLEWORDS, index, index + 1) {
         Some(owner)
     } else {
         None
@@ -272,10 +280,10 @@ impl Model for Half {
 impl Half {
     // A region of so many pages, from its first doubleword on, with nothing held.
     pub fn new(alloc: Global, first: u32, pages: usize) -> Result<Half, OutOfMemory>
-        requires few { pages ≤ 8192 }
-        requires aligned { first % 512 ≡ 0 }
-        requires end { 8 * (first + 512 * pages) ≤ 2 ^ 31 }
-        requires one_side { first < 2097152 → first + 512 * pages ≤ 2097152 }
+        requires few { pages ≤ most_pages_above }
+        requires aligned { first % page_doublewords ≡ 0 }
+        requires end { 8 * (first + page_doublewords * pages) ≤ 2 ^ 31 }
+        requires one_side { first < first_doubleword_above → first + page_doublewords * pages ≤ first_doubleword_above }
         ensures empty { IfOk result (λ h. h ≡ record { first = first; pages = pages; held = empty; bytes = empty }) }
         ensures sound { IfOk result IsSound }
     {
@@ -324,7 +332,7 @@ impl Half {
             return false;
         }
         let run = run_of(self.first, place);
-        if 512 * self.pages.pages() < run.end {
+        if PAGE_DOUBLEWORDS * self.pages.pages() < run.end {
             return false;
         }
         holds_run(&self.memory, &self.pages, subpool, run)
@@ -343,8 +351,8 @@ impl Half {
         give_up_pages(
             &mut self.pages,
             &mut self.memory,
-            run.start / 512,
-            (run.end - 1) / 512 + 1,
+            run.start / PAGE_DOUBLEWORDS,
+            (run.end - 1) / PAGE_DOUBLEWORDS + 1,
         );
     }
 
@@ -361,7 +369,7 @@ impl Half {
         ensures { result ≡ get self.now.held (addr / 8) }
     {
         let at = addr.get() / 8;
-        if at < self.first || 512 * self.pages.pages() <= (at - self.first) as usize {
+        if at < self.first || PAGE_DOUBLEWORDS * self.pages.pages() <= (at - self.first) as usize {
             return None;
         }
         cell(&self.memory, &self.pages, (at - self.first) as usize)
@@ -369,8 +377,8 @@ impl Half {
 
     // How many doublewords the subpool holds.
     pub fn count(&self, subpool: SubpoolId) -> u32
-        ensures count { result ≡ count_below (512 * self.now.pages) (λ i. has (λ t. t == subpool) (get self.now.held (self.now.first + i))) }
-        ensures most { result ≤ 4194304 }
+        ensures count { result ≡ count_below (page_doublewords * self.now.pages) (λ i. has (λ t. t == subpool) (get self.now.held (self.now.first + i))) }
+        ensures most { result ≤ most_doublewords }
     {
         count(&self.memory, &self.pages, subpool)
     }
@@ -384,13 +392,14 @@ impl Half {
 
     // The subpool that the page of an address is assigned to.
     pub fn page_owner(&self, addr: Addr) -> Option<SubpoolId>
-        ensures { OwnsPage self.now (addr / 4096) result }
+        ensures { OwnsPage self.now (addr / page_bytes) result }
     {
-        let page = addr.get() / 4096;
-        if page < self.first / 512 || self.pages.pages() <= (page - self.first / 512) as usize {
+        let first = self.first / PAGE_DOUBLEWORDS as u32;
+        let page = addr.get() / PAGE_BYTES;
+        if page < first || self.pages.pages() <= (page - first) as usize {
             return None;
         }
-        self.pages.owner((page - self.first / 512) as usize)
+        self.pages.owner((page - first) as usize)
     }
 
     // The bytes of a place.

@@ -1,6 +1,7 @@
 //! The search for a place in one region.
 
 ghost use Rattle.std.specs.Prelude.{◌≡◌, ◌<◌, ◌≤◌, ◌+◌, ◌-◌, ◌*◌, ◌^◌, ◌⊎◌, ◌↔◌, ℕ, IfSome, IsTrue, false, length};
+ghost use Rattle.mvs_model.specs.Numbers.{first_doubleword_above};
 ghost use Rattle.mvs_model.specs.Place.{PlaceValue};
 ghost use Rattle.mvs_model.specs.Storage.{IsLength, IsRun};
 ghost use Rattle.mvs_model.specs.Want.{IsWant};
@@ -176,7 +177,7 @@ pub fn find(
     requires exact { IsExact memory.now.held pages.now }
     requires opened { IsOpened pages.now memory.now.bytes }
     requires end { 8 * (first + length memory.now.held) ≤ 2 ^ 31 }
-    requires one_side { first < 2097152 → first + length memory.now.held ≤ 2097152 }
+    requires one_side { first < first_doubleword_above → first + length memory.now.held ≤ first_doubleword_above }
     ensures found { IfSome result.place (IsCandidate (may_take memory.now.held pages.now subpool) first want.now) }
     ensures longest { (q : PlaceValue) → IsCandidate (may_take memory.now.held pages.now subpool) first want.now q → Beats result.place q.len }
     ensures counted { IsCounted (looked_at memory.now pages.now subpool (length memory.now.held) false) result.place result.steps }

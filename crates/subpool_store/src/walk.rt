@@ -1,6 +1,7 @@
 //! One pass in rising order over the pages of a region and the free runs of the subpool's own pages.
 
 ghost use Rattle.std.specs.Prelude.{◌≡◌, ◌<◌, ◌≤◌, ◌+◌, ◌/◌, ◌%◌, ◌⊎◌, ◌↔◌, ℕ, IsTrue, MatchOption, Some, None, false, true, length, slice_index_or};
+ghost use Rattle.mvs_model.specs.Numbers.{page_doublewords};
 ghost use Rattle.free_queue.specs.Runs.{end};
 ghost use Rattle.page_map.specs.Owners.{owner_of, is_usable};
 ghost use Rattle.subpool_store.specs.Half.{IsOpened};
@@ -42,19 +43,19 @@ pub struct Walk {
 fn join_pages(memory: &Memory, pages: &PageMap, subpool: SubpoolId, from: usize) -> Part
     requires exact { IsExact memory.now.held pages.now }
     requires within { from < length memory.now.held }
-    requires page { from % 512 ≡ 0 }
-    requires free { owner_of pages.now (from / 512) ≡ None }
+    requires page { from % page_doublewords ≡ 0 }
+    requires free { owner_of pages.now (from / page_doublewords) ≡ None }
     ensures { IsNextPart memory.now pages.now subpool from false result }
 {
     let _ = memory;
     let _ = subpool;
-    let page = pages.first_assigned(from / 512);
+    let page = pages.first_assigned(from / PAGE_DOUBLEWORDS);
     Part {
         start: from,
-        end: 512 * page,
+        end: PAGE_DOUBLEWORDS * page,
         inside: false,
         queue: Head::none(),
-        examined: (page - from / 512) as u32,
+        examined: (page - from / PAGE_DOUBLEWORDS) as u32,
     }
 }
 
@@ -62,18 +63,18 @@ fn join_pages(memory: &Memory, pages: &PageMap, subpool: SubpoolId, from: usize)
 fn pass_pages(memory: &Memory, pages: &PageMap, subpool: SubpoolId, from: usize) -> Part
     requires exact { IsExact memory.now.held pages.now }
     requires within { from < length memory.now.held }
-    requires page { from % 512 ≡ 0 }
-    requires foreign { is_usable subpool (owner_of pages.now (from / 512)) ≡ false }
+    requires page { from % page_doublewords ≡ 0 }
+    requires foreign { is_usable subpool (owner_of pages.now (from / page_doublewords)) ≡ false }
     ensures { IsNextPart memory.now pages.now subpool from false result }
 {
     let _ = memory;
-    let page = pages.first_usable(subpool, from / 512);
+    let page = pages.first_usable(subpool, from / PAGE_DOUBLEWORDS);
     Part {
-        start: 512 * page,
-        end: 512 * page,
+        start: PAGE_DOUBLEWORDS * page,
+        end: PAGE_DOUBLEWORDS * page,
         inside: false,
         queue: Head::none(),
-        examined: (page - from / 512) as u32,
+        examined: (page - from / PAGE_DOUBLEWORDS) as u32,
     }
 }
 
@@ -112,25 +113,25 @@ fn pass_full(memory: &Memory, pages: &PageMap, subpool: SubpoolId, from: usize) 
 fn examine_own(memory: &Memory, pages: &PageMap, subpool: SubpoolId, from: usize) -> Part
     requires exact { IsExact memory.now.held pages.now }
     requires within { from < length memory.now.held }
-    requires page { from % 512 ≡ 0 }
-    requires own { owner_of pages.now (from / 512) ≡ Some subpool }
+    requires page { from % page_doublewords ≡ 0 }
+    requires own { owner_of pages.now (from / page_doublewords) ≡ Some subpool }
     requires opened { IsOpened pages.now memory.now.bytes }
     ensures { IsNextPart memory.now pages.now subpool from false result }
 {
-    let page = pass_full(memory, pages, subpool, from / 512);
-    let passed = (page - from / 512) as u32;
+    let page = pass_full(memory, pages, subpool, from / PAGE_DOUBLEWORDS);
+    let passed = (page - from / PAGE_DOUBLEWORDS) as u32;
     if page < pages.pages() && pages.is_of(page, subpool) {
         return Part {
-            start: 512 * page,
-            end: 512 * page,
+            start: PAGE_DOUBLEWORDS * page,
+            end: PAGE_DOUBLEWORDS * page,
             inside: true,
             queue: memory.first(page),
             examined: passed + 1,
         };
     }
     Part {
-        start: 512 * page,
-        end: 512 * page,
+        start: PAGE_DOUBLEWORDS * page,
+        end: PAGE_DOUBLEWORDS * page,
         inside: false,
         queue: Head::none(),
         examined: passed,
@@ -141,11 +142,11 @@ fn examine_own(memory: &Memory, pages: &PageMap, subpool: SubpoolId, from: usize
 fn examine_page(memory: &Memory, pages: &PageMap, subpool: SubpoolId, from: usize) -> Part
     requires exact { IsExact memory.now.held pages.now }
     requires within { from < length memory.now.held }
-    requires page { from % 512 ≡ 0 }
+    requires page { from % page_doublewords ≡ 0 }
     requires opened { IsOpened pages.now memory.now.bytes }
     ensures { IsNextPart memory.now pages.now subpool from false result }
 {
-    match pages.owner(from / 512) {
+    match pages.owner(from / PAGE_DOUBLEWORDS) {
         None => join_pages(memory, pages, subpool, from),
         Some(owner) if owner == subpool => examine_own(memory, pages, subpool, from),
         Some(_) => pass_pages(memory, pages, subpool, from),
@@ -164,16 +165,16 @@ fn examine_run(
 ) -> Part
     requires exact { IsExact memory.now.held pages.now }
     requires within { from < length memory.now.held }
-    requires page { from / 512 ≡ page }
+    requires page { from / page_doublewords ≡ page }
     requires own { owner_of pages.now page ≡ Some subpool }
     requires opened { IsOpened pages.now memory.now.bytes }
     requires cursor { IsCursor memory.now page from queue }
-    requires fresh { (from % 512 ≡ 0) ⊎ (slice_index_or memory.now.held from false ≡ true) }
+    requires fresh { (from % page_doublewords ≡ 0) ⊎ (slice_index_or memory.now.held from false ≡ true) }
     ensures part { IsNextPart memory.now pages.now subpool from true result }
     ensures stops { result.inside ≡ true → may_take memory.now.held pages.now subpool result.end ≡ false }
-    ensures page { result.inside ≡ true → result.end / 512 ≡ page }
+    ensures page { result.inside ≡ true → result.end / page_doublewords ≡ page }
 {
-    let end = 512 * page + 512;
+    let end = PAGE_DOUBLEWORDS * page + PAGE_DOUBLEWORDS;
     match memory.next_free(page, from, queue) {
         None => Part {
             start: end,
@@ -246,7 +247,7 @@ impl Walk {
     // no shorter than the least length.
     fn is_of_use(&self, least: usize) -> bool
         requires { self.now.start ≤ self.now.end }
-        ensures { result ≡ false → self.now.end < self.now.start + least × ((self.now.start ≡ self.now.end) ⊎ (self.now.end % 512 ≡ 0 → ⊥)) }
+        ensures { result ≡ false → self.now.end < self.now.start + least × ((self.now.start ≡ self.now.end) ⊎ (self.now.end % page_doublewords ≡ 0 → ⊥)) }
     {
         let len = self.end - self.start;
         least <= len || (0 < len && self.end % PAGE_DOUBLEWORDS == 0)

@@ -31,7 +31,10 @@ impl Numbers {
         requires { 0 < bound }
         ensures { result < bound }
     {
-        self.state = self.state.wrapping_mul(6_364_136_223_846_793_005).wrapping_add(1_442_695_040_888_963_407);
+        self.state = self
+            .state
+            .wrapping_mul(6_364_136_223_846_793_005)
+            .wrapping_add(1_442_695_040_888_963_407);
         ((self.state >> 33) % u64::from(bound)) as u32
     }
 
@@ -87,7 +90,11 @@ impl Plain {
 
     // The number of the subpool of a doubleword.
     fn owner(&self, at: usize) -> u16 {
-        if at < self.owners.len() { self.owners[at] } else { 0 }
+        if at < self.owners.len() {
+            self.owners[at]
+        } else {
+            0
+        }
     }
 
     // The number of the subpool that has something of a doubleword's page.
@@ -202,7 +209,10 @@ fn release(store: &mut Store, plain: &mut Plain, numbers: &mut Numbers) -> bool 
     let at = plain.any(numbers);
     let own = plain.owner(at).max(1).min(5);
     let held = plain.held_from(own, at, MOST);
-    let n = held.min(numbers.below(MOST) as usize).wrapping_add(numbers.below(32) as usize / 31).max(1);
+    let n = held
+        .min(numbers.below(MOST) as usize)
+        .wrapping_add(numbers.below(32) as usize / 31)
+        .max(1);
     let released = store.release(SubpoolId::new(own), place_of(at, n)).is_ok();
     if n <= held {
         plain.set(at, n, 0, 0);

@@ -3,12 +3,12 @@ use Rattle.page_map.specs.Owners.{owner_of}
 use Rattle.subpool_store.specs.Half.{value_at, OwnsPage}
 use Rattle.subpool_store.proofs.Methods.{no_page, page_owner}
 use Rattle.subpool_store.proofs.half.Half.page_owner.Goals as goal
-use Rattle.subpool_store.proofs.half.Half.page_owner.Goals.{then-page-self-via-then-page-self, then-page-self-via-else-page-self+then-pages-page}
+use Rattle.subpool_store.proofs.half.Half.page_owner.Goals.{then-page-first-via-then-page-first, then-page-first-via-else-page-first+then-pages-page}
 
-pub returns-then-page-self : goal.returns-then-page-self
-returns-then-page-self c =
+pub returns-then-page-first : goal.returns-then-page-first
+returns-then-page-first c =
     let s = c.self.inside in
-    no_page s.first s.memory.held s.pages (value_at s.memory.bytes) c.args.self.now c.self.view_is (c.args.addr / 4096) c.self.invariant.0.aligned c.self.invariant.0.exact.sizes (λ low. elim c.then-page-self.branch [ then-page-self-via-then-page-self w ↦ omega arith | then-page-self-via-else-page-self+then-pages-page w ↦ omega arith ])
+    no_page s.first s.memory.held s.pages (value_at s.memory.bytes) c.args.self.now c.self.view_is (c.args.addr / 4096) c.self.invariant.0.aligned c.self.invariant.0.exact.sizes (λ low. elim c.then-page-first.branch [ then-page-first-via-then-page-first w ↦ omega arith | then-page-first-via-else-page-first+then-pages-page w ↦ omega arith ])
 
 pub returns : goal.returns
 returns c =
