@@ -8,7 +8,7 @@ use Rattle.mvs_model.specs.Place.{PlaceValue}
 use Rattle.mvs_model.specs.Storage.{covers, has_address}
 use Rattle.mvs_model.proofs.Tables.{get-table_all}
 use Rattle.subpool_store.specs.Bits.{in_range}
-use Rattle.subpool_store.specs.Half.{shifted, cell, byte_at, bytes_of, held_of}
+use Rattle.subpool_store.specs.Region.{shifted, cell, byte_at, bytes_of, held_of}
 use Rattle.subpool_store.proofs.Cover.{covers_is, covers_none, has_address_is, has_address_range}
 use Rattle.subpool_store.proofs.Exact.{holder_at, shifted_at, shifted_none, shifted_some, cell_none}
 

@@ -7,7 +7,7 @@ use Rattle.mvs_model.specs.Finite.{kept, has}
 use Rattle.page_map.specs.Owners.{owner_of, is_usable}
 use Rattle.subpool_store.specs.Bits.{in_range}
 use Rattle.subpool_store.specs.Edits.{IsMarked, IsAssigned, IsGivenUp, IsDropped}
-use Rattle.subpool_store.specs.Half.{cell}
+use Rattle.subpool_store.specs.Region.{cell}
 use Rattle.subpool_store.specs.Search.{may_take, IsExact}
 use Rattle.subpool_store.proofs.Exact.{cell_at, cell_none, usable_some}
 use Rattle.subpool_store.proofs.Ranges.{in_range_true, in_range_false, in_range_from, out_of_range_from}

@@ -8,7 +8,7 @@ pub mod PageWritten
 pub mod Marked
 pub mod Cursors
 pub mod Begun
-pub mod HalfCount
+pub mod RegionCount
 pub mod StoreCount
 pub mod Scan
 pub mod Short
@@ -21,7 +21,7 @@ pub mod Both
 pub mod Choice
 pub mod Opened
 pub mod Parts
-pub mod LentHalf
+pub mod LentRegion
 pub mod Counts
 pub mod PagesDropped
 pub mod FewRuns

@@ -7,7 +7,7 @@ use Rattle.mvs_model.specs.Place.{PlaceValue}
 use Rattle.mvs_model.specs.Storage.{Regions, Storage, end_of, holder}
 use Rattle.mvs_model.specs.declared.want.Side.{Side}
 use Rattle.mvs_model.specs.declared.want.Side.TheVariants.{Below, Either}
-use Rattle.subpool_store.specs.Half.{HalfState}
+use Rattle.subpool_store.specs.Region.{RegionState}
 
 -- whether s holds a doubleword of a page
 abbrev pub has_page : (ℕ → Option ℕ) → ℕ → ℕ → Bool
@@ -18,7 +18,7 @@ abbrev pub begins : (ℕ → Option ℕ) → ℕ → ℕ → Bool
 begins holder s d = not (is_some (holder d)) && (has_page holder s (d / page_doublewords) && (d % page_doublewords == 0 || is_some (holder (d - 1))))
 
 -- the page entries of a region and the free runs of its pages of s
-abbrev pub to_look_at : HalfState → ℕ → ℕ
+abbrev pub to_look_at : RegionState → ℕ → ℕ
 to_look_at h s = h.pages + count_below (page_doublewords * h.pages) (λ i. begins (get h.held) s (h.first + i))
 
 -- the pages of the regions that may be searched

@@ -10,7 +10,7 @@ use Rattle.mvs_model.specs.Table.{table}
 use Rattle.mvs_model.specs.Want.{WantValue}
 use Rattle.mvs_model.specs.declared.want.Side.TheVariants.{Below, Either}
 use Rattle.subpool_store.specs.Bound.{to_look_at}
-use Rattle.subpool_store.specs.Half.{HalfState, IsSound, BestIn}
+use Rattle.subpool_store.specs.Region.{RegionState, IsSound, BestIn}
 use Rattle.subpool_store.specs.Search.{IsCounted}
 use Rattle.subpool_store.specs.Sizes.{all_addresses, all_doublewords}
 
@@ -22,16 +22,16 @@ joined_at split m n k = if nat_lt k split then get m k else get n k
 abbrev pub joined : ℕ → ℕ → FinMap nat_cmp ℕ → FinMap nat_cmp ℕ → FinMap nat_cmp ℕ
 joined bound split m n = table bound (joined_at split m n)
 
--- the regions of the two halves
-abbrev pub regions_of : HalfState → HalfState → ℕ → Regions
+-- the two regions, and the byte of a grant
+abbrev pub regions_of : RegionState → RegionState → ℕ → Regions
 regions_of b a fill = record { below = b.pages; above = a.pages; fill = fill }
 
--- the storage of the two halves
-abbrev pub store_of : HalfState → HalfState → ℕ → Storage
+-- the storage of the two regions
+abbrev pub store_of : RegionState → RegionState → ℕ → Storage
 store_of b a fill = record { regions = regions_of b a fill; held = joined all_doublewords first_doubleword_above b.held a.held; bytes = joined all_addresses above_begins b.bytes a.bytes }
 
 -- The region below and the region above.
-pub record IsStore (b a : HalfState) : Type 0 where
+pub record IsStore (b a : RegionState) : Type 0 where
   pub first_below : b.first ≡ first_doubleword_below
   pub first_above : a.first ≡ first_doubleword_above
   pub some_below : 1 ≤ b.pages
@@ -47,9 +47,9 @@ pub record Taken (old : Storage) (p : PlaceValue) (v b : Option ℕ) (new : Stor
   pub bytes : Changes (get old.bytes) (has_address p) b (get new.bytes)
 
 -- the best place above, where a place above is wanted
-abbrev pub BestAbove : HalfState → ℕ → WantValue → Option PlaceValue → Type 0
+abbrev pub BestAbove : RegionState → ℕ → WantValue → Option PlaceValue → Type 0
 BestAbove a s want r = BestIn a s want r ⊎ ((want.side ≡ Below) × (r ≡ None))
 
 -- what a search above has looked at, where a place above is wanted
-abbrev pub CountedAbove : HalfState → ℕ → WantValue → Option PlaceValue → ℕ → Type 0
+abbrev pub CountedAbove : RegionState → ℕ → WantValue → Option PlaceValue → ℕ → Type 0
 CountedAbove a s want r steps = ((want.side ≡ Either) × IsCounted (to_look_at a s) r steps) ⊎ ((want.side ≡ Below) × (r ≡ None) × (steps ≡ 0))

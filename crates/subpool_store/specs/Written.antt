@@ -7,7 +7,7 @@ use Rattle.mvs_model.specs.Place.{PlaceValue}
 use Rattle.mvs_model.specs.Storage.{IsStorage, Storage, has_address}
 use Rattle.mvs_model.specs.Table.{table}
 use Rattle.subpool_store.specs.Bits.{in_range}
-use Rattle.subpool_store.specs.Half.{HalfState}
+use Rattle.subpool_store.specs.Region.{RegionState}
 use Rattle.subpool_store.specs.Sizes.{all_addresses}
 
 -- what is at a key, with the bytes written over those from one key up to another
@@ -23,8 +23,8 @@ abbrev pub side_end : ℕ → ℕ
 side_end a = if nat_lt a above_begins then above_begins else all_addresses
 
 -- a region with the bytes written over those from an address on
-abbrev pub half_written : HalfState → ℕ → List ℕ → HalfState
-half_written h a w = record { first = h.first; pages = h.pages; held = h.held; bytes = overwritten h.bytes a (a + length w) w }
+abbrev pub region_written : RegionState → ℕ → List ℕ → RegionState
+region_written h a w = record { first = h.first; pages = h.pages; held = h.held; bytes = overwritten h.bytes a (a + length w) w }
 
 -- storage with the bytes written over those from an address on, on its side of 16 megabytes
 abbrev pub written_from : Storage → ℕ → List ℕ → Storage

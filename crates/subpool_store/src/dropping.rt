@@ -4,11 +4,11 @@ ghost use Rattle.std.specs.Prelude.{◌≡◌, ◌*◌, length};
 ghost use Rattle.mvs_model.specs.Numbers.{page_doublewords};
 ghost use Rattle.mvs_model.specs.Storage.{is_one_of};
 ghost use Rattle.subpool_store.specs.Edits.{IsDropped};
-ghost use Rattle.subpool_store.specs.Half.{IsOpened};
+ghost use Rattle.subpool_store.specs.Region.{IsOpened};
 ghost use Rattle.subpool_store.specs.Memory.{Stays};
 
-use crate::half::close_page;
 use crate::memory::Memory;
+use crate::region_store::close_page;
 use mvs_model::subpool_set::SubpoolSet;
 use page_map::PageMap;
 

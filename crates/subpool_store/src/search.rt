@@ -5,7 +5,7 @@ ghost use Rattle.mvs_model.specs.Numbers.{first_doubleword_above};
 ghost use Rattle.mvs_model.specs.Place.{PlaceValue};
 ghost use Rattle.mvs_model.specs.Storage.{IsLength, IsRun};
 ghost use Rattle.mvs_model.specs.Want.{IsWant};
-ghost use Rattle.subpool_store.specs.Half.{IsOpened};
+ghost use Rattle.subpool_store.specs.Region.{IsOpened};
 ghost use Rattle.subpool_store.specs.Search.{
   may_take,
   Beats,

@@ -26,7 +26,7 @@ ghost use Rattle.subpool_store.specs.Joined.{BestAbove, CountedAbove, Taken};
 ghost use Rattle.subpool_store.specs.LendsBytes.{LendsBytes};
 ghost use Rattle.subpool_store.specs.Written.{Puts, written};
 
-use crate::half::Half;
+use crate::region_store::RegionStore;
 use crate::search::{Found, is_longest, longer};
 use mvs_model::error::OutOfMemory;
 use mvs_model::numbers::{ABOVE_BEGINS, FIRST_DOUBLEWORD_ABOVE, FIRST_DOUBLEWORD_BELOW};
@@ -52,8 +52,8 @@ pub struct NotHeld;
 /// below 16 megabytes and in the region above.
 #[derive(Drop)]
 pub struct Store {
-    below: Half,
-    above: Half,
+    below: RegionStore,
+    above: RegionStore,
     fill: u8,
     placement: Placement,
     steps: u32,
@@ -101,7 +101,7 @@ fn whole_doublewords(place: Place) -> Place
 }
 
 // The best place in the region above, if a place may be there.
-fn find_above(placement: Placement, above: &Half, subpool: SubpoolId, want: &Want) -> Found
+fn find_above(placement: Placement, above: &RegionStore, subpool: SubpoolId, want: &Want) -> Found
     ensures best { BestAbove above.now subpool want.now result.place }
     ensures counted { CountedAbove above.now subpool want.now result.place result.steps }
 {
@@ -128,8 +128,8 @@ impl Store {
         ensures storage { IfOk result IsStorage }
     {
         Ok(Store {
-            below: Half::new(alloc, FIRST_DOUBLEWORD_BELOW, below as usize)?,
-            above: Half::new(alloc, FIRST_DOUBLEWORD_ABOVE, above as usize)?,
+            below: RegionStore::new(alloc, FIRST_DOUBLEWORD_BELOW, below as usize)?,
+            above: RegionStore::new(alloc, FIRST_DOUBLEWORD_ABOVE, above as usize)?,
             fill,
             placement,
             steps: 0,

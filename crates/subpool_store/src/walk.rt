@@ -4,7 +4,7 @@ ghost use Rattle.std.specs.Prelude.{◌≡◌, ◌<◌, ◌≤◌, ◌+◌, ◌/
 ghost use Rattle.mvs_model.specs.Numbers.{page_doublewords};
 ghost use Rattle.free_queue.specs.Runs.{end};
 ghost use Rattle.page_map.specs.Owners.{owner_of, is_usable};
-ghost use Rattle.subpool_store.specs.Half.{IsOpened};
+ghost use Rattle.subpool_store.specs.Region.{IsOpened};
 ghost use Rattle.subpool_store.specs.Memory.{IsCursor};
 ghost use Rattle.subpool_store.specs.Search.{may_take, IsExact, IsNextRun, NoneFits};
 ghost use Rattle.subpool_store.specs.Walk.{progress, IsFull, IsNextPart, IsWalk};
