@@ -9,6 +9,10 @@ pub record Run : Type 0 where
   pub from : ℕ
   pub len : ℕ
 
+-- the run of a page of which all is free, alone
+abbrev pub whole_page : List Run
+whole_page = record { from = 0; len = page_bytes } ∷ []
+
 -- the head of a page that has no run, and the word that ends the chain
 abbrev pub end : ℕ
 end = 0xFFFFFFFF

@@ -23,9 +23,11 @@ ghost use Rattle.free_queue.specs.Runs.{
   next_run,
   page_of,
   place_of,
+  whole_page,
   word,
 };
 
+use mvs_model::numbers::PAGE_BYTES;
 use region_raw::region::Region;
 
 pub mod queue;
@@ -41,7 +43,7 @@ fn index(page: usize, at: u32) -> usize
     requires inside { at < page_bytes }
     ensures { result ≡ page_bytes * page + at }
 {
-    4_096 * page + at as usize
+    PAGE_BYTES as usize * page + at as usize
 }
 
 // Where the run behind the one at an offset begins.
@@ -98,15 +100,19 @@ fn put_run(region: &mut Region, page: usize, at: u32, stop: u32, next: u32) -> u
     }
 }
 
-// Makes all of an open page free, and gives its head.
-fn start(region: &mut Region, page: usize) -> u32
+// Makes all of an open page free but some bytes from an offset on, and gives its head.
+fn start(region: &mut Region, page: usize, from: u32, n: u32) -> u32
     requires few { page < most_pages_above }
     requires there { is_open region.old page ≡ true }
+    requires some { 0 < n }
+    requires inside { from + n ≤ page_bytes }
+    requires whole { (from % 8 ≡ 0) × (n % 8 ≡ 0) }
     ensures keeps { Keeps region.old page region.new }
-    ensures queue { Queue 0 (page_of region.new page) result (record { from = 0; len = page_bytes } ∷ []) }
+    ensures same { (d : ℕ) → Within from n d → Same (page_of region.old page) (page_of region.new page) d }
+    ensures queue { Takes 0 whole_page from n (page_of region.new page) result }
 {
-    set(region, page, 0, END, 4_096);
-    0
+    let rest = put_run(region, page, from + n, PAGE_BYTES, END);
+    put_run(region, page, 0, from, rest)
 }
 
 // Whether all of a page is free.
@@ -115,7 +121,7 @@ fn is_whole(region: &Region, page: usize, head: u32) -> bool
     requires there { is_open region.now page ≡ true }
     ensures { (rs : List Run) → Queue 0 (page_of region.now page) head rs → IsTrue result ↔ ((d : ℕ) → d < page_bytes → IsFree rs d) }
 {
-    head == 0 && len(region, page, 0) == 4_096
+    head == 0 && len(region, page, 0) == PAGE_BYTES
 }
 
 // The first free run of a page that begins at an offset or behind it: where it begins, and its length.

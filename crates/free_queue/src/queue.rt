@@ -19,6 +19,7 @@ ghost use Rattle.free_queue.specs.Runs.{
   next_run,
   page_of,
   place_of,
+  whole_page,
 };
 
 use region_raw::region::Region;
@@ -47,16 +48,28 @@ impl Head {
     {
         Head { offset: crate::END }
     }
+
+    /// Whether it is the head of a page of which nothing is free.
+    pub fn is_none(self) -> bool
+        ensures { IsTrue result ↔ self ≡ end }
+    {
+        self.offset == crate::END
+    }
 }
 
-/// Makes all of a page free. What it holds is lost.
-pub fn start(region: &mut Region, page: usize) -> Head
+/// Makes all of a page free but `n` bytes from an offset on, at least 8, which keep what they are. What all others hold
+/// is lost.
+pub fn start(region: &mut Region, page: usize, from: u32, n: u32) -> Head
     requires few { page < most_pages_above }
     requires there { is_open region.old page ≡ true }
+    requires some { 0 < n }
+    requires inside { from + n ≤ page_bytes }
+    requires whole { (from % 8 ≡ 0) × (n % 8 ≡ 0) }
     ensures keeps { Keeps region.old page region.new }
-    ensures queue { Queue 0 (page_of region.new page) result (record { from = 0; len = page_bytes } ∷ []) }
+    ensures same { (d : ℕ) → Within from n d → Same (page_of region.old page) (page_of region.new page) d }
+    ensures queue { Takes 0 whole_page from n (page_of region.new page) result }
 {
-    let offset = crate::start(region, page);
+    let offset = crate::start(region, page, from, n);
     Head { offset }
 }
 

@@ -13,8 +13,9 @@ use mvs_model::subpool_set::SubpoolSet;
 /// What stands for a page that no subpool has.
 pub(crate) const FREE: u16 = u16::MAX;
 
-// How many pages are looked at at once.
-const SEVERAL: usize = 16;
+// How many pages are looked at at once: of other subpools, and free ones.
+const SEVERAL: usize = 8;
+const SEVERAL_FREE: usize = 16;
 
 // The subpool of a number.
 pub(crate) fn subpool_of(code: u16) -> Option<SubpoolId>
@@ -106,11 +107,11 @@ fn pass_free(codes: &[u16], from: usize) -> usize
     ensures passed { (p : ℕ) → from ≤ p → p < result → is_some (owner_of (page_owners codes.now) p) ≡ false }
 {
     let mut page = from;
-    'several: while SEVERAL <= codes.len() - page {
-        if is_one_assigned(&codes[page..page + SEVERAL]) {
+    'several: while SEVERAL_FREE <= codes.len() - page {
+        if is_one_assigned(&codes[page..page + SEVERAL_FREE]) {
             return page;
         }
-        page += SEVERAL;
+        page += SEVERAL_FREE;
     }
     page
 }

@@ -1,7 +1,7 @@
 //! Which subpool each page of a region is assigned to.
 #![tactic(auto)]
 
-ghost use Rattle.std.specs.Prelude.{◌≡◌, ◌<◌, ◌≤◌, Some, None, IfOk, length, is_some, slice_set, count_by, replicate};
+ghost use Rattle.std.specs.Prelude.{◌≡◌, ◌<◌, ◌≤◌, ◌↔◌, IsTrue, Some, None, IfOk, length, is_some, slice_set, count_by, replicate};
 ghost use Rattle.mvs_model.specs.Numbers.{most_pages_above};
 ghost use Rattle.mvs_model.specs.Finite.{has};
 ghost use Rattle.mvs_model.specs.Storage.{is_one_of};
@@ -61,6 +61,14 @@ impl PageMap {
         ensures { result ≡ owner_of self.now page }
     {
         subpool_of(self.owners[page])
+    }
+
+    /// Whether a page is assigned to the subpool.
+    pub fn is_of(&self, page: usize, subpool: SubpoolId) -> bool
+        requires { page < length self.now }
+        ensures { IsTrue result ↔ owner_of self.now page ≡ Some subpool }
+    {
+        self.owners[page] == subpool.get()
     }
 
     /// Assigns a page that is not assigned.

@@ -63,6 +63,12 @@ module _ (m : MemoryState) (pages : List (Option ℕ)) (s : ℕ) where
       foreign_begins i (foreign (i / 512) (omega (arith, low)) (omega (arith, high)))) in
       omega (arith, same, on, rises)
 
+  -- pages of which nothing is free
+  pub full_counted : (from to : ℕ) → from % 512 ≡ 0 → from / 512 ≤ to → ((i : ℕ) → from ≤ i → i < 512 * to → get_or m.held i false ≡ true) → looked_at m pages s from false + (to - from / 512) ≡ looked_at m pages s (512 * to) false
+  full_counted from to on rises held =
+      let same : count_below (512 * to) (begins_run m.held pages s) ≡ count_below from (begins_run m.held pages s) = count_stays (begins_run m.held pages s) from (512 * to) (omega (arith, on, rises)) (λ i low high. held_begins i (held i low high)) in
+      omega (arith, same, on, rises)
+
   -- the rest of a page, in which nothing is free
   pub rest_counted : (from : ℕ) → ((i : ℕ) → from ≤ i → i < 512 * (from / 512) + 512 → get_or m.held i false ≡ true) → looked_at m pages s from true + 0 ≡ looked_at m pages s (512 * (from / 512) + 512) false
   rest_counted from held =

@@ -8,7 +8,7 @@ use Rattle.mvs_model.specs.Finite.{Changes, kept, has}
 use Rattle.mvs_model.specs.Place.{PlaceValue, place_at}
 use Rattle.mvs_model.specs.Storage.{covers, has_address, InRegion, IsStorage, Storage, ReleaseAll, ReleaseEach, is_one_of, holder}
 use Rattle.mvs_model.proofs.Tables.{get-table, table_changes, table_some, same_maps}
-use Rattle.subpool_store.specs.Half.{HalfState, IsSound, ChangedIn, DroppedIn}
+use Rattle.subpool_store.specs.Region.{RegionState, IsSound, ChangedIn, DroppedIn}
 use Rattle.subpool_store.specs.Joined.{joined, joined_at, regions_of, store_of, IsStore, Taken}
 
 -- what two joined maps have
@@ -54,7 +54,7 @@ joined_empty bound split = same_maps _ _ (λ k. get-table bound (joined_at split
   nothing k = ap (λ o. cond (ltb k bound) o None) (ap (λ o. cond (ltb k split) o (get (empty {K = ℕ} {X = ℕ} {R = nat_cmp}) k)) (get-empty nat_cmp k) ∙ ap (λ o. cond (ltb k split) None o) (get-empty nat_cmp k) ∙ cond_same (ltb k split)) ∙ cond_same (ltb k bound)
 
 -- who holds a doubleword, and the byte at an address
-module _ (b a : HalfState) (fill : ℕ) where
+module _ (b a : RegionState) (fill : ℕ) where
   pub low_holder : (d : ℕ) → d < 2097152 → holder (store_of b a fill) d ≡ get b.held d
   low_holder d low = get_low 268435456 2097152 b.held a.held (omega arith) d low
 
@@ -77,7 +77,7 @@ module _ (b a : HalfState) (fill : ℕ) where
   pub holder_small : (d t : ℕ) → holder (store_of b a fill) d ≡ Some t → d < 268435456
   holder_small d t held = (table_some 268435456 (joined_at 2097152 b.held a.held) d t held).0
 
-  -- storage of two sound halves is storage
+  -- storage of two sound regions is storage
   pub storage_of : IsStore b a → IsStorage (store_of b a fill)
   storage_of both = record {
     pages = λ d e s t same at_d at_e. rule d e s t same at_d at_e (cases_lt d 2097152);
@@ -94,16 +94,16 @@ module _ (b a : HalfState) (fill : ℕ) where
 
     inside : (d s : ℕ) → holder (store_of b a fill) d ≡ Some s → (d < 2097152) ⊎ (2097152 ≤ d) → InRegion (regions_of b a fill) (place_at (8 * d) 8)
     inside d s held (inl low) =
-        let in_half = both.sound_below.bounded d s (sym (low_holder d low) ∙ held) in
+        let in_region = both.sound_below.bounded d s (sym (low_holder d low) ∙ held) in
         let first : b.first ≡ 3072 = both.first_below in
-        let from : b.first ≤ d = in_half.0 in
-        let to : d < b.first + 512 * b.pages = in_half.1 in
+        let from : b.first ≤ d = in_region.0 in
+        let to : d < b.first + 512 * b.pages = in_region.1 in
         inl (omega arith, omega arith)
     inside d s held (inr high) =
-        let in_half = both.sound_above.bounded d s (sym (high_holder d high (holder_small d s held)) ∙ held) in
+        let in_region = both.sound_above.bounded d s (sym (high_holder d high (holder_small d s held)) ∙ held) in
         let first : a.first ≡ 2097152 = both.first_above in
-        let from : a.first ≤ d = in_half.0 in
-        let to : d < a.first + 512 * a.pages = in_half.1 in
+        let from : a.first ≤ d = in_region.0 in
+        let to : d < a.first + 512 * a.pages = in_region.1 in
         inr (omega arith, omega arith)
 
     bytes : (k : ℕ) → (k < 16777216) ⊎ (16777216 ≤ k) → (k < 2147483648) ⊎ (2147483648 ≤ k) → is_some (get (store_of b a fill).bytes k) ≡ is_some (holder (store_of b a fill) (k / 8))
@@ -112,7 +112,7 @@ module _ (b a : HalfState) (fill : ℕ) where
     bytes k (inr high) (inr past) = ap is_some (past_byte k past) ∙ sym (ap is_some (past_holder (k / 8) (omega arith)))
 
   -- a change inside the region below, or above
-  pub below_changes : (b' : HalfState) (p : PlaceValue) (v w : Option ℕ) → p.addr + p.len ≤ 0x1000000 → ChangedIn b p v w b' → Taken (store_of b a fill) p v w (store_of b' a fill)
+  pub below_changes : (b' : RegionState) (p : PlaceValue) (v w : Option ℕ) → p.addr + p.len ≤ 0x1000000 → ChangedIn b p v w b' → Taken (store_of b a fill) p v w (store_of b' a fill)
   below_changes b' p v w inside change = record {
     regions = ap (λ n. record { below = n; above = a.pages; fill = fill }) change.pages;
     held = low_changes 268435456 2097152 b.held a.held b'.held (covers p) v (omega arith) (λ k hit. covered_low k hit) change.held;
@@ -124,7 +124,7 @@ module _ (b a : HalfState) (fill : ℕ) where
     address_low : (k : ℕ) → has_address p k ≡ true → k < 16777216
     address_low k hit = grind (arith, nat_tests)
 
-  pub above_changes : (a' : HalfState) (p : PlaceValue) (v w : Option ℕ) → 0x1000000 ≤ p.addr → p.addr + p.len ≤ 2 ^ 31 → ChangedIn a p v w a' → Taken (store_of b a fill) p v w (store_of b a' fill)
+  pub above_changes : (a' : RegionState) (p : PlaceValue) (v w : Option ℕ) → 0x1000000 ≤ p.addr → p.addr + p.len ≤ 2 ^ 31 → ChangedIn a p v w a' → Taken (store_of b a fill) p v w (store_of b a' fill)
   above_changes a' p v w inside small change = record {
     regions = ap (λ n. record { below = b.pages; above = n; fill = fill }) change.pages;
     held = high_changes 268435456 2097152 b.held a.held a'.held (covers p) v (λ k hit. (covered_high k hit, covered_low k hit)) change.held;
@@ -143,7 +143,7 @@ module _ (b a : HalfState) (fill : ℕ) where
     address_low k hit = grind (arith, nat_tests)
 
   -- all that some subpools hold goes in both
-  pub both_dropped : (b' a' : HalfState) (subpools : List ℕ) → DroppedIn b (is_one_of subpools) b' → DroppedIn a (is_one_of subpools) a' → ReleaseEach (store_of b a fill) subpools (store_of b' a' fill)
+  pub both_dropped : (b' a' : RegionState) (subpools : List ℕ) → DroppedIn b (is_one_of subpools) b' → DroppedIn a (is_one_of subpools) a' → ReleaseEach (store_of b a fill) subpools (store_of b' a' fill)
   both_dropped b' a' subpools low high = record {
     regions = (λ i. record { below = low.pages i; above = high.pages i; fill = fill });
     held = λ k. held k (cases_lt k 2097152) (cases_lt k 268435456);
@@ -171,8 +171,8 @@ module _ (b a : HalfState) (fill : ℕ) where
         get_past 2147483648 16777216 b'.bytes a'.bytes k past
         ∙ sym (ap (cond (has (is_one_of subpools) (holder (store_of b a fill) (k / 8))) None) (past_byte k past) ∙ cond_none (has (is_one_of subpools) (holder (store_of b a fill) (k / 8))))
 
--- what is kept of the two halves when one of them changes
-pub new_below : (b a b' : HalfState) → IsStore b a → b'.first ≡ b.first → b'.pages ≡ b.pages → IsSound b' → IsStore b' a
+-- what is kept of the two regions when one of them changes
+pub new_below : (b a b' : RegionState) → IsStore b a → b'.first ≡ b.first → b'.pages ≡ b.pages → IsSound b' → IsStore b' a
 new_below b a b' both first pages sound = record {
   first_below = first ∙ both.first_below;
   first_above = both.first_above;
@@ -183,7 +183,7 @@ new_below b a b' both first pages sound = record {
   sound_above = both.sound_above;
 }
 
-pub new_above : (b a a' : HalfState) → IsStore b a → a'.first ≡ a.first → a'.pages ≡ a.pages → IsSound a' → IsStore b a'
+pub new_above : (b a a' : RegionState) → IsStore b a → a'.first ≡ a.first → a'.pages ≡ a.pages → IsSound a' → IsStore b a'
 new_above b a a' both first pages sound = record {
   first_below = both.first_below;
   first_above = first ∙ both.first_above;
@@ -194,14 +194,14 @@ new_above b a a' both first pages sound = record {
   sound_above = sound;
 }
 
--- the storage of two halves in which nothing is held
-pub nothing_stored : (b a : HalfState) (m n fill : ℕ) → b ≡ record { first = 3072; pages = m; held = empty; bytes = empty } → a ≡ record { first = 2097152; pages = n; held = empty; bytes = empty } →
+-- the storage of two regions in which nothing is held
+pub nothing_stored : (b a : RegionState) (m n fill : ℕ) → b ≡ record { first = 3072; pages = m; held = empty; bytes = empty } → a ≡ record { first = 2097152; pages = n; held = empty; bytes = empty } →
     store_of b a fill ≡ record { regions = record { below = m; above = n; fill = fill }; held = empty; bytes = empty }
 nothing_stored b a m n fill low high =
     (λ i. store_of (low i) (high i) fill)
     ∙ (λ i. record { regions = record { below = m; above = n; fill = fill }; held = joined_empty 268435456 2097152 i; bytes = joined_empty 2147483648 16777216 i })
 
-pub nothing_kept : (b a : HalfState) (m n : ℕ) → 1 ≤ m → m ≤ 2048 → n ≤ 8192 → b ≡ record { first = 3072; pages = m; held = empty; bytes = empty } → a ≡ record { first = 2097152; pages = n; held = empty; bytes = empty } →
+pub nothing_kept : (b a : RegionState) (m n : ℕ) → 1 ≤ m → m ≤ 2048 → n ≤ 8192 → b ≡ record { first = 3072; pages = m; held = empty; bytes = empty } → a ≡ record { first = 2097152; pages = n; held = empty; bytes = empty } →
     IsSound b → IsSound a → IsStore b a
 nothing_kept b a m n some_m few_m few_n low high sound_b sound_a = record {
   first_below = ap (λ h. h.first) low;

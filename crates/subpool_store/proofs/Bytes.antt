@@ -1,5 +1,5 @@
 -- What a change of the cells and of the bytes of a region is, seen from outside.
-use Rattle.std.proofs.Common.{◌≡◌, ℕ, ◌+◌, ◌-◌, ◌*◌, ◌/◌, ◌%◌, ◌<◌, ◌≤◌, ◌⊎◌, not, Bool, true, false, cond, eqb, Option, Some, None, is_some, List, length, refl, sym, ap, ◌∙◌, inl, inr, arith}
+use Rattle.std.proofs.Common.{◌≡◌, ℕ, ◌+◌, ◌-◌, ◌*◌, ◌/◌, ◌%◌, ◌<◌, ◌≤◌, ◌⊎◌, not, Bool, true, false, cond, Option, Some, None, is_some, List, length, refl, sym, ap, ◌∙◌, inl, inr, arith}
 use Rattle.std.proofs.lemmas.Bool.{cases_Bool, cases_lt, cond-true, cond-false}
 use Rattle.std.proofs.lemmas.List.{get_or_past}
 use Rattle.std.specs.FinMap.{get}
@@ -8,7 +8,7 @@ use Rattle.mvs_model.specs.Place.{PlaceValue}
 use Rattle.mvs_model.specs.Storage.{covers, has_address}
 use Rattle.mvs_model.proofs.Tables.{get-table_all}
 use Rattle.subpool_store.specs.Bits.{in_range}
-use Rattle.subpool_store.specs.Half.{shifted, cell, byte_at, bytes_of, held_of}
+use Rattle.subpool_store.specs.Region.{shifted, cell, byte_at, bytes_of, held_of}
 use Rattle.subpool_store.proofs.Cover.{covers_is, covers_none, has_address_is, has_address_range}
 use Rattle.subpool_store.proofs.Exact.{holder_at, shifted_at, shifted_none, shifted_some, cell_none}
 

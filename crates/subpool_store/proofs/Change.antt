@@ -1,5 +1,5 @@
 -- What a grant and a release do to who holds the doublewords.
-use Rattle.std.proofs.Common.{◌≡◌, ℕ, ◌+◌, ◌-◌, ◌*◌, ◌/◌, ◌<◌, ◌≤◌, ◌⊎◌, ◌&&◌, not, Bool, true, false, cond, ltb, eqb, Option, Some, None, List, length, get_or, refl, sym, ap, ◌∙◌, subst, inl, inr, arith, max}
+use Rattle.std.proofs.Common.{◌≡◌, ℕ, ◌+◌, ◌-◌, ◌*◌, ◌/◌, ◌<◌, ◌≤◌, ◌⊎◌, ◌&&◌, not, Bool, true, false, cond, ltb, Option, Some, None, List, length, get_or, refl, sym, ap, ◌∙◌, subst, inl, inr, arith, max}
 use Rattle.std.proofs.lemmas.Bool.{both_ways, cases_lt, false≢true, and_parts, cases_Bool, cond-true, cond-false, lt-ltb, le-ltb}
 use Rattle.std.proofs.lemmas.List.{get_or_past}
 use Rattle.std.proofs.lemmas.Option.{none-some}
@@ -7,7 +7,7 @@ use Rattle.mvs_model.specs.Finite.{kept, has}
 use Rattle.page_map.specs.Owners.{owner_of, is_usable}
 use Rattle.subpool_store.specs.Bits.{in_range}
 use Rattle.subpool_store.specs.Edits.{IsMarked, IsAssigned, IsGivenUp, IsDropped}
-use Rattle.subpool_store.specs.Half.{cell}
+use Rattle.subpool_store.specs.Region.{cell}
 use Rattle.subpool_store.specs.Search.{may_take, IsExact}
 use Rattle.subpool_store.proofs.Exact.{cell_at, cell_none, usable_some}
 use Rattle.subpool_store.proofs.Ranges.{in_range_true, in_range_false, in_range_from, out_of_range_from}

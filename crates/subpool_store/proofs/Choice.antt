@@ -7,7 +7,7 @@ use Rattle.std.specs.FinMap.{get}
 use Rattle.mvs_model.specs.Place.{PlaceValue, place_at}
 use Rattle.mvs_model.specs.Storage.{AllHeld, Chosen, Covers, HeldBy, IsLength, IsPageOwner, LiesIn, MayTake, Meets, NoPlace, Open, Places, Storage, holder}
 use Rattle.mvs_model.specs.Want.{WantValue, IsWant}
-use Rattle.subpool_store.specs.Half.{AllHeldIn, BestIn, ChangedIn, HalfState, HeldIn, IsBest, OpenIn, OwnsPage}
+use Rattle.subpool_store.specs.Region.{AllHeldIn, BestIn, ChangedIn, RegionState, HeldIn, IsBest, OpenIn, OwnsPage}
 use Rattle.subpool_store.specs.Joined.{BestAbove, IsStore, Taken, regions_of, store_of}
 use Rattle.subpool_store.specs.Search.{Beats, IsShorter}
 use Rattle.subpool_store.proofs.Both.{low_holder, high_holder, holder_small, low_byte, high_byte, below_changes, above_changes}
@@ -19,7 +19,7 @@ same_may f g s d same may = record {
   page = λ e t on held. may.page e t on (same e on ∙ held);
 }
 
-module _ (b a : HalfState) (fill s : ℕ) (both : IsStore b a) where
+module _ (b a : RegionState) (fill s : ℕ) (both : IsStore b a) where
   pub open_below : (p : PlaceValue) → OpenIn b s p → Open (regions_of b a fill) (holder (store_of b a fill)) s p
   open_below p is_open =
       let first : b.first ≡ 3072 = both.first_below in
@@ -58,16 +58,16 @@ module _ (b a : HalfState) (fill s : ℕ) (both : IsStore b a) where
       ]
 
 -- no place above is longer than the best one
-above_beaten : (a : HalfState) (s : ℕ) (want : WantValue) (r : Option PlaceValue) → BestAbove a s want r → (q : PlaceValue) → IsLength want q.len → OpenIn a s q → Meets want q → 0x1000000 ≤ q.addr → Beats r q.len
+above_beaten : (a : RegionState) (s : ℕ) (want : WantValue) (r : Option PlaceValue) → BestAbove a s want r → (q : PlaceValue) → IsLength want q.len → OpenIn a s q → Meets want q → 0x1000000 ≤ q.addr → Beats r q.len
 above_beaten a s want None (inl none) q len is_open meets high = none q len is_open meets
 above_beaten a s want (Some p) (inl best) q len is_open meets high = best.longest q len is_open meets
 above_beaten a s want r (inr side) q len is_open meets high = absurd (let low : q.addr < 0x1000000 = meets.side side.0 in omega arith)
 
-below_beaten : (b : HalfState) (s : ℕ) (want : WantValue) (r : Option PlaceValue) → BestIn b s want r → (q : PlaceValue) → IsLength want q.len → OpenIn b s q → Meets want q → Beats r q.len
+below_beaten : (b : RegionState) (s : ℕ) (want : WantValue) (r : Option PlaceValue) → BestIn b s want r → (q : PlaceValue) → IsLength want q.len → OpenIn b s q → Meets want q → Beats r q.len
 below_beaten b s want None none q len is_open meets = none q len is_open meets
 below_beaten b s want (Some p) best q len is_open meets = best.longest q len is_open meets
 
-module _ (b a : HalfState) (fill : ℕ) (st : Storage) (both : IsStore b a) (is : store_of b a fill ≡ st) (s : ℕ) (want : WantValue) (ok : IsWant want) where
+module _ (b a : RegionState) (fill : ℕ) (st : Storage) (both : IsStore b a) (is : store_of b a fill ≡ st) (s : ℕ) (want : WantValue) (ok : IsWant want) where
   there : (n at : ℕ) → Places st.regions (holder st) s want n at → Places (regions_of b a fill) (holder (store_of b a fill)) s want n at
   there n at place = subst (λ t. Places t.regions (holder t) s want n at) (sym is) place
 
@@ -126,7 +126,7 @@ module _ (b a : HalfState) (fill : ℕ) (st : Storage) (both : IsStore b a) (is 
         from (inl e) = inl e
         from (inr e) = inr (subst (BestIn b s want) (sym e.0) below, subst (IsShorter ra) (sym e.0) e.1)
 
-module _ (b a : HalfState) (fill : ℕ) (st : Storage) (both : IsStore b a) (is : store_of b a fill ≡ st) (s : ℕ) (p : PlaceValue) (some : 8 ≤ p.len) where
+module _ (b a : RegionState) (fill : ℕ) (st : Storage) (both : IsStore b a) (is : store_of b a fill ≡ st) (s : ℕ) (p : PlaceValue) (some : 8 ≤ p.len) where
   pub open_in_below : p.addr < 0x1000000 → Open st.regions (holder st) s p → OpenIn b s p
   open_in_below low is_open = elim (open_split b a fill s both p some (subst (λ t. Open t.regions (holder t) s p) (sym is) is_open)) [
     | inl below ↦ below.0
@@ -149,19 +149,19 @@ module _ (b a : HalfState) (fill : ℕ) (st : Storage) (both : IsStore b a) (is 
         absurd (omega arith)
   ]
 
-  pub below_taken : (v w : Option ℕ) (b' : HalfState) → LiesIn (8 * b.first) (8 * b.first + 4096 * b.pages) p → ChangedIn b p v w b' → Taken st p v w (store_of b' a fill)
+  pub below_taken : (v w : Option ℕ) (b' : RegionState) → LiesIn (8 * b.first) (8 * b.first + 4096 * b.pages) p → ChangedIn b p v w b' → Taken st p v w (store_of b' a fill)
   below_taken v w b' inside change =
       let first : b.first ≡ 3072 = both.first_below in
       let few : b.pages ≤ 2048 = both.few_below in
       subst (λ t. Taken t p v w (store_of b' a fill)) is (below_changes b a fill b' p v w (omega arith) change)
 
-  pub above_taken : (v w : Option ℕ) (a' : HalfState) → LiesIn (8 * a.first) (8 * a.first + 4096 * a.pages) p → ChangedIn a p v w a' → Taken st p v w (store_of b a' fill)
+  pub above_taken : (v w : Option ℕ) (a' : RegionState) → LiesIn (8 * a.first) (8 * a.first + 4096 * a.pages) p → ChangedIn a p v w a' → Taken st p v w (store_of b a' fill)
   above_taken v w a' inside change =
       let first : a.first ≡ 2097152 = both.first_above in
       let few : a.pages ≤ 8192 = both.few_above in
       subst (λ t. Taken t p v w (store_of b a' fill)) is (above_changes b a fill a' p v w (omega arith) (omega arith) change)
 
-module _ (b a : HalfState) (fill : ℕ) (st : Storage) (both : IsStore b a) (is : store_of b a fill ≡ st) where
+module _ (b a : RegionState) (fill : ℕ) (st : Storage) (both : IsStore b a) (is : store_of b a fill ≡ st) where
   -- a doubleword that is held is held in one of the regions, and not at the end of the lower part
   pub held_low : (d t : ℕ) → holder st d ≡ Some t → d < 2097152 → d < 1051648
   held_low d t held low =
@@ -248,10 +248,10 @@ module _ (b a : HalfState) (fill : ℕ) (st : Storage) (both : IsStore b a) (is 
         let last : d < a.first + 512 * a.pages = bound.1 in
         sym (high_is d (omega arith) (omega arith)) ∙ held d covered
 
-    pub below_given : (b' : HalfState) → p.addr < 0x1000000 → HeldBy st s p → ChangedIn b p None None b' → Taken st p None None (store_of b' a fill)
+    pub below_given : (b' : RegionState) → p.addr < 0x1000000 → HeldBy st s p → ChangedIn b p None None b' → Taken st p None None (store_of b' a fill)
     below_given b' low held change = subst (λ t. Taken t p None None (store_of b' a fill)) is (below_changes b a fill b' p None None (below_ends p some low (some_held held)) change)
 
-    pub above_given : (a' : HalfState) → 0x1000000 ≤ p.addr → HeldBy st s p → ChangedIn a p None None a' → Taken st p None None (store_of b a' fill)
+    pub above_given : (a' : RegionState) → 0x1000000 ≤ p.addr → HeldBy st s p → ChangedIn a p None None a' → Taken st p None None (store_of b a' fill)
     above_given a' high held change =
         let last : (p.addr + p.len - 1) / 8 < 268435456 = held_small ((p.addr + p.len - 1) / 8) s (held ((p.addr + p.len - 1) / 8) (omega arith, omega arith)) in
         subst (λ t. Taken t p None None (store_of b a' fill)) is (above_changes b a fill a' p None None high (omega arith) change)

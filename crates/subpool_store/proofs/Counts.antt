@@ -5,7 +5,7 @@ use Rattle.std.specs.FinMap.{get}
 use Rattle.mvs_model.specs.Finite.{count_below, has}
 use Rattle.mvs_model.specs.Storage.{Storage, end_of, holds}
 use Rattle.page_map.specs.Owners.{owner_of}
-use Rattle.subpool_store.specs.Half.{HalfState, cell, half_of, held_of}
+use Rattle.subpool_store.specs.Region.{RegionState, cell, region_of, held_of}
 use Rattle.subpool_store.specs.Joined.{IsStore, regions_of, store_of}
 use Rattle.subpool_store.proofs.Both.{high_holder, low_holder}
 use Rattle.subpool_store.proofs.Exact.{holder_index}
@@ -99,14 +99,14 @@ pub count_page : (f : ℕ → Bool) (p count more : ℕ) → count ≡ count_bel
 count_page f p count more is next = (λ i. is i + next i) ∙ sym (count_split (512 * (p + 1)) (512 * p) 512 f (omega arith))
 
 -- the doublewords of s in a region, read off its map
-pub count_half : (first : ℕ) (bits : List Bool) (pages : List (Option ℕ)) (bytes : ℕ → ℕ) (h : HalfState) → half_of first bits pages bytes ≡ h → (s : ℕ) →
+pub count_region : (first : ℕ) (bits : List Bool) (pages : List (Option ℕ)) (bytes : ℕ → ℕ) (h : RegionState) → region_of first bits pages bytes ≡ h → (s : ℕ) →
     count_below (512 * length pages) (λ i. has (λ t. eqb t s) (cell bits pages i)) ≡ count_below (512 * h.pages) (λ i. has (λ t. eqb t s) (get h.held (h.first + i)))
-count_half first bits pages bytes h is s =
+count_region first bits pages bytes h is s =
     count_same (512 * length pages) (λ i. has (λ t. eqb t s) (cell bits pages i)) (λ i. has (λ t. eqb t s) (get (held_of first bits pages) (first + i))) (λ i _. ap (has (λ t. eqb t s)) (sym (holder_index first bits pages i)))
     ∙ ap (λ g. count_below (512 * g.pages) (λ i. has (λ t. eqb t s) (get g.held (g.first + i)))) is
 
 -- the doublewords of s in both regions together
-pub count_both : (b a : HalfState) (fill : ℕ) (st : Storage) → IsStore b a → store_of b a fill ≡ st → (s : ℕ) →
+pub count_both : (b a : RegionState) (fill : ℕ) (st : Storage) → IsStore b a → store_of b a fill ≡ st → (s : ℕ) →
     count_below (512 * b.pages) (λ i. has (λ t. eqb t s) (get b.held (b.first + i))) + count_below (512 * a.pages) (λ i. has (λ t. eqb t s) (get a.held (a.first + i)))
     ≡ count_below (end_of st.regions) (holds st s)
 count_both b a fill st both is s =
@@ -129,7 +129,7 @@ count_both b a fill st both is s =
       outside i out low = ap (has (λ t. eqb t s)) (low_holder b a fill i low) ∙ by (get b.held i) refl where
         by : (o : Option ℕ) → get b.held i ≡ o → has (λ t. eqb t s) (get b.held i) ≡ false
         by None e = ap (has (λ t. eqb t s)) e
-        by (Some t) e = let in_half = both.sound_below.bounded i t e in let to : i < b.first + 512 * b.pages = in_half.1 in let past : b.first + 512 * b.pages ≤ i = out in_half.0 in absurd (omega arith)
+        by (Some t) e = let in_region = both.sound_below.bounded i t e in let to : i < b.first + 512 * b.pages = in_region.1 in let past : b.first + 512 * b.pages ≤ i = out in_region.0 in absurd (omega arith)
 
       low : count_below 2097152 (holds (store_of b a fill) s) ≡ count_below (512 * b.pages) (λ i. has (λ t. eqb t s) (get b.held (b.first + i)))
       low =

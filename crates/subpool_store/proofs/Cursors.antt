@@ -1,9 +1,9 @@
 -- Walks over the queue of a page.
-use Rattle.std.proofs.Common.{◌≡◌, ◌∙◌, ℕ, zero, suc, ◌+◌, ◌-◌, ◌*◌, ◌/◌, ◌%◌, ◌<◌, ◌≤◌, ◌⊎◌, ◌↔◌, Bool, true, false, List, [], ◌∷◌, Some, None, length, get_or, replicate, MatchBool, IsTrue, refl, sym, ap, subst, inl, inr, arith}
+use Rattle.std.proofs.Common.{◌≡◌, ◌∙◌, ℕ, zero, suc, ◌+◌, ◌-◌, ◌*◌, ◌/◌, ◌%◌, ◌<◌, ◌≤◌, ◌⊎◌, ◌↔◌, Bool, true, false, List, [], ◌∷◌, Option, Some, None, length, get_or, replicate, MatchBool, IsTrue, refl, sym, ap, subst, inl, inr, arith}
 use Rattle.std.proofs.lemmas.Bool.{both_ways, cases_Bool, cases_eq, cond-false, le-ltb}
 use Rattle.std.proofs.lemmas.List.{get_or_default, length-replicate}
 use Rattle.std.proofs.lemmas.Option.{none-some, same_Some}
-use Rattle.free_queue.specs.Runs.{IsFree, Queue, Rising, Run, next_run, page_of, place_of}
+use Rattle.free_queue.specs.Runs.{end, IsFree, Queue, Rising, Run, next_run, page_of, place_of}
 use Rattle.free_queue.proofs.Free.{free_from, free_whole, rising_below}
 use Rattle.region_raw.specs.Pages.{Pages, is_open}
 use Rattle.subpool_store.specs.Edits.{HasBit, HasNoBit, IsClear, IsFreeRun}
@@ -33,6 +33,14 @@ find_set (suc n) f = elim (find_set n f) [
   ]
 ]
 
+no_run_free : (rs : List Run) (v : ℕ → Option ℕ) (h : ℕ) → Queue 0 v h rs → h ≡ end → (d : ℕ) → IsFree rs d → ⊥
+no_run_free [] v h queue e d free = free
+no_run_free (r ∷ rs) v h queue e d free = let is : h ≡ r.from = queue.1.0 in let few = queue.0.2 in omega (arith, e, is, few)
+
+none_free : (rs : List Run) (v : ℕ → Option ℕ) (h : ℕ) → Queue 0 v h rs → ((d : ℕ) → IsFree rs d → ⊥) → h ≡ end
+none_free [] v h queue none = queue.1
+none_free (r ∷ rs) v h queue none = absurd (none r.from (inl (omega arith, let some = queue.0.1 in omega (arith, some))))
+
 module _ (ps : Pages) (heads : List ℕ) (m : MemoryState) (inv : IsMemory ps heads) (is : memory_of ps heads ≡ m) (page : ℕ) (there : is_open ps page ≡ true) (h : ℕ) (h_is : h ≡ get_or heads page h) where
   head_is : h ≡ get_or heads page 0
   head_is = h_is ∙ get_or_default heads page h 0 (omega (arith, open_is_within ps page there, inv.sizes))
@@ -54,6 +62,17 @@ module _ (ps : Pages) (heads : List ℕ) (m : MemoryState) (inv : IsMemory ps he
     runs,
     subst (λ g. Queue (8 * (512 * page) - 4096 * page) (page_of g.bytes page) h runs) is (rising_below 0 (8 * (512 * page) - 4096 * page) runs (omega arith) queue.0, queue.1),
     λ i _ here. page_bit i here,
+  )
+
+  -- nothing of a page is free where its queue has no head
+  pub full_is : (answer : Bool) → IsTrue answer ↔ (h ≡ end) → IsTrue answer ↔ ((i : ℕ) → i / 512 ≡ page → get_or m.held i false ≡ true)
+  full_is answer says = (
+    λ yes i here. elim (cases_Bool (get_or m.held i false)) [ inl set ↦ set | inr clear ↦ absurd (no_run_free runs (page_of ps page) h queue (says.0 yes) (8 * (i % 512)) ((page_bit i here).0 clear)) ],
+    λ all. says.1 (none_free runs (page_of ps page) h queue (λ d free.
+        let low = (free_from 0 runs d queue.0 free).1 in
+        let here : (512 * page + d / 8) / 512 ≡ page = omega (arith, low) in
+        let spot : 8 * (d / 8) ≡ 8 * ((512 * page + d / 8) % 512) = omega (arith, low) in
+        both_ways _ ((page_bit (512 * page + d / 8) here).1 (subst (IsFree runs) spot ((free_whole 0 runs d queue.0).0 free))) (all (512 * page + d / 8) here))),
   )
 
   -- a page is whole where all its bytes are free

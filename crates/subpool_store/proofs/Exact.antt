@@ -9,7 +9,7 @@ use Rattle.mvs_model.specs.Place.{PlaceValue}
 use Rattle.mvs_model.specs.Storage.{MayTake}
 use Rattle.mvs_model.proofs.Tables.{get-table_all}
 use Rattle.page_map.specs.Owners.{owner_of, is_usable}
-use Rattle.subpool_store.specs.Half.{shifted, cell, IsHalf, held_of, half_of, OpenIn}
+use Rattle.subpool_store.specs.Region.{shifted, cell, IsRegion, held_of, region_of, OpenIn}
 use Rattle.subpool_store.specs.Search.{may_take, AllPass}
 
 pub shifted_at : {X : Type 0} → (first : ℕ) (f : ℕ → Option X) (d : ℕ) → first ≤ d → shifted first f d ≡ f (d - first)
@@ -61,8 +61,8 @@ usable_from s None h = refl
 usable_from s (Some t) h = eq-eqb t s (h t refl)
 
 -- what the test says of a doubleword
-pub may_from : (first : ℕ) (bits : List Bool) (pages : List (Option ℕ)) (bytes : ℕ → ℕ) (s i : ℕ) → IsHalf first bits pages → may_take bits pages s i ≡ true → (i < length bits) × MayTake (get (held_of first bits pages)) s (first + i)
-may_from first bits pages bytes s i half may =
+pub may_from : (first : ℕ) (bits : List Bool) (pages : List (Option ℕ)) (bytes : ℕ → ℕ) (s i : ℕ) → IsRegion first bits pages → may_take bits pages s i ≡ true → (i < length bits) × MayTake (get (held_of first bits pages)) s (first + i)
+may_from first bits pages bytes s i region may =
     let parts = and_parts _ _ may in
     let clear = bit_clear bits i (not-true _ parts.0) in (
       clear.0,
@@ -70,52 +70,52 @@ may_from first bits pages bytes s i half may =
         free = holder_index first bits pages i ∙ cell_none bits pages i clear.1;
         page = λ e t same held.
             let there = holder_some first bits pages e t held in
-            let on : first % 512 ≡ 0 = half.aligned in
+            let on : first % 512 ≡ 0 = region.aligned in
             let low : first ≤ e = there.0 in
             let page_is : i / 512 ≡ (e - first) / 512 = omega arith in
             usable_some s t (owner_of pages (i / 512)) parts.1 (ap (owner_of pages) page_is ∙ there.2);
       },
     )
 
-pub may_of : (first : ℕ) (bits : List Bool) (pages : List (Option ℕ)) (bytes : ℕ → ℕ) (s i : ℕ) → IsHalf first bits pages → i < length bits → MayTake (get (held_of first bits pages)) s (first + i) → may_take bits pages s i ≡ true
-may_of first bits pages bytes s i half within may =
+pub may_of : (first : ℕ) (bits : List Bool) (pages : List (Option ℕ)) (bytes : ℕ → ℕ) (s i : ℕ) → IsRegion first bits pages → i < length bits → MayTake (get (held_of first bits pages)) s (first + i) → may_take bits pages s i ≡ true
+may_of first bits pages bytes s i region within may =
     and_from _ _
     (elim (cases_Bool (get_or bits i false)) [
       | inl set ↦ absurd (held_cannot set (owner_of pages (i / 512)) refl)
       | inr clear ↦ ap not (get_or_default bits i true false within ∙ clear)
     ])
     (usable_from s (owner_of pages (i / 512)) (λ t owned.
-    let used = half.exact.used (i / 512) t owned in
-    let on : first % 512 ≡ 0 = half.aligned in
+    let used = region.exact.used (i / 512) t owned in
+    let on : first % 512 ≡ 0 = region.aligned in
     let same : used.0 / 512 ≡ i / 512 = used.1 in
     may.page (first + used.0) t (omega arith) (holder_index first bits pages used.0 ∙ cell_at bits pages used.0 used.2 ∙ ap (owner_of pages) same ∙ owned)))
   where
     held_cannot : get_or bits i false ≡ true → (o : Option ℕ) → owner_of pages (i / 512) ≡ o → ⊥
-    held_cannot set None e = both_ways _ (half.exact.free i e) set
+    held_cannot set None e = both_ways _ (region.exact.free i e) set
     held_cannot set (Some t) e = none-some t (sym may.free ∙ holder_index first bits pages i ∙ cell_at bits pages i set ∙ e)
 
 -- the places whose doublewords pass are the open ones
-pub open_from : (first : ℕ) (bits : List Bool) (pages : List (Option ℕ)) (bytes : ℕ → ℕ) (s : ℕ) (q : PlaceValue) → IsHalf first bits pages → 8 ≤ q.len → AllPass (may_take bits pages s) first q → OpenIn (half_of first bits pages bytes) s q
-open_from first bits pages bytes s q half some all = record {
+pub open_from : (first : ℕ) (bits : List Bool) (pages : List (Option ℕ)) (bytes : ℕ → ℕ) (s : ℕ) (q : PlaceValue) → IsRegion first bits pages → 8 ≤ q.len → AllPass (may_take bits pages s) first q → OpenIn (region_of first bits pages bytes) s q
+open_from first bits pages bytes s q region some all = record {
   inside =
       let begin = all (q.addr / 8) (omega arith, omega arith) in
       let last = all ((q.addr + q.len - 1) / 8) (omega arith, omega arith) in
       let low : first ≤ q.addr / 8 = begin.0 in
       let last_low : first ≤ (q.addr + q.len - 1) / 8 = last.0 in
-      let high : (q.addr + q.len - 1) / 8 - first < length bits = (may_from first bits pages bytes s _ half last.1).0 in
-      let sizes : length bits ≡ 512 * length pages = half.exact.sizes in
+      let high : (q.addr + q.len - 1) / 8 - first < length bits = (may_from first bits pages bytes s _ region last.1).0 in
+      let sizes : length bits ≡ 512 * length pages = region.exact.sizes in
       (omega arith, omega arith);
   each = λ d covered.
       let here = all d covered in
       let low : first ≤ d = here.0 in
       let is : first + (d - first) ≡ d = omega arith in
-      subst (MayTake (get (held_of first bits pages)) s) is (may_from first bits pages bytes s (d - first) half here.1).1;
+      subst (MayTake (get (held_of first bits pages)) s) is (may_from first bits pages bytes s (d - first) region here.1).1;
 }
 
-pub open_of : (first : ℕ) (bits : List Bool) (pages : List (Option ℕ)) (bytes : ℕ → ℕ) (s : ℕ) (q : PlaceValue) → IsHalf first bits pages → OpenIn (half_of first bits pages bytes) s q → AllPass (may_take bits pages s) first q
-open_of first bits pages bytes s q half is_open d covered =
-    let sizes : length bits ≡ 512 * length pages = half.exact.sizes in
+pub open_of : (first : ℕ) (bits : List Bool) (pages : List (Option ℕ)) (bytes : ℕ → ℕ) (s : ℕ) (q : PlaceValue) → IsRegion first bits pages → OpenIn (region_of first bits pages bytes) s q → AllPass (may_take bits pages s) first q
+open_of first bits pages bytes s q region is_open d covered =
+    let sizes : length bits ≡ 512 * length pages = region.exact.sizes in
     let inside : (8 * first ≤ q.addr) × (q.addr + q.len ≤ 8 * first + 4096 * length pages) = is_open.inside in
     let low : first ≤ d = omega arith in
     let is : d ≡ first + (d - first) = omega arith in
-    (low, may_of first bits pages bytes s (d - first) half (omega arith) (subst (MayTake (get (held_of first bits pages)) s) is (is_open.each d covered)))
+    (low, may_of first bits pages bytes s (d - first) region (omega arith) (subst (MayTake (get (held_of first bits pages)) s) is (is_open.each d covered)))

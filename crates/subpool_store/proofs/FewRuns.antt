@@ -3,7 +3,6 @@ use Rattle.std.proofs.Common.{◌≡◌, ◌∙◌, ℕ, zero, suc, ◌+◌, ◌
 use Rattle.std.proofs.lemmas.Bool.{both_ways, ne_eqb}
 use Rattle.mvs_model.specs.Finite.{count_below}
 use Rattle.mvs_model.specs.Storage.{Storage, end_of, holder}
-use Rattle.mvs_model.specs.Place.{PlaceValue}
 use Rattle.mvs_model.specs.declared.want.Side.{Side}
 use Rattle.mvs_model.specs.declared.want.Side.TheVariants.{Below, Either}
 use Rattle.subpool_store.specs.Bound.{FewSteps, begins, free_runs, has_page, own_pages}

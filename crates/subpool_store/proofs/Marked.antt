@@ -6,7 +6,7 @@ use Rattle.page_map.specs.Owners.{owner_of}
 use Rattle.region_raw.specs.Pages.{Pages}
 use Rattle.subpool_store.specs.Bits.{in_range}
 use Rattle.subpool_store.specs.Edits.{HasBit, HasNoBit, IsGivenUp, IsMarked}
-use Rattle.subpool_store.specs.Memory.{KeepsHeld}
+use Rattle.subpool_store.specs.Memory.{KeepsHeld, Stays}
 use Rattle.subpool_store.proofs.Ranges.{in_range_true, in_range_false, in_range_from, out_of_range_from}
 
 pub marked_none : (a : List Bool) (at : ℕ) (v : Bool) → IsMarked a at at v a
@@ -90,3 +90,7 @@ given_more bits old mid new from page low one two = record {
         elim (one.inside p (in_range_from from page p at.0 (omega (arith, at.1, other)))) [ inl gone ↦ inl (same ∙ gone.0, gone.1) | inr kept ↦ inr (same ∙ kept.0, kept.1) ]
   ];
 }
+
+-- the bytes of what is held stay while doublewords are given back and pages are closed
+pub stays_given : (held held' : List Bool) (old mid new : Pages) → held' ≡ held → KeepsHeld held old mid → Stays held mid new → Stays held' old new
+stays_given held held' old mid new same keeps stays k set = let was = sym (ap (λ (l : List Bool). get_or l (k / 8) false) same) ∙ set in stays k was ∙ keeps.stays k was

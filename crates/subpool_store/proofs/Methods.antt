@@ -12,7 +12,7 @@ use Rattle.mvs_model.proofs.Tables.{same_maps}
 use Rattle.page_map.specs.Owners.{owner_of, is_usable}
 use Rattle.subpool_store.specs.Edits.{IsClear, IsMarked, IsAssigned, IsGivenUp, IsDropped}
 use Rattle.subpool_store.specs.Bits.{in_range}
-use Rattle.subpool_store.specs.Half.{HalfState, cell, shifted, IsHalf, IsSound, held_of, bytes_of, half_of, OpenIn, HeldIn, BestIn, ChangedIn, DroppedIn, AllHeldIn, OwnsPage}
+use Rattle.subpool_store.specs.Region.{RegionState, cell, shifted, IsRegion, IsSound, held_of, bytes_of, region_of, OpenIn, HeldIn, BestIn, ChangedIn, DroppedIn, AllHeldIn, OwnsPage}
 use Rattle.subpool_store.specs.Search.{Beats, IsCandidate, IsExact, may_take}
 use Rattle.subpool_store.proofs.Bytes.{get-bytes_of, cells_change, holders_change, taken_bytes, given_bytes, dropped_holders, dropped_bytes}
 use Rattle.subpool_store.proofs.Change.{page_index, pages_usable, taken_cell, taken_exact, given_cell, given_exact, dropped_cell, dropped_exact}
@@ -23,7 +23,7 @@ set_within bits i set = elim (cases_lt i (length bits)) [ inl low ↦ low | inr 
 
 -- an empty region
 pub nothing_kept : (first n : ℕ) (bits : List Bool) (pages : List (Option ℕ)) → n ≤ 8192 → first % 512 ≡ 0 → 8 * (first + 512 * n) ≤ 2147483648 →
-    (first < 2097152 → first + 512 * n ≤ 2097152) → IsClear (512 * n) bits → pages ≡ replicate n None → IsHalf first bits pages
+    (first < 2097152 → first + 512 * n ≤ 2097152) → IsClear (512 * n) bits → pages ≡ replicate n None → IsRegion first bits pages
 nothing_kept first n bits pages few aligned end one_side clear none = record {
   exact = record {
     sizes = clear.sizes ∙ ap (λ k. 512 * k) (sym count);
@@ -42,9 +42,9 @@ nothing_kept first n bits pages few aligned end one_side clear none = record {
   nobody p (inl low) = ap (λ l. owner_of l p) none ∙ get_or-replicate n p None None low
   nobody p (inr past) = get_or_past pages p None (let c : length pages ≡ n = count in omega (arith, c))
 
-pub nothing_half : (first n : ℕ) (bits : List Bool) (pages : List (Option ℕ)) (bytes : ℕ → ℕ) → IsClear (512 * n) bits → length pages ≡ n →
-    half_of first bits pages bytes ≡ record { first = first; pages = n; held = empty; bytes = empty }
-nothing_half first n bits pages bytes clear count =
+pub nothing_region : (first n : ℕ) (bits : List Bool) (pages : List (Option ℕ)) (bytes : ℕ → ℕ) → IsClear (512 * n) bits → length pages ≡ n →
+    region_of first bits pages bytes ≡ record { first = first; pages = n; held = empty; bytes = empty }
+nothing_region first n bits pages bytes clear count =
     let held : held_of first bits pages ≡ empty = same_maps _ _ (λ d. holder_at first bits pages d ∙ nobody d ∙ sym (get-empty nat_cmp d)) in
     let none : bytes_of first bits pages bytes ≡ empty = same_maps _ _ (λ a. get-bytes_of first bits pages bytes a ∙ ap (λ o. cond (is_some o) (Some (bytes (a - 8 * first))) None) (nobody (a / 8)) ∙ sym (get-empty nat_cmp a)) in
     λ i. record { first = first; pages = count i; held = held i; bytes = none i } where
@@ -52,18 +52,18 @@ nothing_half first n bits pages bytes clear count =
       nobody d = shifted_none first (cell bits pages) d (λ _. cell_none bits pages (d - first) (clear.each (d - first)))
 
 -- what is kept of a region makes what is seen of it sound
-pub half_sound : (first : ℕ) (bits : List Bool) (pages : List (Option ℕ)) (bytes : ℕ → ℕ) → IsHalf first bits pages → IsSound (half_of first bits pages bytes)
-half_sound first bits pages bytes half = record {
+pub region_sound : (first : ℕ) (bits : List Bool) (pages : List (Option ℕ)) (bytes : ℕ → ℕ) → IsRegion first bits pages → IsSound (region_of first bits pages bytes)
+region_sound first bits pages bytes region = record {
   bounded = λ d t held.
       let at = holder_some first bits pages d t held in
       let low : first ≤ d = at.0 in
-      let sizes : length bits ≡ 512 * length pages = half.exact.sizes in
+      let sizes : length bits ≡ 512 * length pages = region.exact.sizes in
       let within : d - first < length bits = set_within bits (d - first) at.1 in
       (low, omega arith);
   rule = λ d e s t same at_d at_e.
       let here = holder_some first bits pages d s at_d in
       let there = holder_some first bits pages e t at_e in
-      let on : first % 512 ≡ 0 = half.aligned in
+      let on : first % 512 ≡ 0 = region.aligned in
       let low : first ≤ d = here.0 in
       let low_e : first ≤ e = there.0 in
       let page : (d - first) / 512 ≡ (e - first) / 512 = omega arith in
@@ -74,18 +74,18 @@ half_sound first bits pages bytes half = record {
   both None x = refl
   both (Some t) x = refl
 
-module _ (first : ℕ) (bits : List Bool) (pages : List (Option ℕ)) (bytes : ℕ → ℕ) (h : HalfState) (half : IsHalf first bits pages) (is : half_of first bits pages bytes ≡ h) (s : ℕ) where
+module _ (first : ℕ) (bits : List Bool) (pages : List (Option ℕ)) (bytes : ℕ → ℕ) (h : RegionState) (region : IsRegion first bits pages) (is : region_of first bits pages bytes ≡ h) (s : ℕ) where
   -- the search finds the open places
   pub finds_best : (want : WantValue) (r : Option PlaceValue) → IsWant want → IfSome r (IsCandidate (may_take bits pages s) first want) →
       ((q : PlaceValue) → IsCandidate (may_take bits pages s) first want q → Beats r q.len) → BestIn h s want r
-  finds_best want None ok found longest = λ q len is_open meets. longest q (record { length = len; meets = meets; pass = open_of first bits pages bytes s q half (subst (λ g. OpenIn g s q) (sym is) is_open) })
+  finds_best want None ok found longest = λ q len is_open meets. longest q (record { length = len; meets = meets; pass = open_of first bits pages bytes s q region (subst (λ g. OpenIn g s q) (sym is) is_open) })
   finds_best want (Some p) ok found longest =
       let low : 8 ≤ want.least = ok.some in
       let least : want.least ≤ p.len = found.length.least in record {
         length = found.length;
-        is_open = subst (λ g. OpenIn g s p) is (open_from first bits pages bytes s p half (omega arith) found.pass);
+        is_open = subst (λ g. OpenIn g s p) is (open_from first bits pages bytes s p region (omega arith) found.pass);
         meets = found.meets;
-        longest = λ q len is_open meets. longest q (record { length = len; meets = meets; pass = open_of first bits pages bytes s q half (subst (λ g. OpenIn g s q) (sym is) is_open) });
+        longest = λ q len is_open meets. longest q (record { length = len; meets = meets; pass = open_of first bits pages bytes s q region (subst (λ g. OpenIn g s q) (sym is) is_open) });
       }
 
   module _ (p : PlaceValue) (start end : ℕ) (whole : IsWhole p) (some : 8 ≤ p.len) (start_is : start ≡ p.addr / 8 - first) (end_is : end ≡ start + p.len / 8) where
@@ -109,9 +109,9 @@ module _ (first : ℕ) (bits : List Bool) (pages : List (Option ℕ)) (bytes : �
     open_pass is_open i low high =
         let e8 : p.addr % 8 ≡ 0 = on in
         let l8 : p.len % 8 ≡ 0 = full in
-        let there : OpenIn (half_of first bits pages bytes) s p = subst (λ g. OpenIn g s p) (sym is) is_open in
+        let there : OpenIn (region_of first bits pages bytes) s p = subst (λ g. OpenIn g s p) (sym is) is_open in
         let inside : 8 * first ≤ p.addr = there.inside.0 in
-        let at = open_of first bits pages bytes s p half there (first + i) (omega arith, omega arith) in
+        let at = open_of first bits pages bytes s p region there (first + i) (omega arith, omega arith) in
         let e : i ≡ first + i - first = omega arith in
         ap (may_take bits pages s) e ∙ at.1
 
@@ -124,26 +124,26 @@ module _ (first : ℕ) (bits : List Bool) (pages : List (Option ℕ)) (bytes : �
     -- an open place lies in the region
     pub open_inside : OpenIn h s p → LiesIn (8 * first) (8 * first + 8 * length bits) p
     open_inside is_open =
-        let there : OpenIn (half_of first bits pages bytes) s p = subst (λ g. OpenIn g s p) (sym is) is_open in
-        let sizes : length bits ≡ 512 * length pages = half.exact.sizes in
+        let there : OpenIn (region_of first bits pages bytes) s p = subst (λ g. OpenIn g s p) (sym is) is_open in
+        let sizes : length bits ≡ 512 * length pages = region.exact.sizes in
         let inside : LiesIn (8 * first) (8 * first + 4096 * length pages) p = there.inside in
         (inside.0, let high : p.addr + p.len ≤ 8 * first + 4096 * length pages = inside.1 in omega arith)
 
     module _ (bits' : List Bool) (pages' : List (Option ℕ)) (is_open : OpenIn h s p) (marked : IsMarked bits start end true bits') (assigned : IsAssigned pages (start / 512) ((end - 1) / 512 + 1) s pages') where
-      pub take_half : IsHalf first bits' pages'
-      take_half = record {
-        exact = taken_exact start end s bits bits' pages pages' half.exact ordered (open_pass is_open) marked assigned;
-        aligned = half.aligned;
-        end = subst (λ n. 8 * (first + n) ≤ 2 ^ 31) (sym marked.sizes) half.end;
-        one_side = subst (λ n. first < 2097152 → first + n ≤ 2097152) (sym marked.sizes) half.one_side;
+      pub take_region : IsRegion first bits' pages'
+      take_region = record {
+        exact = taken_exact start end s bits bits' pages pages' region.exact ordered (open_pass is_open) marked assigned;
+        aligned = region.aligned;
+        end = subst (λ n. 8 * (first + n) ≤ 2 ^ 31) (sym marked.sizes) region.end;
+        one_side = subst (λ n. first < 2097152 → first + n ≤ 2097152) (sym marked.sizes) region.one_side;
       }
 
       pub take_changes : (fill : ℕ) (bytes' : ℕ → ℕ) → ((k : ℕ) → in_range (8 * start) (8 * end) k ≡ true → bytes' k ≡ fill) →
-          ((k t : ℕ) → in_range (8 * start) (8 * end) k ≡ false → cell bits pages (k / 8) ≡ Some t → bytes' k ≡ bytes k) → ChangedIn h p (Some s) (Some fill) (half_of first bits' pages' bytes')
+          ((k t : ℕ) → in_range (8 * start) (8 * end) k ≡ false → cell bits pages (k / 8) ≡ Some t → bytes' k ≡ bytes k) → ChangedIn h p (Some s) (Some fill) (region_of first bits' pages' bytes')
       take_changes fill bytes' inside outside =
           let low : 8 * first ≤ p.addr = (open_inside is_open).0 in
-          let holders = cells_change first start end p (cell bits pages) (cell bits' pages') (Some s) (at_start low) long_is ordered (taken_cell start end s bits bits' pages pages' half.exact ordered (open_pass is_open) marked assigned) in
-          subst (λ g. ChangedIn g p (Some s) (Some fill) (half_of first bits' pages' bytes')) is (record {
+          let holders = cells_change first start end p (cell bits pages) (cell bits' pages') (Some s) (at_start low) long_is ordered (taken_cell start end s bits bits' pages pages' region.exact ordered (open_pass is_open) marked assigned) in
+          subst (λ g. ChangedIn g p (Some s) (Some fill) (region_of first bits' pages' bytes')) is (record {
             first = refl;
             pages = assigned.sizes;
             held = holders_change first bits bits' pages pages' p (Some s) holders;
@@ -162,18 +162,18 @@ module _ (first : ℕ) (bits : List Bool) (pages : List (Option ℕ)) (bytes : �
         (omega arith, omega arith)
 
     module _ (bits' : List Bool) (pages' : List (Option ℕ)) (marked : IsMarked bits start end false bits') (given : IsGivenUp bits' pages (start / 512) ((end - 1) / 512 + 1) pages') where
-      pub give_half : IsHalf first bits' pages'
-      give_half = record {
-        exact = given_exact start end bits bits' pages pages' half.exact ordered marked given;
-        aligned = half.aligned;
-        end = subst (λ n. 8 * (first + n) ≤ 2 ^ 31) (sym marked.sizes) half.end;
-        one_side = subst (λ n. first < 2097152 → first + n ≤ 2097152) (sym marked.sizes) half.one_side;
+      pub give_region : IsRegion first bits' pages'
+      give_region = record {
+        exact = given_exact start end bits bits' pages pages' region.exact ordered marked given;
+        aligned = region.aligned;
+        end = subst (λ n. 8 * (first + n) ≤ 2 ^ 31) (sym marked.sizes) region.end;
+        one_side = subst (λ n. first < 2097152 → first + n ≤ 2097152) (sym marked.sizes) region.one_side;
       }
 
-      pub give_changes : (bytes' : ℕ → ℕ) → ((k t : ℕ) → cell bits' pages' (k / 8) ≡ Some t → bytes' k ≡ bytes k) → 8 * first ≤ p.addr → ChangedIn h p None None (half_of first bits' pages' bytes')
+      pub give_changes : (bytes' : ℕ → ℕ) → ((k t : ℕ) → cell bits' pages' (k / 8) ≡ Some t → bytes' k ≡ bytes k) → 8 * first ≤ p.addr → ChangedIn h p None None (region_of first bits' pages' bytes')
       give_changes bytes' stays low =
-          let holders = cells_change first start end p (cell bits pages) (cell bits' pages') None (at_start low) long_is ordered (given_cell start end bits bits' pages pages' half.exact ordered marked given) in
-          subst (λ g. ChangedIn g p None None (half_of first bits' pages' bytes')) is (record {
+          let holders = cells_change first start end p (cell bits pages) (cell bits' pages') None (at_start low) long_is ordered (given_cell start end bits bits' pages pages' region.exact ordered marked given) in
+          subst (λ g. ChangedIn g p None None (region_of first bits' pages' bytes')) is (record {
             first = refl;
             pages = given.sizes;
             held = holders_change first bits bits' pages pages' p None holders;
@@ -195,27 +195,27 @@ module _ (first : ℕ) (bits : List Bool) (pages : List (Option ℕ)) (bytes : �
         sym (holder_index first bits pages i) ∙ ap (λ g. get g.held (first + i)) is ∙ held (first + i) (omega arith, omega arith)
 
 -- all that the subpools of a test hold goes
-module _ (first : ℕ) (bits : List Bool) (pages : List (Option ℕ)) (bytes : ℕ → ℕ) (h : HalfState) (half : IsHalf first bits pages) (is : half_of first bits pages bytes ≡ h) (test : ℕ → Bool)
+module _ (first : ℕ) (bits : List Bool) (pages : List (Option ℕ)) (bytes : ℕ → ℕ) (h : RegionState) (region : IsRegion first bits pages) (is : region_of first bits pages bytes ≡ h) (test : ℕ → Bool)
     (bits' : List Bool) (pages' : List (Option ℕ)) (dropped : IsDropped test bits pages (length pages) bits' pages') where
-  pub drop_half : IsHalf first bits' pages'
-  drop_half = record {
-    exact = dropped_exact test bits bits' pages pages' half.exact dropped;
-    aligned = half.aligned;
-    end = subst (λ n. 8 * (first + n) ≤ 2 ^ 31) (sym dropped.bits_size) half.end;
-    one_side = subst (λ n. first < 2097152 → first + n ≤ 2097152) (sym dropped.bits_size) half.one_side;
+  pub drop_region : IsRegion first bits' pages'
+  drop_region = record {
+    exact = dropped_exact test bits bits' pages pages' region.exact dropped;
+    aligned = region.aligned;
+    end = subst (λ n. 8 * (first + n) ≤ 2 ^ 31) (sym dropped.bits_size) region.end;
+    one_side = subst (λ n. first < 2097152 → first + n ≤ 2097152) (sym dropped.bits_size) region.one_side;
   }
 
-  pub drop_changes : (bytes' : ℕ → ℕ) → ((k t : ℕ) → cell bits' pages' (k / 8) ≡ Some t → bytes' k ≡ bytes k) → DroppedIn h test (half_of first bits' pages' bytes')
+  pub drop_changes : (bytes' : ℕ → ℕ) → ((k t : ℕ) → cell bits' pages' (k / 8) ≡ Some t → bytes' k ≡ bytes k) → DroppedIn h test (region_of first bits' pages' bytes')
   drop_changes bytes' stays =
-      let cells = dropped_cell test bits bits' pages pages' half.exact dropped in
-      subst (λ g. DroppedIn g test (half_of first bits' pages' bytes')) is (record {
+      let cells = dropped_cell test bits bits' pages pages' region.exact dropped in
+      subst (λ g. DroppedIn g test (region_of first bits' pages' bytes')) is (record {
         first = refl;
         pages = dropped.pages_size;
         held = dropped_holders first bits bits' pages pages' test cells;
         bytes = dropped_bytes first bits bits' pages pages' test bytes bytes' stays cells;
       })
 
-module _ (first : ℕ) (bits : List Bool) (pages : List (Option ℕ)) (bytes : ℕ → ℕ) (h : HalfState) (is : half_of first bits pages bytes ≡ h) where
+module _ (first : ℕ) (bits : List Bool) (pages : List (Option ℕ)) (bytes : ℕ → ℕ) (h : RegionState) (is : region_of first bits pages bytes ≡ h) where
   -- who holds a doubleword, in the region and outside it
   pub holder_inside : (d : ℕ) → first ≤ d → cell bits pages (d - first) ≡ get h.held d
   holder_inside d low = sym (shifted_at first (cell bits pages) d low) ∙ sym (holder_at first bits pages d) ∙ ap (λ g. get g.held d) is

@@ -6,7 +6,7 @@ use Rattle.std.specs.Prelude.{unwrap_or}
 use Rattle.page_map.specs.Owners.{owner_of}
 use Rattle.region_raw.specs.Pages.{IsPart, Pages, Writes, byte_in, byte_of, is_open}
 use Rattle.subpool_store.specs.Bits.{in_range}
-use Rattle.subpool_store.specs.Half.{IsOpened, cell, value_at}
+use Rattle.subpool_store.specs.Region.{IsOpened, cell, value_at}
 use Rattle.subpool_store.specs.Memory.{KeepsHeld, Stays, Turns}
 use Rattle.subpool_store.proofs.Exact.{cell_some}
 use Rattle.subpool_store.proofs.Ranges.{in_range_true, in_range_false}

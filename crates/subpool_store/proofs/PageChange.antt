@@ -1,5 +1,5 @@
 -- What is held once a page is opened or closed, or doublewords of it are taken or given back.
-use Rattle.std.proofs.Common.{◌≡◌, ◌∙◌, ℕ, ◌+◌, ◌*◌, ◌/◌, ◌%◌, ◌<◌, ◌≤◌, ◌↔◌, Bool, true, false, cond, List, [], ◌∷◌, Option, Some, None, is_some, length, get_or, set, refl, sym, ap, subst, inl, inr, arith}
+use Rattle.std.proofs.Common.{◌≡◌, ◌∙◌, ℕ, ◌+◌, ◌*◌, ◌/◌, ◌%◌, ◌<◌, ◌≤◌, ◌↔◌, Bool, true, false, cond, List, Option, None, is_some, length, get_or, set, refl, sym, ap, subst, inl, inr, arith}
 use Rattle.std.proofs.lemmas.Bool.{both_ways, cases_eq, cases_lt, cond-true, cond-false, eq-eqb, ne_eqb}
 use Rattle.std.proofs.lemmas.List.{ext_get_or, get_or-set_other, get_or-set_same, length-set}
 use Rattle.free_queue.specs.Runs.{IsFree, Keeps, Queue, Run, page_of}
@@ -69,36 +69,6 @@ marked_held ps ps' heads heads' m inv is inv' sizes from to v each = subst (λ g
   sizes = held_size ps' heads' ∙ ap (λ n. 512 * n) sizes ∙ sym (held_size ps heads);
   each = λ i. held_at ps' heads' inv'.sizes i ∙ each i ∙ ap (cond (in_range from to i) v) (sym (held_at ps heads inv.sizes i));
 })
-
--- a page is opened: all of it is free
-module _ (ps mid ps' : Pages) (heads : List ℕ) (m : MemoryState) (inv : IsMemory ps heads) (is : memory_of ps heads ≡ m) (page h : ℕ) (row : List ℕ) (within : page < length ps) (closed : is_open ps page ≡ false)
-    (mid_is : mid ≡ set ps page (Some row)) (keeps : Keeps mid page ps') (queue : Queue 0 (page_of ps' page) h (record { from = 0; len = 4096 } ∷ [])) where
-  pub opened_turns : Turns ps page true ps'
-  opened_turns = turns_keeps ps mid ps' page true (subst (Turns ps page true) (sym mid_is) (set_turns ps page (Some row) within)) keeps
-
-  head_within : page < length heads
-  head_within = omega (arith, within, inv.sizes)
-
-  pub opened_inv : IsMemory ps' (set heads page h)
-  opened_inv = one_moved ps ps' heads page h inv head_within true opened_turns (λ _. (record { from = 0; len = 4096 } ∷ [], queue))
-
-  pub opened_held : held_bits ps' (set heads page h) ≡ m.held
-  opened_held =
-      same_held ps ps' heads (set heads page h) inv opened_inv (length-set heads page h) (λ i. elim (cases_eq (i / 512) page) [
-        | inr other ↦ one_other ps ps' heads page h inv head_within true opened_turns (λ _. (record { from = 0; len = 4096 } ∷ [], queue)) i other
-        | inl here ↦
-            (one_here ps ps' heads page h inv head_within true opened_turns (λ _. (record { from = 0; len = 4096 } ∷ [], queue)) (record { from = 0; len = 4096 } ∷ []) refl queue i here).1 (inl (omega arith, omega arith))
-            ∙ sym (closed_free ps heads i (ap (is_open ps) here ∙ closed))
-      ])
-      ∙ ap (λ g. g.held) is
-
-  pub opened_bytes : Turns m.bytes page true ps'
-  opened_bytes = subst (λ g. Turns g.bytes page true ps') is opened_turns
-
-  pub opened_stays : Stays m.held m.bytes ps'
-  opened_stays = subst (λ g. Stays g.held g.bytes ps') is (λ k set. opened_turns.others k (λ here.
-      let page_is : k / 8 / 512 ≡ page = omega (arith, here) in
-      both_ways _ closed (sym (ap (is_open ps) page_is) ∙ held_open ps heads (k / 8) (sym (held_at ps heads inv.sizes (k / 8)) ∙ set))))
 
 -- a page is closed: nothing of it is held
 module _ (ps ps' : Pages) (heads : List ℕ) (m : MemoryState) (inv : IsMemory ps heads) (is : memory_of ps heads ≡ m) (page : ℕ) (within : page < length ps) (ps_is : ps' ≡ set ps page None) where

@@ -1,6 +1,6 @@
 -- What is held once doublewords of a page are taken or given back.
 use Rattle.std.proofs.Common.{◌≡◌, ◌∙◌, ℕ, ◌+◌, ◌-◌, ◌*◌, ◌/◌, ◌%◌, ◌<◌, ◌≤◌, ◌↔◌, Bool, true, false, cond, List, length, get_or, set, refl, sym, ap, subst, inl, inr, arith}
-use Rattle.std.proofs.lemmas.Bool.{both_ways, cases_Bool, cases_eq, cases_lt, cond-true, cond-false, eq-eqb, ne_eqb}
+use Rattle.std.proofs.lemmas.Bool.{both_ways, cases_Bool, cases_eq, cond-true, cond-false, eq-eqb, ne_eqb}
 use Rattle.std.proofs.lemmas.List.{get_or_default, length-set}
 use Rattle.free_queue.specs.Runs.{Covers, Gives, IsFree, Keeps, NoneFree, Outside, Queue, Run, Same, Takes, Within, page_of}
 use Rattle.free_queue.proofs.Free.{free_covers, free_whole}
@@ -10,7 +10,8 @@ use Rattle.subpool_store.specs.Edits.{IsMarked}
 use Rattle.subpool_store.specs.Memory.{IsMemory, KeepsHeld, MemoryState, Turns, held_bits, is_held, memory_of}
 use Rattle.subpool_store.proofs.PageChange.{marked_held, one_here, one_moved, one_other}
 use Rattle.subpool_store.proofs.Queued.{free_is, held_at, held_open, open_is_within, same_test}
-use Rattle.subpool_store.proofs.Ranges.{in_range_true, in_range_false, out_of_range_from}
+use Rattle.subpool_store.proofs.PageParts.{inside_page, other_page, outside_part}
+use Rattle.subpool_store.proofs.Ranges.{in_range_true}
 
 -- a page whose queue changes stays open
 pub keeps_turns : (ps ps' : Pages) (page : ℕ) → is_open ps page ≡ true → Keeps ps page ps' → Turns ps page true ps'
@@ -68,14 +69,14 @@ module _ (ps : Pages) (heads : List ℕ) (m : MemoryState) (inv : IsMemory ps he
     index : (d : ℕ) → Within at n d → ((512 * page + d / 8) / 512 ≡ page) × (from ≤ 512 * page + d / 8) × (512 * page + d / 8 < to) × (8 * ((512 * page + d / 8) % 512) ≡ 8 * (d / 8))
     index d within = (omega (arith, within.0, within.1), omega (arith, within.0), omega (arith, within.0, within.1), omega (arith, within.0, within.1))
 
-    inside : (i : ℕ) → from ≤ i → i < to → (i / 512 ≡ page) × Within at n (8 * (i % 512))
-    inside i low high = (omega arith, (omega arith, omega arith))
+    abbrev inside : (i : ℕ) → from ≤ i → i < to → (i / 512 ≡ page) × Within at n (8 * (i % 512))
+    inside = inside_page page from to at n some first last at_is n_is
 
-    outside : (i : ℕ) → i / 512 ≡ page → in_range from to i ≡ false → Outside at n (8 * (i % 512))
-    outside i here out = elim (cases_lt i from) [ inl low ↦ inl (omega (arith, low, here)) | inr le ↦ let past : to ≤ i = in_range_false from to i out le in inr (omega (arith, past, here)) ]
+    abbrev outside : (i : ℕ) → i / 512 ≡ page → in_range from to i ≡ false → Outside at n (8 * (i % 512))
+    outside = outside_part page from to at n some first last at_is n_is
 
-    in_page : (i : ℕ) → (i / 512 ≡ page → ⊥) → in_range from to i ≡ false
-    in_page i other = out_of_range_from from to i (λ low. elim (cases_lt i to) [ inl high ↦ absurd (other (omega arith)) | inr past ↦ past ])
+    abbrev in_page : (i : ℕ) → (i / 512 ≡ page → ⊥) → in_range from to i ≡ false
+    in_page = other_page page from to at n some first last at_is n_is
 
     module _ (free : (i : ℕ) → from ≤ i → i < to → get_or m.held i false ≡ false) where
       pub take_covers : Covers runs at n

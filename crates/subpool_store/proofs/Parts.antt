@@ -3,12 +3,12 @@ use Rattle.std.proofs.Common.{◌≡◌, ◌∙◌, ℕ, ◌+◌, ◌-◌, ◌*�
 use Rattle.std.proofs.lemmas.Bool.{false≢true}
 use Rattle.std.specs.FinMap.{get}
 use Rattle.mvs_model.specs.Place.{PlaceValue}
-use Rattle.subpool_store.specs.Half.{AllHeldIn, HalfState, half_of}
+use Rattle.subpool_store.specs.Region.{AllHeldIn, RegionState, region_of}
 use Rattle.subpool_store.specs.Memory.{IsHeldPart}
 use Rattle.subpool_store.proofs.Exact.{holder_some}
 use Rattle.subpool_store.proofs.Methods.{all_inside}
 
-module _ (first : ℕ) (bits : List Bool) (pages : List (Option ℕ)) (values : ℕ → ℕ) (h : HalfState) (is : half_of first bits pages values ≡ h) where
+module _ (first : ℕ) (bits : List Bool) (pages : List (Option ℕ)) (values : ℕ → ℕ) (h : RegionState) (is : region_of first bits pages values ≡ h) where
   -- the bit of a doubleword that is held is set
   bit_held : (d : ℕ) → IsSome (get h.held d) → get_or bits (d - first) false ≡ true
   bit_held d held = by (get h.held d) refl held where

@@ -10,7 +10,7 @@ use Rattle.mvs_model.specs.Storage.{IsLength, end_of, holder}
 use Rattle.mvs_model.specs.Want.{IsWant, WantValue}
 use Rattle.mvs_model.specs.declared.want.Side.TheVariants.{Below, Either}
 use Rattle.subpool_store.specs.Bound.{IsBound, begins, free_runs, has_page, page_entries, to_look_at}
-use Rattle.subpool_store.specs.Half.{BestIn, HalfState}
+use Rattle.subpool_store.specs.Region.{BestIn, RegionState}
 use Rattle.subpool_store.specs.Joined.{BestAbove, CountedAbove, IsStore, regions_of, store_of}
 use Rattle.subpool_store.specs.Search.{Beats, IsCounted}
 use Rattle.subpool_store.proofs.Begun.{least_length}
@@ -39,7 +39,7 @@ begins_none f s d none = ap (λ b. not (is_some (f d)) && (b && (eqb (d % 512) 0
   never true = refl
   never false = refl
 
-module _ (b a : HalfState) (fill : ℕ) (both : IsStore b a) (s : ℕ) where
+module _ (b a : RegionState) (fill : ℕ) (both : IsStore b a) (s : ℕ) where
   first_b : b.first ≡ 3072
   first_b = both.first_below
 
@@ -85,7 +85,7 @@ module _ (b a : HalfState) (fill : ℕ) (both : IsStore b a) (s : ℕ) where
       omega (arith, split, runs_below, runs_above)
 
   -- a region with a place has pages
-  place_pages : (h : HalfState) (want : WantValue) (p : PlaceValue) → IsWant want → BestIn h s want (Some p) → 1 ≤ h.pages
+  place_pages : (h : RegionState) (want : WantValue) (p : PlaceValue) → IsWant want → BestIn h s want (Some p) → 1 ≤ h.pages
   place_pages h want p ok best = let inside = best.is_open.inside in let long = best.length.least in let some = ok.some in omega (arith, inside.0, inside.1, long, some)
 
   module _ (want : WantValue) (ok : IsWant want) (place : Option PlaceValue) (steps : ℕ) (best : BestAbove a s want place) (counted : CountedAbove a s want place steps) where

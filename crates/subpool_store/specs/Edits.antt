@@ -1,6 +1,7 @@
 -- The doublewords of a region that are held, the owners of its pages, and changes of both.
 use Rattle.std.specs.Prelude.{◌≡◌, ℕ, ◌/◌, ◌<◌, ◌≤◌, ◌⊎◌, ◌&&◌, nat_lt, Bool, true, false, Option, Some, None, List, length, slice_index_or, if◌then◌else◌}
 use Rattle.mvs_model.specs.Finite.{has}
+use Rattle.mvs_model.specs.Numbers.{page_doublewords}
 use Rattle.page_map.specs.Owners.{owner_of}
 use Rattle.subpool_store.specs.Bits.{in_range}
 
@@ -25,11 +26,11 @@ pub record IsFreeRun (bits : List Bool) (from to start end : ℕ) : Type 0 where
 
 -- no bit of the page is set
 abbrev pub HasNoBit : List Bool → ℕ → Type 0
-HasNoBit bits p = (i : ℕ) → i / 512 ≡ p → slice_index_or bits i false ≡ false
+HasNoBit bits p = (i : ℕ) → i / page_doublewords ≡ p → slice_index_or bits i false ≡ false
 
 -- some bit of the page is set
 abbrev pub HasBit : List Bool → ℕ → Type 0
-HasBit bits p = (i : ℕ) × (i / 512 ≡ p) × (slice_index_or bits i false ≡ true)
+HasBit bits p = (i : ℕ) × (i / page_doublewords ≡ p) × (slice_index_or bits i false ≡ true)
 
 -- The pages in the range are of s, and the others are as before.
 pub record IsAssigned (old : List (Option ℕ)) (from to s : ℕ) (new : List (Option ℕ)) : Type 0 where
@@ -47,4 +48,4 @@ pub record IsDropped (test : ℕ → Bool) (bits : List Bool) (pages : List (Opt
   pub bits_size : length bits' ≡ length bits
   pub pages_size : length pages' ≡ length pages
   pub owners : (p : ℕ) → owner_of pages' p ≡ (if nat_lt p n && has test (owner_of pages p) then None else owner_of pages p)
-  pub each : (i : ℕ) → slice_index_or bits' i false ≡ (if nat_lt (i / 512) n && has test (owner_of pages (i / 512)) then false else slice_index_or bits i false)
+  pub each : (i : ℕ) → slice_index_or bits' i false ≡ (if nat_lt (i / page_doublewords) n && has test (owner_of pages (i / page_doublewords)) then false else slice_index_or bits i false)

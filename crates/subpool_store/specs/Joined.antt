@@ -3,14 +3,16 @@ use Rattle.std.specs.Prelude.{◌≡◌, ℕ, ◌≤◌, ◌⊎◌, Option, None
 use Rattle.std.specs.Ordering.{nat_cmp}
 use Rattle.std.specs.FinMap.{FinMap, get}
 use Rattle.mvs_model.specs.Finite.{Changes}
+use Rattle.mvs_model.specs.Numbers.{above_begins, first_doubleword_above, first_doubleword_below, most_pages_above, most_pages_below}
 use Rattle.mvs_model.specs.Place.{PlaceValue}
 use Rattle.mvs_model.specs.Storage.{Storage, Regions, covers, has_address}
 use Rattle.mvs_model.specs.Table.{table}
 use Rattle.mvs_model.specs.Want.{WantValue}
 use Rattle.mvs_model.specs.declared.want.Side.TheVariants.{Below, Either}
 use Rattle.subpool_store.specs.Bound.{to_look_at}
-use Rattle.subpool_store.specs.Half.{HalfState, IsSound, BestIn}
+use Rattle.subpool_store.specs.Region.{RegionState, IsSound, BestIn}
 use Rattle.subpool_store.specs.Search.{IsCounted}
+use Rattle.subpool_store.specs.Sizes.{all_addresses, all_doublewords}
 
 -- one map up to a key, and another from there on
 abbrev pub joined_at : ℕ → FinMap nat_cmp ℕ → FinMap nat_cmp ℕ → ℕ → Option ℕ
@@ -20,21 +22,21 @@ joined_at split m n k = if nat_lt k split then get m k else get n k
 abbrev pub joined : ℕ → ℕ → FinMap nat_cmp ℕ → FinMap nat_cmp ℕ → FinMap nat_cmp ℕ
 joined bound split m n = table bound (joined_at split m n)
 
--- the regions of the two halves
-abbrev pub regions_of : HalfState → HalfState → ℕ → Regions
+-- the two regions, and the byte of a grant
+abbrev pub regions_of : RegionState → RegionState → ℕ → Regions
 regions_of b a fill = record { below = b.pages; above = a.pages; fill = fill }
 
--- the storage of the two halves
-abbrev pub store_of : HalfState → HalfState → ℕ → Storage
-store_of b a fill = record { regions = regions_of b a fill; held = joined 268435456 2097152 b.held a.held; bytes = joined 2147483648 16777216 b.bytes a.bytes }
+-- the storage of the two regions
+abbrev pub store_of : RegionState → RegionState → ℕ → Storage
+store_of b a fill = record { regions = regions_of b a fill; held = joined all_doublewords first_doubleword_above b.held a.held; bytes = joined all_addresses above_begins b.bytes a.bytes }
 
 -- The region below and the region above.
-pub record IsStore (b a : HalfState) : Type 0 where
-  pub first_below : b.first ≡ 3072
-  pub first_above : a.first ≡ 2097152
+pub record IsStore (b a : RegionState) : Type 0 where
+  pub first_below : b.first ≡ first_doubleword_below
+  pub first_above : a.first ≡ first_doubleword_above
   pub some_below : 1 ≤ b.pages
-  pub few_below : b.pages ≤ 2048
-  pub few_above : a.pages ≤ 8192
+  pub few_below : b.pages ≤ most_pages_below
+  pub few_above : a.pages ≤ most_pages_above
   pub sound_below : IsSound b
   pub sound_above : IsSound a
 
@@ -45,9 +47,9 @@ pub record Taken (old : Storage) (p : PlaceValue) (v b : Option ℕ) (new : Stor
   pub bytes : Changes (get old.bytes) (has_address p) b (get new.bytes)
 
 -- the best place above, where a place above is wanted
-abbrev pub BestAbove : HalfState → ℕ → WantValue → Option PlaceValue → Type 0
+abbrev pub BestAbove : RegionState → ℕ → WantValue → Option PlaceValue → Type 0
 BestAbove a s want r = BestIn a s want r ⊎ ((want.side ≡ Below) × (r ≡ None))
 
 -- what a search above has looked at, where a place above is wanted
-abbrev pub CountedAbove : HalfState → ℕ → WantValue → Option PlaceValue → ℕ → Type 0
+abbrev pub CountedAbove : RegionState → ℕ → WantValue → Option PlaceValue → ℕ → Type 0
 CountedAbove a s want r steps = ((want.side ≡ Either) × IsCounted (to_look_at a s) r steps) ⊎ ((want.side ≡ Below) × (r ≡ None) × (steps ≡ 0))

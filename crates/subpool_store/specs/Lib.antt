@@ -1,6 +1,7 @@
 pub mod Bits
+pub mod Sizes
 pub mod Edits
-pub mod Half
+pub mod Region
 pub mod Memory
 pub mod LendsMemory
 pub mod Bound
@@ -8,5 +9,5 @@ pub mod Joined
 pub mod Search
 pub mod Walk
 pub mod Written
-pub mod LendsHalf
+pub mod LendsRegion
 pub mod LendsBytes

@@ -1,5 +1,6 @@
 -- What a search over the doublewords of a region looks for, and what it knows on its way.
 use Rattle.std.specs.Prelude.{◌≡◌, ℕ, ◌+◌, ◌-◌, ◌*◌, ◌/◌, ◌<◌, ◌≤◌, ◌&&◌, ◌⊎◌, Bool, true, false, not, Option, Some, None, MatchOption, List, length, slice_index_or}
+use Rattle.mvs_model.specs.Numbers.{most_pages_above, page_doublewords}
 use Rattle.mvs_model.specs.Place.{PlaceValue}
 use Rattle.mvs_model.specs.Storage.{Covers, InRun, IsLength, Meets}
 use Rattle.mvs_model.specs.Want.{WantValue}
@@ -7,25 +8,28 @@ use Rattle.page_map.specs.Owners.{owner_of, is_usable}
 
 -- whether s may take the doubleword at an index
 abbrev pub may_take : List Bool → List (Option ℕ) → ℕ → ℕ → Bool
-may_take bits pages s i = not (slice_index_or bits i true) && is_usable s (owner_of pages (i / 512))
+may_take bits pages s i = not (slice_index_or bits i true) && is_usable s (owner_of pages (i / page_doublewords))
 
 -- The bits are those of the pages, and a page is assigned exactly while one of its bits is set.
 pub record IsExact (bits : List Bool) (pages : List (Option ℕ)) : Type 0 where
-  pub sizes : length bits ≡ 512 * length pages
-  pub most : length pages ≤ 8192
-  pub free : (i : ℕ) → owner_of pages (i / 512) ≡ None → slice_index_or bits i false ≡ false
-  pub used : (p s : ℕ) → owner_of pages p ≡ Some s → (i : ℕ) × (i / 512 ≡ p) × (slice_index_or bits i false ≡ true)
+  pub sizes : length bits ≡ page_doublewords * length pages
+  pub most : length pages ≤ most_pages_above
+  pub free : (i : ℕ) → owner_of pages (i / page_doublewords) ≡ None → slice_index_or bits i false ≡ false
+  pub used : (p s : ℕ) → owner_of pages p ≡ Some s → (i : ℕ) × (i / page_doublewords ≡ p) × (slice_index_or bits i false ≡ true)
 
--- The run is the first one, from an index on, of those that pass, and goes as far as they pass; none behind it passes before the
--- index that is next.
-pub record IsNextRun (test : ℕ → Bool) (from start end next : ℕ) : Type 0 where
+-- from no index between two places on do n indices pass, one after another
+abbrev pub NoneFits : (ℕ → Bool) → ℕ → ℕ → ℕ → Type 0
+NoneFits test n from to = (x : ℕ) → from ≤ x → x < to → ((i : ℕ) → x ≤ i → i < x + n → test i ≡ true) → ⊥
+
+-- The indices of the run pass, and go as far as they pass; from none before it or behind it do n pass, up to the index that is next.
+pub record IsNextRun (test : ℕ → Bool) (n from start end next : ℕ) : Type 0 where
   pub some : start < end
   pub after : from ≤ start
   pub before : end ≤ next
-  pub skipped : (i : ℕ) → from ≤ i → i < start → test i ≡ false
+  pub skipped : NoneFits test n from start
   pub passes : (i : ℕ) → start ≤ i → i < end → test i ≡ true
   pub stops : test end ≡ false
-  pub rest : (i : ℕ) → end ≤ i → i < next → test i ≡ false
+  pub rest : NoneFits test n end next
 
 -- each doubleword of the place passes the test, at its index
 abbrev pub AllPass : (ℕ → Bool) → ℕ → PlaceValue → Type 0

@@ -1,6 +1,7 @@
 -- Where a pass over a region stands.
 use Rattle.std.specs.Prelude.{◌≡◌, ℕ, ◌+◌, ◌-◌, ◌*◌, ◌/◌, ◌%◌, ◌<◌, ◌≤◌, ◌⊎◌, ◌==◌, ◌&&◌, ◌||◌, not, Bool, true, false, Option, Some, List, length, slice_index_or}
 use Rattle.mvs_model.specs.Finite.{count_below}
+use Rattle.mvs_model.specs.Numbers.{page_doublewords}
 use Rattle.page_map.specs.Owners.{is_of, owner_of}
 use Rattle.subpool_store.specs.Bits.{digit}
 use Rattle.subpool_store.specs.Memory.{IsCursor, MemoryState}
@@ -10,19 +11,23 @@ use Rattle.subpool_store.specs.declared.walk.Walk.{Walk}
 
 -- A pass stands before a page, or inside a page of s, and before the free runs in its queue.
 pub record Stands (m : MemoryState) (pages : List (Option ℕ)) (s at : ℕ) (inside : Bool) (queue : ℕ) : Type 0 where
-  pub page : inside ≡ false → at % 512 ≡ 0
-  pub own : inside ≡ true → owner_of pages (at / 512) ≡ Some s
+  pub page : inside ≡ false → at % page_doublewords ≡ 0
+  pub own : inside ≡ true → owner_of pages (at / page_doublewords) ≡ Some s
   pub within : inside ≡ true → at < length m.held
-  pub cursor : inside ≡ true → IsCursor m (at / 512) at queue
-  pub fresh : inside ≡ true → (at % 512 ≡ 0) ⊎ (slice_index_or m.held at false ≡ true)
+  pub cursor : inside ≡ true → IsCursor m (at / page_doublewords) at queue
+  pub fresh : inside ≡ true → (at % page_doublewords ≡ 0) ⊎ (slice_index_or m.held at false ≡ true)
 
 -- whether a free run of a page of s begins at an index: it is free, and it is the first of its page or the one before it is held
 abbrev pub begins_run : List Bool → List (Option ℕ) → ℕ → ℕ → Bool
-begins_run bits pages s i = not (slice_index_or bits i false) && (is_of s (owner_of pages (i / 512)) && (i % 512 == 0 || slice_index_or bits (i - 1) false))
+begins_run bits pages s i = not (slice_index_or bits i false) && (is_of s (owner_of pages (i / page_doublewords)) && (i % page_doublewords == 0 || slice_index_or bits (i - 1) false))
+
+-- the page is of s, and each of its doublewords is held
+abbrev pub IsFull : List Bool → List (Option ℕ) → ℕ → ℕ → Type 0
+IsFull bits pages s p = (owner_of pages p ≡ Some s) × ((i : ℕ) → i / page_doublewords ≡ p → slice_index_or bits i false ≡ true)
 
 -- how many page entries and free runs a pass has looked at: those before an index, and the entry of the page that it stands inside
 abbrev pub looked_at : MemoryState → List (Option ℕ) → ℕ → ℕ → Bool → ℕ
-looked_at m pages s at inside = at / 512 + digit inside + count_below at (begins_run m.held pages s)
+looked_at m pages s at inside = at / page_doublewords + digit inside + count_below at (begins_run m.held pages s)
 
 -- how far a pass has come
 abbrev pub progress : ℕ → Bool → ℕ

@@ -2,11 +2,13 @@
 use Rattle.std.specs.Prelude.{◌≡◌, ℕ, ◌+◌, ◌-◌, ◌&&◌, min, List, Option, Some, length, take, is_some, nat_lt, slice_index, if◌then◌else◌}
 use Rattle.std.specs.Ordering.{nat_cmp}
 use Rattle.std.specs.FinMap.{FinMap, get}
+use Rattle.mvs_model.specs.Numbers.{above_begins}
 use Rattle.mvs_model.specs.Place.{PlaceValue}
 use Rattle.mvs_model.specs.Storage.{IsStorage, Storage, has_address}
 use Rattle.mvs_model.specs.Table.{table}
 use Rattle.subpool_store.specs.Bits.{in_range}
-use Rattle.subpool_store.specs.Half.{HalfState}
+use Rattle.subpool_store.specs.Region.{RegionState}
+use Rattle.subpool_store.specs.Sizes.{all_addresses}
 
 -- what is at a key, with the bytes written over those from one key up to another
 abbrev pub over : (ℕ → Option ℕ) → ℕ → ℕ → List ℕ → ℕ → Option ℕ
@@ -14,15 +16,15 @@ over m from to w k = if in_range from to k && is_some (m k) then Some (slice_ind
 
 -- the map with the bytes written over it: keys come and go nowhere
 abbrev pub overwritten : FinMap nat_cmp ℕ → ℕ → ℕ → List ℕ → FinMap nat_cmp ℕ
-overwritten m from to w = table 2147483648 (over (get m) from to w)
+overwritten m from to w = table all_addresses (over (get m) from to w)
 
 -- where the addresses end on the side of 16 megabytes on which an address is
 abbrev pub side_end : ℕ → ℕ
-side_end a = if nat_lt a 16777216 then 16777216 else 2147483648
+side_end a = if nat_lt a above_begins then above_begins else all_addresses
 
 -- a region with the bytes written over those from an address on
-abbrev pub half_written : HalfState → ℕ → List ℕ → HalfState
-half_written h a w = record { first = h.first; pages = h.pages; held = h.held; bytes = overwritten h.bytes a (a + length w) w }
+abbrev pub region_written : RegionState → ℕ → List ℕ → RegionState
+region_written h a w = record { first = h.first; pages = h.pages; held = h.held; bytes = overwritten h.bytes a (a + length w) w }
 
 -- storage with the bytes written over those from an address on, on its side of 16 megabytes
 abbrev pub written_from : Storage → ℕ → List ℕ → Storage

@@ -1,19 +1,20 @@
 //! Whole releases: all pages of some subpools in one pass.
 
 ghost use Rattle.std.specs.Prelude.{◌≡◌, ◌*◌, length};
+ghost use Rattle.mvs_model.specs.Numbers.{page_doublewords};
 ghost use Rattle.mvs_model.specs.Storage.{is_one_of};
 ghost use Rattle.subpool_store.specs.Edits.{IsDropped};
-ghost use Rattle.subpool_store.specs.Half.{IsOpened};
+ghost use Rattle.subpool_store.specs.Region.{IsOpened};
 ghost use Rattle.subpool_store.specs.Memory.{Stays};
 
-use crate::half::close_page;
 use crate::memory::Memory;
+use crate::region_store::close_page;
 use mvs_model::subpool_set::SubpoolSet;
 use page_map::PageMap;
 
 // Gives up the pages of the subpools of a set, and what is held of them, and closes them.
 pub fn drop_pages(pages: &mut PageMap, memory: &mut Memory, subpools: &SubpoolSet)
-    requires sizes { length memory.old.held ≡ 512 * length pages.old }
+    requires sizes { length memory.old.held ≡ page_doublewords * length pages.old }
     requires opened { IsOpened pages.old memory.old.bytes }
     ensures dropped { IsDropped (is_one_of subpools.now) memory.old.held pages.old (length pages.old) memory.new.held pages.new }
     ensures opened { IsOpened pages.new memory.new.bytes }

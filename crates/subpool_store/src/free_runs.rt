@@ -2,22 +2,25 @@
 
 ghost use Rattle.std.specs.Prelude.{◌≡◌, ◌<◌, ◌≤◌, ◌+◌, ◌*◌, ◌/◌, ◌↔◌, ℕ, IsTrue, false, true, slice_index_or};
 ghost use Rattle.mvs_model.specs.Finite.{count_below};
+ghost use Rattle.mvs_model.specs.Numbers.{most_pages_above, page_doublewords};
 ghost use Rattle.region_raw.specs.Pages.{is_open};
+ghost use Rattle.subpool_store.specs.Sizes.{most_doublewords};
 
 use crate::memory::Memory;
 use crate::run::Run;
+use mvs_model::numbers::PAGE_DOUBLEWORDS;
 
 // Whether each of some doublewords of an open page is held: the first free run that ends behind the first of them
 // begins behind the last.
 pub fn are_held_in(memory: &Memory, page: usize, from: usize, to: usize) -> bool
     requires some { from < to }
-    requires few { page < 8192 }
-    requires first { 512 * page ≤ from }
-    requires last { to ≤ 512 * page + 512 }
+    requires few { page < most_pages_above }
+    requires first { page_doublewords * page ≤ from }
+    requires last { to ≤ page_doublewords * page + page_doublewords }
     requires there { is_open memory.now.bytes page ≡ true }
     ensures { IsTrue result ↔ ((i : ℕ) → from ≤ i → i < to → slice_index_or memory.now.held i false ≡ true) }
 {
-    let mut at = 512 * page;
+    let mut at = PAGE_DOUBLEWORDS * page;
     let mut queue = memory.first(page);
     'runs: while let Some((run, behind)) = memory.next_free(page, at, queue) {
         if from < run.end {
@@ -32,14 +35,14 @@ pub fn are_held_in(memory: &Memory, page: usize, from: usize, to: usize) -> bool
 // Whether each of some doublewords of open pages is held.
 pub fn are_held(memory: &Memory, run: Run) -> bool
     requires some { run.start ≤ run.end }
-    requires few { run.end ≤ 4194304 }
-    requires there { (i : ℕ) → run.start ≤ i → i < run.end → is_open memory.now.bytes (i / 512) ≡ true }
+    requires few { run.end ≤ most_doublewords }
+    requires there { (i : ℕ) → run.start ≤ i → i < run.end → is_open memory.now.bytes (i / page_doublewords) ≡ true }
     ensures { IsTrue result ↔ ((i : ℕ) → run.start ≤ i → i < run.end → slice_index_or memory.now.held i false ≡ true) }
 {
     let mut at = run.start;
     'pages: while at < run.end {
-        let page = at / 512;
-        let stop = run.end.min(512 * page + 512);
+        let page = at / PAGE_DOUBLEWORDS;
+        let stop = run.end.min(PAGE_DOUBLEWORDS * page + PAGE_DOUBLEWORDS);
         if !are_held_in(memory, page, at, stop) {
             return false;
         }
@@ -50,17 +53,17 @@ pub fn are_held(memory: &Memory, run: Run) -> bool
 
 // How many doublewords of an open page are held: those before each free run, and those behind the last.
 pub fn count(memory: &Memory, page: usize) -> u32
-    requires few { page < 8192 }
+    requires few { page < most_pages_above }
     requires there { is_open memory.now.bytes page ≡ true }
-    ensures { result ≡ count_below 512 (λ i. slice_index_or memory.now.held (512 * page + i) false) }
+    ensures { result ≡ count_below page_doublewords (λ i. slice_index_or memory.now.held (page_doublewords * page + i) false) }
 {
     let mut count = 0;
-    let mut at = 512 * page;
+    let mut at = PAGE_DOUBLEWORDS * page;
     let mut queue = memory.first(page);
     'runs: while let Some((run, behind)) = memory.next_free(page, at, queue) {
         count += (run.start - at) as u32;
         at = run.end;
         queue = behind;
     }
-    count + (512 * page + 512 - at) as u32
+    count + (PAGE_DOUBLEWORDS * page + PAGE_DOUBLEWORDS - at) as u32
 }

@@ -3,9 +3,9 @@
 
 mod dropping;
 mod free_runs;
-mod half;
 pub mod laws;
 mod memory;
+mod region_store;
 mod run;
 mod search;
 mod store;

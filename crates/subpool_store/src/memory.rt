@@ -2,14 +2,17 @@
 
 ghost use Rattle.std.specs.Prelude.{◌≡◌, ◌<◌, ◌≤◌, ◌+◌, ◌*◌, ◌/◌, ◌↔◌, ℕ, IfOk, MatchOption, MatchBool, IsTrue, None, Some, List, false, true, length, replicate, slice_index, slice_index_or};
 ghost use Rattle.std.specs.Borrow.{sem};
+ghost use Rattle.mvs_model.specs.Numbers.{most_pages_above, page_doublewords};
 ghost use Rattle.region_raw.specs.Pages.{IsBlank, Writes, byte_of, is_open, with_part};
 ghost use Rattle.region_raw.specs.Rows.{IsApart};
 ghost use Rattle.subpool_store.specs.Edits.{IsClear, IsMarked, IsFreeRun, HasNoBit, HasBit};
-ghost use Rattle.subpool_store.specs.Memory.{IsCursor, IsHeldPart, KeepsHeld, Stays, Turns};
+ghost use Rattle.subpool_store.specs.Memory.{IsCursor, IsFilled, IsHeldPart, KeepsHeld, Stays, Turns};
+ghost use Rattle.subpool_store.specs.Sizes.{most_doublewords};
 
 use crate::run::Run;
 use free_queue::queue::{self, Head};
 use mvs_model::error::OutOfMemory;
+use mvs_model::numbers::PAGE_DOUBLEWORDS;
 use region_raw::region::Region;
 use std::alloc::Global;
 use std::marker::Model;
@@ -39,8 +42,8 @@ impl Memory {
 
     // So many blank pages.
     pub fn new(alloc: Global, pages: usize) -> Result<Memory, OutOfMemory>
-        requires { pages ≤ 8192 }
-        ensures clear { IfOk result (λ m. IsClear (512 * pages) m.held) }
+        requires { pages ≤ most_pages_above }
+        ensures clear { IfOk result (λ m. IsClear (page_doublewords * pages) m.held) }
         ensures blank { IfOk result (λ m. m.bytes ≡ replicate pages None) }
     {
         let region = Region::new(alloc, pages)?;
@@ -50,21 +53,27 @@ impl Memory {
         }
     }
 
-    // Opens a blank page: all of it is free.
-    pub fn open_page(&mut self, page: usize, fill: u8)
-        requires { IsBlank self.old.bytes page }
-        ensures held { self.new.held ≡ self.old.held }
+    // Opens a blank page: some doublewords of it are held then, each byte of them the value, and the others are free.
+    pub fn open_page(&mut self, page: usize, from: usize, to: usize, value: u8)
+        requires blank { IsBlank self.old.bytes page }
+        requires some { from < to }
+        requires first { page_doublewords * page ≤ from }
+        requires last { to ≤ page_doublewords * page + page_doublewords }
+        ensures marked { IsMarked self.old.held from to true self.new.held }
         ensures opened { Turns self.old.bytes page true self.new.bytes }
         ensures stays { Stays self.old.held self.old.bytes self.new.bytes }
+        ensures filled { IsFilled from to value self.new.bytes }
     {
-        self.region.open_page(page, fill);
-        self.heads[page] = queue::start(&mut self.region, page);
+        let at = 8 * (from - PAGE_DOUBLEWORDS * page) as u32;
+        let len = 8 * (to - from) as u32;
+        self.region.open_page(page, value);
+        self.heads[page] = queue::start(&mut self.region, page, at, len);
     }
 
     // Makes an open page blank.
     pub fn close_page(&mut self, page: usize)
         requires { is_open self.old.bytes page ≡ true }
-        ensures marked { IsMarked self.old.held (512 * page) (512 * page + 512) false self.new.held }
+        ensures marked { IsMarked self.old.held (page_doublewords * page) (page_doublewords * page + page_doublewords) false self.new.held }
         ensures closed { Turns self.old.bytes page false self.new.bytes }
         ensures stays { Stays self.new.held self.old.bytes self.new.bytes }
     {
@@ -74,64 +83,62 @@ impl Memory {
     // Takes free doublewords of a page: they are held then.
     fn take_in(&mut self, page: usize, from: usize, to: usize)
         requires some { from < to }
-        requires first { 512 * page ≤ from }
-        requires last { to ≤ 512 * page + 512 }
+        requires first { page_doublewords * page ≤ from }
+        requires last { to ≤ page_doublewords * page + page_doublewords }
         requires there { is_open self.old.bytes page ≡ true }
         requires free { (i : ℕ) → from ≤ i → i < to → slice_index_or self.old.held i false ≡ false }
         ensures marked { IsMarked self.old.held from to true self.new.held }
         ensures keeps { KeepsHeld self.old.held self.old.bytes self.new.bytes }
     {
-        let at = 8 * (from - 512 * page) as u32;
+        let at = 8 * (from - PAGE_DOUBLEWORDS * page) as u32;
         let len = 8 * (to - from) as u32;
         self.heads[page] = queue::take(&mut self.region, page, self.heads[page], at, len);
+    }
+
+    // The same, with the value in each byte of them.
+    pub fn take(&mut self, page: usize, from: usize, to: usize, value: u8)
+        requires few { page < most_pages_above }
+        requires some { from < to }
+        requires first { page_doublewords * page ≤ from }
+        requires last { to ≤ page_doublewords * page + page_doublewords }
+        requires there { is_open self.old.bytes page ≡ true }
+        requires free { (i : ℕ) → from ≤ i → i < to → slice_index_or self.old.held i false ≡ false }
+        ensures marked { IsMarked self.old.held from to true self.new.held }
+        ensures keeps { KeepsHeld self.old.held self.old.bytes self.new.bytes }
+        ensures filled { IsFilled from to value self.new.bytes }
+    {
+        self.take_in(page, from, to);
+        self.fill(8 * from, 8 * (to - from), value);
     }
 
     // Gives doublewords of a page back that are held: they are free then.
     fn give_in(&mut self, page: usize, from: usize, to: usize)
         requires some { from < to }
-        requires first { 512 * page ≤ from }
-        requires last { to ≤ 512 * page + 512 }
+        requires first { page_doublewords * page ≤ from }
+        requires last { to ≤ page_doublewords * page + page_doublewords }
         requires there { is_open self.old.bytes page ≡ true }
         requires held { (i : ℕ) → from ≤ i → i < to → slice_index_or self.old.held i false ≡ true }
         ensures marked { IsMarked self.old.held from to false self.new.held }
         ensures keeps { KeepsHeld self.new.held self.old.bytes self.new.bytes }
     {
-        let at = 8 * (from - 512 * page) as u32;
+        let at = 8 * (from - PAGE_DOUBLEWORDS * page) as u32;
         let len = 8 * (to - from) as u32;
         self.heads[page] = queue::give(&mut self.region, page, self.heads[page], at, len);
-    }
-
-    // Takes free doublewords of open pages: they are held then.
-    pub fn take(&mut self, run: Run)
-        requires some { run.start ≤ run.end }
-        requires few { run.end ≤ 4194304 }
-        requires there { (i : ℕ) → run.start ≤ i → i < run.end → is_open self.old.bytes (i / 512) ≡ true }
-        requires free { (i : ℕ) → run.start ≤ i → i < run.end → slice_index_or self.old.held i false ≡ false }
-        ensures marked { IsMarked self.old.held run.start run.end true self.new.held }
-        ensures keeps { KeepsHeld self.old.held self.old.bytes self.new.bytes }
-    {
-        let mut at = run.start;
-        'pages: while at < run.end {
-            let page = at / 512;
-            let stop = run.end.min(512 * page + 512);
-            self.take_in(page, at, stop);
-            at = stop;
-        }
     }
 
     // Gives doublewords back that are held: they are free then.
     pub fn give(&mut self, run: Run)
         requires some { run.start ≤ run.end }
-        requires few { run.end ≤ 4194304 }
-        requires there { (i : ℕ) → run.start ≤ i → i < run.end → is_open self.old.bytes (i / 512) ≡ true }
+        requires few { run.end ≤ most_doublewords }
+        requires there { (i : ℕ) → run.start ≤ i → i < run.end → is_open self.old.bytes (i / page_doublewords) ≡ true }
         requires held { (i : ℕ) → run.start ≤ i → i < run.end → slice_index_or self.old.held i false ≡ true }
         ensures marked { IsMarked self.old.held run.start run.end false self.new.held }
         ensures keeps { KeepsHeld self.new.held self.old.bytes self.new.bytes }
     {
         let mut at = run.start;
         'pages: while at < run.end {
-            let page = at / 512;
-            let stop = run.end.min(512 * page + 512);
+            let page = at / PAGE_DOUBLEWORDS;
+            let stop = run.end.min(PAGE_DOUBLEWORDS * page + PAGE_DOUBLEWORDS);
             self.give_in(page, at, stop);
             at = stop;
         }
@@ -145,10 +152,19 @@ impl Memory {
         queue::is_whole(&self.region, page, self.heads[page])
     }
 
+    // Whether all doublewords of an open page are held.
+    pub fn is_full(&self, page: usize) -> bool
+        requires { is_open self.now.bytes page ≡ true }
+        ensures { IsTrue result ↔ ((i : ℕ) → i / page_doublewords ≡ page → slice_index_or self.now.held i false ≡ true) }
+    {
+        let _ = &self.region;
+        self.heads[page].is_none()
+    }
+
     // The queue of what is free in an open page.
     pub fn first(&self, page: usize) -> Head
         requires { is_open self.now.bytes page ≡ true }
-        ensures { IsCursor self.now page (512 * page) result }
+        ensures { IsCursor self.now page (page_doublewords * page) result }
     {
         let _ = &self.region;
         self.heads[page]
@@ -157,16 +173,16 @@ impl Memory {
     // The first free run of a page, from a doubleword of the page on, and the queue behind it.
     pub fn next_free(&self, page: usize, from: usize, queue: Head) -> Option<(Run, Head)>
         requires there { is_open self.now.bytes page ≡ true }
-        requires from { 512 * page ≤ from }
+        requires from { page_doublewords * page ≤ from }
         requires queue { IsCursor self.now page from queue }
         ensures { MatchOption result
-            ((i : ℕ) → from ≤ i → i < 512 * page + 512 → slice_index_or self.now.held i false ≡ true)
-            (λ found. IsFreeRun self.now.held from (512 * page + 512) found.0.start found.0.end × IsCursor self.now page found.0.end found.1) }
+            ((i : ℕ) → from ≤ i → i < page_doublewords * page + page_doublewords → slice_index_or self.now.held i false ≡ true)
+            (λ found. IsFreeRun self.now.held from (page_doublewords * page + page_doublewords) found.0.start found.0.end × IsCursor self.now page found.0.end found.1) }
     {
         let Some((at, len)) = queue::next_free(&self.region, page, queue, 0) else {
             return None;
         };
-        let start = 512 * page + (at / 8) as usize;
+        let start = PAGE_DOUBLEWORDS * page + (at / 8) as usize;
         let run = Run {
             start,
             end: start + (len / 8) as usize,
@@ -175,7 +191,7 @@ impl Memory {
     }
 
     // Gives each of some bytes that are held the value.
-    pub fn fill(&mut self, at: usize, n: usize, value: u8)
+    fn fill(&mut self, at: usize, n: usize, value: u8)
         requires { IsHeldPart self.old.held at n }
         ensures held { self.new.held ≡ self.old.held }
         ensures writes { Writes self.old.bytes at (replicate n value) self.new.bytes }

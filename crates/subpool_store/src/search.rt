@@ -1,10 +1,11 @@
 //! The search for a place in one region.
 
 ghost use Rattle.std.specs.Prelude.{◌≡◌, ◌<◌, ◌≤◌, ◌+◌, ◌-◌, ◌*◌, ◌^◌, ◌⊎◌, ◌↔◌, ℕ, IfSome, IsTrue, false, length};
+ghost use Rattle.mvs_model.specs.Numbers.{first_doubleword_above};
 ghost use Rattle.mvs_model.specs.Place.{PlaceValue};
 ghost use Rattle.mvs_model.specs.Storage.{IsLength, IsRun};
 ghost use Rattle.mvs_model.specs.Want.{IsWant};
-ghost use Rattle.subpool_store.specs.Half.{IsOpened};
+ghost use Rattle.subpool_store.specs.Region.{IsOpened};
 ghost use Rattle.subpool_store.specs.Search.{
   may_take,
   Beats,
@@ -65,6 +66,14 @@ fn only_length(want: &Want) -> Option<u32>
     } else {
         None
     }
+}
+
+// The doublewords of the least length that is wanted.
+fn least_doublewords(want: &Want) -> usize
+    ensures least { 8 * result ≡ want.now.least }
+    ensures some { 1 ≤ result }
+{
+    (want.least() / 8) as usize
 }
 
 // A longest place of a run: the lowest one, where one length alone is wanted.
@@ -168,16 +177,17 @@ pub fn find(
     requires exact { IsExact memory.now.held pages.now }
     requires opened { IsOpened pages.now memory.now.bytes }
     requires end { 8 * (first + length memory.now.held) ≤ 2 ^ 31 }
-    requires one_side { first < 2097152 → first + length memory.now.held ≤ 2097152 }
+    requires one_side { first < first_doubleword_above → first + length memory.now.held ≤ first_doubleword_above }
     ensures found { IfSome result.place (IsCandidate (may_take memory.now.held pages.now subpool) first want.now) }
     ensures longest { (q : PlaceValue) → IsCandidate (may_take memory.now.held pages.now subpool) first want.now q → Beats result.place q.len }
     ensures counted { IsCounted (looked_at memory.now pages.now subpool (length memory.now.held) false) result.place result.steps }
     ensures wanted { IsWant want.now }
 {
     let only = only_length(want);
+    let least = least_doublewords(want);
     let mut walk = Walk::new();
     let mut best = None;
-    'runs: while let Some(run) = walk.next_run(memory, pages, subpool) {
+    'runs: while let Some(run) = walk.next_run(memory, pages, subpool, least) {
         best = preferred(
             placement,
             best,

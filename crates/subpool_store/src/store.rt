@@ -3,6 +3,7 @@
 ghost use Rattle.std.specs.Prelude.{◌≡◌, ◌<◌, ◌≤◌, ◌+◌, ◌*◌, ◌/◌, ◌%◌, ◌^◌, ◌↔◌, ◌⊎◌, Some, None, MatchBool, MatchOption, MatchResult, IfOk, IsTrue, List, ℕ, length, slice_get};
 ghost use Rattle.std.specs.Borrow.{sem};
 ghost use Rattle.std.specs.FinMap.{get, empty};
+ghost use Rattle.mvs_model.specs.Numbers.{above_begins};
 ghost use Rattle.mvs_model.specs.Storage.{
   AllHeld,
   Chosen,
@@ -25,9 +26,10 @@ ghost use Rattle.subpool_store.specs.Joined.{BestAbove, CountedAbove, Taken};
 ghost use Rattle.subpool_store.specs.LendsBytes.{LendsBytes};
 ghost use Rattle.subpool_store.specs.Written.{Puts, written};
 
-use crate::half::Half;
+use crate::region_store::RegionStore;
 use crate::search::{Found, is_longest, longer};
 use mvs_model::error::OutOfMemory;
+use mvs_model::numbers::{ABOVE_BEGINS, FIRST_DOUBLEWORD_ABOVE, FIRST_DOUBLEWORD_BELOW};
 use mvs_model::place::{Addr, Place};
 use mvs_model::subpool::SubpoolId;
 use mvs_model::subpool_set::SubpoolSet;
@@ -36,6 +38,8 @@ use std::alloc::Global;
 use std::marker::Model;
 use thiserror::Error;
 
+#[cfg(test)]
+mod random;
 #[cfg(test)]
 mod tests;
 
@@ -48,8 +52,8 @@ pub struct NotHeld;
 /// below 16 megabytes and in the region above.
 #[derive(Drop)]
 pub struct Store {
-    below: Half,
-    above: Half,
+    below: RegionStore,
+    above: RegionStore,
     fill: u8,
     placement: Placement,
     steps: u32,
@@ -70,10 +74,10 @@ impl Model for Store {
 
 // Whether the place lies below 16 megabytes.
 fn is_below(place: Place) -> bool
-    ensures below { MatchBool result (place.addr + place.len ≤ 0x1000000) (0x1000000 < place.addr + place.len) }
+    ensures below { MatchBool result (place.addr + place.len ≤ above_begins) (above_begins < place.addr + place.len) }
     ensures some { 1 ≤ place.len }
 {
-    u64::from(place.addr().get()) + u64::from(place.len()) <= 0x100_0000
+    u64::from(place.addr().get()) + u64::from(place.len()) <= u64::from(ABOVE_BEGINS)
 }
 
 // Whether the place ends at the last address or before.
@@ -97,7 +101,7 @@ fn whole_doublewords(place: Place) -> Place
 }
 
 // The best place in the region above, if a place may be there.
-fn find_above(placement: Placement, above: &Half, subpool: SubpoolId, want: &Want) -> Found
+fn find_above(placement: Placement, above: &RegionStore, subpool: SubpoolId, want: &Want) -> Found
     ensures best { BestAbove above.now subpool want.now result.place }
     ensures counted { CountedAbove above.now subpool want.now result.place result.steps }
 {
@@ -124,8 +128,8 @@ impl Store {
         ensures storage { IfOk result IsStorage }
     {
         Ok(Store {
-            below: Half::new(alloc, 3072, below as usize)?,
-            above: Half::new(alloc, 2_097_152, above as usize)?,
+            below: RegionStore::new(alloc, FIRST_DOUBLEWORD_BELOW, below as usize)?,
+            above: RegionStore::new(alloc, FIRST_DOUBLEWORD_ABOVE, above as usize)?,
             fill,
             placement,
             steps: 0,
@@ -278,7 +282,7 @@ impl Store {
         ensures held { result ≡ holder self.now (addr / 8) }
         ensures storage { IsStorage self.now }
     {
-        if addr.get() < 0x100_0000 {
+        if addr.get() < ABOVE_BEGINS {
             self.below.holder(addr)
         } else {
             self.above.holder(addr)
@@ -310,7 +314,7 @@ impl Store {
     pub fn page_owner(&self, addr: Addr) -> Option<SubpoolId>
         ensures { IsPageOwner self.now addr result }
     {
-        if addr.get() < 0x100_0000 {
+        if addr.get() < ABOVE_BEGINS {
             self.below.page_owner(addr)
         } else {
             self.above.page_owner(addr)
@@ -353,8 +357,8 @@ impl Store {
         requires source { AllHeld self.old from }
         requires target { AllHeld self.old to }
         requires len { from.len ≡ to.len }
-        requires from_below { from.addr < 0x1000000 }
-        requires to_below { to.addr < 0x1000000 }
+        requires from_below { from.addr < above_begins }
+        requires to_below { to.addr < above_begins }
         requires apart { (from.addr + from.len ≤ to.addr) ⊎ (to.addr + to.len ≤ from.addr) }
         ensures* writes_back { sem 𝓛 (LendsBytes self.entry to result.1) }
         ensures written { (w : List ℕ) → length w ≡ to.len → Puts self.old to w (written self.old to w) }
@@ -370,8 +374,8 @@ impl Store {
         requires source { AllHeld self.old from }
         requires target { AllHeld self.old to }
         requires len { from.len ≡ to.len }
-        requires from_above { 0x1000000 ≤ from.addr }
-        requires to_above { 0x1000000 ≤ to.addr }
+        requires from_above { above_begins ≤ from.addr }
+        requires to_above { above_begins ≤ to.addr }
         requires apart { (from.addr + from.len ≤ to.addr) ⊎ (to.addr + to.len ≤ from.addr) }
         ensures* writes_back { sem 𝓛 (LendsBytes self.entry to result.1) }
         ensures written { (w : List ℕ) → length w ≡ to.len → Puts self.old to w (written self.old to w) }
@@ -387,8 +391,8 @@ impl Store {
         requires source { AllHeld self.old from }
         requires target { AllHeld self.old to }
         requires len { from.len ≡ to.len }
-        requires from_below { from.addr < 0x1000000 }
-        requires to_above { 0x1000000 ≤ to.addr }
+        requires from_below { from.addr < above_begins }
+        requires to_above { above_begins ≤ to.addr }
         ensures* writes_back { sem 𝓛 (LendsBytes self.entry to result.1) }
         ensures written { (w : List ℕ) → length w ≡ to.len → Puts self.old to w (written self.old to w) }
         ensures len { (length result.0.now ≡ from.len) × (length result.1.now ≡ to.len) }
@@ -403,8 +407,8 @@ impl Store {
         requires source { AllHeld self.old from }
         requires target { AllHeld self.old to }
         requires len { from.len ≡ to.len }
-        requires from_above { 0x1000000 ≤ from.addr }
-        requires to_below { to.addr < 0x1000000 }
+        requires from_above { above_begins ≤ from.addr }
+        requires to_below { to.addr < above_begins }
         ensures* writes_back { sem 𝓛 (LendsBytes self.entry to result.1) }
         ensures written { (w : List ℕ) → length w ≡ to.len → Puts self.old to w (written self.old to w) }
         ensures len { (length result.0.now ≡ from.len) × (length result.1.now ≡ to.len) }
@@ -429,13 +433,13 @@ impl Store {
         ensures source_bytes { (k : ℕ) → k < from.len → slice_get result.0.now k ≡ get self.old.bytes (from.addr + k) }
         ensures target_bytes { (k : ℕ) → k < to.len → slice_get result.1.now k ≡ get self.old.bytes (to.addr + k) }
     {
-        if from.addr().get() < 0x100_0000 {
-            if to.addr().get() < 0x100_0000 {
+        if from.addr().get() < ABOVE_BEGINS {
+            if to.addr().get() < ABOVE_BEGINS {
                 self.two_below(from, to)
             } else {
                 self.two_up(from, to)
             }
-        } else if to.addr().get() < 0x100_0000 {
+        } else if to.addr().get() < ABOVE_BEGINS {
             self.two_down(from, to)
         } else {
             self.two_above(from, to)

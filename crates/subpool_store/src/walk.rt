@@ -1,16 +1,18 @@
 //! One pass in rising order over the pages of a region and the free runs of the subpool's own pages.
 
-ghost use Rattle.std.specs.Prelude.{◌≡◌, ◌<◌, ◌≤◌, ◌/◌, ◌%◌, ◌⊎◌, ℕ, MatchOption, Some, None, false, true, length, slice_index_or};
+ghost use Rattle.std.specs.Prelude.{◌≡◌, ◌<◌, ◌≤◌, ◌+◌, ◌/◌, ◌%◌, ◌⊎◌, ◌↔◌, ℕ, IsTrue, MatchOption, Some, None, false, true, length, slice_index_or};
+ghost use Rattle.mvs_model.specs.Numbers.{page_doublewords};
 ghost use Rattle.free_queue.specs.Runs.{end};
 ghost use Rattle.page_map.specs.Owners.{owner_of, is_usable};
-ghost use Rattle.subpool_store.specs.Half.{IsOpened};
+ghost use Rattle.subpool_store.specs.Region.{IsOpened};
 ghost use Rattle.subpool_store.specs.Memory.{IsCursor};
-ghost use Rattle.subpool_store.specs.Search.{may_take, IsExact, IsNextRun};
-ghost use Rattle.subpool_store.specs.Walk.{IsNextPart, IsWalk};
+ghost use Rattle.subpool_store.specs.Search.{may_take, IsExact, IsNextRun, NoneFits};
+ghost use Rattle.subpool_store.specs.Walk.{progress, IsFull, IsNextPart, IsWalk};
 
 use crate::memory::Memory;
 use crate::run::Run;
 use free_queue::queue::Head;
+use mvs_model::numbers::PAGE_DOUBLEWORDS;
 use mvs_model::subpool::SubpoolId;
 use page_map::PageMap;
 
@@ -41,19 +43,19 @@ pub struct Walk {
 fn join_pages(memory: &Memory, pages: &PageMap, subpool: SubpoolId, from: usize) -> Part
     requires exact { IsExact memory.now.held pages.now }
     requires within { from < length memory.now.held }
-    requires page { from % 512 ≡ 0 }
-    requires free { owner_of pages.now (from / 512) ≡ None }
+    requires page { from % page_doublewords ≡ 0 }
+    requires free { owner_of pages.now (from / page_doublewords) ≡ None }
     ensures { IsNextPart memory.now pages.now subpool from false result }
 {
     let _ = memory;
     let _ = subpool;
-    let page = pages.first_assigned(from / 512);
+    let page = pages.first_assigned(from / PAGE_DOUBLEWORDS);
     Part {
         start: from,
-        end: 512 * page,
+        end: PAGE_DOUBLEWORDS * page,
         inside: false,
         queue: Head::none(),
-        examined: (page - from / 512) as u32,
+        examined: (page - from / PAGE_DOUBLEWORDS) as u32,
     }
 }
 
@@ -61,18 +63,78 @@ fn join_pages(memory: &Memory, pages: &PageMap, subpool: SubpoolId, from: usize)
 fn pass_pages(memory: &Memory, pages: &PageMap, subpool: SubpoolId, from: usize) -> Part
     requires exact { IsExact memory.now.held pages.now }
     requires within { from < length memory.now.held }
-    requires page { from % 512 ≡ 0 }
-    requires foreign { is_usable subpool (owner_of pages.now (from / 512)) ≡ false }
+    requires page { from % page_doublewords ≡ 0 }
+    requires foreign { is_usable subpool (owner_of pages.now (from / page_doublewords)) ≡ false }
     ensures { IsNextPart memory.now pages.now subpool from false result }
 {
     let _ = memory;
-    let page = pages.first_usable(subpool, from / 512);
+    let page = pages.first_usable(subpool, from / PAGE_DOUBLEWORDS);
     Part {
-        start: 512 * page,
-        end: 512 * page,
+        start: PAGE_DOUBLEWORDS * page,
+        end: PAGE_DOUBLEWORDS * page,
         inside: false,
         queue: Head::none(),
-        examined: (page - from / 512) as u32,
+        examined: (page - from / PAGE_DOUBLEWORDS) as u32,
+    }
+}
+
+// Whether a page is the subpool's own and nothing of it is free.
+fn is_full(memory: &Memory, pages: &PageMap, subpool: SubpoolId, page: usize) -> bool
+    requires within { page < length pages.now }
+    requires opened { IsOpened pages.now memory.now.bytes }
+    ensures { IsTrue result ↔ IsFull memory.now.held pages.now subpool page }
+{
+    if !pages.is_of(page, subpool) {
+        return false;
+    }
+    memory.is_full(page)
+}
+
+// The first page from one on that is not the subpool's own or of which something is free, or the number of pages.
+fn pass_full(memory: &Memory, pages: &PageMap, subpool: SubpoolId, from: usize) -> usize
+    requires within { from ≤ length pages.now }
+    requires opened { IsOpened pages.now memory.now.bytes }
+    ensures after { from ≤ result }
+    ensures within { result ≤ length pages.now }
+    ensures full { (p : ℕ) → from ≤ p → p < result → IsFull memory.now.held pages.now subpool p }
+{
+    let mut page = from;
+    'pages: while page < pages.pages() {
+        if !is_full(memory, pages, subpool, page) {
+            return page;
+        }
+        page += 1;
+    }
+    page
+}
+
+// Passes pages of the subpool's own of which nothing is free, and looks at the entry of the page behind them, if it is
+// the subpool's own as well.
+fn examine_own(memory: &Memory, pages: &PageMap, subpool: SubpoolId, from: usize) -> Part
+    requires exact { IsExact memory.now.held pages.now }
+    requires within { from < length memory.now.held }
+    requires page { from % page_doublewords ≡ 0 }
+    requires own { owner_of pages.now (from / page_doublewords) ≡ Some subpool }
+    requires opened { IsOpened pages.now memory.now.bytes }
+    ensures { IsNextPart memory.now pages.now subpool from false result }
+{
+    let page = pass_full(memory, pages, subpool, from / PAGE_DOUBLEWORDS);
+    let passed = (page - from / PAGE_DOUBLEWORDS) as u32;
+    if page < pages.pages() && pages.is_of(page, subpool) {
+        return Part {
+            start: PAGE_DOUBLEWORDS * page,
+            end: PAGE_DOUBLEWORDS * page,
+            inside: true,
+            queue: memory.first(page),
+            examined: passed + 1,
+        };
+    }
+    Part {
+        start: PAGE_DOUBLEWORDS * page,
+        end: PAGE_DOUBLEWORDS * page,
+        inside: false,
+        queue: Head::none(),
+        examined: passed,
     }
 }
 
@@ -80,19 +142,13 @@ fn pass_pages(memory: &Memory, pages: &PageMap, subpool: SubpoolId, from: usize)
 fn examine_page(memory: &Memory, pages: &PageMap, subpool: SubpoolId, from: usize) -> Part
     requires exact { IsExact memory.now.held pages.now }
     requires within { from < length memory.now.held }
-    requires page { from % 512 ≡ 0 }
+    requires page { from % page_doublewords ≡ 0 }
     requires opened { IsOpened pages.now memory.now.bytes }
     ensures { IsNextPart memory.now pages.now subpool from false result }
 {
-    match pages.owner(from / 512) {
+    match pages.owner(from / PAGE_DOUBLEWORDS) {
         None => join_pages(memory, pages, subpool, from),
-        Some(owner) if owner == subpool => Part {
-            start: from,
-            end: from,
-            inside: true,
-            queue: memory.first(from / 512),
-            examined: 1,
-        },
+        Some(owner) if owner == subpool => examine_own(memory, pages, subpool, from),
         Some(_) => pass_pages(memory, pages, subpool, from),
     }
 }
@@ -103,19 +159,22 @@ fn examine_run(
     memory: &Memory,
     pages: &PageMap,
     subpool: SubpoolId,
+    page: usize,
     from: usize,
     queue: Head,
 ) -> Part
     requires exact { IsExact memory.now.held pages.now }
     requires within { from < length memory.now.held }
-    requires own { owner_of pages.now (from / 512) ≡ Some subpool }
+    requires page { from / page_doublewords ≡ page }
+    requires own { owner_of pages.now page ≡ Some subpool }
     requires opened { IsOpened pages.now memory.now.bytes }
-    requires cursor { IsCursor memory.now (from / 512) from queue }
-    requires fresh { (from % 512 ≡ 0) ⊎ (slice_index_or memory.now.held from false ≡ true) }
-    ensures { IsNextPart memory.now pages.now subpool from true result }
+    requires cursor { IsCursor memory.now page from queue }
+    requires fresh { (from % page_doublewords ≡ 0) ⊎ (slice_index_or memory.now.held from false ≡ true) }
+    ensures part { IsNextPart memory.now pages.now subpool from true result }
+    ensures stops { result.inside ≡ true → may_take memory.now.held pages.now subpool result.end ≡ false }
+    ensures page { result.inside ≡ true → result.end / page_doublewords ≡ page }
 {
-    let page = from / 512;
-    let end = 512 * page + 512;
+    let end = PAGE_DOUBLEWORDS * page + PAGE_DOUBLEWORDS;
     match memory.next_free(page, from, queue) {
         None => Part {
             start: end,
@@ -148,35 +207,103 @@ impl Walk {
         }
     }
 
-    // Makes one step.
-    fn examine(&self, memory: &Memory, pages: &PageMap, subpool: SubpoolId) -> Part
-        requires exact { IsExact memory.now.held pages.now }
-        requires opened { IsOpened pages.now memory.now.bytes }
-        requires walk { IsWalk memory.now pages.now subpool self.now }
-        requires within { self.now.end < length memory.now.held }
-        ensures { IsNextPart memory.now pages.now subpool self.now.end self.now.inside result }
-    {
-        if self.inside {
-            examine_run(memory, pages, subpool, self.end, self.queue)
-        } else {
-            examine_page(memory, pages, subpool, self.end)
-        }
-    }
-
-    // The next run of doublewords that the subpool may take, joined across pages.
-    pub fn next_run(&mut self, memory: &Memory, pages: &PageMap, subpool: SubpoolId) -> Option<Run>
+    // Passes free runs of a page that are shorter than the least length and end before the page does; gives what comes
+    // behind them.
+    fn pass_short(
+        &mut self,
+        memory: &Memory,
+        pages: &PageMap,
+        subpool: SubpoolId,
+        least: usize,
+    ) -> Part
         requires exact { IsExact memory.now.held pages.now }
         requires opened { IsOpened pages.now memory.now.bytes }
         requires walk { IsWalk memory.now pages.now subpool self.old }
+        requires inside { self.old.inside ≡ true }
+        requires empty { self.old.start ≡ self.old.end }
+        ensures walk { IsWalk memory.now pages.now subpool self.new }
+        ensures inside { self.new.inside ≡ true }
+        ensures after { self.old.start ≤ self.new.start }
+        ensures on { self.old.end ≤ self.new.end }
+        ensures none { NoneFits (may_take memory.now.held pages.now subpool) least self.old.start self.new.start }
+        ensures part { IsNextPart memory.now pages.now subpool self.new.end true result }
+    {
+        let page = self.end / PAGE_DOUBLEWORDS;
+        let mut part = examine_run(memory, pages, subpool, page, self.end, self.queue);
+        'runs: while part.inside && part.end - part.start < least {
+            *self = Walk {
+                start: part.end,
+                end: part.end,
+                inside: true,
+                queue: part.queue,
+                steps: self.steps + part.examined,
+            };
+            part = examine_run(memory, pages, subpool, page, self.end, self.queue);
+        }
+        part
+    }
+
+    // Whether the run that is joined so far is still of use: it may go on in the page that the pass has entered, or it is
+    // no shorter than the least length.
+    fn is_of_use(&self, least: usize) -> bool
+        requires { self.now.start ≤ self.now.end }
+        ensures { result ≡ false → self.now.end < self.now.start + least × ((self.now.start ≡ self.now.end) ⊎ (self.now.end % page_doublewords ≡ 0 → ⊥)) }
+    {
+        let len = self.end - self.start;
+        least <= len || (0 < len && self.end % PAGE_DOUBLEWORDS == 0)
+    }
+
+    // Looks at what comes next, behind free runs that are too short.
+    fn examine(
+        &mut self,
+        memory: &Memory,
+        pages: &PageMap,
+        subpool: SubpoolId,
+        least: usize,
+    ) -> Part
+        requires exact { IsExact memory.now.held pages.now }
+        requires opened { IsOpened pages.now memory.now.bytes }
+        requires walk { IsWalk memory.now pages.now subpool self.old }
+        requires within { self.old.end < length memory.now.held }
+        ensures walk { IsWalk memory.now pages.now subpool self.new }
+        ensures after { self.old.start ≤ self.new.start }
+        ensures on { progress self.old.end self.old.inside ≤ progress self.new.end self.new.inside }
+        ensures none { NoneFits (may_take memory.now.held pages.now subpool) least self.old.start self.new.start }
+        ensures part { IsNextPart memory.now pages.now subpool self.new.end self.new.inside result }
+    {
+        if !self.inside {
+            return examine_page(memory, pages, subpool, self.end);
+        }
+        if self.is_of_use(least) {
+            let page = self.end / PAGE_DOUBLEWORDS;
+            return examine_run(memory, pages, subpool, page, self.end, self.queue);
+        }
+        self.start = self.end;
+        self.pass_short(memory, pages, subpool, least)
+    }
+
+    // The next run of doublewords that the subpool may take, joined across pages, which is no shorter than the least
+    // length.
+    pub fn next_run(
+        &mut self,
+        memory: &Memory,
+        pages: &PageMap,
+        subpool: SubpoolId,
+        least: usize,
+    ) -> Option<Run>
+        requires exact { IsExact memory.now.held pages.now }
+        requires opened { IsOpened pages.now memory.now.bytes }
+        requires walk { IsWalk memory.now pages.now subpool self.old }
+        requires least { 1 ≤ least }
         ensures walk { IsWalk memory.now pages.now subpool self.new }
         ensures run { MatchOption result
-            ((i : ℕ) → self.old.start ≤ i → may_take memory.now.held pages.now subpool i ≡ false)
-            (λ run. IsNextRun (may_take memory.now.held pages.now subpool) self.old.start run.start run.end self.new.start) }
+            ((to : ℕ) → NoneFits (may_take memory.now.held pages.now subpool) least self.old.start to)
+            (λ run. IsNextRun (may_take memory.now.held pages.now subpool) least self.old.start run.start run.end self.new.start) }
         ensures all { MatchOption result (self.new.end ≡ length memory.now.held) (λ _. 0 < self.new.end) }
     {
-        let total = 512 * pages.pages();
+        let total = PAGE_DOUBLEWORDS * pages.pages();
         'parts: while self.end < total {
-            let part = self.examine(memory, pages, subpool);
+            let part = self.examine(memory, pages, subpool, least);
             let run = Run {
                 start: self.start,
                 end: self.end,
@@ -187,7 +314,7 @@ impl Walk {
             self.steps += part.examined;
             if part.start != run.end {
                 self.start = part.start;
-                if run.start < run.end {
+                if least <= run.end - run.start {
                     return Some(run);
                 }
             }
@@ -197,6 +324,10 @@ impl Walk {
             end: self.end,
         };
         self.start = self.end;
-        if run.start < run.end { Some(run) } else { None }
+        if least <= run.end - run.start {
+            Some(run)
+        } else {
+            None
+        }
     }
 }

@@ -1,20 +1,19 @@
-use Rattle.std.proofs.Common.{◌≡◌, ◌∙◌, List, [], ◌∷◌, inl, inr, true, arith}
+use Rattle.std.proofs.Common.{◌≡◌, ◌∙◌, inl, inr, true, arith}
 use Rattle.region_raw.specs.Pages.{is_open}
-use Rattle.free_queue.specs.Runs.{Run}
+use Rattle.free_queue.specs.Runs.{Covers}
+use Rattle.free_queue.proofs.Free.{free_covers}
 use Rattle.free_queue.proofs.tests.runs_are_taken_and_given.Goals as goal
 
--- the one run of a page that is free
-all : List Run
-all = record { from = 0; len = 4096 } ∷ []
-
 pub take-head-requires-clause-queue : goal.take-head-requires-clause-queue
-unfolding all
-take-head-requires-clause-queue g c = (all, c.start-head.ensures.queue, inl (omega arith, omega arith))
+take-head-requires-clause-queue g c =
+    let started = c.start-head.ensures.queue in
+    (started.0, started.1, free_covers 0 started.0 8 16 started.1.0 (omega arith) (λ d within. (started.2 d).1 (inl (omega arith, omega (arith, within.1)), inr within.0)))
 
 pub give-head-requires-clause-queue : goal.give-head-requires-clause-queue
-unfolding all
 give-head-requires-clause-queue g c =
-    let taken = c.take-head.ensures.queue all c.start-head.ensures.queue (inl (omega arith, omega arith)) in
+    let started = c.start-head.ensures.queue in
+    let covers : Covers started.0 8 16 = free_covers 0 started.0 8 16 started.1.0 (omega arith) (λ d within. (started.2 d).1 (inl (omega arith, omega (arith, within.1)), inr within.0)) in
+    let taken = c.take-head.ensures.queue started.0 started.1 covers in
     (taken.0, taken.1, λ d within free. elim ((taken.2 d).0 free).1 [ inl low ↦ omega (arith, within.0, low) | inr high ↦ omega (arith, within.1, high) ])
 
 pub is_whole-requires-clause-there : goal.is_whole-requires-clause-there

@@ -3,7 +3,7 @@ use Rattle.mvs_model.specs.Finite.{has}
 use Rattle.mvs_model.specs.Storage.{is_one_of}
 use Rattle.page_map.specs.Owners.{owner_of}
 use Rattle.subpool_store.specs.Edits.{IsDropped}
-use Rattle.subpool_store.specs.Half.{IsOpened}
+use Rattle.subpool_store.specs.Region.{IsOpened}
 use Rattle.subpool_store.specs.Memory.{Stays}
 use Rattle.subpool_store.proofs.dropping.drop_pages.Given as goal
 

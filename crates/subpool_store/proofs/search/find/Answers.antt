@@ -28,15 +28,15 @@ runs-preserved c =
     let k = c.in-Some.ensures.run in
     let e = c.preferred-best.ensures in record {
       walk = c.next_run.ensures.walk;
-      found = best_found test c.args.first c.args.want.now _ _ _ _ c.run_place.result c.runs.best c.preferred-best.result c.best_in.result k c.run_place.ensures.addr c.run_place.ensures.len c.best_in.ensures e.either c.runs.invariant.found;
-      behind = best_behind test c.args.first c.args.want.now _ _ _ _ c.run_place.result c.runs.best c.preferred-best.result c.best_in.result k c.only_length-only.ensures.wanted.some c.run_place.ensures.addr c.run_place.ensures.len c.best_in.ensures e.one e.behind c.runs.invariant.behind;
+      found = best_found test c.args.first c.least_doublewords-least.result c.args.want.now _ _ _ _ c.run_place.result c.runs.best c.preferred-best.result c.best_in.result k c.run_place.ensures.addr c.run_place.ensures.len c.best_in.ensures e.either c.runs.invariant.found;
+      behind = best_behind test c.args.first c.least_doublewords-least.result c.args.want.now _ _ _ _ c.run_place.result c.runs.best c.preferred-best.result c.best_in.result k c.only_length-only.ensures.wanted.some c.least_doublewords-least.ensures.least c.run_place.ensures.addr c.run_place.ensures.len c.best_in.ensures e.one e.behind c.runs.invariant.behind;
     }
 
 pub returns-clause-longest : goal.returns-clause-longest
 returns-clause-longest c =
     let test = may_take c.args.memory.now.held c.args.pages.now c.args.subpool in
     subst (λ b. (q : PlaceValue) → IsCandidate test c.args.first c.args.want.now q → Beats b q.len) (sym c.new-2.ensures.place)
-    (best_of_all test c.args.first c.args.want.now c.runs.best _ c.only_length-only.ensures.wanted.some c.in_default.ensures.run c.runs.invariant.behind)
+    (best_of_all test c.args.first c.least_doublewords-least.result c.args.want.now c.runs.best _ c.least_doublewords-least.ensures.least c.in_default.ensures.run c.runs.invariant.behind)
 
 pub returns-then-is_final-clause-counted : goal.returns-then-is_final-clause-counted
 returns-then-is_final-clause-counted c =

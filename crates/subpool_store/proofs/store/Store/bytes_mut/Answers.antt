@@ -1,6 +1,6 @@
 use Rattle.std.proofs.Common.{take, ◌<◌, refl, arith}
 use Rattle.subpool_store.proofs.Choice.{above_from, all_below, all_above, bytes_below, bytes_above}
-use Rattle.subpool_store.proofs.LentHalf.{kept_below, kept_above, lends_below, lends_above, puts_below, puts_above}
+use Rattle.subpool_store.proofs.LentRegion.{kept_below, kept_above, lends_below, lends_above, puts_below, puts_above}
 use Rattle.subpool_store.proofs.store.Store.bytes_mut.Goals as goal
 
 pub part_mut-requires : goal.part_mut-requires

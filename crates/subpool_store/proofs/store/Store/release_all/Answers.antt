@@ -1,5 +1,4 @@
-use Rattle.std.proofs.Common.{ap, ◌∙◌}
-use Rattle.mvs_model.specs.Storage.{is_one_of}
+use Rattle.std.proofs.Common.{◌∙◌}
 use Rattle.mvs_model.proofs.SubpoolSets.{alone}
 use Rattle.subpool_store.proofs.Both.{released_alone}
 use Rattle.subpool_store.proofs.store.Store.release_all.Goals as goal

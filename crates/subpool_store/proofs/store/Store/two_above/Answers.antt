@@ -1,6 +1,6 @@
 use Rattle.std.proofs.Common.{take, refl, arith}
 use Rattle.subpool_store.proofs.Choice.{all_above, bytes_above}
-use Rattle.subpool_store.proofs.LentHalf.{kept_above, lends_above, puts_above}
+use Rattle.subpool_store.proofs.LentRegion.{kept_above, lends_above, puts_above}
 use Rattle.subpool_store.proofs.store.Store.two_above.Goals as goal
 
 pub two-requires-clause-source : goal.two-requires-clause-source

@@ -1,6 +1,6 @@
 use Rattle.std.proofs.Common.{take, refl, arith}
 use Rattle.subpool_store.proofs.Choice.{below_ends, all_below, bytes_below}
-use Rattle.subpool_store.proofs.LentHalf.{kept_below, lends_below, puts_below}
+use Rattle.subpool_store.proofs.LentRegion.{kept_below, lends_below, puts_below}
 use Rattle.subpool_store.proofs.store.Store.two_below.Goals as goal
 
 pub two-requires-clause-source : goal.two-requires-clause-source

@@ -1,6 +1,6 @@
 use Rattle.std.proofs.Common.{take, refl, arith}
 use Rattle.subpool_store.proofs.Choice.{below_ends, all_below, all_above, bytes_below, bytes_above}
-use Rattle.subpool_store.proofs.LentHalf.{kept_below, lends_below, puts_below}
+use Rattle.subpool_store.proofs.LentRegion.{kept_below, lends_below, puts_below}
 use Rattle.subpool_store.proofs.store.Store.two_down.Goals as goal
 
 pub part-requires : goal.part-requires

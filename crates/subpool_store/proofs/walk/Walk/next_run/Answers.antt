@@ -1,0 +1,45 @@
+use Rattle.std.proofs.Common.{rules, ◌≡◌, ◌<◌, ◌≤◌, ◌+◌, ℕ, false, length, arith}
+use Rattle.subpool_store.specs.Search.{may_take}
+use Rattle.subpool_store.proofs.Short.{fits_join, fits_none, fits_short, fits_skip, past_fails}
+use Rattle.subpool_store.proofs.walk.Walk.next_run.Goals as goal
+
+pub returns-then-least-run-clause-run : goal.returns-then-least-run-clause-run
+returns-then-least-run-clause-run c =
+    let test = may_take c.args.memory.now.held c.args.pages.now c.args.subpool in let self = c.examine-part.new.self in let part = c.examine-part.result in
+    let some : self.start < self.end = omega (arith, c.if-least-run.true, c.requires.least) in
+    let skipped = c.examine-part.ensures.part.skipped in record {
+      some = some;
+      after = omega (arith, c.parts.invariant.after, c.examine-part.ensures.after);
+      before = c.examine-part.ensures.part.after;
+      skipped = fits_join test c.args.least c.args.self.now.start c.parts.self.start self.start c.parts.invariant.none c.examine-part.ensures.none;
+      passes = c.examine-part.ensures.walk.passes;
+      stops = skipped self.end (omega arith) (omega (arith, c.if-part-run.true, c.examine-part.ensures.part.after));
+      rest = fits_skip test c.args.least self.end self.end part.start c.requires.least (fits_none test c.args.least self.end) skipped;
+    }
+
+pub parts-preserved-else-least-run : goal.parts-preserved-else-least-run
+parts-preserved-else-least-run c =
+    let test = may_take c.args.memory.now.held c.args.pages.now c.args.subpool in let self = c.examine-part.new.self in let part = c.examine-part.result in
+    let skipped = c.examine-part.ensures.part.skipped in
+    let past : self.end < part.start = omega (arith, c.if-part-run.true, c.examine-part.ensures.part.after) in
+    let before = fits_join test c.args.least c.args.self.now.start c.parts.self.start self.start c.parts.invariant.none c.examine-part.ensures.none in
+    let short : self.end < self.start + c.args.least = omega (arith, c.if-least-run.false, c.examine-part.ensures.walk.ordered) in record {
+      walk = record {
+        ordered = c.examine-part.ensures.part.ordered;
+        within = c.examine-part.ensures.part.within;
+        passes = c.examine-part.ensures.part.passes;
+        stands = c.examine-part.ensures.part.stands;
+        few = search rules;
+        counted = search rules;
+      };
+      after = omega (arith, c.parts.invariant.after, c.examine-part.ensures.after, c.examine-part.ensures.walk.ordered, past);
+      none = fits_skip test c.args.least c.args.self.now.start self.end part.start c.requires.least (fits_short test c.args.least c.args.self.now.start self.start self.end short (skipped self.end (omega arith) past) before) skipped;
+    }
+
+pub returns-else-least-run-2-clause-run : goal.returns-else-least-run-2-clause-run
+returns-else-least-run-2-clause-run c =
+    let test = may_take c.args.memory.now.held c.args.pages.now c.args.subpool in let self = c.parts.self in let now = c.parts.invariant in
+    let past : length c.args.memory.now.held ≤ self.end = omega (arith, c.parts-test.false, c.pages-total.ensures.pages, c.requires.exact.sizes) in
+    let none : (i : ℕ) → self.end ≤ i → test i ≡ false = λ i low. past_fails c.args.memory.now.held c.args.pages.now c.args.subpool i (omega (arith, past, low)) in
+    let short : self.end < self.start + c.args.least = omega (arith, c.if-least-run-2.false, now.walk.ordered) in
+    λ to. fits_skip test c.args.least c.args.self.now.start self.end to c.requires.least (fits_short test c.args.least c.args.self.now.start self.start self.end short (none self.end (omega arith)) now.none) (λ i low _. none i low)

@@ -1,0 +1,444 @@
+//! One region.
+
+ghost use Rattle.std.specs.Prelude.{◌≡◌, ◌<◌, ◌≤◌, ◌+◌, ◌-◌, ◌*◌, ◌/◌, ◌%◌, ◌^◌, ◌↔◌, ◌⊎◌, Some, None, MatchBool, MatchOption, ℕ, length, Bool, true, false, ◌==◌, IfOk, IsSome, IsTrue, slice_index, slice_index_or, slice_set};
+ghost use Rattle.std.specs.Borrow.{sem};
+ghost use Rattle.std.specs.FinMap.{get, empty};
+ghost use Rattle.mvs_model.specs.Finite.{count_below, has};
+ghost use Rattle.mvs_model.specs.Numbers.{first_doubleword_above, most_pages_above, page_bytes, page_doublewords};
+ghost use Rattle.mvs_model.specs.Storage.{IsWhole, is_one_of};
+ghost use Rattle.mvs_model.specs.Want.{IsWant};
+ghost use Rattle.page_map.specs.Owners.{owner_of, is_usable};
+ghost use Rattle.subpool_store.specs.Bound.{to_look_at};
+ghost use Rattle.subpool_store.specs.Edits.{HasNoBit, IsAssigned, IsGivenUp, IsMarked};
+ghost use Rattle.subpool_store.specs.Region.{
+  AllHeldIn,
+  BestIn,
+  ChangedIn,
+  DroppedIn,
+  HeldIn,
+  IsOpened,
+  IsSound,
+  OpenIn,
+  OwnsPage,
+  cell,
+};
+ghost use Rattle.subpool_store.specs.Memory.{IsFilled, Stays};
+ghost use Rattle.subpool_store.specs.Search.{IsCounted};
+ghost use Rattle.subpool_store.specs.LendsRegion.{LendsRegion};
+ghost use Rattle.subpool_store.specs.Sizes.{most_doublewords};
+
+use crate::dropping::drop_pages;
+use crate::free_runs::{self, are_held, are_held_in};
+use crate::memory::Memory;
+use crate::run::Run;
+use crate::search::{Found, find};
+use mvs_model::error::OutOfMemory;
+use mvs_model::numbers::{PAGE_BYTES, PAGE_DOUBLEWORDS};
+use mvs_model::place::{Addr, Place};
+use mvs_model::subpool::SubpoolId;
+use mvs_model::subpool_set::SubpoolSet;
+use mvs_model::want::{Placement, Want};
+use page_map::PageMap;
+use std::alloc::Global;
+use std::marker::Model;
+
+// The indices of the doublewords of a place.
+fn run_of(first: u32, place: Place) -> Run
+    requires { first ≤ place.addr / 8 }
+    ensures start { result.start ≡ place.addr / 8 - first }
+    ensures end { result.end ≡ result.start + place.len / 8 }
+{
+    let start = (place.addr().get() / 8 - first) as usize;
+    Run {
+        start,
+        end: start + (place.len() / 8) as usize,
+    }
+}
+
+// Takes free doublewords of a page that the subpool may use, and fills them. A page that is not assigned is assigned to
+// it, and opened.
+fn take_part(
+    pages: &mut PageMap,
+    memory: &mut Memory,
+    subpool: SubpoolId,
+    page: usize,
+    run: Run,
+    fill: u8,
+)
+    requires within { page < length pages.old }
+    requires few { length pages.old ≤ most_pages_above }
+    requires usable { is_usable subpool (owner_of pages.old page) ≡ true }
+    requires opened { IsOpened pages.old memory.old.bytes }
+    requires some { run.start < run.end }
+    requires first { page_doublewords * page ≤ run.start }
+    requires last { run.end ≤ page_doublewords * page + page_doublewords }
+    requires free { (i : ℕ) → run.start ≤ i → i < run.end → slice_index_or memory.old.held i false ≡ false }
+    ensures assigned { pages.new ≡ slice_set pages.old page (Some subpool) }
+    ensures opened { IsOpened pages.new memory.new.bytes }
+    ensures marked { IsMarked memory.old.held run.start run.end true memory.new.held }
+    ensures stays { Stays memory.old.held memory.old.bytes memory.new.bytes }
+    ensures filled { IsFilled run.start run.end fill memory.new.bytes }
+{
+    if pages.owner(page).is_some() {
+        memory.take(page, run.start, run.end, fill);
+        return;
+    }
+    pages.assign(page, subpool);
+    memory.open_page(page, run.start, run.end, fill);
+}
+
+// The same of the doublewords of a run, page by page.
+fn take_run(pages: &mut PageMap, memory: &mut Memory, subpool: SubpoolId, run: Run, fill: u8)
+    requires some { run.start < run.end }
+    requires within { run.end ≤ page_doublewords * length pages.old }
+    requires few { length pages.old ≤ most_pages_above }
+    requires usable { (p : ℕ) → run.start / page_doublewords ≤ p → p < (run.end - 1) / page_doublewords + 1 → is_usable subpool (owner_of pages.old p) ≡ true }
+    requires opened { IsOpened pages.old memory.old.bytes }
+    requires free { (i : ℕ) → run.start ≤ i → i < run.end → slice_index_or memory.old.held i false ≡ false }
+    ensures assigned { IsAssigned pages.old (run.start / page_doublewords) ((run.end - 1) / page_doublewords + 1) subpool pages.new }
+    ensures opened { IsOpened pages.new memory.new.bytes }
+    ensures marked { IsMarked memory.old.held run.start run.end true memory.new.held }
+    ensures stays { Stays memory.old.held memory.old.bytes memory.new.bytes }
+    ensures filled { IsFilled run.start run.end fill memory.new.bytes }
+{
+    let mut at = run.start;
+    let mut page = at / PAGE_DOUBLEWORDS;
+    'pages: while at < run.end {
+        let end = run.end.min(PAGE_DOUBLEWORDS * page + PAGE_DOUBLEWORDS);
+        take_part(pages, memory, subpool, page, Run { start: at, end }, fill);
+        at = end;
+        page += 1;
+    }
+}
+
+// Gives up a page that is assigned, and closes it: nothing of it is held then.
+pub fn close_page(pages: &mut PageMap, memory: &mut Memory, page: usize)
+    requires within { page < length pages.old }
+    requires assigned { IsSome (owner_of pages.old page) }
+    requires opened { IsOpened pages.old memory.old.bytes }
+    ensures unassigned { pages.new ≡ slice_set pages.old page None }
+    ensures opened { IsOpened pages.new memory.new.bytes }
+    ensures marked { IsMarked memory.old.held (page_doublewords * page) (page_doublewords * page + page_doublewords) false memory.new.held }
+    ensures stays { Stays memory.new.held memory.old.bytes memory.new.bytes }
+{
+    pages.unassign(page);
+    memory.close_page(page);
+}
+
+// The same of a page of which nothing is held: what is held stays as it is.
+fn close_free_page(pages: &mut PageMap, memory: &mut Memory, page: usize)
+    requires within { page < length pages.old }
+    requires assigned { IsSome (owner_of pages.old page) }
+    requires opened { IsOpened pages.old memory.old.bytes }
+    requires free { HasNoBit memory.old.held page }
+    ensures unassigned { pages.new ≡ slice_set pages.old page None }
+    ensures opened { IsOpened pages.new memory.new.bytes }
+    ensures held { memory.new.held ≡ memory.old.held }
+    ensures stays { Stays memory.old.held memory.old.bytes memory.new.bytes }
+{
+    close_page(pages, memory, page);
+}
+
+// Gives up a page, and closes it, if nothing of it is held.
+#[tactic(auto, using(crate::proofs::Marked::given_one, crate::proofs::Marked::kept_one))]
+fn give_up_page(pages: &mut PageMap, memory: &mut Memory, page: usize)
+    requires within { page < length pages.old }
+    requires assigned { IsSome (owner_of pages.old page) }
+    requires opened { IsOpened pages.old memory.old.bytes }
+    ensures given { IsGivenUp memory.old.held pages.old page (page + 1) pages.new }
+    ensures opened { IsOpened pages.new memory.new.bytes }
+    ensures held { memory.new.held ≡ memory.old.held }
+    ensures stays { Stays memory.old.held memory.old.bytes memory.new.bytes }
+{
+    if memory.is_whole(page) {
+        close_free_page(pages, memory, page);
+    }
+}
+
+// Gives up the pages of a range of which nothing is held, and closes them.
+fn give_up_pages(pages: &mut PageMap, memory: &mut Memory, from: usize, to: usize)
+    requires ordered { from ≤ to }
+    requires within { to ≤ length pages.old }
+    requires assigned { (p : ℕ) → from ≤ p → p < to → IsSome (owner_of pages.old p) }
+    requires opened { IsOpened pages.old memory.old.bytes }
+    ensures given { IsGivenUp memory.old.held pages.old from to pages.new }
+    ensures opened { IsOpened pages.new memory.new.bytes }
+    ensures held { memory.new.held ≡ memory.old.held }
+    ensures stays { Stays memory.old.held memory.old.bytes memory.new.bytes }
+{
+    for page in from..to {
+        give_up_page(pages, memory, page);
+    }
+}
+
+// Whether the pages of a range are all the subpool's.
+fn are_of(pages: &PageMap, subpool: SubpoolId, from: usize, to: usize) -> bool
+    requires ordered { from ≤ to }
+    requires within { to ≤ length pages.now }
+    ensures { IsTrue result ↔ ((p : ℕ) → from ≤ p → p < to → owner_of pages.now p ≡ Some subpool) }
+{
+    for page in from..to {
+        if pages.owner(page) != Some(subpool) {
+            return false;
+        }
+    }
+    true
+}
+
+// Whether the subpool holds each doubleword of a run.
+fn holds_run(memory: &Memory, pages: &PageMap, subpool: SubpoolId, run: Run) -> bool
+    requires some { run.start < run.end }
+    requires within { run.end ≤ length memory.now.held }
+    requires sizes { length memory.now.held ≡ page_doublewords * length pages.now }
+    requires few { length pages.now ≤ most_pages_above }
+    requires opened { IsOpened pages.now memory.now.bytes }
+    ensures { IsTrue result ↔ ((i : ℕ) → run.start ≤ i → i < run.end → cell memory.now.held pages.now i ≡ Some subpool) }
+{
+    if !are_of(
+        pages,
+        subpool,
+        run.start / PAGE_DOUBLEWORDS,
+        (run.end - 1) / PAGE_DOUBLEWORDS + 1,
+    ) {
+        return false;
+    }
+    are_held(memory, run)
+}
+
+// Whether the page is the subpool's.
+fn is_own(pages: &PageMap, subpool: SubpoolId, page: usize) -> bool
+    requires { page < length pages.now }
+    ensures { MatchBool result (owner_of pages.now page ≡ Some subpool) (owner_of pages.now page ≡ Some subpool → ⊥) }
+{
+    pages.owner(page) == Some(subpool)
+}
+
+// How many doublewords of a page the subpool holds.
+fn count_page(memory: &Memory, pages: &PageMap, subpool: SubpoolId, page: usize) -> u32
+    requires few { length pages.now ≤ most_pages_above }
+    requires within { page < length pages.now }
+    requires opened { IsOpened pages.now memory.now.bytes }
+    ensures { result ≡ count_below page_doublewords (λ i. has (λ t. t == subpool) (cell memory.now.held pages.now (page_doublewords * page + i))) }
+{
+    if is_own(pages, subpool, page) {
+        free_runs::count(memory, page)
+    } else {
+        0
+    }
+}
+
+// How many doublewords the subpool holds.
+fn count(memory: &Memory, pages: &PageMap, subpool: SubpoolId) -> u32
+    requires few { length pages.now ≤ most_pages_above }
+    requires opened { IsOpened pages.now memory.now.bytes }
+    ensures { result ≡ count_below (page_doublewords * length pages.now) (λ i. has (λ t. t == subpool) (cell memory.now.held pages.now i)) }
+{
+    let mut count = 0;
+    for page in 0..pages.pages() {
+        count += count_page(memory, pages, subpool, page);
+    }
+    count
+}
+
+// Who holds a doubleword.
+fn cell(memory: &Memory, pages: &PageMap, index: usize) -> Option<SubpoolId>
+    requires within { index < page_doublewords * length pages.now }
+    requires few { length pages.now ≤ most_pages_above }
+    requires opened { IsOpened pages.now memory.now.bytes }
+    ensures { result ≡ cell memory.now.held pages.now index }
+{
+    let Some(owner) = pages.owner(index / PAGE_DOUBLEWORDS) else {
+        return None;
+    };
+    if are_held_in(memory, index / PAGE_DOUBLEWORDS, index, index + 1) {
+        Some(owner)
+    } else {
+        None
+    }
+}
+
+/// A region: the owners of its pages, what is held of them, and the bytes.
+#[derive(Drop)]
+pub struct RegionStore {
+    first: u32,
+    pages: PageMap,
+    memory: Memory,
+}
+
+impl Model for RegionStore {
+    ghost use Rattle.subpool_store.specs.Region.{RegionState, region_code, region_of, value_at, IsRegion, IsOpened};
+
+    ghost Value = { RegionState };
+
+    ghost coded = { region_code };
+
+    ghost view = { λ h. region_of h.first h.memory.held h.pages (value_at h.memory.bytes) };
+
+    ghost invariant = { λ h. IsRegion h.first h.memory.held h.pages × IsOpened h.pages h.memory.bytes };
+}
+
+impl RegionStore {
+    // A region of so many pages, from its first doubleword on, with nothing held.
+    pub fn new(alloc: Global, first: u32, pages: usize) -> Result<RegionStore, OutOfMemory>
+        requires few { pages ≤ most_pages_above }
+        requires aligned { first % page_doublewords ≡ 0 }
+        requires end { 8 * (first + page_doublewords * pages) ≤ 2 ^ 31 }
+        requires one_side { first < first_doubleword_above → first + page_doublewords * pages ≤ first_doubleword_above }
+        ensures empty { IfOk result (λ h. h ≡ record { first = first; pages = pages; held = empty; bytes = empty }) }
+        ensures sound { IfOk result IsSound }
+    {
+        Ok(RegionStore {
+            first,
+            pages: PageMap::new(alloc, pages)?,
+            memory: Memory::new(alloc, pages)?,
+        })
+    }
+
+    // A longest open place that meets what is wanted, the one that the placement takes.
+    pub fn find(&self, placement: Placement, subpool: SubpoolId, want: &Want) -> Found
+        ensures best { BestIn self.now subpool want.now result.place }
+        ensures counted { IsCounted (to_look_at self.now subpool) result.place result.steps }
+        ensures wanted { IsWant want.now }
+    {
+        find(
+            placement,
+            self.first,
+            &self.memory,
+            &self.pages,
+            subpool,
+            want,
+        )
+    }
+
+    // Gives an open place to the subpool and fills it.
+    pub fn take(&mut self, subpool: SubpoolId, place: Place, fill: u8)
+        requires open { OpenIn self.old subpool place }
+        requires whole { IsWhole place }
+        requires some { 8 ≤ place.len }
+        ensures taken { ChangedIn self.old place (Some subpool) (Some fill) self.new }
+        ensures sound { IsSound self.new }
+    {
+        let run = run_of(self.first, place);
+        take_run(&mut self.pages, &mut self.memory, subpool, run, fill);
+    }
+
+    // Whether the subpool holds each doubleword of the place.
+    pub fn holds(&self, subpool: SubpoolId, place: Place) -> bool
+        requires whole { IsWhole place }
+        requires some { 8 ≤ place.len }
+        ensures { IsTrue result ↔ HeldIn self.now subpool place }
+    {
+        if place.addr().get() / 8 < self.first {
+            return false;
+        }
+        let run = run_of(self.first, place);
+        if PAGE_DOUBLEWORDS * self.pages.pages() < run.end {
+            return false;
+        }
+        holds_run(&self.memory, &self.pages, subpool, run)
+    }
+
+    // Takes back a place that the subpool holds.
+    pub fn give(&mut self, subpool: SubpoolId, place: Place)
+        requires held { HeldIn self.old subpool place }
+        requires whole { IsWhole place }
+        requires some { 8 ≤ place.len }
+        ensures given { ChangedIn self.old place None None self.new }
+        ensures sound { IsSound self.new }
+    {
+        let run = run_of(self.first, place);
+        self.memory.give(run);
+        give_up_pages(
+            &mut self.pages,
+            &mut self.memory,
+            run.start / PAGE_DOUBLEWORDS,
+            (run.end - 1) / PAGE_DOUBLEWORDS + 1,
+        );
+    }
+
+    // Takes back all that the subpools of a set hold.
+    pub fn release_each(&mut self, subpools: &SubpoolSet)
+        ensures dropped { DroppedIn self.old (is_one_of subpools.now) self.new }
+        ensures sound { IsSound self.new }
+    {
+        drop_pages(&mut self.pages, &mut self.memory, subpools);
+    }
+
+    // Who holds the doubleword of an address.
+    pub fn holder(&self, addr: Addr) -> Option<SubpoolId>
+        ensures { result ≡ get self.now.held (addr / 8) }
+    {
+        let at = addr.get() / 8;
+        if at < self.first || PAGE_DOUBLEWORDS * self.pages.pages() <= (at - self.first) as usize {
+            return None;
+        }
+        cell(&self.memory, &self.pages, (at - self.first) as usize)
+    }
+
+    // How many doublewords the subpool holds.
+    pub fn count(&self, subpool: SubpoolId) -> u32
+        ensures count { result ≡ count_below (page_doublewords * self.now.pages) (λ i. has (λ t. t == subpool) (get self.now.held (self.now.first + i))) }
+        ensures most { result ≤ most_doublewords }
+    {
+        count(&self.memory, &self.pages, subpool)
+    }
+
+    // How many pages the region has.
+    pub fn page_count(&self) -> u32
+        ensures { result ≡ self.now.pages }
+    {
+        self.pages.pages() as u32
+    }
+
+    // The subpool that the page of an address is assigned to.
+    pub fn page_owner(&self, addr: Addr) -> Option<SubpoolId>
+        ensures { OwnsPage self.now (addr / page_bytes) result }
+    {
+        let first = self.first / PAGE_DOUBLEWORDS as u32;
+        let page = addr.get() / PAGE_BYTES;
+        if page < first || self.pages.pages() <= (page - first) as usize {
+            return None;
+        }
+        self.pages.owner((page - first) as usize)
+    }
+
+    // The bytes of a place.
+    pub fn part(&self, place: Place) -> &[u8]
+        requires { AllHeldIn self.now place }
+        ensures len { length result.now ≡ place.len }
+        ensures each { (k : ℕ) → k < place.len → get self.now.bytes (place.addr + k) ≡ Some (slice_index result.now k) }
+    {
+        let len = place.len() as usize;
+        let from = (place.addr().get() - 8 * self.first) as usize;
+        self.memory.part(from, len)
+    }
+
+    // Lends the bytes of a place.
+    pub fn part_mut(&mut self, place: Place) -> &mut [u8]
+        requires { AllHeldIn self.old place }
+        ensures* writes_back { sem 𝓛 (LendsRegion self.entry place result) }
+        ensures len { length result.now ≡ place.len }
+        ensures each { (k : ℕ) → k < place.len → get self.old.bytes (place.addr + k) ≡ Some (slice_index result.now k) }
+    {
+        let len = place.len() as usize;
+        let from = (place.addr().get() - 8 * self.first) as usize;
+        self.memory.part_mut(from, len)
+    }
+
+    // Lends the bytes of one place to read, and those of another one to write.
+    pub fn two(&mut self, from: Place, to: Place) -> (&[u8], &mut [u8])
+        requires source { AllHeldIn self.old from }
+        requires target { AllHeldIn self.old to }
+        requires len { from.len ≡ to.len }
+        requires apart { (from.addr + from.len ≤ to.addr) ⊎ (to.addr + to.len ≤ from.addr) }
+        ensures* writes_back { sem 𝓛 (LendsRegion self.entry to result.1) }
+        ensures len { (length result.0.now ≡ from.len) × (length result.1.now ≡ to.len) }
+        ensures source_bytes { (k : ℕ) → k < from.len → get self.old.bytes (from.addr + k) ≡ Some (slice_index result.0.now k) }
+        ensures target_bytes { (k : ℕ) → k < to.len → get self.old.bytes (to.addr + k) ≡ Some (slice_index result.1.now k) }
+    {
+        let len = from.len() as usize;
+        let source = (from.addr().get() - 8 * self.first) as usize;
+        let target = (to.addr().get() - 8 * self.first) as usize;
+        self.memory.two_parts(source, target, len)
+    }
+}
