@@ -40,7 +40,7 @@ fn print_data_line<W: Write>(
     let mut text = Text::new();
     text.push_all(head);
     text.push_all(b"DATA +");
-    text.push_word(offset);
+    text.push_halfword(offset);
     text.push_all(b" ");
     push_bytes(&mut text, bytes);
     text.push_all(b"\n");

@@ -129,7 +129,7 @@ pub fn print_where<W: Write>(
     let mut text = Text::new();
     push_head(&mut text, line_number, task);
     text.push_all(b"AT ");
-    text.push_last(16, 8, place.addr().get());
+    text.push_word(place.addr().get());
     text.push_all(b"\n");
     write_all(writer, text.as_slice())
 }
@@ -148,7 +148,7 @@ pub fn print_length<W: Write>(
     let mut text = Text::new();
     push_head(&mut text, line_number, task);
     text.push_all(b"RC 0 LENGTH ");
-    text.push_last(16, 8, len);
+    text.push_word(len);
     text.push_all(b"\n");
     write_all(writer, text.as_slice())
 }
@@ -201,3 +201,6 @@ pub fn print_fault<W: Write>(
     text.push_all(b"\nJOB FAULT RC 12\n");
     write_all(writer, text.as_slice())
 }
+
+#[cfg(test)]
+mod tests;

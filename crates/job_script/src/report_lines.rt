@@ -104,9 +104,9 @@ pub fn print_map_run<W: Write>(
     let mut text = Text::new();
     push_head(&mut text, line_number, task);
     text.push_all(b"MAP ");
-    text.push_last(16, 8, run.addr.get());
+    text.push_word(run.addr.get());
     text.push_all(b" ");
-    text.push_last(16, 8, run.len);
+    text.push_word(run.len);
     text.push_all(b" ");
     push_holder(&mut text, &run.holder);
     text.push_all(b"\n");

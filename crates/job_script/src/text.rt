@@ -1,6 +1,6 @@
 //! A line of text in a fixed array.
 
-ghost use Rattle.std.specs.Prelude.{◌≡◌, ◌<◌, ◌≤◌, ◌+◌, ◌++◌, ◌∷◌, [], List, ℕ, length, take, decimal};
+ghost use Rattle.std.specs.Prelude.{◌≡◌, ◌<◌, ◌≤◌, ◌+◌, ◌/◌, ◌%◌, ◌++◌, ◌∷◌, [], List, ℕ, length, take, decimal};
 ghost use Rattle.mvs_model.specs.Texts.{last_digits, hex, glyph};
 
 use std::marker::Model;
@@ -67,19 +67,30 @@ impl Text {
         ensures text { self.new ≡ self.old ++ hex 2 byte }
         ensures len { length self.new ≡ length self.old + 2 }
     {
-        self.bytes[self.len] = digit_glyph(byte / 16);
-        self.bytes[self.len + 1] = digit_glyph(byte % 16);
-        self.len += 2;
+        let at = self.len;
+        self.bytes[at] = digit_glyph(byte / 16);
+        self.bytes[at + 1] = digit_glyph(byte % 16);
+        self.len = at + 2;
     }
 
     /// The four hexadecimal digits of a number of sixteen bits.
-    pub fn push_word(&mut self, word: u16)
+    pub fn push_halfword(&mut self, number: u16)
         requires { length self.old + 4 ≤ 160 }
-        ensures text { self.new ≡ self.old ++ hex 4 word }
+        ensures text { self.new ≡ self.old ++ hex 4 number }
         ensures len { length self.new ≡ length self.old + 4 }
     {
-        self.push_byte((word / 256) as u8);
-        self.push_byte((word % 256) as u8);
+        self.push_byte((number / 256) as u8);
+        self.push_byte((number % 256) as u8);
+    }
+
+    /// The eight hexadecimal digits of a number of 32 bits.
+    pub fn push_word(&mut self, number: u32)
+        requires { length self.old + 8 ≤ 160 }
+        ensures text { self.new ≡ self.old ++ hex 8 number }
+        ensures len { length self.new ≡ length self.old + 8 }
+    {
+        self.push_halfword((number / 65_536) as u16);
+        self.push_halfword((number % 65_536) as u16);
     }
 
     /// A number in decimal, without leading zeros.
@@ -91,15 +102,39 @@ impl Text {
         self.push_digits(number);
     }
 
-    // The digits of a number, the high ones first.
+    // The digits of a number, the high ones first, three at a time.
     fn push_digits(&mut self, number: u32)
         requires { length self.old + length (decimal number) ≤ 160 }
         ensures { self.new ≡ self.old ++ decimal number }
     {
-        if number >= 10 {
-            self.push_digits(number / 10);
+        if number >= 1_000 {
+            self.push_digits(number / 1_000);
+            self.push_three(number);
+        } else if number >= 100 {
+            self.push_three(number);
+        } else if number >= 10 {
+            self.push_two(number);
+        } else {
+            self.push(last_digit(number));
         }
-        self.push(b'0' + (number % 10) as u8);
+    }
+
+    // The last three digits of a number.
+    fn push_three(&mut self, number: u32)
+        requires { length self.old + 3 ≤ 160 }
+        ensures { self.new ≡ self.old ++ (48 + number / 100 % 10) ∷ (48 + number / 10 % 10) ∷ (48 + number % 10) ∷ [] }
+    {
+        self.push(last_digit(number / 100));
+        self.push_two(number);
+    }
+
+    // The last two digits of a number.
+    fn push_two(&mut self, number: u32)
+        requires { length self.old + 2 ≤ 160 }
+        ensures { self.new ≡ self.old ++ (48 + number / 10 % 10) ∷ (48 + number % 10) ∷ [] }
+    {
+        self.push(last_digit(number / 10));
+        self.push(last_digit(number));
     }
 
     /// The last digits of a number in a base of at most sixteen, as many as are asked for.
@@ -115,6 +150,13 @@ impl Text {
             self.push(digit_glyph((number % base) as u8));
         }
     }
+}
+
+// The last digit of a number in decimal.
+fn last_digit(number: u32) -> u8
+    ensures { result ≡ 48 + number % 10 }
+{
+    b'0' + (number % 10) as u8
 }
 
 // The glyph of a digit below sixteen.
