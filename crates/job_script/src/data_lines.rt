@@ -24,27 +24,29 @@ fn push_bytes(text: &mut Text, bytes: &[u8])
     }
 }
 
-// Prints a line of bytes behind its number and its task: the offset of the first one, and two digits for each.
+// Prints a line of bytes behind its number and its task, which the text keeps: the offset of the first one, and two digits for each.
 fn print_data_line<W: Write>(
     writer: &mut Watched<W>,
-    head: &[u8],
+    text: &mut Text,
     offset: u16,
     bytes: &[u8],
 ) -> Result<(), Failed>
-    requires head { length head.now ≤ 20 }
+    requires head { length text.old ≤ 20 }
     requires bytes { length bytes.now ≤ line_bytes }
-    ensures bytes { WritesAll (W.contents writer.old.inner) (W.contents writer.new.inner) result (head.now ++ data_said offset bytes.now ++ codes "\n") }
+    ensures bytes { WritesAll (W.contents writer.old.inner) (W.contents writer.new.inner) result (text.old ++ data_said offset bytes.now ++ codes "\n") }
+    ensures kept { text.new ≡ text.old }
     ensures ok { OnOk result (writer.new.failed ≡ writer.old.failed) }
     ensures err { OnErr result (writer.new.failed ≡ true) }
 {
-    let mut text = Text::new();
-    text.push_all(head);
+    let head = text.len();
     text.push_all(b"DATA +");
     text.push_halfword(offset);
     text.push_all(b" ");
-    push_bytes(&mut text, bytes);
+    push_bytes(text, bytes);
     text.push_all(b"\n");
-    write_all(writer, text.as_slice())
+    let written = write_all(writer, text.as_slice());
+    text.cut(head);
+    written
 }
 
 /// Prints bytes, in lines of 32.
@@ -61,12 +63,11 @@ pub fn print_data<W: Write>(
 {
     let mut text = Text::new();
     push_head(&mut text, line_number, task);
-    let head = text.as_slice();
     let mut offset = 0;
     let mut rest = bytes;
     'lines: while !rest.is_empty() {
         let (line, more) = rest.split_at(rest.len().min(LINE_BYTES));
-        print_data_line(writer, head, offset, line)?;
+        print_data_line(writer, &mut text, offset, line)?;
         offset += LINE_BYTES as u16;
         rest = more;
     }

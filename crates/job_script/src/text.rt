@@ -42,6 +42,21 @@ impl Text {
         &self.bytes[..self.len]
     }
 
+    /// How many bytes it has.
+    pub fn len(&self) -> usize
+        ensures { result ≡ length self.now }
+    {
+        self.len
+    }
+
+    /// Keeps so many of its bytes, the first ones.
+    pub fn cut(&mut self, len: usize)
+        requires { len ≤ length self.old }
+        ensures { self.new ≡ take len self.old }
+    {
+        self.len = len;
+    }
+
     pub fn push(&mut self, byte: u8)
         requires { length self.old < 160 }
         ensures text { self.new ≡ self.old ++ byte ∷ [] }

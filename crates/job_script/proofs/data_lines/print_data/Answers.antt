@@ -9,14 +9,16 @@ returns-in_err-print_data_line-clause-bytes g c =
     let p = err_from_is_err_and c.from_residual.result c.from_residual.ensures.1 in
     let s = c.lines.invariant.so_far in
     let some : 0 < length c.lines.rest.now = search rules in
-    rw (p.1) (data_front _ _ _ s.0 _ c.args.line_number c.args.task.now c.lines.offset c.lines.rest.now c.split_at.result.0.now some (cut_front _ _ _ c.min.ensures c.split_at.ensures.front) s.1 s.2 (rw (behind_head c.args.line_number c.args.task.now c.as_slice-head.result.now (data_said c.lines.offset c.split_at.result.0.now) (c.as_slice-head.ensures ∙ (rw c.new-text.ensures at c.push_head.ensures.text))) at c.in_err-print_data_line.ensures.bytes))
+    rw (p.1) (data_front _ _ _ s.0 _ c.args.line_number c.args.task.now c.lines.offset c.lines.rest.now c.split_at.result.0.now some (cut_front _ _ _ c.min.ensures c.split_at.ensures.front) s.1 s.2 (rw (behind_head c.args.line_number c.args.task.now c.lines.text (data_said c.lines.offset c.split_at.result.0.now) c.lines.invariant.head) at c.in_err-print_data_line.ensures.bytes))
 
 pub lines-preserved : goal.lines-preserved
 lines-preserved g c =
     let s = c.lines.invariant.so_far in
     let some : 0 < length c.lines.rest.now = search rules in record {
-      so_far = data_more _ _ _ s.0 _ c.args.line_number c.args.task.now c.lines.offset c.lines.rest.now c.split_at.result.0.now some (cut_front _ _ _ c.min.ensures c.split_at.ensures.front) s.1 s.2 c.split_at.result.1.now (cut_back _ _ _ c.min.ensures c.split_at.ensures.back) (rw (behind_head c.args.line_number c.args.task.now c.as_slice-head.result.now (data_said c.lines.offset c.split_at.result.0.now) (c.as_slice-head.ensures ∙ (rw c.new-text.ensures at c.push_head.ensures.text))) at c.in_ok-print_data_line.ensures.bytes);
+      so_far = data_more _ _ _ s.0 _ c.args.line_number c.args.task.now c.lines.offset c.lines.rest.now c.split_at.result.0.now some (cut_front _ _ _ c.min.ensures c.split_at.ensures.front) s.1 s.2 c.split_at.result.1.now (cut_back _ _ _ c.min.ensures c.split_at.ensures.back) (rw (behind_head c.args.line_number c.args.task.now c.lines.text (data_said c.lines.offset c.split_at.result.0.now) c.lines.invariant.head) at c.in_ok-print_data_line.ensures.bytes);
       short = λ more. let short = c.lines.invariant.short some in omega (arith, c.split_at.ensures.back_len, c.min.ensures, short, more);
+      head = c.in_ok-print_data_line.ensures.kept ∙ c.lines.invariant.head;
+      room = rw (c.in_ok-print_data_line.ensures.kept) c.lines.invariant.room;
       same = c.in_ok-print_data_line.ensures.ok ∙ c.lines.invariant.same;
     }
 
