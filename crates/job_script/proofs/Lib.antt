@@ -12,3 +12,8 @@ pub mod Facts
 pub mod Rowing
 pub mod Stating
 pub mod InRanges
+pub mod Appending
+pub mod PrintedDigits
+pub mod Showing
+pub mod Named
+pub mod Fitting

@@ -11,3 +11,8 @@ pub mod Said
 pub mod Rowed
 pub mod Stated
 pub mod LineBuffers
+pub mod Areas
+pub mod Resolving
+pub mod ReplyLines
+pub mod ReportLines
+pub mod Writing

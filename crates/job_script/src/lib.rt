@@ -1,4 +1,4 @@
-//! Reads the lines of a script.
+//! Reads the lines of a script, keeps its names, and prints what its lines are answered.
 #![tactic(auto)]
 
 ghost use Rattle.std.specs.Prelude.{◌≡◌, ◌==◌, ◌&&◌, nat_le};
@@ -11,29 +11,45 @@ ghost use Rattle.job_script.specs.Said.{filled};
 ghost use Rattle.job_script.specs.Stated.{is_in_place, field_of, StatementReading};
 
 use crate::addresses::{is_name, name};
+pub use crate::data_lines::print_data;
 pub use crate::line_buffer::{LineBuffer, Pushed};
+pub use crate::names::Names;
 use crate::operations::{Operation, read_operation};
 use crate::parted::{behind_blanks, next_word, parted};
+pub use crate::print::{
+    print_fault, print_length, print_no_name, print_not_run, print_region, print_step_end,
+    print_where,
+};
+pub use crate::replies::print_reply;
+pub use crate::report_lines::{print_map_run, print_no_subpool, print_subpool_line};
+pub use crate::resolving::{resolve, set_names};
 use crate::statement::read_operands;
 use mvs_model::line::{Fault, Line};
 
 mod access;
 mod addresses;
 mod checks;
+mod data_lines;
 mod digits;
 mod given;
 mod items;
 mod keys;
 mod kinds;
 mod line_buffer;
+mod names;
 mod operations;
 mod parted;
 mod pools;
+mod print;
+mod replies;
+mod report_lines;
+mod resolving;
 mod rows;
 mod statement;
 mod storage_requests;
 mod subtasks;
 mod taken;
+mod text;
 
 /// The most bytes of a line, without its end. This project's choice.
 const LONGEST: usize = 255;

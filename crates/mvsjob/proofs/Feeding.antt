@@ -23,7 +23,7 @@ use Rattle.mvsjob.specs.declared.job.Stop.TheVariants as why
 use Rattle.mvsjob.specs.declared.run.RunFault.{RunFault}
 use Rattle.mvsjob.specs.declared.run.RunFault.TheVariants.{Write, Memory, ReadTooLong}
 use Rattle.mvsjob.specs.Streams.{Progress, Printed, PrintedFront, PrintedUpTo, Stands, Feeds, FeedsSome, Finishes, IsUnderWay, HasEnded, HasBroken, HasGivenUp, fault_of}
-use Rattle.mvsjob.specs.Writing.{Exchanges}
+use Rattle.mvsjob.specs.Exchanging.{Exchanges}
 use Rattle.mvsjob.proofs.FirstLine.{lines_at_other}
 use Rattle.mvsjob.proofs.Running.{progress_start, progress_next, progress_fault, progress_stopped, progress_front}
 

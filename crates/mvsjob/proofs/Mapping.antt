@@ -12,12 +12,13 @@ use Rattle.mvs_model.specs.Name.{trimmed}
 use Rattle.mvs_model.specs.Owners.{Owners}
 use Rattle.mvs_model.specs.State.{State}
 use Rattle.mvs_model.specs.Texts.{hex, reply_line}
+use Rattle.mvs_model.specs.Texts as texts
 use Rattle.mvs_model.specs.Reports.{PageRun, same_subpool, with_page, page_runs, page_subpool, decimal_of, owner_text, holder_text, number_of, map_lines, map_text}
 use Rattle.mvs_model.specs.View.{IsBounded}
 use Rattle.request_forms.specs.Reports.{Begins, IsHolder, IsMapEnd, IsMapRun, IsPages, NoneBegins}
-use Rattle.mvsjob.specs.Reports.{holder_said, run_said}
-use Rattle.mvsjob.specs.Writing.{AppendsFront}
-use Rattle.mvsjob.proofs.Appending.{front_longer, front_more}
+use Rattle.job_script.specs.ReportLines.{holder_said}
+use Rattle.job_script.specs.Writing.{AppendsFront}
+use Rattle.job_script.proofs.Appending.{front_longer, front_more}
 
 -- whether two pages are assigned alike
 same_self : (s : Option ℕ) → same_subpool s s ≡ true
@@ -126,7 +127,7 @@ module _ (number : ℕ) (st : State) (t : Name) where
 
   -- the line of a run
   abbrev pub run_text : MapRun → List ℕ
-  run_text run = reply_line number t (run_said run.addr run.len run.holder)
+  run_text run = reply_line number t (texts.map_text run.addr run.len (holder_said run.holder))
 
   no_text : (page n : ℕ) → n ≡ 0 → runs_text page n ≡ []
   no_text page n is = ap (λ k. runs_text page k) is ∙ ap (map_lines number st.owners t (4096 * page)) (no_pages st page)

@@ -8,12 +8,11 @@ use Rattle.mvs_model.specs.declared.report.SubpoolLine.{SubpoolLine}
 use Rattle.mvs_model.specs.Name.{trimmed}
 use Rattle.mvs_model.specs.Owners.{entry}
 use Rattle.mvs_model.specs.State.{State}
-use Rattle.mvs_model.specs.Texts.{reply_line}
+use Rattle.mvs_model.specs.Texts.{no_subpool, reply_line, subpool_text}
 use Rattle.mvs_model.specs.Reports.{each_below, entry_line, or_none, subpools_text}
 use Rattle.request_forms.specs.Reports.{HasNone, IsSubpoolLine}
-use Rattle.mvsjob.specs.Reports.{subpool_said}
-use Rattle.mvsjob.specs.Writing.{AppendsFront}
-use Rattle.mvsjob.proofs.Appending.{front_longer, front_more}
+use Rattle.job_script.specs.Writing.{AppendsFront}
+use Rattle.job_script.proofs.Appending.{front_longer, front_more}
 
 -- the lists below a bound
 module _ (f : ℕ → List ℕ) where
@@ -51,7 +50,7 @@ module _ (number : ℕ) (st : State) (t : Name) where
 
   -- what is printed of a number that the task has
   abbrev pub line_text : SubpoolLine → List ℕ
-  line_text line = reply_line number t (subpool_said line.number line.owned line.plain line.pool)
+  line_text line = reply_line number t (subpool_text line.number line.owned line.plain line.pool)
 
   pub lines_none : (from end : ℕ) → from ≤ end → HasNone st.owners t from end → each_below end number_line ≡ each_below from number_line
   lines_none from end low none = each_skip number_line from end low (λ n l h. ap (entry_line number st t n) (none n l h))
@@ -59,7 +58,7 @@ module _ (number : ℕ) (st : State) (t : Name) where
   line_said : (from : ℕ) (line : SubpoolLine) → IsSubpoolLine st t from line → number_line line.number ≡ line_text line
   line_said from line is =
       ap (entry_line number st t line.number) is.has
-      ∙ (λ i. reply_line number t (subpool_said line.number (sym is.owned i) (sym is.plain i) (sym is.pool i)))
+      ∙ (λ i. reply_line number t (subpool_text line.number (sym is.owned i) (sym is.plain i) (sym is.pool i)))
 
   -- the lines up to a number, and its own
   pub lines_with : (from : ℕ) (line : SubpoolLine) → IsSubpoolLine st t from line → each_below (line.number + 1) number_line ≡ each_below from number_line ++ line_text line
@@ -90,11 +89,11 @@ module _ (number : ℕ) (st : State) (t : Name) where
   some_text line is =
       let all = each_front number_line (line.number + 1) 133 (omega (arith, is.low)) in
       let with = all.1 ∙ ap (λ z. z ++ all.0) (lines_with 0 line is) in
-      let one = some_line (subpool_said line.number line.owned line.plain line.pool) in
+      let one = some_line (subpool_text line.number line.owned line.plain line.pool) in
       let two = length-append (each_below 0 number_line) (line_text line) in
       let three = length-append (each_below 0 number_line ++ line_text line) all.0 in
       let four = ap length with in
       sym (or_some (each_below 133 number_line) (omega (arith, one, two, three, four)))
 
-  pub none_text : HasNone st.owners t 0 133 → reply_line number t (codes "SP NONE") ≡ subpools_text number st t
+  pub none_text : HasNone st.owners t 0 133 → reply_line number t no_subpool ≡ subpools_text number st t
   none_text none = sym (ap (or_none number t) (lines_none 0 133 (omega arith) none ∙ each_none number_line))

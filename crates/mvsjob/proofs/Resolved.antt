@@ -5,7 +5,7 @@ use Rattle.std.specs.Bool.{MatchBool}
 use Rattle.std.specs.Option.{option_map, option_and_then}
 use Rattle.std.specs.List.{AllByRecursion}
 use Rattle.std.specs.FinMap.{FinMap, get}
-use Rattle.std.proofs.lemmas.List.Elements.{All-tail, All-nil, All-cons}
+use Rattle.std.proofs.lemmas.List.Elements.{All-nil, All-cons}
 use Rattle.mvs_model.specs.declared.name.Name.{Name}
 use Rattle.mvs_model.specs.declared.code.Form.{Form}
 use Rattle.mvs_model.specs.declared.code.Code.{Code}
@@ -15,7 +15,7 @@ use Rattle.mvs_model.specs.declared.line.Written.TheVariants as written
 use Rattle.mvs_model.specs.declared.request.Request.{Request}
 use Rattle.mvs_model.specs.declared.request.Request.TheVariants as request
 use Rattle.mvs_model.specs.declared.request.Reply.{Reply}
-use Rattle.mvs_model.specs.declared.request.Reply.TheVariants.{NotRun, Rc4, NoCell, Done, Abended}
+use Rattle.mvs_model.specs.declared.request.Reply.TheVariants.{NotRun, Rc4, Obtained, NoCell, Done, Abended}
 use Rattle.mvs_model.specs.Name.{name_cmp}
 use Rattle.mvs_model.specs.Place.{PlaceValue, place_at}
 use Rattle.mvs_model.specs.Want.{WantValue}
@@ -27,7 +27,7 @@ use Rattle.mvs_model.specs.Pools.{Pool, cell_at}
 use Rattle.mvs_model.specs.Steps.{Step, Abends, Fails, ObtainStep, ObtainListStep, Gets, GetsNone, GetStep, all_granted, Accesses, is_invalid}
 use Rattle.mvs_model.specs.Codes.{is_conditional}
 use Rattle.mvs_model.specs.Owners.{is_active, keeper}
-use Rattle.mvs_model.specs.Texts.{reply_line, data_lines}
+use Rattle.mvs_model.specs.Texts.{reply_line, data_lines, rc_0_length}
 use Rattle.mvs_model.specs.Job.{JobValue}
 use Rattle.mvs_model.specs.Replies.{reply_text, bytes_at, shown}
 use Rattle.mvs_model.specs.Resolving.{address_of, places_of, resolved, names_set, places_in}
@@ -37,17 +37,11 @@ use Rattle.mvs_model.proofs.Requested.{is_request}
 use Rattle.mvs_model.proofs.RegionsKept.{grant_inside, list_inside}
 use Rattle.mvs_model.proofs.SeenAccess.{below_each}
 use Rattle.mvs_model.specs.View.{IsBounded}
-use Rattle.mvsjob.specs.Areas.{IsArea, Fit}
+use Rattle.job_script.specs.Areas.{IsArea, Fit}
+use Rattle.job_script.specs.ReplyLines.{reply_lines}
 use Rattle.mvsjob.specs.Steady.{IsSteady}
-use Rattle.mvsjob.specs.Resolving.{shows, place_shown}
+use Rattle.mvsjob.specs.Answering.{shows, length_told, place_shown}
 use Rattle.mvsjob.proofs.Steady.{takes_area, steady_step}
-
--- where places fit names, so do the places behind the first one the names behind the first one
-pub fit_rest : (names : List Name) (places : List PlaceValue) (n : Name) (ns : List Name) (p : PlaceValue) (ps : List PlaceValue) → names ≡ n ∷ ns → places ≡ p ∷ ps → Fit names places → Fit ns ps
-fit_rest names places n ns p ps named placed fit = fit_all ns (All-tail IsArea p ps (subst (All IsArea) placed (subst (λ l. Fit l places) named fit))) where
-  fit_all : (ns : List Name) → All IsArea ps → Fit ns ps
-  fit_all [] all = tt
-  fit_all (m ∷ ms) all = all
 
 -- what a chain of options makes, it makes of something
 of_some : {A B : Type 0} → (f : A → B) (o : Option A) (y : B) → option_map f o ≡ Some y → (x : A) × (o ≡ Some x) × (f x ≡ y)
@@ -139,10 +133,15 @@ areas_fit names (written.Get pool conditional cell) r old t reply new e limits s
     by_test (not (is_active old.owners t)) (subst (λ r. Step old t r reply new) (sym (some_same _ r e)) step) (λ k. no_areas reply NotRun k.0 refl) (λ k. get_areas old t pool conditional _ reply new steady k)
 areas_fit names a r old t reply new e limits steady step = tt
 
--- what is done without showing bytes says OK
-pub done_says : (number : ℕ) (t : Name) (old : JobValue) (a : Written) → shows a ≡ false → reply_text number t old a Done ≡ reply_line number t (codes "OK")
-done_says number t old (written.Show location n) e = absurd (let f : true ≡ false = e in cc)
-done_says number t old a e = refl
+-- a reply that tells a length, and one that tells none and shows no bytes
+pub length_says : (number : ℕ) (t : Name) (old : JobValue) (a : Written) (reply : Reply) (n : ℕ) → length_told a reply ≡ Some n → reply_text number t old a reply ≡ reply_line number t (rc_0_length n)
+length_says number t old (written.Obtain form m ask true area) (Obtained p) n e = ap (λ n. reply_line number t (rc_0_length n)) (some_same p.len n e)
+length_says number t old a reply n e = absurd (let f : None ≡ Some n = e in cc)
+
+pub reply_says : (number : ℕ) (t : Name) (old : JobValue) (a : Written) (reply : Reply) → length_told a reply ≡ None → (reply ≡ Done → shows a ≡ false) → reply_text number t old a reply ≡ reply_lines number t reply
+reply_says number t old (written.Obtain form m ask true area) (Obtained p) e quiet = absurd (let f : Some p.len ≡ None = e in cc)
+reply_says number t old (written.Show location n) Done e quiet = absurd (let f : true ≡ false = quiet refl in cc)
+reply_says number t old a reply e quiet = refl
 
 -- a request that shows bytes is one that is written so
 pub quiet : (names : FinMap name_cmp PlaceValue) (a : Written) (r : Request) (reply : Reply) → resolved names a ≡ Some r → place_shown r reply ≡ None → reply ≡ Done → shows a ≡ false

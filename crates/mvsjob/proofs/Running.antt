@@ -14,8 +14,8 @@ use Rattle.mvsjob.specs.declared.job.Stop.{Stop}
 use Rattle.mvsjob.specs.declared.job.Stop.TheVariants as why
 use Rattle.mvsjob.specs.Serving.{RunsLine, stage_of}
 use Rattle.mvsjob.specs.Streams.{Progress, Printed, PrintedFront, PrintedUpTo}
-use Rattle.mvsjob.specs.Writing.{AppendsFront}
-use Rattle.mvsjob.proofs.Appending.{Appends-kept}
+use Rattle.job_script.specs.Writing.{AppendsFront}
+use Rattle.job_script.proofs.Appending.{Appends-kept}
 
 pub progress_start : (start : Option (List ℕ)) (script : List ℕ) → Progress start start script 1 Before (lines_of script)
 progress_start start script = record { written = []; appended = Appends-nil start; reached = reaches_start (lines_of script) }

@@ -3,9 +3,9 @@ use Rattle.std.proofs.Common.{◌≡◌, ℕ, ◌||◌, Bool, true, false, not, 
 use Rattle.std.specs.Option.{is_some}
 use Rattle.std.proofs.KnownBytes.{Appends-trans}
 use Rattle.std.specs.Io.KnownBytes.{Appends}
-use Rattle.mvsjob.proofs.Appending.{Appends-kept}
-use Rattle.mvsjob.specs.Writing.{AppendsFront}
-use Rattle.std.specs.Prelude.{OnErr, decimal}
+use Rattle.job_script.proofs.Appending.{Appends-kept}
+use Rattle.job_script.specs.Writing.{AppendsFront}
+use Rattle.std.specs.Prelude.{OnErr}
 use Rattle.mvs_model.specs.Card.{CardValue}
 use Rattle.mvs_model.specs.declared.line.Line.{Line}
 use Rattle.mvs_model.specs.declared.line.Line.TheVariants as line
@@ -71,10 +71,6 @@ subpools_does number old t s st same is active = subst (λ s. Does number old t 
 
 pub map_does : (number : ℕ) (old : JobValue) (t : Name) (s : Statement) (st : State) → st ≡ old.state → s ≡ says.ReportMap → is_active old.state.owners t ≡ true → Does number old t s (map_text number st t) old
 map_does number old t s st same is active = subst (λ s. Does number old t s (map_text number st t) old) (sym is) (does_said number old t says.ReportMap _ old active (ap (λ x. map_text number x t) same, refl))
-
--- What is said of a region is the text of its card.
-pub said_region : (number : ℕ) (t : Name) (card : CardValue) (said : List ℕ) → t ≡ card.name → said ≡ codes "REGION BELOW " ++ decimal card.below ++ codes " ABOVE " ++ decimal card.above → reply_line number t said ≡ region_text number card
-said_region number t card said name is = λ i. reply_line number (name i) (is i)
 
 -- Another statement is of the step that runs.
 follows_in : (number : ℕ) (job : JobValue) (t : Name) (s : Statement) (text : List ℕ) (new : JobValue) → card_said t s ≡ None → Does number job t s text new → Follows number job t s text (In new)

@@ -22,7 +22,7 @@ use Rattle.mvs_model.proofs.PartsTaken.{same_number}
 use Rattle.mvs_model.proofs.PoolPut.{put_here}
 use Rattle.mvs_model.proofs.RegionsKept.{regions_stay}
 use Rattle.mvs_model.proofs.WithinKept.{Placed, placed_closed, start_placed}
-use Rattle.mvsjob.specs.Areas.{IsArea}
+use Rattle.job_script.specs.Areas.{IsArea}
 use Rattle.mvsjob.specs.Steady.{IsSteady}
 
 -- a step keeps it

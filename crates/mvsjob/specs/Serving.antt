@@ -16,7 +16,7 @@ use Rattle.mvs_model.specs.Runs.{Stage, Before, In, is_before, ServesLine, Fault
 use Rattle.mvs_model.specs.Memory.{LineTakesMemory}
 use Rattle.mvsjob.specs.declared.job.Stop.{Stop}
 use Rattle.mvsjob.specs.declared.job.Stop.TheVariants as stop
-use Rattle.mvsjob.specs.Writing.{AppendsFront}
+use Rattle.job_script.specs.Writing.{AppendsFront}
 
 -- a code, for a model's value
 abbrev pub job_code : Coded JobValue

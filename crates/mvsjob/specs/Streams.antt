@@ -14,7 +14,7 @@ use Rattle.mvsjob.specs.declared.run.RunFault.{RunFault}
 use Rattle.mvsjob.specs.declared.run.RunFault.TheVariants.{Write, Memory, ReadTooLong}
 use Rattle.mvsjob.specs.declared.stream.Turn.{Turn}
 use Rattle.mvsjob.specs.declared.stream.Turn.TheVariants.{On, Ended}
-use Rattle.mvsjob.specs.Writing.{Exchanges}
+use Rattle.mvsjob.specs.Exchanging.{Exchanges}
 
 -- What stands between two moments of a writer is the printing of a run up to here.
 pub record Progress (start now : Option (List ℕ)) (script : List ℕ) (number : ℕ) (stage : Stage) (left : List (List ℕ)) : Type 0 where

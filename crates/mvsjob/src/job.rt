@@ -10,11 +10,10 @@ ghost use Rattle.mvs_model.specs.Memory.{TakesMemory};
 ghost use Rattle.mvs_model.specs.Texts.{region_text};
 ghost use Rattle.mvs_model.specs.declared.line.Line.TheVariants as line;
 ghost use Rattle.mvsjob.specs.Serving.{Performs, RunsLine, card_said, ending, has_abended, stage_of};
-ghost use Rattle.mvsjob.specs.Writing.{AppendsFront, WritesAll};
+ghost use Rattle.job_script.specs.Writing.{AppendsFront, WritesAll};
 
-use crate::print::{print_fault, print_line, region_said, write_all};
 use crate::serve::Job;
-use job_script::read_line;
+use job_script::{print_fault, print_region, print_step_end, read_line};
 use mvs_model::card::Card;
 use mvs_model::line::{Fault, Line, Statement};
 use mvs_model::name::Name;
@@ -65,19 +64,6 @@ fn card_said(task: &Name, statement: &Statement) -> Option<Card>
     }
 }
 
-// Prints the end of a step.
-fn print_end<W: Write>(job: &Job, writer: &mut Watched<W>) -> Result<(), Failed>
-    ensures bytes { WritesAll (W.contents writer.old.inner) (W.contents writer.new.inner) result (end_text job.now) }
-    ensures ok { OnOk result (writer.new.failed ≡ writer.old.failed) }
-    ensures err { OnErr result (writer.new.failed ≡ true) }
-{
-    if job.abended() {
-        write_all(writer, b"STEP ENDED RC 8\n")
-    } else {
-        write_all(writer, b"STEP ENDED RC 0\n")
-    }
-}
-
 // Ends the step that runs, if one does: its storage and its names are given up. Answers whether a task has abended so far.
 fn end_step<W: Write>(stage: &mut Option<Job>, writer: &mut Watched<W>) -> Result<bool, Failed>
     ensures bytes { WritesAll (W.contents writer.old.inner) (W.contents writer.new.inner) result (ending stage.old) }
@@ -88,7 +74,7 @@ fn end_step<W: Write>(stage: &mut Option<Job>, writer: &mut Watched<W>) -> Resul
     let Some(job) = stage else {
         return Ok(false);
     };
-    print_end(job, writer)?;
+    print_step_end(writer, job.abended())?;
     let former = job.any_abended();
     *stage = None;
     Ok(former)
@@ -106,13 +92,13 @@ fn begin_step<W: Write>(
     stage: &mut Option<Job>,
     alloc: Global,
     placement: Placement,
-    number: u32,
+    line_number: u32,
     card: &Card,
     former: bool,
     writer: &mut Watched<W>,
 ) -> Result<(), Stop>
     requires { IsCard card.now }
-    ensures begun { Performs (λ text new. (text ≡ region_text number card.now) × (new ≡ In (job_at card.now former))) (λ text. text ≡ [])
+    ensures begun { Performs (λ text new. (text ≡ region_text line_number card.now) × (new ≡ In (job_at card.now former))) (λ text. text ≡ [])
         (W.contents writer.old.inner) (W.contents writer.new.inner) (stage_of stage.new) result }
     ensures ok { OnOk result (writer.new.failed ≡ writer.old.failed) }
     ensures write { IsErrOf result Stop.Write → writer.new.failed ≡ true }
@@ -121,8 +107,7 @@ fn begin_step<W: Write>(
         return Err(Stop::Memory);
     };
     start_step(stage, job);
-    let said = region_said(card.below(), card.above());
-    print_line(writer, number, &card.name(), said.as_slice())?;
+    print_region(writer, line_number, card)?;
     Ok(())
 }
 
@@ -131,18 +116,18 @@ fn turn_step<W: Write>(
     stage: &mut Option<Job>,
     alloc: Global,
     placement: Placement,
-    number: u32,
+    line_number: u32,
     card: &Card,
     writer: &mut Watched<W>,
 ) -> Result<(), Stop>
     requires { IsCard card.now }
-    ensures turned { Performs (λ text new. (text ≡ ending stage.old ++ region_text number card.now) × (new ≡ In (job_at card.now (has_abended stage.old)))) (λ text. text ≡ ending stage.old)
+    ensures turned { Performs (λ text new. (text ≡ ending stage.old ++ region_text line_number card.now) × (new ≡ In (job_at card.now (has_abended stage.old)))) (λ text. text ≡ ending stage.old)
         (W.contents writer.old.inner) (W.contents writer.new.inner) (stage_of stage.new) result }
     ensures ok { OnOk result (writer.new.failed ≡ writer.old.failed) }
     ensures write { IsErrOf result Stop.Write → writer.new.failed ≡ true }
 {
     let former = end_step(stage, writer)?;
-    begin_step(stage, alloc, placement, number, card, former, writer)
+    begin_step(stage, alloc, placement, line_number, card, former, writer)
 }
 
 // Serves a statement of a task.
@@ -150,21 +135,21 @@ fn run_statement<W: Write>(
     stage: &mut Option<Job>,
     alloc: Global,
     placement: Placement,
-    number: u32,
+    line_number: u32,
     task: &Name,
     statement: &Statement,
     writer: &mut Watched<W>,
 ) -> Result<(), Stop>
     requires { IsStatement (is_before (stage_of stage.old)) task.now statement.now }
-    ensures served { Performs (Serves number (stage_of stage.old) (line.Statement task.now statement.now)) (TakesMemory (stage_of stage.old) (line.Statement task.now statement.now)) (W.contents writer.old.inner) (W.contents writer.new.inner) (stage_of stage.new) result }
+    ensures served { Performs (Serves line_number (stage_of stage.old) (line.Statement task.now statement.now)) (TakesMemory (stage_of stage.old) (line.Statement task.now statement.now)) (W.contents writer.old.inner) (W.contents writer.new.inner) (stage_of stage.new) result }
     ensures ok { OnOk result (writer.new.failed ≡ writer.old.failed) }
     ensures write { IsErrOf result Stop.Write → writer.new.failed ≡ true }
 {
     if let Some(card) = card_said(task, statement) {
-        return turn_step(stage, alloc, placement, number, &card, writer);
+        return turn_step(stage, alloc, placement, line_number, &card, writer);
     }
     match stage {
-        Some(job) => job.serve(number, task, statement, writer),
+        Some(job) => job.serve(line_number, task, statement, writer),
         None => unreachable!(),
     }
 }
@@ -174,11 +159,11 @@ pub fn run_line<W: Write>(
     stage: &mut Option<Job>,
     alloc: Global,
     placement: Placement,
-    number: u32,
+    line_number: u32,
     line: &[u8],
     writer: &mut Watched<W>,
 ) -> Result<bool, Stop>
-    ensures ran { RunsLine (W.contents writer.old.inner) (W.contents writer.new.inner) number (stage_of stage.old) line.now (stage_of stage.new) result }
+    ensures ran { RunsLine (W.contents writer.old.inner) (W.contents writer.new.inner) line_number (stage_of stage.old) line.now (stage_of stage.new) result }
     ensures ok { OnOk result (writer.new.failed ≡ writer.old.failed) }
     ensures write { IsErrOf result Stop.Write → writer.new.failed ≡ true }
 {
@@ -186,14 +171,22 @@ pub fn run_line<W: Write>(
     match read_line(line, stage.is_none(), &mut read) {
         Ok(()) => {}
         Err(fault) => {
-            print_fault(writer, number, fault)?;
+            print_fault(writer, line_number, fault)?;
             return Ok(false);
         }
     }
     match &read {
         Line::Nothing => Ok(true),
         Line::Statement(task, statement) => {
-            match run_statement(stage, alloc, placement, number, task, statement, writer) {
+            match run_statement(
+                stage,
+                alloc,
+                placement,
+                line_number,
+                task,
+                statement,
+                writer,
+            ) {
                 Ok(()) => Ok(true),
                 Err(stop) => Err(stop),
             }
@@ -204,22 +197,22 @@ pub fn run_line<W: Write>(
 /// Prints the end of a job that has no more lines, and answers how it ends.
 pub fn close<W: Write>(
     stage: &Option<Job>,
-    number: u32,
+    line_number: u32,
     writer: &mut Watched<W>,
 ) -> Result<Outcome, Failed>
     ensures closed { MatchResult result
-        (λ outcome. (text : List ℕ) × Appends (W.contents writer.old.inner) (W.contents writer.new.inner) text × Closes number (stage_of stage.now) text outcome)
-        (λ _. (text : List ℕ) × (outcome : Outcome) × Closes number (stage_of stage.now) text outcome × AppendsFront (W.contents writer.old.inner) (W.contents writer.new.inner) text) }
+        (λ outcome. (text : List ℕ) × Appends (W.contents writer.old.inner) (W.contents writer.new.inner) text × Closes line_number (stage_of stage.now) text outcome)
+        (λ _. (text : List ℕ) × (outcome : Outcome) × Closes line_number (stage_of stage.now) text outcome × AppendsFront (W.contents writer.old.inner) (W.contents writer.new.inner) text) }
     ensures ok { OnOk result (writer.new.failed ≡ writer.old.failed) }
     ensures err { OnErr result (writer.new.failed ≡ true) }
 {
     match stage {
         None => {
-            print_fault(writer, number, Fault::OutOfPlace)?;
+            print_fault(writer, line_number, Fault::OutOfPlace)?;
             Ok(Outcome::ScriptFault)
         }
         Some(job) => {
-            print_end(job, writer)?;
+            print_step_end(writer, job.abended())?;
             if job.any_abended() {
                 Ok(Outcome::SomeAbend)
             } else {

@@ -7,14 +7,10 @@ ghost use Rattle.mvsjob.specs.Statuses.{status_of};
 mod choices;
 mod command_line;
 mod job;
-mod names;
-mod print;
 mod reports;
-mod resolve;
 mod run;
 mod serve;
 mod stream;
-mod text;
 
 use choices::Settings;
 use command_line::settings;

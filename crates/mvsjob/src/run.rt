@@ -7,7 +7,7 @@ ghost use Rattle.mvs_model.specs.Labels.{IsLabelText};
 ghost use Rattle.mvs_model.specs.Memory.{IsPrintingBefore};
 ghost use Rattle.mvs_model.specs.Numbers.{most_script_bytes};
 ghost use Rattle.mvs_model.specs.Tidy.{Tidy, IsPrintingInFull};
-ghost use Rattle.mvsjob.specs.Writing.{Exchanges};
+ghost use Rattle.mvsjob.specs.Exchanging.{Exchanges};
 
 use crate::stream::{Stream, Turn};
 use mvs_model::numbers::MOST_SCRIPT_BYTES;

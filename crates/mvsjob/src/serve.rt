@@ -13,15 +13,16 @@ ghost use Rattle.mvs_model.specs.declared.line.Line.TheVariants as line;
 ghost use Rattle.mvs_model.specs.Numbers.{most_shown};
 ghost use Rattle.mvs_model.specs.Texts.{data_lines, line_count, reply_line};
 ghost use Rattle.mvs_model.specs.declared.request.Reply.TheVariants.{Done};
-ghost use Rattle.mvsjob.specs.Resolving.{place_shown, shows};
+ghost use Rattle.job_script.specs.Writing.{WritesAll};
+ghost use Rattle.mvsjob.specs.Answering.{length_told, place_shown, shows};
 ghost use Rattle.mvsjob.specs.Serving.{Performs, card_said};
-ghost use Rattle.mvsjob.specs.Writing.{WritesAll};
 
 use crate::job::Stop;
-use crate::names::Names;
-use crate::print::{at_said, length_said, print_abend, print_data, print_line};
 use crate::reports::{print_map, print_subpools};
-use crate::resolve::{place_shown, resolve, set_names};
+use job_script::{
+    Names, print_data, print_length, print_no_name, print_not_run, print_reply, print_where,
+    resolve, set_names,
+};
 use job_step::Step;
 use mvs_model::card::Card;
 use mvs_model::error::OutOfMemory;
@@ -57,63 +58,70 @@ impl Model for Job {
     ghost invariant = { λ r. IsSteady r.step.state };
 }
 
-// Prints the reply to a request, which printed no bytes.
-fn print_reply<W: Write>(
-    writer: &mut Watched<W>,
-    number: u32,
-    task: &Name,
-    written: &Written,
-    reply: &Reply,
-) -> Result<(), Failed>
-    requires { reply.now ≡ Done → shows written.now ≡ false }
-    ensures bytes { (old : JobValue) → WritesAll (W.contents writer.old.inner) (W.contents writer.new.inner) result (reply_text number task.now old written.now reply.now) }
-    ensures ok { OnOk result (writer.new.failed ≡ writer.old.failed) }
-    ensures err { OnErr result (writer.new.failed ≡ true) }
+// The place whose bytes a request prints: that of SHOW, once it is done.
+fn place_shown(request: &Request, reply: &Reply) -> Option<Place>
+    ensures place { result ≡ place_shown request.now reply.now }
+    ensures short { IfSome result (λ p. p.len ≤ most_shown) }
 {
-    match (reply, written) {
-        (Reply::NotRun, _) => print_line(writer, number, task, b"NOT RUN"),
-        (Reply::Obtained(place), Written::Obtain { variable: true, .. }) => {
-            print_line(writer, number, task, length_said(place.len()).as_slice())
-        }
-        (Reply::Rc0 | Reply::Obtained(_) | Reply::Listed(_), _) => {
-            print_line(writer, number, task, b"RC 0")
-        }
-        (Reply::Rc4, _) => print_line(writer, number, task, b"RC 4"),
-        (Reply::Cell(_), _) => print_line(writer, number, task, b"CELL"),
-        (Reply::NoCell, _) => print_line(writer, number, task, b"NO CELL"),
-        (Reply::Attached, _) => print_line(writer, number, task, b"ATTACHED"),
-        (Reply::Ended, _) => print_line(writer, number, task, b"ENDED"),
-        (Reply::Done, _) => print_line(writer, number, task, b"OK"),
-        (Reply::Abended(code, fallen), _) => {
-            print_abend(writer, number, task, *code, fallen.names())
-        }
+    match (request, reply) {
+        (Request::Show { from, len }, Reply::Done) => Some(Place::new(*from, len.get())),
+        _ => None,
+    }
+}
+
+// The length that a reply tells: that of a grant to a variable request.
+fn length_told(written: &Written, reply: &Reply) -> Option<u32>
+    ensures { result ≡ length_told written.now reply.now }
+{
+    match (written, reply) {
+        (Written::Obtain { variable: true, .. }, Reply::Obtained(place)) => Some(place.len()),
+        _ => None,
     }
 }
 
 // Prints the bytes of a place.
 fn print_shown<W: Write>(
     writer: &mut Watched<W>,
-    number: u32,
+    line_number: u32,
     task: &Name,
     step: &Step,
     place: Place,
 ) -> Result<(), Failed>
     requires granted { Granted step.now.state place }
     requires short { place.len ≤ most_shown }
-    ensures bytes { WritesAll (W.contents writer.old.inner) (W.contents writer.new.inner) result (data_lines number task.now (line_count place.len) 0 (bytes_at step.now.state place.addr place.len)) }
+    ensures bytes { WritesAll (W.contents writer.old.inner) (W.contents writer.new.inner) result (data_lines line_number task.now (line_count place.len) 0 (bytes_at step.now.state place.addr place.len)) }
     ensures ok { OnOk result (writer.new.failed ≡ writer.old.failed) }
     ensures err { OnErr result (writer.new.failed ≡ true) }
 {
     match step.bytes(place) {
-        Some(bytes) => print_data(writer, number, task, bytes),
+        Some(bytes) => print_data(writer, line_number, task, bytes),
         None => unreachable!(),
+    }
+}
+
+// Prints the reply to a request, which printed no bytes.
+fn print_told<W: Write>(
+    writer: &mut Watched<W>,
+    line_number: u32,
+    task: &Name,
+    written: &Written,
+    reply: &Reply,
+) -> Result<(), Failed>
+    requires { reply.now ≡ Done → shows written.now ≡ false }
+    ensures bytes { (old : JobValue) → WritesAll (W.contents writer.old.inner) (W.contents writer.new.inner) result (reply_text line_number task.now old written.now reply.now) }
+    ensures ok { OnOk result (writer.new.failed ≡ writer.old.failed) }
+    ensures err { OnErr result (writer.new.failed ≡ true) }
+{
+    match length_told(written, reply) {
+        Some(len) => print_length(writer, line_number, task, len),
+        None => print_reply(writer, line_number, task, reply),
     }
 }
 
 // Prints what a request is answered.
 fn print_answer<W: Write>(
     writer: &mut Watched<W>,
-    number: u32,
+    line_number: u32,
     task: &Name,
     step: &Step,
     written: &Written,
@@ -123,30 +131,13 @@ fn print_answer<W: Write>(
     requires granted { IfSome (place_shown request.now reply.now) (Granted step.now.state) }
     requires quiet { place_shown request.now reply.now ≡ None → reply.now ≡ Done → shows written.now ≡ false }
     ensures bytes { (old : JobValue) → resolved old.names written.now ≡ Some request.now → IfSome (place_shown request.now reply.now) (λ p. old.state ≡ step.now.state)
-        → WritesAll (W.contents writer.old.inner) (W.contents writer.new.inner) result (reply_text number task.now old written.now reply.now) }
+        → WritesAll (W.contents writer.old.inner) (W.contents writer.new.inner) result (reply_text line_number task.now old written.now reply.now) }
     ensures ok { OnOk result (writer.new.failed ≡ writer.old.failed) }
     ensures err { OnErr result (writer.new.failed ≡ true) }
 {
     match place_shown(request, reply) {
-        Some(place) => print_shown(writer, number, task, step, place),
-        None => print_reply(writer, number, task, written, reply),
-    }
-}
-
-// What is said of where an area lies.
-fn print_where<W: Write>(
-    writer: &mut Watched<W>,
-    number: u32,
-    task: &Name,
-    place: Option<Place>,
-) -> Result<(), Failed>
-    ensures bytes { WritesAll (W.contents writer.old.inner) (W.contents writer.new.inner) result (reply_line number task.now (where_text place)) }
-    ensures ok { OnOk result (writer.new.failed ≡ writer.old.failed) }
-    ensures err { OnErr result (writer.new.failed ≡ true) }
-{
-    match place {
-        Some(place) => print_line(writer, number, task, at_said(place.addr()).as_slice()),
-        None => print_line(writer, number, task, b"NO NAME"),
+        Some(place) => print_shown(writer, line_number, task, step, place),
+        None => print_told(writer, line_number, task, written, reply),
     }
 }
 
@@ -186,58 +177,66 @@ impl Job {
     // Serves a request of an active task.
     fn ask<W: Write>(
         &mut self,
-        number: u32,
+        line_number: u32,
         task: &Name,
         written: &Written,
         writer: &mut Watched<W>,
     ) -> Result<(), Stop>
         requires { IsWritten written.now }
-        ensures served { Performs (Asks number self.old task.now written.now (resolved self.old.names written.now)) (λ text. (text ≡ []) × SetsName self.old task.now written.now) (W.contents writer.old.inner) (W.contents writer.new.inner) self.new result }
+        ensures served { Performs (Asks line_number self.old task.now written.now (resolved self.old.names written.now)) (λ text. (text ≡ []) × SetsName self.old task.now written.now) (W.contents writer.old.inner) (W.contents writer.new.inner) self.new result }
         ensures ok { OnOk result (writer.new.failed ≡ writer.old.failed) }
         ensures write { IsErrOf result Stop.Write → writer.new.failed ≡ true }
     {
         let Some(request) = resolve(&self.names, written) else {
-            print_line(writer, number, task, b"NO NAME")?;
+            print_no_name(writer, line_number, task)?;
             return Ok(());
         };
         let reply = self.step.request(task, &request);
         let Ok(()) = set_names(&mut self.names, written, &reply) else {
             return Err(Stop::Memory);
         };
-        print_answer(writer, number, task, &self.step, written, &request, &reply)?;
+        print_answer(
+            writer,
+            line_number,
+            task,
+            &self.step,
+            written,
+            &request,
+            &reply,
+        )?;
         Ok(())
     }
 
     /// Serves a statement of the step, which is not REGION.
     pub fn serve<W: Write>(
         &mut self,
-        number: u32,
+        line_number: u32,
         task: &Name,
         statement: &Statement,
         writer: &mut Watched<W>,
     ) -> Result<(), Stop>
         requires in_range { IsStatement false task.now statement.now }
         requires of_step { card_said task.now statement.now ≡ None }
-        ensures served { Performs (Does number self.old task.now statement.now) (TakesMemory (In self.old) (line.Statement task.now statement.now)) (W.contents writer.old.inner) (W.contents writer.new.inner) self.new result }
+        ensures served { Performs (Does line_number self.old task.now statement.now) (TakesMemory (In self.old) (line.Statement task.now statement.now)) (W.contents writer.old.inner) (W.contents writer.new.inner) self.new result }
         ensures ok { OnOk result (writer.new.failed ≡ writer.old.failed) }
         ensures write { IsErrOf result Stop.Write → writer.new.failed ≡ true }
     {
         if !self.step.is_active(task) {
-            print_line(writer, number, task, b"NOT RUN")?;
+            print_not_run(writer, line_number, task)?;
             return Ok(());
         }
         match statement {
-            Statement::Request(written) => self.ask(number, task, written, writer),
+            Statement::Request(written) => self.ask(line_number, task, written, writer),
             Statement::Where(name) => {
-                print_where(writer, number, task, self.names.get(name))?;
+                print_where(writer, line_number, task, self.names.get(name))?;
                 Ok(())
             }
             Statement::ReportSubpools => {
-                print_subpools(writer, number, task, &self.step)?;
+                print_subpools(writer, line_number, task, &self.step)?;
                 Ok(())
             }
             Statement::ReportMap => {
-                print_map(writer, number, task, &self.step)?;
+                print_map(writer, line_number, task, &self.step)?;
                 Ok(())
             }
             Statement::Region { .. } => unreachable!(),

@@ -8,7 +8,7 @@ use Rattle.mvsjob.proofs.job.run_statement.Goals as goal
 
 pub returns-clause-served : goal.returns-clause-served
 returns-clause-served g c =
-    performs_as In (Does c.args.number c.in-Some-stage.job c.args.task.now c.args.statement.now) (Serves c.args.number (stage_of c.args.stage.now) (line.Statement c.args.task.now c.args.statement.now))
+    performs_as In (Does c.args.line_number c.in-Some-stage.job c.args.task.now c.args.statement.now) (Serves c.args.line_number (stage_of c.args.stage.now) (line.Statement c.args.task.now c.args.statement.now))
     (TakesMemory (In c.in-Some-stage.job) (line.Statement c.args.task.now c.args.statement.now)) (TakesMemory (stage_of c.args.stage.now) (line.Statement c.args.task.now c.args.statement.now)) _ _ c.serve.new.self c.serve.result
-    (λ text new does. serves_in c.args.number c.args.stage.now c.in-Some-stage.job c.args.task.now c.args.statement.now text new c.in-Some-stage.is (sym c.card_said.ensures.card ∙ c.in_default.is) does)
+    (λ text new does. serves_in c.args.line_number c.args.stage.now c.in-Some-stage.job c.args.task.now c.args.statement.now text new c.in-Some-stage.is (sym c.card_said.ensures.card ∙ c.in_default.is) does)
     (λ text takes. takes_in c.args.stage.now c.in-Some-stage.job c.args.task.now c.args.statement.now text c.in-Some-stage.is takes) c.serve.ensures.served

@@ -6,7 +6,7 @@ use Rattle.mvsjob.proofs.reports.print_numbers.Given as goal
 
 abbrev pub invariant-lines : goal.invariant-lines
 invariant-lines g l = record {
-  so_far : Appends (g.W.Write.contents l.initial.writer.inner) (g.W.Write.contents l.writer.inner) (each_below l.from (number_line l.number l.step.state l.task));
+  so_far : Appends (g.W.Write.contents l.initial.writer.inner) (g.W.Write.contents l.writer.inner) (each_below l.from (number_line l.line_number l.step.state l.task));
   low : l.from ≤ 133;
   same : l.writer.failed ≡ l.initial.writer.failed;
 }

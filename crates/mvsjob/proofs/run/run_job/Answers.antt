@@ -6,7 +6,7 @@ use Rattle.mvs_model.specs.Memory.{IsPrintingBefore}
 use Rattle.mvs_model.specs.Labels.{IsLabelText}
 use Rattle.mvs_model.specs.Tidy.{Tidy, IsPrintingInFull}
 use Rattle.mvsjob.specs.Streams.{HasEnded}
-use Rattle.mvsjob.specs.Writing.{Exchanges}
+use Rattle.mvsjob.specs.Exchanging.{Exchanges}
 use Rattle.mvsjob.specs.declared.run.RunFault.TheVariants.{Memory}
 use Rattle.mvsjob.proofs.Feeding.{under_way_start, given_up, given_up_within, given_up_before, given_up_front, HasBrokenOff, printed_before, ended_within, ended_tidy, if_ok, if_err}
 use Rattle.mvsjob.proofs.run.run_job.Goals as goal

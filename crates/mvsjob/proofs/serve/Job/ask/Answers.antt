@@ -22,22 +22,22 @@ returns-in_err-print_answer-clause-served g c =
     let p = err_from_is_err_and c.from_residual-in_err-print_answer.result c.from_residual-in_err-print_answer.ensures.1 in
     let old : JobValue = record { state = c.self.inside.step.state; names = c.self.inside.names; abended = c.self.inside.step.abended; former = c.self.inside.former } in
     let new : JobValue = record { state = c.request-reply.new.self.state; names = c.set_names.new.names; abended = c.request-reply.new.self.abended; former = c.self.inside.former } in
-    let m = made c.args.number old c.args.task.now c.args.written.now c.in-Some.request c.request-reply.result new (sym c.resolve.ensures ∙ c.in-Some.is) c.request-reply.ensures.step c.in-Ok.ensures.ok c.request-reply.ensures.abended refl in
+    let m = made c.args.line_number old c.args.task.now c.args.written.now c.in-Some.request c.request-reply.result new (sym c.resolve.ensures ∙ c.in-Some.is) c.request-reply.ensures.step c.in-Ok.ensures.ok c.request-reply.ensures.abended refl in
     rw (p.1, p.2, ← c.self.view_is) (inr (_, new, m, c.in_err-print_answer.ensures.bytes old (sym c.resolve.ensures ∙ c.in-Some.is) (state_same c.self.inside.step.state c.args.task.now c.in-Some.request c.request-reply.result c.request-reply.new.self.state c.request-reply.ensures.step)))
 
 pub returns-clause-served : goal.returns-clause-served
 returns-clause-served g c =
     let old : JobValue = record { state = c.self.inside.step.state; names = c.self.inside.names; abended = c.self.inside.step.abended; former = c.self.inside.former } in
     let new : JobValue = record { state = c.request-reply.new.self.state; names = c.set_names.new.names; abended = c.request-reply.new.self.abended; former = c.self.inside.former } in
-    let m = made c.args.number old c.args.task.now c.args.written.now c.in-Some.request c.request-reply.result new (sym c.resolve.ensures ∙ c.in-Some.is) c.request-reply.ensures.step c.in-Ok.ensures.ok c.request-reply.ensures.abended refl in
+    let m = made c.args.line_number old c.args.task.now c.args.written.now c.in-Some.request c.request-reply.result new (sym c.resolve.ensures ∙ c.in-Some.is) c.request-reply.ensures.step c.in-Ok.ensures.ok c.request-reply.ensures.abended refl in
     rw (← c.self.view_is) (_, c.in_ok-print_answer.ensures.bytes old (sym c.resolve.ensures ∙ c.in-Some.is) (state_same c.self.inside.step.state c.args.task.now c.in-Some.request c.request-reply.result c.request-reply.new.self.state c.request-reply.ensures.step), m)
 
-pub returns-in_err-print_line-clause-served : goal.returns-in_err-print_line-clause-served
-returns-in_err-print_line-clause-served g c =
+pub returns-in_err-print_no_name-clause-served : goal.returns-in_err-print_no_name-clause-served
+returns-in_err-print_no_name-clause-served g c =
     let p = err_from_is_err_and c.from_residual.result c.from_residual.ensures.1 in
     let old : JobValue = record { state = c.self.inside.step.state; names = c.self.inside.names; abended = c.self.inside.step.abended; former = c.self.inside.former } in
-    let told = told_no_name c.args.number old c.args.task.now c.args.written.now (sym c.resolve.ensures ∙ none_of c.resolve.result c.in_default.not-Some) in
-    rw (p.1, p.2, ← c.self.view_is) (inr (_, old, told, c.in_err-print_line.ensures.bytes))
+    let told = told_no_name c.args.line_number old c.args.task.now c.args.written.now (sym c.resolve.ensures ∙ none_of c.resolve.result c.in_default.not-Some) in
+    rw (p.1, p.2, ← c.self.view_is) (inr (_, old, told, c.in_err-print_no_name.ensures.bytes))
 
 -- memory was wanting for a name
 pub returns-in_default-set_names-clause-served : goal.returns-in_default-set_names-clause-served

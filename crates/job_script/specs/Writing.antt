@@ -1,0 +1,17 @@
+-- What calls of a writer leave, where its bytes are known.
+use Rattle.std.specs.Prelude.{◌≡◌, ℕ, List, ◌++◌, MatchResult, Result, Option, codes}
+use Rattle.std.specs.List.{flat_map}
+use Rattle.std.specs.Io.KnownBytes.{Appends}
+use Rattle.mvs_model.specs.Texts.{hex}
+
+-- a line of bytes: the offset of the first one, and two digits for each
+abbrev pub data_said : ℕ → List ℕ → List ℕ
+data_said offset bytes = codes "DATA +" ++ hex 4 offset ++ codes " " ++ flat_map (hex 2) bytes
+
+-- known bytes grow by a front of some bytes
+abbrev pub AppendsFront : Option (List ℕ) → Option (List ℕ) → List ℕ → Type 0
+AppendsFront old new bytes = (front : List ℕ) × (rest : List ℕ) × (bytes ≡ front ++ rest) × Appends old new front
+
+-- all the bytes were appended, or at a failure a front of them
+abbrev pub WritesAll : {X E : Type 0} → Option (List ℕ) → Option (List ℕ) → Result X E → List ℕ → Type 0
+WritesAll old new r bytes = MatchResult r (λ _. Appends old new bytes) (λ _. AppendsFront old new bytes)

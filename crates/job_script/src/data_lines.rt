@@ -1,0 +1,75 @@
+//! The lines of bytes.
+
+ghost use Rattle.std.specs.Prelude.{◌≡◌, ◌≤◌, ◌+◌, ◌*◌, ◌/◌, ◌++◌, length, true, OnOk, OnErr, codes};
+ghost use Rattle.std.specs.List.{flat_map};
+ghost use Rattle.mvs_model.specs.Numbers.{line_bytes, most_shown};
+ghost use Rattle.mvs_model.specs.Texts.{data_lines, hex, line_count};
+ghost use Rattle.job_script.specs.Writing.{WritesAll, data_said};
+
+use crate::print::{push_head, write_all};
+use crate::text::Text;
+use mvs_model::name::Name;
+use mvs_model::numbers::LINE_BYTES;
+use mvs_model::watched::{Failed, Watched};
+use std::io::Write;
+
+// Puts two digits for each byte behind a text.
+fn push_bytes(text: &mut Text, bytes: &[u8])
+    requires { length text.old + 2 * length bytes.now ≤ 160 }
+    ensures text { text.new ≡ text.old ++ flat_map (hex 2) bytes.now }
+    ensures len { length text.new ≡ length text.old + 2 * length bytes.now }
+{
+    for byte in bytes {
+        text.push_byte(*byte);
+    }
+}
+
+// Prints a line of bytes behind its number and its task, which the text keeps: the offset of the first one, and two digits for each.
+fn print_data_line<W: Write>(
+    writer: &mut Watched<W>,
+    text: &mut Text,
+    offset: u16,
+    bytes: &[u8],
+) -> Result<(), Failed>
+    requires head { length text.old ≤ 20 }
+    requires bytes { length bytes.now ≤ line_bytes }
+    ensures bytes { WritesAll (W.contents writer.old.inner) (W.contents writer.new.inner) result (text.old ++ data_said offset bytes.now ++ codes "\n") }
+    ensures kept { text.new ≡ text.old }
+    ensures ok { OnOk result (writer.new.failed ≡ writer.old.failed) }
+    ensures err { OnErr result (writer.new.failed ≡ true) }
+{
+    let head = text.len();
+    text.push_all(b"DATA +");
+    text.push_halfword(offset);
+    text.push_all(b" ");
+    push_bytes(text, bytes);
+    text.push_all(b"\n");
+    let written = write_all(writer, text.as_slice());
+    text.cut(head);
+    written
+}
+
+/// Prints bytes, in lines of 32.
+pub fn print_data<W: Write>(
+    writer: &mut Watched<W>,
+    line_number: u32,
+    task: &Name,
+    bytes: &[u8],
+) -> Result<(), Failed>
+    requires { length bytes.now ≤ most_shown }
+    ensures bytes { WritesAll (W.contents writer.old.inner) (W.contents writer.new.inner) result (data_lines line_number task.now (line_count (length bytes.now)) 0 bytes.now) }
+    ensures ok { OnOk result (writer.new.failed ≡ writer.old.failed) }
+    ensures err { OnErr result (writer.new.failed ≡ true) }
+{
+    let mut text = Text::new();
+    push_head(&mut text, line_number, task);
+    let mut offset = 0;
+    let mut rest = bytes;
+    'lines: while !rest.is_empty() {
+        let (line, more) = rest.split_at(rest.len().min(LINE_BYTES));
+        print_data_line(writer, &mut text, offset, line)?;
+        offset += LINE_BYTES as u16;
+        rest = more;
+    }
+    Ok(())
+}

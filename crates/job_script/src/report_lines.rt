@@ -1,0 +1,114 @@
+//! The lines of the reports on subpools and pages, which are this project's own.
+
+ghost use Rattle.std.specs.Prelude.{◌≡◌, ◌≤◌, ◌+◌, ◌++◌, length, true, OnOk, OnErr};
+ghost use Rattle.mvs_model.specs.Texts.{map_text, no_subpool, reply_line, subpool_text};
+ghost use Rattle.job_script.specs.ReportLines.{holder_said, share_said};
+ghost use Rattle.job_script.specs.Writing.{WritesAll};
+
+use crate::print::{print_line, push_head, write_all};
+use crate::text::Text;
+use mvs_model::name::Name;
+use mvs_model::report::{MapRun, SubpoolLine};
+use mvs_model::subpool::SubNo;
+use mvs_model::watched::{Failed, Watched};
+use std::io::Write;
+
+// Puts behind a text whether a task owns a subpool or shares it.
+fn push_share(text: &mut Text, owned: bool)
+    requires { length text.old ≤ 100 }
+    ensures text { text.new ≡ text.old ++ share_said owned }
+    ensures len { length text.new ≤ length text.old + 14 }
+{
+    if owned {
+        text.push_all(b" OWNED PLAIN ");
+    } else {
+        text.push_all(b" SHARED PLAIN ");
+    }
+}
+
+// Puts behind a text what is said of a number that a task has.
+fn push_subpool(text: &mut Text, line: &SubpoolLine)
+    requires { length text.old ≤ 80 }
+    ensures text { text.new ≡ text.old ++ subpool_text line.now.number line.now.owned line.now.plain line.now.pool }
+    ensures len { length text.new ≤ length text.old + 55 }
+{
+    text.push_all(b"SP ");
+    text.push_decimal(u32::from(line.number.get()));
+    push_share(text, line.owned);
+    text.push_decimal(line.plain);
+    text.push_all(b" POOL ");
+    text.push_decimal(line.pool);
+}
+
+/// Prints the line of REPORT SP for a number that the task has.
+pub fn print_subpool_line<W: Write>(
+    writer: &mut Watched<W>,
+    line_number: u32,
+    task: &Name,
+    line: &SubpoolLine,
+) -> Result<(), Failed>
+    ensures bytes { WritesAll (W.contents writer.old.inner) (W.contents writer.new.inner) result
+        (reply_line line_number task.now (subpool_text line.now.number line.now.owned line.now.plain line.now.pool)) }
+    ensures ok { OnOk result (writer.new.failed ≡ writer.old.failed) }
+    ensures err { OnErr result (writer.new.failed ≡ true) }
+{
+    let mut text = Text::new();
+    push_head(&mut text, line_number, task);
+    push_subpool(&mut text, line);
+    text.push_all(b"\n");
+    write_all(writer, text.as_slice())
+}
+
+/// Prints the line of REPORT SP for a task that has no number.
+pub fn print_no_subpool<W: Write>(
+    writer: &mut Watched<W>,
+    line_number: u32,
+    task: &Name,
+) -> Result<(), Failed>
+    ensures bytes { WritesAll (W.contents writer.old.inner) (W.contents writer.new.inner) result (reply_line line_number task.now no_subpool) }
+    ensures ok { OnOk result (writer.new.failed ≡ writer.old.failed) }
+    ensures err { OnErr result (writer.new.failed ≡ true) }
+{
+    print_line(writer, line_number, task, b"SP NONE")
+}
+
+// Puts behind a text the subpool that pages are assigned to.
+fn push_holder(text: &mut Text, holder: &Option<(SubNo, Name)>)
+    requires { length text.old ≤ 80 }
+    ensures text { text.new ≡ text.old ++ holder_said holder.now }
+    ensures len { length text.new ≤ length text.old + 40 }
+{
+    match holder {
+        Some((number, owner)) => {
+            text.push_all(b"SP ");
+            text.push_decimal(u32::from(number.get()));
+            text.push_all(b" OWNER ");
+            text.push_all(owner.text());
+        }
+        None => text.push_all(b"FREE"),
+    }
+}
+
+/// Prints the line of REPORT MAP for a run of pages.
+pub fn print_map_run<W: Write>(
+    writer: &mut Watched<W>,
+    line_number: u32,
+    task: &Name,
+    run: &MapRun,
+) -> Result<(), Failed>
+    ensures bytes { WritesAll (W.contents writer.old.inner) (W.contents writer.new.inner) result
+        (reply_line line_number task.now (map_text run.now.addr run.now.len (holder_said run.now.holder))) }
+    ensures ok { OnOk result (writer.new.failed ≡ writer.old.failed) }
+    ensures err { OnErr result (writer.new.failed ≡ true) }
+{
+    let mut text = Text::new();
+    push_head(&mut text, line_number, task);
+    text.push_all(b"MAP ");
+    text.push_word(run.addr.get());
+    text.push_all(b" ");
+    text.push_word(run.len);
+    text.push_all(b" ");
+    push_holder(&mut text, &run.holder);
+    text.push_all(b"\n");
+    write_all(writer, text.as_slice())
+}

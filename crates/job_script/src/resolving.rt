@@ -1,0 +1,317 @@
+//! Requests as they are written: the addresses of their names, and the names that they set.
+
+ghost use Rattle.std.specs.Prelude.{◌≢◌, [], OnErr, ◌≡◌, ◌+◌, ◌≤◌, ◌++◌, None, Some, length, OnOk, MatchBool};
+ghost use Rattle.std.specs.Option.{option_map};
+ghost use Rattle.std.specs.FinMap.{FinMap};
+ghost use Rattle.mvs_model.specs.Name.{name_cmp};
+ghost use Rattle.mvs_model.specs.Place.{PlaceValue};
+ghost use Rattle.mvs_model.specs.Resolving.{address_of, all_set, names_set, places_in, places_of, resolved};
+ghost use Rattle.job_script.specs.Areas.{Fit};
+ghost use Rattle.job_script.specs.Resolving.{IsAccess, IsObtain, IsOfPool, IsOfTask, IsRelease};
+
+use crate::names::Names;
+use mvs_model::bounded::Length;
+use mvs_model::error::OutOfMemory;
+use mvs_model::line::{Location, Locations, Written};
+use mvs_model::name::Name;
+use mvs_model::place::{Addr, Place};
+use mvs_model::request::{Lengths, Places, Reply, Request};
+use std::slice;
+
+// The address that is written, where its name is set.
+fn address(names: &Names, location: &Location) -> Option<Addr>
+    ensures { result ≡ address_of names.now location.now }
+{
+    match location {
+        Location::Absolute(addr) => Some(*addr),
+        Location::Named(name, offset) => {
+            let Some(place) = names.get(name) else {
+                return None;
+            };
+            Some(Addr::new(place.addr().get() + offset.get()))
+        }
+    }
+}
+
+// The place that is written, where its name is set.
+fn place(names: &Names, location: &Location, len: Length) -> Option<Place>
+    ensures { result ≡ option_map (λ a. record { addr = a; len = len }) (address_of names.now location.now) }
+{
+    let Some(addr) = address(names, location) else {
+        return None;
+    };
+    Some(Place::new(addr, len.get()))
+}
+
+// Puts the places that are written behind others, where their names are set.
+fn push_places(
+    names: &Names,
+    places: &mut Places,
+    locations: &[Location],
+    lengths: &[Length],
+) -> bool
+    requires { length places.old + length locations.now ≤ 16 }
+    ensures { MatchBool result
+        (option_map (λ ps. places.old ++ ps) (places_of names.now locations.now lengths.now) ≡ Some places.new)
+        (places_of names.now locations.now lengths.now ≡ None) }
+{
+    let Some((location, locations)) = locations.split_first() else {
+        return true;
+    };
+    let Some((len, lengths)) = lengths.split_first() else {
+        return true;
+    };
+    let Some(place) = place(names, location, *len) else {
+        return false;
+    };
+    places.push(place);
+    push_places(names, places, locations, lengths)
+}
+
+// The places that are written, where their names are set.
+fn places(names: &Names, locations: &Locations, lengths: &Lengths) -> Option<Places>
+    ensures { result ≡ places_of names.now locations.now lengths.now }
+{
+    let Some((location, locations)) = locations.as_slice().split_first() else {
+        unreachable!()
+    };
+    let Some((len, lengths)) = lengths.as_slice().split_first() else {
+        unreachable!()
+    };
+    let Some(first) = place(names, location, *len) else {
+        return None;
+    };
+    let mut places = Places::one(first);
+    if push_places(names, &mut places, locations, lengths) {
+        Some(places)
+    } else {
+        None
+    }
+}
+
+// The names that a request sets.
+fn names_set(written: &Written) -> &[Name]
+    ensures { result.now ≡ names_set written.now }
+{
+    match written {
+        Written::Obtain { area, .. } => slice::from_ref(area),
+        Written::ObtainList { areas, .. } => areas.as_slice(),
+        Written::Get { cell, .. } => slice::from_ref(cell),
+        _ => &[],
+    }
+}
+
+// The places that a reply gives to names.
+fn places_in(reply: &Reply) -> &[Place]
+    ensures { result.now ≡ places_in reply.now }
+{
+    match reply {
+        Reply::Obtained(place) | Reply::Cell(place) => slice::from_ref(place),
+        Reply::Listed(places) => places.as_slice(),
+        _ => &[],
+    }
+}
+
+// Sets names to places, from the left.
+fn set_all(names: &mut Names, areas: &[Name], places: &[Place]) -> Result<(), OutOfMemory>
+    requires { Fit areas.now places.now }
+    ensures ok { OnOk result (names.new ≡ all_set names.old areas.now places.now) }
+    ensures err { OnErr result ((areas.now ≢ []) × (places.now ≢ [])) }
+{
+    let Some((area, areas)) = areas.split_first() else {
+        return Ok(());
+    };
+    let Some((place, places)) = places.split_first() else {
+        return Ok(());
+    };
+    names.set(*area, *place)?;
+    set_all(names, areas, places)
+}
+
+/// Sets the names of a request to the places that its reply gives.
+pub fn set_names(names: &mut Names, written: &Written, reply: &Reply) -> Result<(), OutOfMemory>
+    requires { Fit (names_set written.now) (places_in reply.now) }
+    ensures ok { OnOk result (names.new ≡ all_set names.old (names_set written.now) (places_in reply.now)) }
+    ensures err { OnErr result ((names_set written.now ≢ []) × (places_in reply.now ≢ [])) }
+{
+    set_all(names, names_set(written), places_in(reply))
+}
+
+// A request that releases, where each name that it looks up is set.
+fn release_request(names: &Names, written: &Written) -> Option<Request>
+    requires { IsRelease written.now }
+    ensures { result ≡ resolved names.now written.now }
+{
+    match written {
+        Written::Release {
+            form,
+            number,
+            location,
+            len,
+        } => place(names, location, *len).map(|place| Request::Release {
+            form: *form,
+            number: *number,
+            place,
+        }),
+        Written::ReleaseArea { form, number, area } => {
+            names.get(area).map(|place| Request::Release {
+                form: *form,
+                number: *number,
+                place,
+            })
+        }
+        Written::ReleaseList {
+            form,
+            number,
+            locations,
+            lengths,
+        } => places(names, locations, lengths).map(|places| Request::ReleaseList {
+            form: *form,
+            number: *number,
+            places,
+        }),
+        Written::ReleaseWhole { form, number } => Some(Request::ReleaseWhole {
+            form: *form,
+            number: *number,
+        }),
+        _ => unreachable!(),
+    }
+}
+
+// A request that reads or writes bytes, where each name that it looks up is set.
+fn access_request(names: &Names, written: &Written) -> Option<Request>
+    requires { IsAccess written.now }
+    ensures { result ≡ resolved names.now written.now }
+{
+    match written {
+        Written::Show { from, len } => {
+            address(names, from).map(|from| Request::Show { from, len: *len })
+        }
+        Written::Put { to, bytes } => address(names, to).map(|to| Request::Put {
+            to,
+            bytes: bytes.copied(),
+        }),
+        Written::Move { to, from, len } => {
+            let Some(to) = address(names, to) else {
+                return None;
+            };
+            address(names, from).map(|from| Request::Move {
+                to,
+                from,
+                len: *len,
+            })
+        }
+        _ => unreachable!(),
+    }
+}
+
+// A request that begins or ends a task.
+fn task_request(written: &Written) -> Request
+    requires { IsOfTask written.now }
+    ensures { (names : FinMap name_cmp PlaceValue) → resolved names written.now ≡ Some result }
+{
+    match written {
+        Written::Attach {
+            name,
+            gifts,
+            residence,
+        } => Request::Attach {
+            name: *name,
+            gifts: *gifts,
+            residence: *residence,
+        },
+        Written::Return => Request::Return,
+        Written::Abend(code) => Request::Abend(*code),
+        _ => unreachable!(),
+    }
+}
+
+// A request that obtains storage.
+fn obtain_request(written: &Written) -> Request
+    requires { IsObtain written.now }
+    ensures { (names : FinMap name_cmp PlaceValue) → resolved names written.now ≡ Some result }
+{
+    match written {
+        Written::Obtain {
+            form,
+            number,
+            ask,
+            ..
+        } => Request::Obtain {
+            form: *form,
+            number: *number,
+            ask: *ask,
+        },
+        Written::ObtainList {
+            form,
+            number,
+            lengths,
+            start,
+            ..
+        } => Request::ObtainList {
+            form: *form,
+            number: *number,
+            lengths: lengths.copied(),
+            start: *start,
+        },
+        _ => unreachable!(),
+    }
+}
+
+// A request for a cell pool, where the name that it looks up is set.
+fn pool_request(names: &Names, written: &Written) -> Option<Request>
+    requires { IsOfPool written.now }
+    ensures { result ≡ resolved names.now written.now }
+{
+    match written {
+        Written::Build {
+            pool,
+            number,
+            size,
+            primary,
+            secondary,
+            loc,
+        } => Some(Request::Build {
+            pool: *pool,
+            number: *number,
+            size: *size,
+            primary: *primary,
+            secondary: *secondary,
+            loc: *loc,
+        }),
+        Written::Get {
+            pool,
+            conditional,
+            ..
+        } => Some(Request::Get {
+            pool: *pool,
+            conditional: *conditional,
+        }),
+        Written::Free { pool, cell } => {
+            address(names, cell).map(|cell| Request::Free { pool: *pool, cell })
+        }
+        Written::Delete { pool } => Some(Request::Delete { pool: *pool }),
+        _ => unreachable!(),
+    }
+}
+
+/// The request that is asked for, where each name that it looks up is set.
+pub fn resolve(names: &Names, written: &Written) -> Option<Request>
+    ensures { result ≡ resolved names.now written.now }
+{
+    match written {
+        Written::Obtain { .. } | Written::ObtainList { .. } => Some(obtain_request(written)),
+        Written::Release { .. }
+        | Written::ReleaseArea { .. }
+        | Written::ReleaseList { .. }
+        | Written::ReleaseWhole { .. } => release_request(names, written),
+        Written::Show { .. } | Written::Put { .. } | Written::Move { .. } => {
+            access_request(names, written)
+        }
+        Written::Build { .. }
+        | Written::Get { .. }
+        | Written::Free { .. }
+        | Written::Delete { .. } => pool_request(names, written),
+        Written::Attach { .. } | Written::Return | Written::Abend(_) => Some(task_request(written)),
+    }
+}

@@ -1,0 +1,183 @@
+//! A line of text in a fixed array.
+
+ghost use Rattle.std.specs.Prelude.{◌≡◌, ◌<◌, ◌≤◌, ◌+◌, ◌/◌, ◌%◌, ◌++◌, ◌∷◌, [], List, ℕ, length, take, decimal};
+ghost use Rattle.mvs_model.specs.Texts.{last_digits, hex, glyph};
+
+use std::marker::Model;
+
+/// The most bytes that a printed line has.
+pub const ROOM: usize = 160;
+
+/// The glyphs of the digits below sixteen.
+const GLYPHS: [u8; 16] = *b"0123456789ABCDEF";
+
+/// Text of at most 160 bytes.
+#[derive(Drop)]
+pub struct Text {
+    bytes: [u8; ROOM],
+    len: usize,
+}
+
+impl Model for Text {
+    ghost Value = { List ℕ };
+
+    ghost view = { λ t. take t.len t.bytes };
+
+    ghost invariant = { λ t. t.len ≤ 160 };
+}
+
+impl Text {
+    pub fn new() -> Text
+        ensures { result ≡ [] }
+    {
+        Text {
+            bytes: [0; ROOM],
+            len: 0,
+        }
+    }
+
+    pub fn as_slice(&self) -> &[u8]
+        ensures { result.now ≡ self.now }
+    {
+        &self.bytes[..self.len]
+    }
+
+    /// How many bytes it has.
+    pub fn len(&self) -> usize
+        ensures { result ≡ length self.now }
+    {
+        self.len
+    }
+
+    /// Keeps so many of its bytes, the first ones.
+    pub fn cut(&mut self, len: usize)
+        requires { len ≤ length self.old }
+        ensures { self.new ≡ take len self.old }
+    {
+        self.len = len;
+    }
+
+    pub fn push(&mut self, byte: u8)
+        requires { length self.old < 160 }
+        ensures text { self.new ≡ self.old ++ byte ∷ [] }
+        ensures len { length self.new ≡ length self.old + 1 }
+    {
+        self.bytes[self.len] = byte;
+        self.len += 1;
+    }
+
+    pub fn push_all(&mut self, bytes: &[u8])
+        requires { length self.old + length bytes.now ≤ 160 }
+        ensures text { self.new ≡ self.old ++ bytes.now }
+        ensures len { length self.new ≡ length self.old + length bytes.now }
+    {
+        let end = self.len + bytes.len();
+        self.bytes[self.len..end].copy_from_slice(bytes);
+        self.len = end;
+    }
+
+    /// The two hexadecimal digits of a byte.
+    pub fn push_byte(&mut self, byte: u8)
+        requires { length self.old + 2 ≤ 160 }
+        ensures text { self.new ≡ self.old ++ hex 2 byte }
+        ensures len { length self.new ≡ length self.old + 2 }
+    {
+        let at = self.len;
+        self.bytes[at] = digit_glyph(byte / 16);
+        self.bytes[at + 1] = digit_glyph(byte % 16);
+        self.len = at + 2;
+    }
+
+    /// The four hexadecimal digits of a number of sixteen bits.
+    pub fn push_halfword(&mut self, number: u16)
+        requires { length self.old + 4 ≤ 160 }
+        ensures text { self.new ≡ self.old ++ hex 4 number }
+        ensures len { length self.new ≡ length self.old + 4 }
+    {
+        self.push_byte((number / 256) as u8);
+        self.push_byte((number % 256) as u8);
+    }
+
+    /// The eight hexadecimal digits of a number of 32 bits.
+    pub fn push_word(&mut self, number: u32)
+        requires { length self.old + 8 ≤ 160 }
+        ensures text { self.new ≡ self.old ++ hex 8 number }
+        ensures len { length self.new ≡ length self.old + 8 }
+    {
+        self.push_halfword((number / 65_536) as u16);
+        self.push_halfword((number % 65_536) as u16);
+    }
+
+    /// A number in decimal, without leading zeros.
+    pub fn push_decimal(&mut self, number: u32)
+        requires { length self.old + 10 ≤ 160 }
+        ensures text { self.new ≡ self.old ++ decimal number }
+        ensures len { length self.new ≤ length self.old + 10 }
+    {
+        self.push_digits(number);
+    }
+
+    // The digits of a number, the high ones first, three at a time.
+    fn push_digits(&mut self, number: u32)
+        requires { length self.old + length (decimal number) ≤ 160 }
+        ensures { self.new ≡ self.old ++ decimal number }
+    {
+        if number >= 1_000 {
+            self.push_digits(number / 1_000);
+            self.push_three(number);
+        } else if number >= 100 {
+            self.push_three(number);
+        } else if number >= 10 {
+            self.push_two(number);
+        } else {
+            self.push(last_digit(number));
+        }
+    }
+
+    // The last three digits of a number.
+    fn push_three(&mut self, number: u32)
+        requires { length self.old + 3 ≤ 160 }
+        ensures { self.new ≡ self.old ++ (48 + number / 100 % 10) ∷ (48 + number / 10 % 10) ∷ (48 + number % 10) ∷ [] }
+    {
+        self.push(last_digit(number / 100));
+        self.push_two(number);
+    }
+
+    // The last two digits of a number.
+    fn push_two(&mut self, number: u32)
+        requires { length self.old + 2 ≤ 160 }
+        ensures { self.new ≡ self.old ++ (48 + number / 10 % 10) ∷ (48 + number % 10) ∷ [] }
+    {
+        self.push(last_digit(number / 10));
+        self.push(last_digit(number));
+    }
+
+    /// The last digits of a number in a base of at most sixteen, as many as are asked for.
+    pub fn push_last(&mut self, base: u32, digits: u32, number: u32)
+        requires some { 2 ≤ base }
+        requires most { base ≤ 16 }
+        requires room { length self.old + digits ≤ 160 }
+        ensures text { self.new ≡ self.old ++ last_digits base digits number }
+        ensures len { length self.new ≡ length self.old + digits }
+    {
+        if digits > 0 {
+            self.push_last(base, digits - 1, number / base);
+            self.push(digit_glyph((number % base) as u8));
+        }
+    }
+}
+
+// The last digit of a number in decimal.
+fn last_digit(number: u32) -> u8
+    ensures { result ≡ 48 + number % 10 }
+{
+    b'0' + (number % 10) as u8
+}
+
+// The glyph of a digit below sixteen.
+fn digit_glyph(digit: u8) -> u8
+    requires { digit < 16 }
+    ensures { result ≡ glyph digit }
+{
+    GLYPHS[usize::from(digit)]
+}

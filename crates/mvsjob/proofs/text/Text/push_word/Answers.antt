@@ -1,7 +1,0 @@
-use Rattle.std.proofs.Common.{append_assoc}
-use Rattle.mvsjob.proofs.Digits.{four_digits}
-use Rattle.mvsjob.proofs.text.Text.push_word.Goals as goal
-
-pub returns-clause-text : goal.returns-clause-text
-returns-clause-text c =
-    rw (c.push_byte-2.ensures.text, c.push_byte.ensures.text, four_digits c.args.word c.ranges.word.fits) (append_assoc c.args.self.now _ _)
