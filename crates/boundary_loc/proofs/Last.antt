@@ -3,7 +3,7 @@ use Rattle.std.proofs.Common.{◌≡◌, ℕ, ◌+◌, ◌-◌, ◌^◌, ◌%◌
 use Rattle.std.proofs.lemmas.Bool.{cases_lt}
 use Rattle.std.proofs.lemmas.Nat.{pow_pos}
 use Rattle.std.proofs.Math.Nat.{mod-eq_of_lt, mod-eq-sub-mod}
-use Rattle.boundary_loc.specs.Boundary.{IsWithin, IsGreatestMultiple, IsLastStart}
+use Rattle.boundary_loc.specs.Boundary.{IsGreatestMultiple, IsLastStart}
 use Rattle.boundary_loc.proofs.Multiples.{lower_power, within_multiple, within_unpassed, within_before, passes}
 
 -- where there is no containing boundary it is the start itself

@@ -1,5 +1,5 @@
 -- Numbers of subpools, and the subpools of pages.
-use Rattle.std.proofs.Common.{◌≡◌, ◌≢◌, ℕ, zero, suc, ◌+◌, ◌-◌, ◌<◌, ◌≤◌, ◌⊎◌, inl, inr, Bool, true, false, cond, ◌||◌, List, [], ◌∷◌, length, length-drop, take, drop, get_or, map, count_by, set, replicate, Option, Some, None, is_some, eqb, ltb, refl, sym, ap, subst, ◌∙◌, arith}
+use Rattle.std.proofs.Common.{◌≡◌, ℕ, zero, suc, ◌+◌, ◌-◌, ◌<◌, ◌≤◌, ◌⊎◌, inl, inr, Bool, true, false, cond, ◌||◌, List, [], ◌∷◌, length, length-drop, take, drop, get_or, map, count_by, set, replicate, Option, Some, None, is_some, eqb, ltb, refl, sym, ap, ◌∙◌, arith}
 use Rattle.std.proofs.lemmas.Bool.{cases_lt, cases_eq}
 use Rattle.std.proofs.lemmas.Bool.Decides.{nat_tests}
 use Rattle.std.proofs.lemmas.Grind.{get_or_default_zero}
@@ -7,7 +7,7 @@ use Rattle.std.proofs.lemmas.List.{map-set, length-map, length-take-le}
 use Rattle.std.proofs.lemmas.List.Sums.{sum_by-cons}
 use Rattle.std.proofs.Math.ListN.{get_or-map}
 use Rattle.mvs_model.specs.Finite.{has}
-use Rattle.page_map.specs.Codes.{AreCodes, decoded, page_owners, free_code}
+use Rattle.page_map.specs.Codes.{decoded, page_owners}
 use Rattle.page_map.specs.Owners.{owner_of, is_of, is_usable}
 
 pub decoded_some : (n : ℕ) → n < 4098 → decoded n ≡ Some n

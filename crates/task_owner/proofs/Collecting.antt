@@ -12,7 +12,7 @@ use Rattle.task_owner.specs.Seats.{item_at, number_of}
 use Rattle.task_owner.specs.Family.{IsFreed, falls_free, is_owner_active, is_of, is_freed_below, OwnersHave, FreedBelow, TrimsBy, IsTrimmedBy, Loses, IsLost}
 use Rattle.task_owner.specs.declared.seat.Seat.{Seat}
 use Rattle.task_owner.specs.declared.seat.Owned.{Owned}
-use Rattle.task_owner.proofs.Places.{number_cases, same_or_not, set_apart, set_here, past_end}
+use Rattle.task_owner.proofs.Places.{number_cases, same_or_not, set_apart}
 use Rattle.task_owner.proofs.Bools.{same_test, either_true, or_true, or_false, both_true}
 
 -- The set has what it had and only subpools that the task owns besides, among these all that stand under a number below the bound.

@@ -1,5 +1,5 @@
 -- What a mother gives and shares, number by number.
-use Rattle.std.proofs.Common.{◌≡◌, ◌≢◌, ℕ, ◌+◌, ◌<◌, ◌≤◌, ◌⊎◌, inl, inr, Bool, true, false, cond, ◌&&◌, ◌||◌, Option, Some, None, List, eqb, ltb, refl, sym, ap, ◌∙◌, arith}
+use Rattle.std.proofs.Common.{◌≡◌, ◌≢◌, ℕ, ◌+◌, ◌<◌, ◌≤◌, inl, inr, Bool, true, false, cond, ◌&&◌, ◌||◌, Option, Some, None, List, eqb, ltb, refl, sym, ap, ◌∙◌, arith}
 use Rattle.std.proofs.lemmas.Bool.{cases_lt, cases_eq}
 use Rattle.std.proofs.lemmas.Bool.Decides.{nat_tests}
 use Rattle.mvs_model.specs.Gifts.{GiftsValue, gives}
@@ -7,7 +7,6 @@ use Rattle.task_owner.specs.Seats.{item_at}
 use Rattle.task_owner.specs.Handing.{is_handed, owned_anew, passed_below, passed_on}
 use Rattle.task_owner.specs.declared.seat.Owned.{Owned}
 use Rattle.task_owner.proofs.Bools.{both_true}
-use Rattle.task_owner.proofs.Having.{gives_low}
 
 pub given_or_shared : (g s : Bool) (o : Option ℕ) → cond g o (cond s o None) ≡ cond (g || s) o None
 given_or_shared true s o = refl

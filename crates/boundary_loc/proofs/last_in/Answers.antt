@@ -1,6 +1,5 @@
 use Rattle.std.proofs.Common.{◌≡◌, ◌+◌, ◌-◌, ◌^◌, subst, sym, ap, ◌∙◌, refl, arith}
 use Rattle.mvs_model.specs.Place.{place_at}
-use Rattle.boundary_loc.specs.Boundary.{IsGreatestMultiple, IsLastStart}
 use Rattle.boundary_loc.proofs.Deciding.{IsHighest, highest_at_last}
 use Rattle.boundary_loc.proofs.last_in.Goals as goal
 

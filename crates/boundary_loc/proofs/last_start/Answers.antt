@@ -1,4 +1,4 @@
-use Rattle.std.proofs.Common.{◌≡◌, ℕ, ◌+◌, ◌-◌, ◌^◌, ◌≤◌, subst, sym, arith}
+use Rattle.std.proofs.Common.{◌+◌, ◌-◌, ◌^◌, ◌≤◌, subst, arith}
 use Rattle.std.specs.Prelude.{IfSome}
 use Rattle.boundary_loc.specs.Boundary.{IsGreatestMultiple}
 use Rattle.boundary_loc.proofs.Last.{last_within, last_moved}

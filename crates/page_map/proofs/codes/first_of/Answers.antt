@@ -1,4 +1,4 @@
-use Rattle.std.proofs.Common.{◌<◌, ◌≤◌, ◌+◌, length, sym, ◌∙◌, arith}
+use Rattle.std.proofs.Common.{◌≤◌, ◌+◌, sym, ◌∙◌, arith}
 use Rattle.mvs_model.specs.Finite.{has}
 use Rattle.mvs_model.specs.Storage.{is_one_of}
 use Rattle.page_map.proofs.Decoding.{length_is, none_of, refused_more, refused_free}

@@ -1,4 +1,4 @@
-use Rattle.std.proofs.Common.{◌≡◌, ◌<◌, length, Some, arith}
+use Rattle.std.proofs.Common.{arith}
 use Rattle.task_owner.proofs.Collecting.{collected_all}
 use Rattle.task_owner.proofs.freed.collect_owned.Goals as goal
 

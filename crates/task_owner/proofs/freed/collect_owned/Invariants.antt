@@ -1,8 +1,5 @@
-use Rattle.std.proofs.Common.{◌≡◌, ◌<◌, ℕ, true, Some}
 use Rattle.std.specs.List.Sorted.{IsStrictlySortedBy}
 use Rattle.std.specs.Ordering.{nat_cmp}
-use Rattle.mvs_model.specs.Storage.{is_one_of}
-use Rattle.task_owner.specs.Seats.{item_at}
 use Rattle.task_owner.proofs.Collecting.{CollectedBelow}
 use Rattle.task_owner.proofs.freed.collect_owned.Given as goal
 

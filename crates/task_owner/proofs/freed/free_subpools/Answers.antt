@@ -1,5 +1,4 @@
-use Rattle.std.proofs.Common.{◌≡◌, ◌<◌, ◌+◌, length, length-set, set, Some, None, ap, sym, subst, ◌∙◌, refl, arith}
-use Rattle.slab.specs.Slab.{get}
+use Rattle.std.proofs.Common.{◌≡◌, ◌<◌, ◌+◌, length, length-set, set, Some, None, ap, sym, ◌∙◌, arith}
 use Rattle.task_owner.specs.Seats.{item_at}
 use Rattle.task_owner.specs.Family.{is_freed_below}
 use Rattle.task_owner.proofs.Collecting.{freed_next, was_there}

@@ -1,6 +1,5 @@
-use Rattle.std.proofs.Common.{◌≡◌, ◌<◌, ◌≤◌, ◌+◌, ℕ, Some, None, length, sym, ap, ◌∙◌, arith}
+use Rattle.std.proofs.Common.{◌≡◌, ◌<◌, Some, None, length, sym, ap, ◌∙◌, arith}
 use Rattle.task_owner.specs.Seats.{item_at}
-use Rattle.task_owner.specs.Handing.{passed_below}
 use Rattle.task_owner.proofs.Places.{same_default}
 use Rattle.task_owner.proofs.Gifts.{next_passed, none_at}
 use Rattle.task_owner.proofs.handing.pass_on.Goals as goal

@@ -1,4 +1,4 @@
-use Rattle.std.proofs.Common.{◌≡◌, not, length, sym, subst, arith}
+use Rattle.std.proofs.Common.{not, sym, subst, arith}
 use Rattle.mvs_model.specs.Owners.{goes}
 use Rattle.task_owner.specs.Family.{IsFreed, OwnersHave}
 use Rattle.task_owner.specs.declared.seat.Seat.{Seat}

@@ -1,4 +1,4 @@
-use Rattle.std.proofs.Common.{subst, ◌∙◌, arith}
+use Rattle.std.proofs.Common.{subst, arith}
 use Rattle.task_owner.specs.Tasks.{name_of}
 use Rattle.task_owner.specs.Handing.{GetsEntry}
 use Rattle.task_owner.proofs.tasks.Tasks.enter_shared.Goals as goal
