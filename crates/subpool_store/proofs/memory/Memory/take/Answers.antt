@@ -13,5 +13,5 @@ returns-clause-keeps c =
 pub returns-clause-filled : goal.returns-clause-filled
 returns-clause-filled c =
     filled_has c.args.self.now.held c.args.self.now.bytes c.take_in.new.self.bytes c.fill.new.self.bytes _ _ c.args.from c.args.to _ c.take_in.ensures.keeps c.fill.ensures.writes (omega arith) (omega (arith, c.requires.some)) (λ k low high.
-        let page : k / 4096 ≡ c.args.page = omega (arith, low, high, c.requires.first, c.requires.last) in
-        ap (is_open c.args.self.now.bytes) page ∙ c.requires.there)
+    let page : k / 4096 ≡ c.args.page = omega (arith, low, high, c.requires.first, c.requires.last) in
+    ap (is_open c.args.self.now.bytes) page ∙ c.requires.there)
