@@ -2,7 +2,7 @@
 use Rattle.std.proofs.Common.{◌≡◌, ℕ, zero, suc, ◌+◌, ◌-◌, ◌%◌, ◌<◌, ◌≤◌, ◌⊎◌, ◌↔◌, List, [], ◌∷◌, refl, sym, ap, ◌∙◌, subst, inl, inr, arith}
 use Rattle.std.proofs.lemmas.Bool.{lt-ltb, ltb-true}
 use Rattle.std.specs.Prelude.{Option, Some, None, nat_lt, true, false, Bool, if◌then◌else◌}
-use Rattle.free_queue.specs.Runs.{next_run, place_of, whole_page, word, Run, Spells, Rising, Within, Outside, IsFree, Covers, Queue, Same, Adds, Takes, Gives, NoneFree}
+use Rattle.free_queue.specs.Runs.{end, next_run, place_of, whole_page, word, Run, Spells, Rising, Within, Outside, IsFree, Covers, Queue, Same, Adds, Takes, Gives, NoneFree}
 use Rattle.free_queue.proofs.Words.{same_words}
 
 -- a queue stays one where no word from it on changes
@@ -377,22 +377,22 @@ head_whole lo (r ∷ rs) ws h q ends =
     (subst (λ k. k % 8 ≡ 0) e q.0.4, subst (λ k. k % 8 ≡ 0) l q.0.5)
 
 -- a page of which some bytes are held, all others free
-pub start_takes : (v mid w : ℕ → Option ℕ) (a n rest h : ℕ) → 0 < n → a + n ≤ 4096
-    → ((rs : List Run) → Queue 4097 v 0xFFFFFFFF rs → Adds (a + n) 4096 rs mid rest)
-    → ((rs : List Run) → Queue (a + 1) mid rest rs → Adds 0 a rs w h) → Takes 0 whole_page a n w h
-start_takes v mid w a n rest h some inside high low =
+pub start_takes : (v mid w : ℕ → Option ℕ) (a n rest h first stop : ℕ) → 0 < n → a + n ≤ 4096
+    → ((rs : List Run) → Queue (stop + 1) v end rs → Adds (a + n) stop rs mid rest)
+    → ((rs : List Run) → Queue (a + 1) mid rest rs → Adds first a rs w h) → first ≡ 0 → stop ≡ 4096 → Takes 0 whole_page a n w h
+start_takes v mid w a n rest h first stop some inside high low begins ends =
     let one = high [] (tt, refl) in
     let two = low one.0 (rising_from (a + n) (a + 1) one.0 (omega arith) one.1.0, one.1.1) in (
       two.0,
-      two.1,
+      (rising_from first 0 two.0 (omega arith) two.1.0, two.1.1),
       λ d. (
         λ f. elim ((two.2 d).0 f) [
           | inl w ↦ (inl (omega arith, omega (arith, w.1, inside)), inl w.1)
-          | inr g ↦ elim ((one.2 d).0 g) [ inl v ↦ (inl (omega arith, omega (arith, v.1)), inr v.0) | inr k ↦ absurd k ]
+          | inr g ↦ elim ((one.2 d).0 g) [ inl v ↦ (inl (omega arith, omega (arith, v.1, ends)), inr v.0) | inr k ↦ absurd k ]
         ],
         λ p. elim p.1 [
-          | inl lt ↦ (two.2 d).1 (inl (omega arith, lt))
-          | inr le ↦ elim p.0 [ inl w ↦ (two.2 d).1 (inr ((one.2 d).1 (inl (le, omega (arith, w.1))))) | inr k ↦ absurd k ]
+          | inl lt ↦ (two.2 d).1 (inl (omega (arith, begins), lt))
+          | inr le ↦ elim p.0 [ inl w ↦ (two.2 d).1 (inr ((one.2 d).1 (inl (le, omega (arith, w.1, ends))))) | inr k ↦ absurd k ]
         ],
       ),
     )

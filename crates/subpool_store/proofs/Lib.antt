@@ -6,6 +6,7 @@ pub mod PageOpened
 pub mod PageTaken
 pub mod PageWritten
 pub mod Marked
+pub mod Filled
 pub mod Cursors
 pub mod Begun
 pub mod RegionCount

@@ -193,6 +193,13 @@ fn examine_run(
     }
 }
 
+// Whether what begins at an index goes on with what ends at another one.
+fn goes_on(start: usize, end: usize) -> bool
+    ensures { IsTrue result ↔ start ≡ end }
+{
+    start == end
+}
+
 impl Walk {
     // A pass before the first page.
     pub fn new() -> Walk
@@ -312,7 +319,7 @@ impl Walk {
             self.inside = part.inside;
             self.queue = part.queue;
             self.steps += part.examined;
-            if part.start != run.end {
+            if !goes_on(part.start, run.end) {
                 self.start = part.start;
                 if least <= run.end - run.start {
                     return Some(run);

@@ -1,6 +1,6 @@
 use Rattle.std.proofs.Common.{rules, ◌≡◌, ◌<◌, ◌≤◌, ◌+◌, ℕ, false, length, arith}
 use Rattle.subpool_store.specs.Search.{may_take}
-use Rattle.subpool_store.proofs.Short.{fits_join, fits_none, fits_short, fits_skip, past_fails}
+use Rattle.subpool_store.proofs.Short.{begins_behind, fits_join, fits_none, fits_short, fits_skip, past_fails}
 use Rattle.subpool_store.proofs.walk.Walk.next_run.Goals as goal
 
 pub returns-then-least-run-clause-run : goal.returns-then-least-run-clause-run
@@ -13,7 +13,7 @@ returns-then-least-run-clause-run c =
       before = c.examine-part.ensures.part.after;
       skipped = fits_join test c.args.least c.args.self.now.start c.parts.self.start self.start c.parts.invariant.none c.examine-part.ensures.none;
       passes = c.examine-part.ensures.walk.passes;
-      stops = skipped self.end (omega arith) (omega (arith, c.if-part-run.true, c.examine-part.ensures.part.after));
+      stops = skipped self.end (omega arith) (begins_behind c.goes_on.result part.start self.end c.goes_on.ensures c.if-not-goes_on.true c.examine-part.ensures.part.after);
       rest = fits_skip test c.args.least self.end self.end part.start c.requires.least (fits_none test c.args.least self.end) skipped;
     }
 
@@ -21,7 +21,7 @@ pub parts-preserved-else-least-run : goal.parts-preserved-else-least-run
 parts-preserved-else-least-run c =
     let test = may_take c.args.memory.now.held c.args.pages.now c.args.subpool in let self = c.examine-part.new.self in let part = c.examine-part.result in
     let skipped = c.examine-part.ensures.part.skipped in
-    let past : self.end < part.start = omega (arith, c.if-part-run.true, c.examine-part.ensures.part.after) in
+    let past : self.end < part.start = begins_behind c.goes_on.result part.start self.end c.goes_on.ensures c.if-not-goes_on.true c.examine-part.ensures.part.after in
     let before = fits_join test c.args.least c.args.self.now.start c.parts.self.start self.start c.parts.invariant.none c.examine-part.ensures.none in
     let short : self.end < self.start + c.args.least = omega (arith, c.if-least-run.false, c.examine-part.ensures.walk.ordered) in record {
       walk = record {
