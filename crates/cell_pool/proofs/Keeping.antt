@@ -8,7 +8,7 @@ use Rattle.mvs_model.specs.Name.{name_cmp}
 use Rattle.mvs_model.specs.Finite.{has, kept}
 use Rattle.mvs_model.specs.Place.{PlaceValue}
 use Rattle.mvs_model.specs.Want.{WantValue}
-use Rattle.mvs_model.specs.Storage.{Storage, holder as held_by, IsStorage, Covers, covers, has_address, holds, Grant}
+use Rattle.mvs_model.specs.Storage.{Storage, holder as held_by, IsStorage, Covers, covers, has_address, Grant}
 use Rattle.mvs_model.specs.Owners.{Owners}
 use Rattle.mvs_model.specs.View.{state_of}
 use Rattle.mvs_model.specs.Changes.{Granted}

@@ -3,7 +3,7 @@ use Rattle.std.specs.Prelude.{◌≡◌, ℕ, ◌+◌, ◌<◌, ◌≤◌, Some}
 use Rattle.std.specs.FinMap.{FinMap, get}
 use Rattle.mvs_model.specs.declared.name.Name.{Name}
 use Rattle.mvs_model.specs.Name.{name_cmp}
-use Rattle.mvs_model.specs.Storage.{Storage, Regions, IsStorage}
+use Rattle.mvs_model.specs.Storage.{Storage, IsStorage}
 use Rattle.mvs_model.specs.Owners.{Owners}
 use Rattle.mvs_model.specs.View.{IsBounded, state_of}
 use Rattle.mvs_model.specs.WellFormed.{Apart}

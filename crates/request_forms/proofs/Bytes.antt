@@ -1,26 +1,24 @@
 -- Which bytes may be read and written, by what holds their doublewords and by taken cells.
-use Rattle.std.proofs.Common.{◌≡◌, ◌≢◌, ℕ, ◌+◌, ◌*◌, ◌/◌, ◌<◌, ◌≤◌, Bool, true, false, Option, Some, None, refl, sym, ap, ◌∙◌, arith}
-use Rattle.std.specs.Prelude.{IsTrue, ◌||◌, not}
+use Rattle.std.proofs.Common.{◌≡◌, ℕ, ◌+◌, ◌*◌, ◌/◌, ◌<◌, ◌≤◌, Bool, true, false, Some, None, refl, sym, ap, ◌∙◌, arith}
+use Rattle.std.specs.Prelude.{IsTrue, ◌||◌}
 use Rattle.std.specs.Bool.{MatchBool}
 use Rattle.std.proofs.lemmas.Bool.Decides.{nat_tests}
 use Rattle.std.specs.Option.{option_map}
 use Rattle.std.specs.FinMap.{FinMap, get, empty}
 use Rattle.mvs_model.specs.Name.{name_cmp}
 use Rattle.mvs_model.specs.Place.{PlaceValue, place_at}
-use Rattle.mvs_model.specs.Storage.{Storage, holder as held_by, Covers, HeldBy, has_address}
+use Rattle.mvs_model.specs.Storage.{Storage, holder as held_by, Covers, has_address}
 use Rattle.mvs_model.specs.Owners.{Owners}
-use Rattle.mvs_model.specs.State.{plain, pooled, is_plain, in_cell, granted}
+use Rattle.mvs_model.specs.State.{pooled, is_plain, in_cell, granted}
 use Rattle.mvs_model.specs.View.{in_pools, holding}
-use Rattle.mvs_model.specs.Changes.{Granted, HeldPlain}
-use Rattle.mvs_model.proofs.CellPlaces.{has_is}
+use Rattle.mvs_model.specs.Changes.{HeldPlain}
 use Rattle.mvs_model.proofs.Seen.{held_as}
 use Rattle.mvs_model.proofs.Stand.{held_state}
-use Rattle.mvs_model.proofs.TakenCells.{InCell, in_cell_from}
+use Rattle.mvs_model.proofs.TakenCells.{in_cell_from}
 use Rattle.cell_pool.specs.Agree.{Agree}
-use Rattle.cell_pool.specs.Cells.{IsTakenCell, Touches, TouchesNone}
+use Rattle.cell_pool.specs.Cells.{IsTakenCell}
 use Rattle.cell_pool.specs.Roots.{Root, pools_of}
 use Rattle.request_forms.specs.Machine.{machine_state}
-use Rattle.request_forms.proofs.Places.{plain_from}
 
 -- what a test that fails says
 pub outside : (P Q : Type 0) (b : Bool) → MatchBool b P Q → IsTrue b → P

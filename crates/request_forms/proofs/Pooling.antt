@@ -1,5 +1,5 @@
 -- Storage with its pools: what calls of the store and of the pools leave.
-use Rattle.std.proofs.Common.{◌≡◌, ◌≢◌, ℕ, ◌/◌, Bool, true, false, cond, List, [], ◌∷◌, Option, Some, None, refl, sym, ap, ◌∙◌, subst}
+use Rattle.std.proofs.Common.{◌≡◌, ℕ, ◌/◌, Bool, List, [], ◌∷◌, None, refl, sym, ap, ◌∙◌, subst}
 use Rattle.std.specs.Prelude.{not, ◌==◌}
 use Rattle.std.specs.List.{AllByRecursion}
 use Rattle.std.specs.Option.{option_map}
@@ -9,9 +9,8 @@ use Rattle.mvs_model.specs.Place.{PlaceValue}
 use Rattle.mvs_model.specs.Want.{WantValue}
 use Rattle.mvs_model.specs.Name.{name_cmp}
 use Rattle.mvs_model.specs.Finite.{Changes, Keeps, has}
-use Rattle.mvs_model.specs.Storage.{Storage, IsStorage, Grant, ReleaseAll, holder, holds}
+use Rattle.mvs_model.specs.Storage.{Storage, IsStorage, Grant, ReleaseAll, holder}
 use Rattle.mvs_model.specs.Owners.{Owners, SubpoolOf, Enters}
-use Rattle.mvs_model.specs.Pools.{Pool}
 use Rattle.mvs_model.specs.View.{state_of}
 use Rattle.mvs_model.specs.Changes.{GrantTo, Empties}
 use Rattle.mvs_model.specs.Card.{CardValue}
@@ -27,7 +26,7 @@ use Rattle.cell_pool.specs.Roots.{Root, pool_of, pools_of}
 use Rattle.cell_pool.proofs.Frame.{get-pools_of}
 use Rattle.cell_pool.proofs.Counted.{all_kept as parts_kept}
 use Rattle.cell_pool.proofs.Keeping.{grant_keeps, release_keeps, releases_keep, drops_pools}
-use Rattle.std.specs.FinMap.{FinMap, get, len, contains_key, entries, entries_sorted, from_sorted, entries-from_sorted, get-from_sorted, get-entries, len-entries, is_sorted, find, same_map}
+use Rattle.std.specs.FinMap.{FinMap, get, same_map}
 use Rattle.mvs_model.proofs.Orders.{name_cmp_total, name_cmp-IsAntisymmetric}
 use Rattle.request_forms.specs.Lists.{GrantsEach, ReleasesEach}
 use Rattle.request_forms.specs.Machine.{IsStepStorage, machine_state}

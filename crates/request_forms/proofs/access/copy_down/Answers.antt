@@ -1,4 +1,4 @@
-use Rattle.std.proofs.Common.{◌+◌, ◌-◌, ◌<◌, ◌≤◌, arith}
+use Rattle.std.proofs.Common.{arith}
 use Rattle.request_forms.proofs.Copying.{address_held, copied_next}
 use Rattle.request_forms.proofs.access.copy_down.Goals as goal
 

@@ -1,5 +1,4 @@
-use Rattle.std.proofs.Common.{◌≡◌, ◌+◌, ◌*◌, ◌/◌, ◌<◌, ◌≤◌, ap, sym, subst, ◌∙◌, arith}
-use Rattle.mvs_model.specs.Storage.{Covers}
+use Rattle.std.proofs.Common.{◌≡◌, ◌*◌, ◌/◌, ap, ◌∙◌, arith}
 use Rattle.request_forms.proofs.Bytes.{plain_granted, outside}
 use Rattle.request_forms.proofs.Places.{plain_from}
 use Rattle.request_forms.proofs.access.is_plain.Goals as goal

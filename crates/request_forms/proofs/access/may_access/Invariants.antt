@@ -1,4 +1,4 @@
-use Rattle.std.proofs.Common.{◌≡◌, ℕ, ◌+◌, ◌-◌, ◌<◌, ◌≤◌, true}
+use Rattle.std.proofs.Common.{◌≡◌, ℕ, ◌-◌, ◌<◌, ◌≤◌, true}
 use Rattle.mvs_model.specs.Owners.{Owners}
 use Rattle.mvs_model.specs.State.{granted}
 use Rattle.request_forms.specs.Machine.{machine_state}

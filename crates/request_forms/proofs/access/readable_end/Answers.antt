@@ -1,7 +1,6 @@
-use Rattle.std.proofs.Common.{◌≡◌, ◌+◌, ◌*◌, ◌/◌, ◌<◌, ◌≤◌, ap, sym, subst, ◌∙◌, arith, true, Some, None}
-use Rattle.mvs_model.specs.Place.{PlaceValue, place_at}
-use Rattle.mvs_model.specs.Storage.{holder, has_address}
-use Rattle.mvs_model.specs.State.{pooled}
+use Rattle.std.proofs.Common.{◌≡◌, ◌*◌, ◌/◌, ap, sym, subst, ◌∙◌, arith, Some}
+use Rattle.mvs_model.specs.Place.{place_at}
+use Rattle.mvs_model.specs.Storage.{holder}
 use Rattle.mvs_model.specs.View.{holding}
 use Rattle.mvs_model.proofs.CellPlaces.{has_is}
 use Rattle.cell_pool.specs.Cells.{Touches, TouchesNone}

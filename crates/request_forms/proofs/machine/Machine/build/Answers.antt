@@ -1,9 +1,7 @@
-use Rattle.std.proofs.Common.{ℕ, sym, subst, ap, ◌∙◌}
-use Rattle.std.specs.FinMap.{get}
+use Rattle.std.proofs.Common.{ℕ, subst, ap, ◌∙◌}
 use Rattle.mvs_model.specs.declared.want.Side.{Side}
-use Rattle.mvs_model.specs.declared.request.Reply.{Reply}
 use Rattle.mvs_model.specs.State.{State}
-use Rattle.mvs_model.specs.Steps.{Abends, BuildStep}
+use Rattle.mvs_model.specs.Steps.{BuildStep}
 use Rattle.mvs_model.specs.declared.request.Reply.TheVariants.{Rc0}
 use Rattle.mvs_model.specs.Want.{side_of}
 use Rattle.request_forms.proofs.Building.{invalid_build, residence_seen}

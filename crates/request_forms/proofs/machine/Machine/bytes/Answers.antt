@@ -1,4 +1,4 @@
-use Rattle.std.proofs.Common.{◌≡◌, ◌+◌, ◌≤◌, ◌<◌, ap, refl, subst, sym, ◌∙◌, true, false, arith}
+use Rattle.std.proofs.Common.{◌≡◌, ◌+◌, ap, refl, subst, sym, ◌∙◌, true, false, arith}
 use Rattle.std.specs.FinMap.{get}
 use Rattle.mvs_model.specs.State.{State}
 use Rattle.mvs_model.specs.Changes.{Granted}

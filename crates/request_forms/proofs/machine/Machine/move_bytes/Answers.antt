@@ -5,7 +5,6 @@ use Rattle.mvs_model.specs.State.{State}
 use Rattle.request_forms.specs.Access.{Copied}
 use Rattle.request_forms.specs.Machine.{machine_state}
 use Rattle.request_forms.proofs.Accessing.{held_place, copy_agrees, move_denied, move_done}
-use Rattle.request_forms.proofs.Pooling.{step_storage}
 use Rattle.request_forms.proofs.machine.Machine.move_bytes.Goals as goal
 
 pub returns-then-not-may_move-clause-answer : goal.returns-then-not-may_move-clause-answer

@@ -1,5 +1,4 @@
 use Rattle.std.proofs.Common.{ap, ◌∙◌, subst, sym}
-use Rattle.std.specs.FinMap.{get}
 use Rattle.mvs_model.specs.State.{State}
 use Rattle.mvs_model.specs.Want.{want_of, side_of}
 use Rattle.mvs_model.specs.Changes.{ShortOf}

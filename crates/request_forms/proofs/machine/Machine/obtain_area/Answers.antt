@@ -1,8 +1,6 @@
-use Rattle.std.proofs.Common.{sym, ◌∙◌, ap, subst}
-use Rattle.cell_pool.specs.Agree.{Agree}
+use Rattle.std.proofs.Common.{sym, ◌∙◌, ap}
 use Rattle.request_forms.specs.Machine.{machine_state}
 use Rattle.request_forms.proofs.Obtaining.{area_of, area_agrees, short_of_new, area_of_new}
-use Rattle.request_forms.proofs.Pooling.{grant_agrees}
 use Rattle.request_forms.proofs.machine.Machine.obtain_area.Goals as goal
 
 pub returns-in-Some : goal.returns-in-Some

@@ -1,4 +1,4 @@
-use Rattle.std.proofs.Common.{◌-◌, arith, ap, subst, refl, [], Option}
+use Rattle.std.proofs.Common.{◌-◌, ap, subst, refl, [], Option}
 use Rattle.std.specs.Option.{unwrap_or}
 use Rattle.mvs_model.specs.declared.name.Name.{Name}
 use Rattle.task_owner.specs.Tasks.{name_of}
