@@ -2,6 +2,7 @@
 use Rattle.std.proofs.Common.{◌≡◌, refl, ◌||◌, ◌&&◌, not, true, false, Bool, ℕ, zero, suc, ◌+◌, ◌-◌, ◌==◌, List, [], ◌∷◌, ◌++◌, map, length, take, drop, sym, ap, subst, ◌∙◌, arith, append_assoc, length-append}
 use Rattle.std.specs.Prelude.{Some, None, nat_le, nat_lt, is_some, bytes_eq, codes, find, flat_map, option_map, slice_get, unwrap_or, if◌then◌else◌}
 use Rattle.std.specs.List.{list_all, list_any, after_first, position_or_len, AllByRecursion}
+use Rattle.std.proofs.lemmas.Bool.{and_from}
 use Rattle.std.proofs.lemmas.Bool.Decides.{nat_tests}
 use Rattle.std.proofs.lemmas.List.{append-nil}
 use Rattle.mvs_model.specs.declared.line.Fault.{Fault}
@@ -13,8 +14,8 @@ use Rattle.mvs_model.specs.Reading.{◌when◌, ◌>>=◌, ByKey, by_key, behind
 use Rattle.mvs_model.specs.ReadingLaws.{keyed}
 use Rattle.mvs_model.specs.Spelling.{AllowedIsRead, InAnyOrder, Fits, FitPlaces, FitsKey, IsAllowed, IsCut, IsOperand, IsWord, all_operands, closes, keyword_text, line_text, said_by}
 use Rattle.mvs_model.proofs.Reading.{or_false, said_with}
-use Rattle.mvs_model.proofs.ReadingTaken.{and_true, bytes_same}
-use Rattle.mvs_model.proofs.Spelling.{all_weaker, both_true, cut_apart, not_true, printed}
+use Rattle.mvs_model.proofs.ReadingTaken.{and_true, bytes_same, twice_under, under, under_nothing}
+use Rattle.mvs_model.proofs.Spelling.{all_weaker, cut_apart, not_true, printed}
 
 -- ---- a line by its parts
 
@@ -53,17 +54,6 @@ record Passes (row : Row) (left : List (List ℕ)) (operand : List ℕ) : Type 0
 abbrev EachPasses : Row → List (List ℕ) → List (List ℕ) → Type 0
 EachPasses row left [] = Unit {0}
 EachPasses row left (x ∷ xs) = Passes row left x × EachPasses row (left ++ (x ∷ [])) xs
-
-abbrev under : (List (List ℕ) → List (List ℕ)) → List (List (List ℕ) × List ℕ) → List (List (List ℕ) × List ℕ)
-under front ps = map (λ p. (front p.0, p.1)) ps
-
-twice_under : (x : List ℕ) (front : List (List ℕ) → List (List ℕ)) (ps : List (List (List ℕ) × List ℕ)) → under front (under (λ left. x ∷ left) ps) ≡ under (λ left. front (x ∷ left)) ps
-twice_under x front [] = refl
-twice_under x front (p ∷ ps) = λ i. (front (x ∷ p.0), p.1) ∷ twice_under x front ps i
-
-under_nothing : (ps : List (List (List ℕ) × List ℕ)) → under (λ left. left) ps ≡ ps
-under_nothing [] = refl
-under_nothing (p ∷ ps) = λ i. p ∷ under_nothing ps i
 
 passes_at : (row : Row) (left same : List (List ℕ)) (x : List ℕ) (behind : List (Fault × Bool)) → same ≡ left → Passes row left x → first_of (operand_checks row (same, x) ++ behind) ≡ first_of behind
 passes_at row left same x behind e p =
@@ -143,7 +133,7 @@ keyword_word : (key text : List ℕ) → list_all is_letter key ≡ true → IsW
 keyword_word [] text e is = record { some = refl; printed = is.printed }
 keyword_word (b ∷ key) text e is =
     let a = and_true (is_letter b) (list_all is_letter key) e in
-    record { some = refl; printed = both_true (printed b) _ (letter_printed b a.0) (keyword_word key text a.1 is).printed }
+    record { some = refl; printed = and_from (printed b) _ (letter_printed b a.0) (keyword_word key text a.1 is).printed }
 
 keyword_operand : (key text : List ℕ) → list_all is_letter key ≡ true → IsOperand text → IsOperand (key ++ (61 ∷ text))
 keyword_operand key text e is = record { word = keyword_word key text e is.word; closed = closes_behind key text e ∙ is.closed }
@@ -583,7 +573,7 @@ apart (p ∷ front) a b rest once = apart front a b rest (or_false (list_any (by
 
 same_key : (xs : List ℕ) → bytes_eq xs xs ≡ true
 same_key [] = refl
-same_key (x ∷ xs) = both_true (x == x) _ (let e : (x == x) ≡ true = grind (arith, nat_tests) in e) (same_key xs)
+same_key (x ∷ xs) = and_from (x == x) _ (let e : (x == x) ≡ true = grind (arith, nat_tests) in e) (same_key xs)
 
 found_exchanged : (key : List ℕ) (front : List Pair) (a b : Pair) (rest : List Pair) → bytes_eq a.0 b.0 ≡ false
     → find (λ p. bytes_eq p.0 key) (front ++ (a ∷ b ∷ rest)) ≡ find (λ p. bytes_eq p.0 key) (front ++ (b ∷ a ∷ rest))

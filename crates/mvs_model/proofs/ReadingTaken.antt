@@ -35,13 +35,13 @@ taken_by row left operand e =
     }
 
 -- the operands with more on their left
-abbrev Placed : Type 0
+abbrev pub Placed : Type 0
 Placed = List (List ℕ) × List ℕ
 
-abbrev under : (List (List ℕ) → List (List ℕ)) → List Placed → List Placed
+abbrev pub under : (List (List ℕ) → List (List ℕ)) → List Placed → List Placed
 under put ps = map (λ p. (put p.0, p.1)) ps
 
-twice_under : (x : List ℕ) (put : List (List ℕ) → List (List ℕ)) (ps : List Placed) → under put (under (λ left. x ∷ left) ps) ≡ under (λ left. put (x ∷ left)) ps
+pub twice_under : (x : List ℕ) (put : List (List ℕ) → List (List ℕ)) (ps : List Placed) → under put (under (λ left. x ∷ left) ps) ≡ under (λ left. put (x ∷ left)) ps
 twice_under x put [] = refl
 twice_under x put (p ∷ ps) = λ i. (put (x ∷ p.0), p.1) ∷ twice_under x put ps i
 
@@ -60,7 +60,7 @@ all_taken row put (x ∷ os) e o test f =
       | false ↦ λ t f. all_taken row (λ left. put (x ∷ left)) os (ap (λ ps. first_of (flat_map (operand_checks row) ps)) (sym (twice_under x put (with_left os))) ∙ later) o test f
     ]) refl f
 
-under_nothing : (ps : List Placed) → under (λ left. left) ps ≡ ps
+pub under_nothing : (ps : List Placed) → under (λ left. left) ps ≡ ps
 under_nothing [] = refl
 under_nothing (p ∷ ps) = λ i. p ∷ under_nothing ps i
 

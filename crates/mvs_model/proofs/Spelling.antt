@@ -2,7 +2,9 @@
 use Rattle.std.proofs.Common.{◌≡◌, refl, ◌||◌, ◌&&◌, not, true, false, Bool, ℕ, suc, ◌+◌, ◌-◌, ◌==◌, List, [], ◌∷◌, ◌++◌, take, length, ap, ◌∙◌, arith}
 use Rattle.std.specs.Prelude.{nat_le, filter, slice_get, slice_index, if◌then◌else◌}
 use Rattle.std.specs.List.{list_all, before_first, position_or_len, slice_split, onto_first, AllByRecursion}
+use Rattle.std.proofs.lemmas.Bool.{and_from}
 use Rattle.std.proofs.lemmas.Bool.Decides.{nat_tests}
+use Rattle.std.proofs.lemmas.List.Folds.{list_all-append}
 use Rattle.std.proofs.lemmas.List.Splits.{slice_split-cons_no}
 use Rattle.mvs_model.specs.Reading.{is_empty, is_name, is_name_byte, is_digit, says_nothing, words, operands_in, parts_within}
 use Rattle.mvs_model.specs.Spelling.{joined, line_text, closes, IsWord, IsOperand, IsCut, CutApart}
@@ -20,17 +22,12 @@ pub not_true : (a : Bool) → not a ≡ true → a ≡ false
 not_true false e = refl
 not_true true e = absurd (let f : false ≡ true = e in cc)
 
-pub both_true : (a b : Bool) → a ≡ true → b ≡ true → (a && b) ≡ true
-both_true true b e f = f
-both_true false b e f = absurd (let g : false ≡ true = e in cc)
-
 pub all_append : (test : ℕ → Bool) (xs ys : List ℕ) → list_all test xs ≡ true → list_all test ys ≡ true → list_all test (xs ++ ys) ≡ true
-all_append test [] ys e f = f
-all_append test (x ∷ xs) ys e f = let a = and_true (test x) (list_all test xs) e in both_true (test x) _ a.0 (all_append test xs ys a.1 f)
+all_append test xs ys e f = list_all-append test xs ys ∙ and_from (list_all test xs) (list_all test ys) e f
 
 pub all_weaker : (test other : ℕ → Bool) → ((b : ℕ) → test b ≡ true → other b ≡ true) → (xs : List ℕ) → list_all test xs ≡ true → list_all other xs ≡ true
 all_weaker test other weaker [] e = refl
-all_weaker test other weaker (x ∷ xs) e = let a = and_true (test x) (list_all test xs) e in both_true (other x) _ (weaker x a.0) (all_weaker test other weaker xs a.1)
+all_weaker test other weaker (x ∷ xs) e = let a = and_true (test x) (list_all test xs) e in and_from (other x) _ (weaker x a.0) (all_weaker test other weaker xs a.1)
 
 printed_is_plain : (b : ℕ) → printed b ≡ true → plain b ≡ true
 printed_is_plain b e = grind (arith, nat_tests)

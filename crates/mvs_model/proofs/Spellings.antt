@@ -2,6 +2,7 @@
 use Rattle.std.proofs.Common.{◌≡◌, refl, ◌||◌, ◌&&◌, not, true, false, ℕ, ◌==◌, List, [], ◌∷◌, map, length, ap, ◌∙◌}
 use Rattle.std.specs.Prelude.{None, Some, bytes_eq, codes, slice_get, unwrap_or, if◌then◌else◌}
 use Rattle.std.specs.List.{list_all, list_any}
+use Rattle.std.proofs.lemmas.Bool.{and_right}
 use Rattle.mvs_model.specs.declared.code.Form.{Form}
 use Rattle.mvs_model.specs.declared.code.Form.TheVariants as form
 use Rattle.mvs_model.specs.declared.line.Fault.TheVariants.{TooLong, InvalidByte, UnknownOperation}
@@ -18,7 +19,7 @@ use Rattle.mvs_model.proofs.Allowed.{allowed_is_read}
 use Rattle.mvs_model.proofs.Reading.{said_with}
 use Rattle.mvs_model.proofs.ReadingTaken.{and_true}
 use Rattle.mvs_model.proofs.Spelling.{cut_apart, not_true}
-use Rattle.mvs_model.proofs.ValueTexts.{and_right, not_list}
+use Rattle.mvs_model.proofs.ValueTexts.{not_list}
 
 -- ---- lengths
 

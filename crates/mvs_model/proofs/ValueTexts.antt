@@ -2,7 +2,7 @@
 use Rattle.std.proofs.Common.{◌≡◌, refl, ◌||◌, ◌&&◌, not, true, false, Bool, ℕ, zero, suc, ◌+◌, ◌-◌, ◌*◌, ◌/◌, ◌%◌, ◌^◌, ◌<◌, ◌≤◌, ◌==◌, List, [], ◌∷◌, ◌++◌, map, length, take, drop, sym, ap, ◌∙◌, inl, inr, arith, append_assoc, length-append, pow-suc, decimal}
 use Rattle.std.specs.Prelude.{nat_le, nat_lt, bytes_eq, codes, flat_map, slice_get, unwrap_or, if◌then◌else◌}
 use Rattle.std.specs.List.{list_all, list_any, after_first, before_first, onto_first, position_or_len, slice_split, AllByRecursion}
-use Rattle.std.proofs.lemmas.Bool.{cases_lt}
+use Rattle.std.proofs.lemmas.Bool.{and_from, and_right, cases_lt}
 use Rattle.std.proofs.lemmas.Bool.Decides.{nat_tests}
 use Rattle.std.proofs.lemmas.Fmt.{decimal_by_steps, length-decimal-le}
 use Rattle.std.proofs.lemmas.List.Splits.{slice_split-cons_no}
@@ -14,7 +14,7 @@ use Rattle.mvs_model.specs.Reading.{has_key, hex_bytes, is_absolute, is_address,
 use Rattle.mvs_model.specs.Spelling.{EachIsWritten, Fits, FitsAlone, AreBetween, IsOperand, absolute_text, bytes_text, closes, joined, list_text, named_text, quoted_text}
 use Rattle.mvs_model.proofs.ReadingTaken.{and_true}
 use Rattle.mvs_model.proofs.ReadingLoops.{counted, counted_all, hex_counted, hex_counted_all}
-use Rattle.mvs_model.proofs.Spelling.{all_append, all_weaker, both_true, name_bytes, printed}
+use Rattle.mvs_model.proofs.Spelling.{all_append, all_weaker, name_bytes, printed}
 
 -- ---- texts of simple bytes: printed, and none that parts or closes
 
@@ -96,7 +96,7 @@ number_behind : (text : List ℕ) (b : ℕ) → number (text ++ (b ∷ [])) ≡ 
 number_behind text b = sym (counted_all (text ++ (b ∷ []))) ∙ counted_behind 0 text b ∙ ap (λ n. n * 10 + (b - 48)) (counted_all text)
 
 one_digit : (n : ℕ) → n < 10 → Writes n ((48 + n) ∷ [])
-one_digit n small = record { some = refl; digits = (let e : is_digit (48 + n) ≡ true = grind (arith, nat_tests) in both_true (is_digit (48 + n)) true e refl); value = (let e : (48 + n - 48) * 1 + 0 ≡ n = omega arith in e) }
+one_digit n small = record { some = refl; digits = (let e : is_digit (48 + n) ≡ true = grind (arith, nat_tests) in and_from (is_digit (48 + n)) true e refl); value = (let e : (48 + n - 48) * 1 + 0 ≡ n = omega arith in e) }
 
 append_some : (text more : List ℕ) → is_empty text ≡ false → is_empty (text ++ more) ≡ false
 append_some [] more e = absurd (let f : true ≡ false = e in cc)
@@ -105,7 +105,7 @@ append_some (b ∷ text) more e = refl
 digit_more : (n : ℕ) (text : List ℕ) → 10 ≤ n → Writes (n / 10) text → Writes n (text ++ ((48 + n % 10) ∷ []))
 digit_more n text large w = record {
   some = append_some text _ w.some;
-  digits = all_append is_digit text _ w.digits (let e : is_digit (48 + n % 10) ≡ true = grind (arith, nat_tests) in both_true (is_digit (48 + n % 10)) true e refl);
+  digits = all_append is_digit text _ w.digits (let e : is_digit (48 + n % 10) ≡ true = grind (arith, nat_tests) in and_from (is_digit (48 + n % 10)) true e refl);
   value = number_behind text (48 + n % 10) ∙ ap (λ q. q * 10 + (48 + n % 10 - 48)) w.value ∙ (let e : n / 10 * 10 + (48 + n % 10 - 48) ≡ n = omega arith in e);
 }
 
@@ -156,7 +156,7 @@ hex_writes (suc k) n small =
     let g = glyph_says (n % 16) (omega arith) in
     record {
       many = length-append (hex k (n / 16)) (glyph (n % 16) ∷ []) ∙ (let e : length (hex k (n / 16)) + 1 ≡ suc k = omega (arith, w.many) in e);
-      digits = all_append is_hex_digit (hex k (n / 16)) (glyph (n % 16) ∷ []) w.digits (both_true (is_hex_digit (glyph (n % 16))) true g.0 refl);
+      digits = all_append is_hex_digit (hex k (n / 16)) (glyph (n % 16) ∷ []) w.digits (and_from (is_hex_digit (glyph (n % 16))) true g.0 refl);
       value = hex_number_behind (hex k (n / 16)) (glyph (n % 16)) ∙ (λ i. w.value i * 16 + g.1 i) ∙ (let e : n / 16 * 16 + n % 16 ≡ n = omega arith in e);
     }
 
@@ -241,10 +241,6 @@ quoting digits e =
 
 -- ---- numbers
 
-pub and_right : (a b : Bool) → b ≡ false → (a && b) ≡ false
-and_right true b e = e
-and_right false b e = refl
-
 le_true : (a b : ℕ) → a ≤ b → nat_le a b ≡ true
 le_true a b l = grind (arith, nat_tests)
 
@@ -252,13 +248,13 @@ short_decimal : (n : ℕ) → n < 10 ^ 10 → length (decimal n) ≤ 10
 short_decimal n small = length-decimal-le 10 n (omega arith) (omega arith) (omega arith)
 
 number_text : (n : ℕ) → n < 10 ^ 10 → is_number (decimal n) ≡ true
-number_text n small = let w = decimal_writes n (omega arith) in both_true (not (is_empty (decimal n))) _ (ap not w.some) w.digits
+number_text n small = let w = decimal_writes n (omega arith) in and_from (not (is_empty (decimal n))) _ (ap not w.some) w.digits
 
 in_range : (least most n : ℕ) → least ≤ n → n ≤ most → n < 10 ^ 10 → is_in_range least most (decimal n) ≡ true
 in_range least most n low high small =
     let w = decimal_writes n (omega arith) in
-    both_true (nat_le (length (decimal n)) 10 && nat_le least (number (decimal n))) _
-    (both_true (nat_le (length (decimal n)) 10) _ (le_true _ 10 (short_decimal n small)) (ap (nat_le least) w.value ∙ le_true least n low))
+    and_from (nat_le (length (decimal n)) 10 && nat_le least (number (decimal n))) _
+    (and_from (nat_le (length (decimal n)) 10) _ (le_true _ 10 (short_decimal n small)) (ap (nat_le least) w.value ∙ le_true least n low))
     (ap (λ m. nat_le m most) w.value ∙ le_true n most high)
 
 decimal_simple : (n : ℕ) → n < 10 ^ 10 → AllSimple (decimal n)
@@ -286,7 +282,7 @@ byte_is b small =
     let w = hex_writes 2 b (omega arith) in
     let s = all_weaker is_hex_digit simple hex_simple (hex 2 b) w.digits in (
       record {
-        fits = record { of_kind = both_true (length (hex 2 b) == 2) _ (ap (λ n. n == 2) w.many) w.digits; within = refl; once = refl; operand = simple_operand (hex 2 b) (some_of (hex 2 b) 1 w.many) s };
+        fits = record { of_kind = and_from (length (hex 2 b) == 2) _ (ap (λ n. n == 2) w.many) w.digits; within = refl; once = refl; operand = simple_operand (hex 2 b) (some_of (hex 2 b) 1 w.many) s };
         no_key = simple_keyless (hex 2 b) s;
       },
       w.value,
@@ -315,7 +311,7 @@ absolute_is a small =
     let range : nat_le a 0x7FFFFFFF ≡ true = le_true a 0x7FFFFFFF (omega arith) in (
       record {
         fits = record {
-          of_kind = (λ i. if q.quotes i then is_absolute (q.inside i) else is_named text) ∙ both_true (nat_le 1 (length (hex 8 a)) && nat_le (length (hex 8 a)) 8) _ eight w.digits;
+          of_kind = (λ i. if q.quotes i then is_absolute (q.inside i) else is_named text) ∙ and_from (nat_le 1 (length (hex 8 a)) && nat_le (length (hex 8 a)) 8) _ eight w.digits;
           within = (λ i. if q.quotes i then nat_le (hex_number (q.inside i)) 0x7FFFFFFF else (not (list_any is_plus text) || is_in_range 0 33554431 (after_first is_plus text))) ∙ ap (λ n. nat_le n 0x7FFFFFFF) w.value ∙ range;
           once = refl;
           operand = simple_operand text refl q.all_simple;
@@ -370,7 +366,7 @@ named_is name n e small =
     let some : is_empty text ≡ false = append_some name (43 ∷ decimal n) bytes.0 in (
       record {
         fits = record {
-          of_kind = (λ i. if unquoted i then is_absolute (quoted text) else (is_name (before i) && (not (has_plus name (decimal n) i) || is_number (after i)))) ∙ both_true (is_name name) _ e (number_text n (omega arith));
+          of_kind = (λ i. if unquoted i then is_absolute (quoted text) else (is_name (before i) && (not (has_plus name (decimal n) i) || is_number (after i)))) ∙ and_from (is_name name) _ e (number_text n (omega arith));
           within = (λ i. if unquoted i then nat_le (hex_number (quoted text)) 0x7FFFFFFF else (not (has_plus name (decimal n) i) || is_in_range 0 33554431 (after i))) ∙ in_range 0 33554431 n (omega arith) (omega arith) (omega arith);
           once = refl;
           operand = simple_operand text some s;
@@ -437,13 +433,13 @@ pair_is least most large small low ordered high few =
     let is = lists (decimal large) (decimal small ∷ []) (decimal_simple large (omega arith), (decimal_simple small (omega arith), tt)) in
     let w = decimal_writes large (omega arith) in
     let v = decimal_writes small (omega arith) in
-    let a = both_true (is_number (decimal large)) _ (number_text large (omega arith)) (both_true (is_number (decimal small)) true (number_text small (omega arith)) refl) in
-    let b = both_true (is_in_range least most (decimal large)) _ (in_range least most large (omega arith) high (omega arith)) (both_true (is_in_range least most (decimal small)) true (in_range least most small low (omega arith) (omega arith)) refl) in
+    let a = and_from (is_number (decimal large)) _ (number_text large (omega arith)) (and_from (is_number (decimal small)) true (number_text small (omega arith)) refl) in
+    let b = and_from (is_in_range least most (decimal large)) _ (in_range least most large (omega arith) high (omega arith)) (and_from (is_in_range least most (decimal small)) true (in_range least most small low (omega arith) (omega arith)) refl) in
     let most_is : largest text ≡ large = (λ i. if is.list i then number (unwrap_or (slice_get (is.items_are i) 0) []) else number text) ∙ w.value in
     let least_is : smallest text ≡ small = (λ i. if is.list i then number (unwrap_or (slice_get (is.items_are i) 1) []) else number text) ∙ v.value in
     let pair : is_pair text ≡ true = (λ i. is.list i && (length (is.items_are i) == 2) && list_all is_number (is.items_are i)) ∙ a in
     let range : is_pair_in_range least most text ≡ true =
-    (λ i. list_all (is_in_range least most) (is.items_are i) && nat_le (least_is i) (most_is i)) ∙ both_true (list_all (is_in_range least most) (decimal large ∷ decimal small ∷ [])) _ b (le_true small large ordered) in (
+    (λ i. list_all (is_in_range least most) (is.items_are i) && nat_le (least_is i) (most_is i)) ∙ and_from (list_all (is_in_range least most) (decimal large ∷ decimal small ∷ [])) _ b (le_true small large ordered) in (
       record { of_kind = pair; within = range; once = refl; operand = is.operand },
       record { of_kind = pair; within = ap (λ t. if t then is_pair_in_range least most text else is_in_range least most text) is.list ∙ range; once = refl; operand = is.operand },
       most_is,
@@ -491,8 +487,8 @@ decimals least most (n ∷ numbers) few are =
     let small : n < 10 ^ 10 = omega arith in
     record {
       each_simple = (decimal_simple n small, d.each_simple);
-      each_number = both_true (is_number (decimal n)) _ (number_text n small) d.each_number;
-      each_within = both_true (is_in_range least most (decimal n)) _ (in_range least most n low high small) d.each_within;
+      each_number = and_from (is_number (decimal n)) _ (number_text n small) d.each_number;
+      each_within = and_from (is_in_range least most (decimal n)) _ (in_range least most n low high small) d.each_within;
       values = (λ i. (decimal_writes n (let l : n < 2 ^ 64 = omega arith in l)).value i ∷ d.values i);
       many = ap suc d.many;
     }
@@ -506,7 +502,7 @@ numbers_are count least most (n ∷ numbers) some room are few =
     let fits : nat_le (length (map decimal (n ∷ numbers))) count ≡ true = ap (λ k. nat_le k count) d.many ∙ le_true _ count room in (
       record {
         of_kind = (λ i. is.list i && list_all is_number (is.items_are i)) ∙ d.each_number;
-        within = (λ i. nat_le (length (is.items_are i)) count && list_all (is_in_range least most) (is.items_are i)) ∙ both_true (nat_le (length (map decimal (n ∷ numbers))) count) _ fits d.each_within;
+        within = (λ i. nat_le (length (is.items_are i)) count && list_all (is_in_range least most) (is.items_are i)) ∙ and_from (nat_le (length (map decimal (n ∷ numbers))) count) _ fits d.each_within;
         once = refl;
         operand = is.operand;
       },
@@ -535,7 +531,7 @@ names_simple (text ∷ texts) are = (name_all text are.0, names_simple texts are
 
 each_name : (texts : List (List ℕ)) → AllByRecursion (λ text. is_name text ≡ true) texts → list_all is_name texts ≡ true
 each_name [] are = refl
-each_name (text ∷ texts) are = both_true (is_name text) _ are.0 (each_name texts are.1)
+each_name (text ∷ texts) are = and_from (is_name text) _ are.0 (each_name texts are.1)
 
 names_are : (count : ℕ) (texts : List (List ℕ)) → is_empty texts ≡ false → length texts ≤ count → AllByRecursion (λ text. is_name text ≡ true) texts → is_twice bytes_eq texts ≡ false
     → Fits (DistinctNames count) (list_text texts) × (items (list_text texts) ≡ texts)
@@ -566,8 +562,8 @@ absolutes (a ∷ addresses) small =
     let is = absolute_is a small.0 in
     record {
       each_simple = (absolute_simple a small.0, s.each_simple);
-      each_address = both_true (is_address (absolute_text a)) _ is.0.fits.of_kind s.each_address;
-      each_within = both_true (is_address_in_range (absolute_text a)) _ is.0.fits.within s.each_within;
+      each_address = and_from (is_address (absolute_text a)) _ is.0.fits.of_kind s.each_address;
+      each_within = and_from (is_address_in_range (absolute_text a)) _ is.0.fits.within s.each_within;
       values = (λ i. is.1 i ∷ s.values i);
       many = ap suc s.many;
     }
@@ -581,7 +577,7 @@ absolutes_are count (a ∷ addresses) some room small =
     let fits : nat_le (length (map absolute_text (a ∷ addresses))) count ≡ true = ap (λ k. nat_le k count) s.many ∙ le_true _ count room in (
       record {
         of_kind = (λ i. is.list i && list_all is_address (is.items_are i)) ∙ s.each_address;
-        within = (λ i. nat_le (length (is.items_are i)) count && list_all is_address_in_range (is.items_are i)) ∙ both_true (nat_le (length (map absolute_text (a ∷ addresses))) count) _ fits s.each_within;
+        within = (λ i. nat_le (length (is.items_are i)) count && list_all is_address_in_range (is.items_are i)) ∙ and_from (nat_le (length (map absolute_text (a ∷ addresses))) count) _ fits s.each_within;
         once = refl;
         operand = is.operand;
       },
