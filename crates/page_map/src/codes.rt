@@ -15,6 +15,7 @@ pub(crate) const FREE: u16 = u16::MAX;
 
 // How many pages are looked at at once: of other subpools, and free ones.
 const SEVERAL: usize = 8;
+
 const SEVERAL_FREE: usize = 16;
 
 // The subpool of a number.
