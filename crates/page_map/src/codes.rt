@@ -13,9 +13,10 @@ use mvs_model::subpool_set::SubpoolSet;
 /// What stands for a page that no subpool has.
 pub(crate) const FREE: u16 = u16::MAX;
 
-// How many pages are looked at at once: of other subpools, and free ones.
+// How many pages of other subpools are looked at at once.
 const SEVERAL: usize = 8;
 
+// How many free pages are looked at at once.
 const SEVERAL_FREE: usize = 16;
 
 // The subpool of a number.
