@@ -7,6 +7,7 @@ use Rattle.mvs_model.specs.declared.want.Side.TheVariants.{Either}
 use Rattle.mvs_model.specs.Place.{PlaceValue, place_at}
 use Rattle.mvs_model.specs.Want.{WantValue, IsExponent}
 use Rattle.mvs_model.specs.Gifts.{GiftsValue, gives, shares}
+use Rattle.mvs_model.specs.Numbers.{most_pages_above, most_pages_below}
 use Rattle.mvs_model.specs.Storage.{Regions, Open, Meets, Places, Chosen, Storage, holder, PageRule, Grant, Release, IsStorage}
 use Rattle.mvs_model.specs.Owners.{Owners, entry, goes, ends_with, Attach, Ends}
 use Rattle.mvs_model.specs.Pools.{part_length, IsCellOf}
@@ -43,7 +44,7 @@ start_want k = record { least = 8; most = 8; start = k; within = None; side = Ei
 abbrev pub BoundaryEdges : Type 0
 BoundaryEdges =
     ((k a : ℕ) → IsExponent k → a % 2 ^ k ≡ 0 → Meets (within_want k) (place_at a (2 ^ k)) × (Meets (within_want k) (place_at a (2 ^ k + 1)) → ⊥))
-    × ((r : Regions) (h : ℕ → Option ℕ) (s n a : ℕ) → r.below ≤ 2048 → r.above ≤ 8192 → Places r h s (start_want 31) n a → ⊥)
+    × ((r : Regions) (h : ℕ → Option ℕ) (s n a : ℕ) → r.below ≤ most_pages_below → r.above ≤ most_pages_above → Places r h s (start_want 31) n a → ⊥)
 
 -- nothing is held
 abbrev pub nothing_held : ℕ → Option ℕ

@@ -3,7 +3,7 @@
 ghost use Rattle.std.specs.Prelude.{◌≡◌, ◌<◌, ◌≤◌, ◌+◌, ◌*◌, ◌/◌, ◌%◌, ◌^◌, ◌↔◌, ◌⊎◌, Some, None, MatchBool, MatchOption, MatchResult, IfOk, IsTrue, List, ℕ, length, slice_get};
 ghost use Rattle.std.specs.Borrow.{sem};
 ghost use Rattle.std.specs.FinMap.{get, empty};
-ghost use Rattle.mvs_model.specs.Numbers.{above_begins};
+ghost use Rattle.mvs_model.specs.Numbers.{above_begins, most_pages_above, most_pages_below};
 ghost use Rattle.mvs_model.specs.Storage.{
   AllHeld,
   Chosen,
@@ -121,8 +121,8 @@ impl Store {
         placement: Placement,
     ) -> Result<Store, OutOfMemory>
         requires some { 1 ≤ below }
-        requires below { below ≤ 2048 }
-        requires above { above ≤ 8192 }
+        requires below { below ≤ most_pages_below }
+        requires above { above ≤ most_pages_above }
         ensures empty { IfOk result
             (λ s. s ≡ record { regions = record { below = below; above = above; fill = fill }; held = empty; bytes = empty }) }
         ensures storage { IfOk result IsStorage }
