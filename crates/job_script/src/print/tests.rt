@@ -201,8 +201,10 @@ fn each_failing_write_leaves_a_front(rt: HostRuntime) -> Result<(), Fail> {
 
 // The request of a line.
 fn written(rt: &impl Abort, line: &[u8]) -> Written {
-    match read_line(line, false) {
-        Ok(Line::Statement(_, Statement::Request(written))) => written,
+    let mut read = Line::Nothing;
+    let answered = read_line(line, false, &mut read);
+    match (answered, read) {
+        (Ok(()), Line::Statement(_, Statement::Request(written))) => written,
         _ => panic!(rt; "a request"),
     }
 }
