@@ -2,6 +2,7 @@
 
 ghost use Rattle.std.specs.Prelude.{◌≡◌, []};
 ghost use Rattle.mvs_model.specs.Grammar.{Puts, Shows, Moves, AsksWhere};
+ghost use Rattle.mvs_model.specs.Numbers.{most_shown};
 ghost use Rattle.mvs_model.specs.Reading.{statement_of};
 ghost use Rattle.job_script.specs.Given.{IsRead, by_place};
 ghost use Rattle.job_script.specs.Taken.{IsSomeBytes};
@@ -42,7 +43,7 @@ impl Given<'_> {
     pub fn show(&self, task: Name, line: &mut Line) -> Result<(), Fault>
         requires read { IsRead self.now }
         requires from { Holds (IsLocated) ((by_place self.now).at 0) }
-        requires len { Holds (IsRanged 1 4096) ((by_place self.now).at 1) }
+        requires len { Holds (IsRanged 1 most_shown) ((by_place self.now).at 1) }
         ensures { filled line.new result ≡ said_line task (statement_of Shows [] (by_place self.now)) }
     {
         let Some(from) = self.positional(0) else {

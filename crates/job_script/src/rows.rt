@@ -7,6 +7,7 @@ ghost use Rattle.job_script.specs.Rows.{row_at, as_positional, as_keyword, as_ru
 
 use crate::keys::Key;
 use crate::kinds::{Kind, Words};
+use mvs_model::numbers::{MOST_PAGES_ABOVE, MOST_PAGES_BELOW, MOST_SHOWN};
 
 /// A keyword operand, and whether it is required.
 #[derive(Clone, Copy, Debug, PartialEq, Eq)]
@@ -203,12 +204,12 @@ const CPID: Keyword = Keyword {
 const REGION: [Keyword; 4] = [
     Keyword {
         key: Key::Below,
-        kind: Kind::Number(1, 2_048),
+        kind: Kind::Number(1, MOST_PAGES_BELOW),
         required: true,
     },
     Keyword {
         key: Key::Above,
-        kind: Kind::Number(0, 8_192),
+        kind: Kind::Number(0, MOST_PAGES_ABOVE),
         required: false,
     },
     Keyword {
@@ -343,7 +344,7 @@ const SHOW_FIRST: [Positional; 2] = [
         required: true,
     },
     Positional {
-        kind: Kind::Number(1, 4_096),
+        kind: Kind::Number(1, MOST_SHOWN),
         required: true,
     },
 ];

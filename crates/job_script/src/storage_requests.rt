@@ -2,6 +2,7 @@
 
 ghost use Rattle.std.specs.Prelude.{◌≡◌, [], codes, if◌then◌else◌};
 ghost use Rattle.mvs_model.specs.Grammar.{IsRegion, Obtains, ObtainsList, Releases, ReleasesArea, ReleasesList};
+ghost use Rattle.mvs_model.specs.Numbers.{most_pages_above, most_pages_below};
 ghost use Rattle.mvs_model.specs.Reading.{number_or, is_word, subpool, start_of, loc_of, residence_of, asking, form_of, statement_of};
 ghost use Rattle.job_script.specs.Rows.{key_text};
 ghost use Rattle.job_script.specs.Given.{IsRead, by_place};
@@ -162,8 +163,8 @@ impl Given<'_> {
     // REGION.
     pub fn region(&self, task: Name, line: &mut Line) -> Result<(), Fault>
         requires read { IsRead self.now }
-        requires below { Holds (IsRanged 1 2048) ((by_place self.now).under (codes "BELOW")) }
-        requires above { Holds (IsRanged 0 8192) ((by_place self.now).under (codes "ABOVE")) }
+        requires below { Holds (IsRanged 1 most_pages_below) ((by_place self.now).under (codes "BELOW")) }
+        requires above { Holds (IsRanged 0 most_pages_above) ((by_place self.now).under (codes "ABOVE")) }
         requires fill { Holds (IsByte) ((by_place self.now).under (codes "FILL")) }
         ensures { filled line.new result ≡ said_line task (statement_of IsRegion [] (by_place self.now)) }
     {

@@ -3,6 +3,7 @@
 ghost use Rattle.std.specs.Prelude.{◌≡◌, ◌<◌, ◌^◌, ◌&&◌, [], codes, map, is_some, false, Some};
 ghost use Rattle.mvs_model.specs.Gifts.{IsGifts};
 ghost use Rattle.mvs_model.specs.Grammar.{Attaches, Abends};
+ghost use Rattle.mvs_model.specs.Numbers.{task_numbers};
 ghost use Rattle.mvs_model.specs.Reading.{presents, statement_of, set_of, numbers_in, numbers_under, number};
 ghost use Rattle.job_script.specs.Rows.{key_text};
 ghost use Rattle.job_script.specs.Given.{IsRead, by_place};
@@ -21,7 +22,7 @@ use mvs_model::name::Name;
 
 // The set of one number.
 fn bit(number: u64) -> u128
-    requires { number < 128 }
+    requires { number < task_numbers }
     ensures { result ≡ 2 ^ number }
 {
     1u128 << number

@@ -1,5 +1,5 @@
 -- Small laws that show what the definitions mean.
-use Rattle.std.specs.Prelude.{◌≡◌, ◌≢◌, ◌↔◌, ◌⊎◌, ℕ, ◌+◌, ◌/◌, ◌%◌, ◌^◌, ◌<◌, ◌≤◌, ◌==◌, true, false, Option, Some, None, if◌then◌else◌, List}
+use Rattle.std.specs.Prelude.{◌≡◌, ◌≢◌, ◌↔◌, ◌⊎◌, ℕ, ◌+◌, ◌*◌, ◌/◌, ◌%◌, ◌^◌, ◌<◌, ◌≤◌, ◌==◌, true, false, Option, Some, None, if◌then◌else◌, List}
 use Rattle.std.specs.FinMap.{get}
 use Rattle.mvs_model.specs.declared.name.Name.{Name}
 use Rattle.mvs_model.specs.declared.want.Residence.{Residence}
@@ -7,7 +7,7 @@ use Rattle.mvs_model.specs.declared.want.Side.TheVariants.{Either}
 use Rattle.mvs_model.specs.Place.{PlaceValue, place_at}
 use Rattle.mvs_model.specs.Want.{WantValue, IsExponent}
 use Rattle.mvs_model.specs.Gifts.{GiftsValue, gives, shares}
-use Rattle.mvs_model.specs.Numbers.{most_pages_above, most_pages_below}
+use Rattle.mvs_model.specs.Numbers.{above_begins, below_begins, first_doubleword_below, first_page_below, most_pages_above, most_pages_below, page_bytes, page_doublewords, task_numbers}
 use Rattle.mvs_model.specs.Storage.{Regions, Open, Meets, Places, Chosen, Storage, holder, PageRule, Grant, Release, IsStorage}
 use Rattle.mvs_model.specs.Owners.{Owners, entry, goes, ends_with, Attach, Ends}
 use Rattle.mvs_model.specs.Pools.{part_length, IsCellOf}
@@ -18,18 +18,18 @@ two_pages = record { below = 2; above = 0; fill = 0 }
 
 -- subpool 1 holds the first doubleword of the region below
 abbrev pub one_held : ℕ → Option ℕ
-one_held d = if d == 0xC00 then Some 1 else None
+one_held d = if d == first_doubleword_below then Some 1 else None
 
 -- the same, and subpool 2 holds another doubleword
 abbrev pub two_held : ℕ → ℕ → Option ℕ
-two_held e d = if d == 0xC00 then Some 1 else (if d == e then Some 2 else None)
+two_held e d = if d == first_doubleword_below then Some 1 else (if d == e then Some 2 else None)
 
 -- A place across a subpool's own page and a free one is open to it, and is not once another subpool holds a doubleword of
 -- either page.
 abbrev pub AcrossPages : Type 0
 AcrossPages =
-    Open two_pages one_held 1 (place_at 0x6008 0x1000)
-    × ((e : ℕ) → e ≢ 0xC00 → (e / 512 ≡ 6) ⊎ (e / 512 ≡ 7) → Open two_pages (two_held e) 1 (place_at 0x6008 0x1000) → ⊥)
+    Open two_pages one_held 1 (place_at (below_begins + 8) page_bytes)
+    × ((e : ℕ) → e ≢ first_doubleword_below → (e / page_doublewords ≡ first_page_below) ⊎ (e / page_doublewords ≡ first_page_below + 1) → Open two_pages (two_held e) 1 (place_at (below_begins + 8) page_bytes) → ⊥)
 
 -- eight bytes within a boundary
 abbrev pub within_want : ℕ → WantValue
@@ -56,13 +56,13 @@ pages below above = record { below = below; above = above; fill = 0 }
 
 -- as much as there is, up to four pages
 abbrev pub most_want : WantValue
-most_want = record { least = 8; most = 0x4000; start = 3; within = None; side = Either }
+most_want = record { least = 8; most = 4 * page_bytes; start = 3; within = None; side = Either }
 
 -- Of one length above and below, the place above is chosen; a longer one below is chosen before it.
 abbrev pub AboveOnATie : Type 0
 AboveOnATie =
-    ((p : PlaceValue) → Chosen (pages 1 1) nothing_held 1 most_want p → p ≡ place_at 0x1000000 0x1000)
-    × ((p : PlaceValue) → Chosen (pages 2 1) nothing_held 1 most_want p → p ≡ place_at 0x6000 0x2000)
+    ((p : PlaceValue) → Chosen (pages 1 1) nothing_held 1 most_want p → p ≡ place_at above_begins page_bytes)
+    × ((p : PlaceValue) → Chosen (pages 2 1) nothing_held 1 most_want p → p ≡ place_at below_begins (2 * page_bytes))
 
 -- Two places that touch, released one after the other, are released as one place is.
 abbrev pub ReleasesJoin : Type 0
@@ -91,8 +91,8 @@ abbrev pub GivesAndShares : Type 0
 GivesAndShares =
     (old : Owners) (mother name : Name) (gifts : GiftsValue) (residence : Residence) (new : Owners) (g s m r : ℕ)
     → mother ≢ name → Attach old mother name gifts residence new
-    → g < 128 → gives gifts g ≡ true → entry old mother g ≡ Some s
-    → m < 128 → gives gifts m ≡ false → shares gifts m ≡ true → entry old mother m ≡ Some r
+    → g < task_numbers → gives gifts g ≡ true → entry old mother g ≡ Some s
+    → m < task_numbers → gives gifts m ≡ false → shares gifts m ≡ true → entry old mother m ≡ Some r
     → (entry new name g ≡ Some s) × (entry new mother g ≡ None) × (get new.owner s ≡ Some name)
     × (entry new name m ≡ Some r) × (entry new mother m ≡ Some r)
 

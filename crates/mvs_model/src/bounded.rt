@@ -2,6 +2,7 @@
 
 ghost use Rattle.std.specs.Prelude.{◌≡◌, ◌<◌, ◌≤◌};
 
+use crate::numbers::{MOST_PAGES_ABOVE, MOST_PAGES_BELOW, MOST_SHOWN};
 use std::marker::Model;
 
 /// A number from `LOW` to `HIGH`.
@@ -57,7 +58,7 @@ pub type CellCount = Bounded<1, 65_536>;
 pub type UserCode = Bounded<0, 4_095>;
 
 /// How many bytes SHOW prints. SHOW is this project's own statement.
-pub type ShowLength = Bounded<1, 4_096>;
+pub type ShowLength = Bounded<1, MOST_SHOWN>;
 
 /// How many bytes MOVE copies. MOVE is this project's own statement.
 pub type MoveLength = Bounded<1, 65_536>;
@@ -66,7 +67,7 @@ pub type MoveLength = Bounded<1, 65_536>;
 pub type Offset = Bounded<0, 33_554_431>;
 
 /// The pages of the region below 16 megabytes. The limits are this project's choice.
-pub type PagesBelow = Bounded<1, 2_048>;
+pub type PagesBelow = Bounded<1, MOST_PAGES_BELOW>;
 
 /// The pages of the region above 16 megabytes. The limits are this project's choice.
-pub type PagesAbove = Bounded<0, 8_192>;
+pub type PagesAbove = Bounded<0, MOST_PAGES_ABOVE>;

@@ -31,10 +31,10 @@ impl Model for Gifts {
 
 // The first number of a set, at or after one.
 fn first_number(set: u128, from: u8) -> Option<u8>
-    requires { from < 128 }
+    requires { from < task_numbers }
     ensures { MatchOption result
         ((n : ℕ) → from ≤ n → has_bit set n ≡ false)
-        (λ n. (from ≤ n) × (n < 128) × (has_bit set n ≡ true) × ((i : ℕ) → from ≤ i → i < n → has_bit set i ≡ false)) }
+        (λ n. (from ≤ n) × (n < task_numbers) × (has_bit set n ≡ true) × ((i : ℕ) → from ≤ i → i < n → has_bit set i ≡ false)) }
 {
     let rest = set >> from;
     if rest == 0 {
