@@ -25,6 +25,10 @@ pub outside : (P Q : Type 0) (b : Bool) → MatchBool b P Q → IsTrue b → P
 outside P Q true h e = h
 outside P Q false h e = absurd (let f : false ≡ true = e in cc)
 
+pub touched : (P Q : Type 0) (b : Bool) → MatchBool b P Q → b ≡ false → Q
+touched P Q true h e = absurd (let f : false ≡ true = sym e in cc)
+touched P Q false h e = h
+
 pub outside_back : (P Q R : Type 0) (b : Bool) → MatchBool b P Q → (Q → R → ⊥) → R → IsTrue b
 outside_back P Q R true _ _ _ = refl
 outside_back P Q R false h differ r = absurd (differ h r)

@@ -1,6 +1,6 @@
 -- Lists of places that are looked at and taken back.
-use Rattle.std.proofs.Common.{◌≡◌, ℕ, ◌+◌, ◌*◌, ◌/◌, ◌<◌, ◌≤◌, Bool, true, false, cond, List, [], ◌∷◌, map, Option, Some, None, refl, sym, ap, ◌∙◌, subst, leb, arith}
-use Rattle.std.specs.Prelude.{IsTrue, ◌↔◌, ◌||◌, ◌&&◌}
+use Rattle.std.proofs.Common.{◌≡◌, ℕ, ◌+◌, ◌*◌, ◌/◌, ◌<◌, ◌≤◌, Bool, true, false, cond, List, [], ◌∷◌, map, Option, Some, None, Result, Ok, Err, refl, sym, ap, ◌∙◌, subst, leb, arith}
+use Rattle.std.specs.Prelude.{IsTrue, MatchResult, ◌↔◌, ◌||◌, ◌&&◌}
 use Rattle.std.specs.List.{AllByRecursion, list_all}
 use Rattle.std.specs.Option.{option_map}
 use Rattle.std.proofs.lemmas.Bool.Decides.{nat_tests}
@@ -152,3 +152,23 @@ module _ (roots : FinMap name_cmp Root) (st : Storage) (o : Owners) (agree : Agr
       subst (λ pools. Frees (machine_state roots st o) ps (state_of new o pools)) (sym areas_released.1)
           (frees_seen st new o (pools_of roots st) ps agree.parts.storage now (each_whole st new s ps r) (same_regions st new s ps r) (each_free st new s ps r) (each_gone st new s ps r)),
     )
+
+  -- a place that a part of a pool lies in may not be released
+  pub touched_area : (v : Option ℕ) (s : ℕ) (p : PlaceValue) → v ≡ Some s → Touches st (pools_of roots st) s p → MayRelease (machine_state roots st o) v (p ∷ []) → ⊥
+  touched_area v s p e t = unheld_areas v s (p ∷ []) e (λ h. plain_not s p t h.0)
+
+  -- one place outside of pools, which a store releases or refuses
+  module _ (new : Storage) (s : ℕ) (p : PlaceValue) (now : IsStorage new) (none : TouchesNone st (pools_of roots st) s p) where
+    held_area : Release st s p new → AllByRecursion (HeldPlain (machine_state roots st o) s) (p ∷ [])
+    held_area r = (plain_from s p r.was_held none, tt)
+
+    pub area_agrees : {A E : Type 0} (answer : Result A E) → MatchResult answer (λ _. Release st s p new) (λ _. (HeldBy st s p → ⊥) × (new ≡ st)) → Agree roots new
+    area_agrees (Ok _) r = (areas_released new s (p ∷ []) now (held_area r) (new, now, r, refl)).0
+    area_agrees (Err _) h = subst (Agree roots) (sym h.1) agree
+
+    pub released_area : {A E : Type 0} (answer : Result A E) (v : Option ℕ) → v ≡ Some s → MatchResult answer (λ _. Release st s p new) (λ _. (HeldBy st s p → ⊥) × (new ≡ st))
+        → MatchResult answer
+            (λ _. MayRelease (machine_state roots st o) v (p ∷ []) × Frees (machine_state roots st o) (p ∷ []) (machine_state roots new o))
+            (λ _. (MayRelease (machine_state roots st o) v (p ∷ []) → ⊥) × (machine_state roots new o ≡ machine_state roots st o))
+    released_area (Ok _) v e r = released_areas new s (p ∷ []) now (held_area r) (new, now, r, refl) v e (tt, tt)
+    released_area (Err _) v e h = (unheld_areas v s (p ∷ []) e (λ a. h.0 (plain_back s p a.0)), ap (λ x. machine_state roots x o) h.1)

@@ -1,6 +1,6 @@
 -- What is released from a store is released from the machine.
-use Rattle.std.proofs.Common.{◌≡◌, ℕ, inl, Bool, true, false, cond, List, map, Option, Some, None, Ok, Err, refl, sym, ap, subst, arith}
-use Rattle.std.specs.Prelude.{not, ◌==◌}
+use Rattle.std.proofs.Common.{◌≡◌, ℕ, inl, Bool, true, false, cond, List, [], ◌∷◌, map, Option, Some, None, Ok, Err, refl, sym, ap, subst, arith}
+use Rattle.std.specs.Prelude.{not, ◌==◌, ◌&&◌}
 use Rattle.std.specs.List.{list_all}
 use Rattle.std.proofs.lemmas.Bool.Decides.{nat_tests}
 use Rattle.mvs_model.specs.declared.name.Name.{Name}
@@ -22,6 +22,11 @@ use Rattle.mvs_model.specs.Steps.{Fails, is_invalid, whole, on_doubleword, MayRe
 use Rattle.request_forms.proofs.Pooling.{emptied}
 use Rattle.request_forms.specs.Answers.{Answers}
 use Rattle.request_forms.proofs.Cases.{not_valid, is_valid, yes_match, no_match}
+
+-- one place, which begins on a doubleword or does not
+pub one_on_doubleword : (b : Bool) (p : PlaceValue) → on_doubleword p ≡ b → list_all on_doubleword (p ∷ []) ≡ b
+one_on_doubleword true p e = ap (λ x. x && true) e
+one_on_doubleword false p e = ap (λ x. x && true) e
 
 -- the answers of a release, in the order of the causes
 module _ (old : State) (t : Name) (form : Form) (number : ℕ) (ps : List PlaceValue) where

@@ -164,6 +164,22 @@ fn take_back_each(store: &mut Store, subpool: SubpoolId, places: &[Place])
 }
 
 impl Machine {
+    // Releases a place of the subpool that a task has under a number, or refuses it.
+    fn release_area(&mut self, subpool: Option<SubpoolId>, place: Place) -> Result<(), NotHeld>
+        requires { IsWhole place }
+        ensures { MatchResult result
+            (λ _. MayRelease self.old subpool (place ∷ []) × Frees self.old (place ∷ []) self.new)
+            (λ _. (MayRelease self.old subpool (place ∷ []) → ⊥) × (self.new ≡ self.old)) }
+    {
+        let Some(subpool) = subpool else {
+            return Err(NotHeld);
+        };
+        if !is_outside_pools(&self.store, &self.pools, subpool, place) {
+            return Err(NotHeld);
+        }
+        self.store.release(subpool, place)
+    }
+
     // Releases places of the subpool that a task has under a number: all of them, or none.
     fn release_areas(&mut self, subpool: Option<SubpoolId>, places: &[Place]) -> Result<(), NotHeld>
         requires { list_all step.on_doubleword places.now ≡ true }
@@ -223,7 +239,17 @@ impl Machine {
         ensures answer { Answers (ReleaseStep self.old name form number (place ∷ [])) self.old name result self.new }
         ensures no_abend { IfOk result (λ reply. is_abend reply ≡ false) }
     {
-        self.release_list(name, form, number, &Places::one(place))
+        let Some(number) = SubNo::new(number) else {
+            return Err(bad_subpool(form, false));
+        };
+        if !is_on_doubleword(place) {
+            return Err(bad_address(form));
+        }
+        let subpool = self.tasks.subpool_of(name, number);
+        match self.release_area(subpool, whole(place)) {
+            Ok(()) => Ok(Reply::Rc0),
+            Err(NotHeld) => refused(form, not_held(form)),
+        }
     }
 
     /// FREEMAIN and STORAGE RELEASE of all that a subpool holds, its cell pools included (Assembler Services Reference, subpool release). A

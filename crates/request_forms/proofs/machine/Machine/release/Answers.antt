@@ -1,0 +1,25 @@
+use Rattle.std.proofs.Common.{map, ◌∷◌, [], ◌∙◌, sym, ap, subst}
+use Rattle.mvs_model.specs.Owners.{subpool_meant}
+use Rattle.mvs_model.specs.State.{State}
+use Rattle.mvs_model.specs.Steps.{whole, MayRelease}
+use Rattle.request_forms.proofs.Releasing.{invalid_release, misplaced_release, unheld_release, one_on_doubleword}
+use Rattle.request_forms.proofs.machine.Machine.release.Goals as goal
+
+pub returns-in_default-clause-answer : goal.returns-in_default-clause-answer
+returns-in_default-clause-answer c = rw (c.bad_subpool.ensures) (invalid_release _ _ c.args.form c.args.number (c.args.place ∷ []) c.in_default.ensures)
+
+pub returns-then-not-is_on_doubleword-clause-answer : goal.returns-then-not-is_on_doubleword-clause-answer
+returns-then-not-is_on_doubleword-clause-answer c =
+    rw (c.bad_address.ensures) (misplaced_release _ _ c.args.form c.args.number (c.args.place ∷ []) c.in-Some.ensures.0
+    (one_on_doubleword _ c.args.place (sym c.is_on_doubleword.ensures ∙ c.if-not-is_on_doubleword.true)))
+
+pub returns-in-Err-clause-answer : goal.returns-in-Err-clause-answer
+returns-in-Err-clause-answer c =
+    let old = c.args.self.now in
+    let t = c.args.name in
+    let area = c.in-Err.ensures in
+    rw (area.1, c.refused.ensures, c.not_held.ensures)
+    (unheld_release old t c.args.form c.args.number (c.args.place ∷ []) c.subpool_of-subpool.result c.in-Some.ensures.0
+    (one_on_doubleword _ c.args.place (sym c.is_on_doubleword.ensures ∙ c.if-not-is_on_doubleword.false))
+    (c.subpool_of-subpool.ensures ∙ ap (λ (st : State). subpool_meant st.owners t c.in-Some.number) c.self.view_is ∙ ap (subpool_meant old.owners t) c.in-Some.ensures.1)
+    (subst (λ p. MayRelease old c.subpool_of-subpool.result (p ∷ []) → ⊥) c.whole.ensures area.0))
