@@ -168,7 +168,7 @@ module _ (roots : FinMap name_cmp Root) (st : Storage) (o : Owners) (agree : Agr
 
     pub released_area : {A E : Type 0} (answer : Result A E) (v : Option ℕ) → v ≡ Some s → MatchResult answer (λ _. Release st s p new) (λ _. (HeldBy st s p → ⊥) × (new ≡ st))
         → MatchResult answer
-            (λ _. MayRelease (machine_state roots st o) v (p ∷ []) × Frees (machine_state roots st o) (p ∷ []) (machine_state roots new o))
-            (λ _. (MayRelease (machine_state roots st o) v (p ∷ []) → ⊥) × (machine_state roots new o ≡ machine_state roots st o))
+        (λ _. MayRelease (machine_state roots st o) v (p ∷ []) × Frees (machine_state roots st o) (p ∷ []) (machine_state roots new o))
+        (λ _. (MayRelease (machine_state roots st o) v (p ∷ []) → ⊥) × (machine_state roots new o ≡ machine_state roots st o))
     released_area (Ok _) v e r = released_areas new s (p ∷ []) now (held_area r) (new, now, r, refl) v e (tt, tt)
     released_area (Err _) v e h = (unheld_areas v s (p ∷ []) e (λ a. h.0 (plain_back s p a.0)), ap (λ x. machine_state roots x o) h.1)

@@ -1,11 +1,14 @@
 -- What is released from a store is released from the machine.
-use Rattle.std.proofs.Common.{◌≡◌, ℕ, inl, Bool, true, false, cond, List, [], ◌∷◌, map, Option, Some, None, Ok, Err, refl, sym, ap, subst, arith}
-use Rattle.std.specs.Prelude.{not, ◌==◌, ◌&&◌}
+use Rattle.std.proofs.Common.{◌≡◌, ℕ, inl, inr, Bool, true, false, cond, List, [], ◌∷◌, map, Option, Some, None, Result, Ok, Err, refl, sym, ap, subst, arith}
+use Rattle.std.specs.Prelude.{not, MatchResult, ◌==◌, ◌&&◌}
 use Rattle.std.specs.List.{list_all}
 use Rattle.std.proofs.lemmas.Bool.Decides.{nat_tests}
 use Rattle.mvs_model.specs.declared.name.Name.{Name}
 use Rattle.mvs_model.specs.declared.code.Form.{Form}
+use Rattle.mvs_model.specs.declared.code.Code.{Code}
+use Rattle.mvs_model.specs.declared.request.Reply.{Reply}
 use Rattle.mvs_model.specs.declared.request.Reply.TheVariants.{Rc0, Rc4}
+use Rattle.mvs_model.specs.Changes.{Frees}
 use Rattle.mvs_model.specs.Place.{PlaceValue}
 use Rattle.mvs_model.specs.Storage.{Storage, IsStorage, ReleaseAll}
 use Rattle.mvs_model.specs.Owners.{Owners, subpool_meant}
@@ -45,6 +48,16 @@ module _ (old : State) (t : Name) (form : Form) (number : ℕ) (ps : List PlaceV
     at : (b : Bool) → is_conditional form ≡ b → Answers (ReleaseStep old t form number ps) old t (cond b (Ok Rc4) (Err (not_held (family form)))) old
     at true c = no_match _ (is_invalid number) (is_valid number l) (no_match _ (not (list_all on_doubleword ps)) (ap not e) (inl (none, subst (λ b. Fails b old t (not_held (family form)) Rc4 old) (sym c) (refl, refl))))
     at false c = (refl, λ reply ended a. no_match _ (is_invalid number) (is_valid number l) (no_match _ (not (list_all on_doubleword ps)) (ap not e) (inl (none, subst (λ b. Fails b old t (not_held (family form)) reply ended) (sym c) a))))
+
+  -- what was made or refused is answered so
+  pub release_answered : {A E : Type 0} (s : Option ℕ) (new : State) (made : Result A E) (answer : Result Reply Code) → is_subpool_number number ≡ true → list_all on_doubleword ps ≡ true → s ≡ subpool_meant old.owners t number
+      → MatchResult made (λ _. MayRelease old s (map whole ps) × Frees old (map whole ps) new) (λ _. (MayRelease old s (map whole ps) → ⊥) × (new ≡ old))
+      → MatchResult made (λ _. answer ≡ Ok Rc0) (λ _. answer ≡ cond (is_conditional form) (Ok Rc4) (Err (not_held (family form))))
+      → Answers (ReleaseStep old t form number ps) old t answer new
+  release_answered s new (Ok _) answer l e is h a = subst (λ x. Answers (ReleaseStep old t form number ps) old t x new) (sym a)
+      (no_match _ (is_invalid number) (is_valid number l) (no_match _ (not (list_all on_doubleword ps)) (ap not e) (inr (subst (λ v. MayRelease old v (map whole ps)) is h.0, refl, h.1))))
+  release_answered s new (Err _) answer l e is h a = subst (λ x. Answers (ReleaseStep old t form number ps) old t x new) (sym a)
+      (subst (λ st. Answers (ReleaseStep old t form number ps) old t (cond (is_conditional form) (Ok Rc4) (Err (not_held (family form)))) st) (sym h.1) (unheld_release s l e is h.0))
 
 -- a number that is not 0
 pub not_zero : (n m : ℕ) → m ≡ n → (m ≡ 0 → ⊥) → (n == 0) ≡ false

@@ -1,8 +1,10 @@
 //! Requests that release.
 
-ghost use Rattle.std.specs.Prelude.{◌≡◌, ◌↔◌, ◌+◌, ◌/◌, ◌≤◌, true, false, IsTrue, IfOk, MatchBool, MatchResult, map, [], ◌∷◌};
+ghost use Rattle.std.specs.Prelude.{◌≡◌, if◌then◌else◌, Ok, Err, ◌↔◌, ◌+◌, ◌/◌, ◌≤◌, true, false, IsTrue, IfOk, MatchBool, MatchResult, map, [], ◌∷◌};
 ghost use Rattle.std.specs.List.{AllByRecursion, list_all};
 ghost use Rattle.mvs_model.specs.Changes.{Disjoint, Frees, HeldPlain, Misses};
+ghost use Rattle.mvs_model.specs.Codes as table;
+ghost use Rattle.mvs_model.specs.declared.request.Reply.TheVariants.{Rc0, Rc4};
 ghost use Rattle.mvs_model.specs.Owners.{Owners};
 ghost use Rattle.mvs_model.specs.Place.{round8};
 ghost use Rattle.mvs_model.specs.Replies.{is_abend};
@@ -163,6 +165,19 @@ fn take_back_each(store: &mut Store, subpool: SubpoolId, places: &[Place])
     take_back_each(store, subpool, rest);
 }
 
+// What a release is answered that was made or refused.
+fn answered(form: Form, released: Result<(), NotHeld>) -> Result<Reply, Code>
+    ensures answer { MatchResult released
+        (λ _. result ≡ Ok Rc0)
+        (λ _. result ≡ (if table.is_conditional form then Ok Rc4 else Err (table.not_held (table.family form)))) }
+    ensures no_abend { IfOk result (λ reply. is_abend reply ≡ false) }
+{
+    match released {
+        Ok(()) => Ok(Reply::Rc0),
+        Err(NotHeld) => refused(form, not_held(form)),
+    }
+}
+
 impl Machine {
     // Releases a place of the subpool that a task has under a number, or refuses it.
     fn release_area(&mut self, subpool: Option<SubpoolId>, place: Place) -> Result<(), NotHeld>
@@ -221,10 +236,7 @@ impl Machine {
             return Err(bad_address(form));
         }
         let subpool = self.tasks.subpool_of(name, number);
-        match self.release_areas(subpool, places) {
-            Ok(()) => Ok(Reply::Rc0),
-            Err(NotHeld) => refused(form, not_held(form)),
-        }
+        answered(form, self.release_areas(subpool, places))
     }
 
     /// FREEMAIN and STORAGE RELEASE of one place, whose length is rounded up to doublewords (Assembler Services
@@ -246,10 +258,7 @@ impl Machine {
             return Err(bad_address(form));
         }
         let subpool = self.tasks.subpool_of(name, number);
-        match self.release_area(subpool, whole(place)) {
-            Ok(()) => Ok(Reply::Rc0),
-            Err(NotHeld) => refused(form, not_held(form)),
-        }
+        answered(form, self.release_area(subpool, whole(place)))
     }
 
     /// FREEMAIN and STORAGE RELEASE of all that a subpool holds, its cell pools included (Assembler Services Reference, subpool release). A

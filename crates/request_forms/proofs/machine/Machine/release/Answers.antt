@@ -1,8 +1,7 @@
-use Rattle.std.proofs.Common.{map, ◌∷◌, [], ◌∙◌, sym, ap, subst}
+use Rattle.std.proofs.Common.{◌∷◌, [], ◌∙◌, sym, ap}
 use Rattle.mvs_model.specs.Owners.{subpool_meant}
 use Rattle.mvs_model.specs.State.{State}
-use Rattle.mvs_model.specs.Steps.{whole, MayRelease}
-use Rattle.request_forms.proofs.Releasing.{invalid_release, misplaced_release, unheld_release, one_on_doubleword}
+use Rattle.request_forms.proofs.Releasing.{invalid_release, misplaced_release, release_answered, one_on_doubleword}
 use Rattle.request_forms.proofs.machine.Machine.release.Goals as goal
 
 pub returns-in_default-clause-answer : goal.returns-in_default-clause-answer
@@ -13,13 +12,11 @@ returns-then-not-is_on_doubleword-clause-answer c =
     rw (c.bad_address.ensures) (misplaced_release _ _ c.args.form c.args.number (c.args.place ∷ []) c.in-Some.ensures.0
     (one_on_doubleword _ c.args.place (sym c.is_on_doubleword.ensures ∙ c.if-not-is_on_doubleword.true)))
 
-pub returns-in-Err-clause-answer : goal.returns-in-Err-clause-answer
-returns-in-Err-clause-answer c =
+pub returns-clause-answer : goal.returns-clause-answer
+returns-clause-answer c =
     let old = c.args.self.now in
     let t = c.args.name in
-    let area = c.in-Err.ensures in
-    rw (area.1, c.refused.ensures, c.not_held.ensures)
-    (unheld_release old t c.args.form c.args.number (c.args.place ∷ []) c.subpool_of-subpool.result c.in-Some.ensures.0
+    release_answered old t c.args.form c.args.number (c.args.place ∷ []) c.subpool_of-subpool.result _ c.release_area.result c.answered.result c.in-Some.ensures.0
     (one_on_doubleword _ c.args.place (sym c.is_on_doubleword.ensures ∙ c.if-not-is_on_doubleword.false))
     (c.subpool_of-subpool.ensures ∙ ap (λ (st : State). subpool_meant st.owners t c.in-Some.number) c.self.view_is ∙ ap (subpool_meant old.owners t) c.in-Some.ensures.1)
-    (subst (λ p. MayRelease old c.subpool_of-subpool.result (p ∷ []) → ⊥) c.whole.ensures area.0))
+    (rw (← c.whole.ensures) c.release_area.ensures) c.answered.ensures.answer

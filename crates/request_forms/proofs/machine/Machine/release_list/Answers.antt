@@ -1,9 +1,9 @@
-use Rattle.std.proofs.Common.{map, ◌∙◌, sym, ap, subst}
+use Rattle.std.proofs.Common.{◌∙◌, sym, ap}
 use Rattle.std.specs.List.{list_all}
 use Rattle.mvs_model.specs.Owners.{subpool_meant}
 use Rattle.mvs_model.specs.State.{State}
-use Rattle.mvs_model.specs.Steps.{whole, on_doubleword, MayRelease}
-use Rattle.request_forms.proofs.Releasing.{invalid_release, misplaced_release, unheld_release}
+use Rattle.mvs_model.specs.Steps.{on_doubleword}
+use Rattle.request_forms.proofs.Releasing.{invalid_release, misplaced_release, release_answered}
 use Rattle.request_forms.proofs.machine.Machine.release_list.Goals as goal
 
 pub returns-in_default-clause-answer : goal.returns-in_default-clause-answer
@@ -14,13 +14,11 @@ returns-then-not-are_on_doublewords-clause-answer c =
     rw (c.bad_address.ensures) (misplaced_release _ _ c.args.form c.args.number c.args.places.now c.in-Some.ensures.0
     (sym (c.are_on_doublewords.ensures ∙ ap (list_all on_doubleword) c.as_slice-places.ensures.items) ∙ c.if-not-are_on_doublewords.true))
 
-pub returns-in-Err-clause-answer : goal.returns-in-Err-clause-answer
-returns-in-Err-clause-answer c =
+pub returns-clause-answer : goal.returns-clause-answer
+returns-clause-answer c =
     let old = c.args.self.now in
     let t = c.args.name in
-    let areas = c.in-Err.ensures in
-    rw (areas.1, c.refused.ensures, c.not_held.ensures)
-    (unheld_release old t c.args.form c.args.number c.args.places.now c.subpool_of-subpool.result c.in-Some.ensures.0
+    release_answered old t c.args.form c.args.number c.args.places.now c.subpool_of-subpool.result _ c.release_areas.result c.answered.result c.in-Some.ensures.0
     (sym (c.are_on_doublewords.ensures ∙ ap (list_all on_doubleword) c.as_slice-places.ensures.items) ∙ c.if-not-are_on_doublewords.false)
     (c.subpool_of-subpool.ensures ∙ ap (λ (st : State). subpool_meant st.owners t c.in-Some.number) c.self.view_is ∙ ap (subpool_meant old.owners t) c.in-Some.ensures.1)
-    (subst (λ ps. MayRelease old c.subpool_of-subpool.result (map whole ps) → ⊥) c.as_slice-places.ensures.items areas.0))
+    (rw (← c.as_slice-places.ensures.items) c.release_areas.ensures) c.answered.ensures.answer
