@@ -36,6 +36,23 @@ pub fn number(text: &[u8]) -> u64
     value
 }
 
+/// The number that a text of at most ten bytes is.
+pub fn read_number(text: &[u8]) -> Option<u64>
+{
+    if text.is_empty() {
+        return None;
+    }
+    let mut value = 0;
+    for byte in text {
+        let digit = byte.wrapping_sub(b'0');
+        if digit > 9 {
+            return None;
+        }
+        value = value * 10 + u64::from(digit);
+    }
+    Some(value)
+}
+
 /// Whether a number lies between two others. One of more than ten digits does not, whatever they write.
 pub fn is_in_range(least: u32, most: u32, text: &[u8]) -> bool
     requires { is_number text.now ≡ true }

@@ -7,7 +7,7 @@ ghost use Rattle.job_script.specs.Items.{is_list_of, has_twice, has_items_in_ran
 ghost use Rattle.job_script.specs.Kinds.{as_words, as_kind, fault_in, checks_of};
 
 use crate::addresses::{is_address, is_address_in_range, is_name};
-use crate::digits::{are_hex_digits, is_in_range, is_number, number, quoted};
+use crate::digits::{are_hex_digits, is_in_range, is_number, number, quoted, read_number};
 use crate::items::{Item, are_in_range, are_items, count, inside, is_twice, two};
 use mvs_model::line::Fault;
 
@@ -240,14 +240,37 @@ pub fn is_within(kind: Kind, text: &[u8]) -> bool
 fn check_number(least: u32, most: u32, text: &[u8], again: bool) -> Result<(), Fault>
     ensures { fault_in result ≡ first_of (checks_of (grammar.Number least most) again text.now) }
 {
+    if text.len() > 10 {
+        return check_long(text, again);
+    }
+    let Some(value) = read_number(text) else {
+        return Err(Fault::InvalidOperand);
+    };
+    if again {
+        return Err(Fault::Repeated);
+    }
+    if value < u64::from(least) || u64::from(most) < value {
+        return Err(Fault::OutOfRange);
+    }
+    Ok(())
+}
+
+fn check_long(text: &[u8], again: bool) -> Result<(), Fault> {
     if !is_number(text) {
         return Err(Fault::InvalidOperand);
     }
     if again {
         return Err(Fault::Repeated);
     }
-    if !is_in_range(least, most, text) {
-        return Err(Fault::OutOfRange);
+    Err(Fault::OutOfRange)
+}
+
+fn check_name(text: &[u8], again: bool) -> Result<(), Fault> {
+    if !is_name(text) {
+        return Err(Fault::InvalidOperand);
+    }
+    if again {
+        return Err(Fault::Repeated);
     }
     Ok(())
 }
@@ -274,6 +297,7 @@ pub fn check(kind: &Kind, text: &[u8], again: bool) -> Result<(), Fault>
 {
     match kind {
         Kind::Number(least, most) => check_number(*least, *most, text, again),
+        Kind::Name => check_name(text, again),
         _ => check_text(*kind, text, again),
     }
 }
