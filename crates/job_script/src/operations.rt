@@ -25,7 +25,7 @@ pub enum Operation {
     Report,
 }
 
-// The operation that a word names, if it names one.
+// The one operation that a word may name, by its first letters.
 fn likely(word: &[u8]) -> Operation
     ensures { (operation : Operation) → word.now ≡ operation_text operation → result ≡ operation }
 {
