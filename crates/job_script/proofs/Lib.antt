@@ -17,3 +17,4 @@ pub mod PrintedDigits
 pub mod Showing
 pub mod Named
 pub mod Fitting
+pub mod Plain

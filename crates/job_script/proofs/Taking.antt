@@ -131,13 +131,13 @@ get_map f (x ∷ xs) (suc i) = get_map f xs i
 abbrev table_place : List Keyword → List ℕ → Option ℕ
 table_place kws key = position (λ k. bytes_eq (key_text k.key) key) kws
 
-pub row_place : (kws : List Keyword) (row : grammar.Row) → map as_keyword kws ≡ row.keywords → (key : List ℕ) → table_place kws key ≡ place_by (λ k. bytes_eq k.key key) row.keywords
-row_place kws row e key = place_is (λ k. bytes_eq (key_text k.key) key) kws ∙ place_map as_keyword (λ k. bytes_eq k.key key) kws ∙ ap (place_by (λ k. bytes_eq k.key key)) e
+pub row_place : (kws : List Keyword) (key : List ℕ) → table_place kws key ≡ place_by (λ k. bytes_eq k.key key) (map as_keyword kws)
+row_place kws key = place_is (λ k. bytes_eq (key_text k.key) key) kws ∙ place_map as_keyword (λ k. bytes_eq k.key key) kws
 
-pub place_kind : (kws : List Keyword) (row : grammar.Row) → map as_keyword kws ≡ row.keywords → (key : List ℕ) (i : ℕ) → place_by (λ k. bytes_eq k.key key) row.keywords ≡ Some i → i < length kws → (d : Keyword)
-    → option_map (λ k. k.kind) (find (λ k. bytes_eq k.key key) row.keywords) ≡ Some (as_kind (get_or kws i d).kind)
-place_kind kws row e key i place within d =
-    ap (option_map (λ k. k.kind)) (place_some (λ k. bytes_eq k.key key) row.keywords i place ∙ ap (λ ks. slice_get ks i) (sym e) ∙ get_map as_keyword kws i ∙ ap (option_map as_keyword) (slice_get-get_or kws i d within))
+pub place_kind : (kws : List Keyword) (key : List ℕ) (i : ℕ) → place_by (λ k. bytes_eq k.key key) (map as_keyword kws) ≡ Some i → i < length kws → (d : Keyword)
+    → option_map (λ k. k.kind) (find (λ k. bytes_eq k.key key) (map as_keyword kws)) ≡ Some (as_kind (get_or kws i d).kind)
+place_kind kws key i place within d =
+    ap (option_map (λ k. k.kind)) (place_some (λ k. bytes_eq k.key key) (map as_keyword kws) i place ∙ get_map as_keyword kws i ∙ ap (option_map as_keyword) (slice_get-get_or kws i d within))
 
 pub positional_kind : (ps : List Positional) (row : grammar.Row) → map as_positional ps ≡ row.positional → (i : ℕ) (p : Positional) → slice_get ps i ≡ Some p
     → option_map (λ p. p.kind) (slice_get row.positional i) ≡ Some (as_kind p.kind)
@@ -324,6 +324,7 @@ module _ (g : Given) (left : List (List ℕ)) (operand : List ℕ) (given : IsGi
       let more : g.count + 1 ≡ length (positionals (left ++ operand ∷ [])) = ap (λ n. n + 1) counted ∙ sym long ∙ ap length (sym (plain_positionals e)) in
       let longer : length (left ++ operand ∷ []) ≡ length left + 1 = length-append left (operand ∷ []) in
       record {
+        table = given.table;
         three = length-set g.places g.count (Some t) ∙ given.three;
         keys = given.keys;
         same = λ i. record { under = λ key. (ap (λ b. b.under key) given.same ∙ sym (plain_under e key)) i; at = λ n. plain_at e t is room n i; count = more i };
@@ -424,6 +425,7 @@ module _ (g : Given) (left : List (List ℕ)) (operand : List ℕ) (given : IsGi
       let second = none_first (Repeated when (again || repeats kind (text_of operand))) (OutOfRange when not (is_within kind (text_of operand)) ∷ []) first.1 in
       let once : has (key_of operand) left ≡ false = again_is ∙ (or_false again (repeats kind (text_of operand)) second.0).0 in
       record {
+        table = given.table;
         three = given.three;
         keys = length-set g.texts i (Some t) ∙ given.keys;
         same = λ j. record {
@@ -457,8 +459,9 @@ nowhere : (n : ℕ) (o : Option ℕ) → text_at (replicate n None) o ≡ None
 nowhere n None = refl
 nowhere n (Some m) = none_kept n m
 
-pub nothing_given : (g : Given) → g.places ≡ replicate 3 None → g.texts ≡ replicate 26 None → g.keyed ≡ false → g.count ≡ 0 → IsGiven g []
-nothing_given g p t k n = record {
+pub nothing_given : (g : Given) → map as_keyword g.keywords.now ≡ (row_at g.row).keywords → g.places ≡ replicate 3 None → g.texts ≡ replicate 26 None → g.keyed ≡ false → g.count ≡ 0 → IsGiven g []
+nothing_given g table p t k n = record {
+  table = table;
   three = ap length p;
   keys = ap length t;
   same = λ i. record { under = λ key. (ap (λ ts. text_at ts (place_in key)) t ∙ nowhere 26 (place_in key)) i; at = λ m. (ap (λ ps. text_at ps (Some m)) p ∙ none_kept 3 m) i; count = n i };

@@ -49,7 +49,7 @@ keys =
 unfoldable pub place_in : List ℕ → Option ℕ
 place_in text = place_by (λ k. bytes_eq (key_text k) text) keys
 
--- A row takes a key, which has this place, and its text is to be of this kind.
-pub record HasKeyword (row : grammar.Row) (key : List ℕ) (place : ℕ) (kind : grammar.Kind) : Type 0 where
+-- Among keywords is one with a key, which has this place, and its text is to be of this kind.
+pub record HasKeyword (keywords : List grammar.Keyword) (key : List ℕ) (place : ℕ) (kind : grammar.Kind) : Type 0 where
   pub here : place_in key ≡ Some place
-  pub kind_is : option_map (λ k. k.kind) (find (λ k. bytes_eq k.key key) row.keywords) ≡ Some kind
+  pub kind_is : option_map (λ k. k.kind) (find (λ k. bytes_eq k.key key) keywords) ≡ Some kind

@@ -67,7 +67,7 @@ impl Given<'_> {
         requires { IsRead self.now }
         ensures { result ≡ lacks_keyword (row_at self.now.row) (by_place self.now) }
     {
-        for keyword in self.row.keywords() {
+        for keyword in self.keywords {
             if keyword.required && self.text(keyword.key).is_none() {
                 return true;
             }

@@ -36,6 +36,24 @@ pub fn number(text: &[u8]) -> u64
     value
 }
 
+/// The number that a text of at most ten bytes is, where it is one.
+pub fn read_number(text: &[u8]) -> Option<u64>
+    requires { length text.now ≤ 10 }
+    ensures { MatchOption result (is_number text.now ≡ false) (λ value. (is_number text.now ≡ true) × (value ≡ number text.now)) }
+{
+    if text.is_empty() {
+        return None;
+    }
+    let mut value = 0;
+    for byte in text {
+        if !byte.is_ascii_digit() {
+            return None;
+        }
+        value = value * 10 + u64::from(*byte - b'0');
+    }
+    Some(value)
+}
+
 /// Whether a number lies between two others. One of more than ten digits does not, whatever they write.
 pub fn is_in_range(least: u32, most: u32, text: &[u8]) -> bool
     requires { is_number text.now ≡ true }

@@ -1,9 +1,9 @@
 //! The operands of a statement, read by its row of the table.
 
-ghost use Rattle.std.specs.Prelude.{◌≡◌, ◌<◌, [], ℕ, List, length, true, false, find, position, bytes_eq, flat_map, None, Some, MatchOption, MatchResult, IfSome};
+ghost use Rattle.std.specs.Prelude.{◌≡◌, ◌<◌, [], ℕ, List, length, map, true, false, find, position, bytes_eq, flat_map, None, Some, MatchOption, MatchResult, IfSome};
 ghost use Rattle.mvs_model.specs.Reading.{parts_within, operands_in, has_key, key_of, text_of, first_of, operand_checks, with_left};
 ghost use Rattle.job_script.specs.Kinds.{as_kind};
-ghost use Rattle.job_script.specs.Rows.{key_text, row_at};
+ghost use Rattle.job_script.specs.Rows.{key_text, row_at, as_keyword};
 ghost use Rattle.job_script.specs.Places.{HasKeyword, key_index};
 
 use crate::keys::{KEYS, Key};
@@ -17,6 +17,8 @@ use mvs_model::line::Fault;
 pub struct Given<'a> {
     /// What the statement takes.
     pub row: Row,
+    /// The keyword operands that it takes.
+    pub keywords: &'static [Keyword],
     /// Whether a keyword was read, behind which no positional operand may stand.
     pub keyed: bool,
     /// How many positional operands were read.
@@ -33,11 +35,10 @@ fn place(keywords: &[Keyword], text: &[u8]) -> Option<usize>
     keywords.iter().position(|keyword| keyword.key.is(text))
 }
 
-// The keyword of a row that has this key.
-fn keyword_at(row: Row, key: &[u8]) -> Option<&'static Keyword>
-    ensures { MatchOption result (find (λ k. bytes_eq k.key key.now) (row_at row).keywords ≡ None) (λ k. HasKeyword (row_at row) key.now (key_index k.now.key) (as_kind k.now.kind)) }
+// The keyword of a table that has this key.
+fn keyword_at(keywords: &'static [Keyword], key: &[u8]) -> Option<&'static Keyword>
+    ensures { MatchOption result (find (λ k. bytes_eq k.key key.now) (map as_keyword keywords.now) ≡ None) (λ k. HasKeyword (map as_keyword keywords.now) key.now (key_index k.now.key) (as_kind k.now.kind)) }
 {
-    let keywords = row.keywords();
     match place(keywords, key) {
         None => None,
         Some(place) => Some(&keywords[place]),
@@ -56,6 +57,7 @@ impl<'a> Given<'a> {
     {
         Given {
             row,
+            keywords: row.keywords(),
             keyed: false,
             count: 0,
             places: [None; 3],
@@ -84,7 +86,7 @@ impl<'a> Given<'a> {
     fn take_keyword(&mut self, key: &[u8], text: &'a [u8]) -> Result<(), Fault>
         ensures { (operand : List ℕ) → has_key operand ≡ true → key_of operand ≡ key.now → text_of operand ≡ text.now → Takes self.old self.new operand result }
     {
-        let Some(keyword) = keyword_at(self.row, key) else {
+        let Some(keyword) = keyword_at(self.keywords, key) else {
             return Err(Fault::InvalidOperand);
         };
         let place = keyword.key.index();

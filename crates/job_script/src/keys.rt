@@ -51,40 +51,33 @@ impl Key {
     pub fn is(self, text: &[u8]) -> bool
         ensures { result ≡ bytes_eq (key_text self) text.now }
     {
-        self.text() == text
-    }
-
-    // The key as a script writes it.
-    fn text(self) -> &'static [u8]
-        ensures { result.now ≡ key_text self }
-    {
         match self {
-            Key::Below => b"BELOW",
-            Key::Above => b"ABOVE",
-            Key::Fill => b"FILL",
-            Key::Res => b"RES",
-            Key::Lv => b"LV",
-            Key::A => b"A",
-            Key::Sp => b"SP",
-            Key::Bndry => b"BNDRY",
-            Key::Loc => b"LOC",
-            Key::Startbdy => b"STARTBDY",
-            Key::Contbdy => b"CONTBDY",
-            Key::La => b"LA",
-            Key::Length => b"LENGTH",
-            Key::Addr => b"ADDR",
-            Key::Cond => b"COND",
-            Key::Cpid => b"CPID",
-            Key::Csize => b"CSIZE",
-            Key::Pcellct => b"PCELLCT",
-            Key::Scellct => b"SCELLCT",
-            Key::Cell => b"CELL",
-            Key::Task => b"TASK",
-            Key::Gspv => b"GSPV",
-            Key::Gspl => b"GSPL",
-            Key::Shspv => b"SHSPV",
-            Key::Shspl => b"SHSPL",
-            Key::Szero => b"SZERO",
+            Key::Below => text == b"BELOW".as_slice(),
+            Key::Above => text == b"ABOVE".as_slice(),
+            Key::Fill => text == b"FILL".as_slice(),
+            Key::Res => text == b"RES".as_slice(),
+            Key::Lv => text == b"LV".as_slice(),
+            Key::A => text == b"A".as_slice(),
+            Key::Sp => text == b"SP".as_slice(),
+            Key::Bndry => text == b"BNDRY".as_slice(),
+            Key::Loc => text == b"LOC".as_slice(),
+            Key::Startbdy => text == b"STARTBDY".as_slice(),
+            Key::Contbdy => text == b"CONTBDY".as_slice(),
+            Key::La => text == b"LA".as_slice(),
+            Key::Length => text == b"LENGTH".as_slice(),
+            Key::Addr => text == b"ADDR".as_slice(),
+            Key::Cond => text == b"COND".as_slice(),
+            Key::Cpid => text == b"CPID".as_slice(),
+            Key::Csize => text == b"CSIZE".as_slice(),
+            Key::Pcellct => text == b"PCELLCT".as_slice(),
+            Key::Scellct => text == b"SCELLCT".as_slice(),
+            Key::Cell => text == b"CELL".as_slice(),
+            Key::Task => text == b"TASK".as_slice(),
+            Key::Gspv => text == b"GSPV".as_slice(),
+            Key::Gspl => text == b"GSPL".as_slice(),
+            Key::Shspv => text == b"SHSPV".as_slice(),
+            Key::Shspl => text == b"SHSPL".as_slice(),
+            Key::Szero => text == b"SZERO".as_slice(),
         }
     }
 }

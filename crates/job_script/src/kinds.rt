@@ -1,14 +1,15 @@
 //! What an operand may be.
 
-ghost use Rattle.std.specs.Prelude.{◌≡◌, true};
+ghost use Rattle.std.specs.Prelude.{◌≡◌, ◌<◌, ℕ, length, true, false};
 ghost use Rattle.mvs_model.specs.Grammar as grammar;
-ghost use Rattle.mvs_model.specs.Reading.{is_number, is_one_of, is_bytes, is_pair, is_pair_in_range, is_of, repeats, is_within, first_of};
+ghost use Rattle.mvs_model.specs.Reading.{is_number, is_one_of, is_bytes, is_pair, is_pair_in_range, is_of, is_quoted, repeats, is_within, first_of};
 ghost use Rattle.job_script.specs.Items.{is_list_of, has_twice, has_items_in_range, has_items};
 ghost use Rattle.job_script.specs.Kinds.{as_words, as_kind, fault_in, checks_of};
 
 use crate::addresses::{is_address, is_address_in_range, is_name};
-use crate::digits::{are_hex_digits, is_in_range, is_number, number, quoted};
+use crate::digits::{are_hex_digits, is_in_range, is_number, number, quoted, read_number};
 use crate::items::{Item, are_in_range, are_items, count, inside, is_twice, two};
+use crate::parted::parted;
 use mvs_model::line::Fault;
 
 /// Words of which an operand takes one.
@@ -236,20 +237,76 @@ pub fn is_within(kind: Kind, text: &[u8]) -> bool
     }
 }
 
-// What is wrong with the text of an operand that is to be a number.
+// What is wrong with the text of an operand that is to be a number, which is read once for all.
 fn check_number(least: u32, most: u32, text: &[u8], again: bool) -> Result<(), Fault>
     ensures { fault_in result ≡ first_of (checks_of (grammar.Number least most) again text.now) }
 {
-    if !is_number(text) {
-        return Err(Fault::InvalidOperand);
+    if text.len() > 10 {
+        return check_long(text, again);
     }
+    let Some(value) = read_number(text) else {
+        return Err(Fault::InvalidOperand);
+    };
     if again {
         return Err(Fault::Repeated);
     }
-    if !is_in_range(least, most, text) {
+    if value < u64::from(least) || u64::from(most) < value {
         return Err(Fault::OutOfRange);
     }
     Ok(())
+}
+
+// The same of a text of more than ten bytes, which is in no range.
+fn check_long(text: &[u8], again: bool) -> Result<(), Fault>
+    requires { 10 < length text.now }
+    ensures { (least most : ℕ) → fault_in result ≡ first_of (checks_of (grammar.Number least most) again text.now) }
+{
+    if !is_number(text) {
+        Err(Fault::InvalidOperand)
+    } else if again {
+        Err(Fault::Repeated)
+    } else {
+        Err(Fault::OutOfRange)
+    }
+}
+
+// What is wrong with the text of an operand that is to be a name.
+fn check_name(text: &[u8], again: bool) -> Result<(), Fault>
+    ensures { fault_in result ≡ first_of (checks_of grammar.Name again text.now) }
+{
+    if !is_name(text) {
+        Err(Fault::InvalidOperand)
+    } else if again {
+        Err(Fault::Repeated)
+    } else {
+        Ok(())
+    }
+}
+
+// What is wrong with the text of an operand that is to be an address and is none in hexadecimal digits: a name, and behind a plus sign an offset.
+fn check_named(text: &[u8], again: bool) -> Result<(), Fault>
+    requires { is_quoted text.now ≡ false }
+    ensures { fault_in result ≡ first_of (checks_of grammar.Address again text.now) }
+{
+    let (area, offset) = parted(text, b'+');
+    if !is_name(area) {
+        return Err(Fault::InvalidOperand);
+    }
+    match offset {
+        None if again => Err(Fault::Repeated),
+        None => Ok(()),
+        Some(offset) => check_number(0, 33_554_431, offset, again),
+    }
+}
+
+// What is wrong with the text of an operand that is to be an address.
+fn check_address(text: &[u8], again: bool) -> Result<(), Fault>
+    ensures { fault_in result ≡ first_of (checks_of grammar.Address again text.now) }
+{
+    match quoted(text) {
+        None => check_named(text, again),
+        Some(_) => check_text(Kind::Address, text, again),
+    }
 }
 
 // What is wrong with the text of an operand of any kind.
@@ -274,6 +331,8 @@ pub fn check(kind: &Kind, text: &[u8], again: bool) -> Result<(), Fault>
 {
     match kind {
         Kind::Number(least, most) => check_number(*least, *most, text, again),
+        Kind::Name => check_name(text, again),
+        Kind::Address => check_address(text, again),
         _ => check_text(*kind, text, again),
     }
 }

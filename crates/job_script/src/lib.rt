@@ -55,14 +55,31 @@ mod text;
 const LONGEST: usize = 255;
 
 // Whether each byte is one that a script may have.
-fn is_plain(line: &[u8]) -> bool
-    ensures { result ≡ list_all (λ b. nat_le 32 b && nat_le b 126) line.now }
+fn are_plain(bytes: &[u8]) -> bool
+    ensures { result ≡ list_all (λ b. nat_le 32 b && nat_le b 126) bytes.now }
 {
     let mut plain = true;
-    for byte in line {
+    for byte in bytes {
         plain &= *byte >= b' ' && *byte <= b'~';
     }
     plain
+}
+
+// The same of a line, eight bytes at a time, of which the last eight may overlap those before them.
+fn is_plain(line: &[u8]) -> bool
+    ensures { result ≡ list_all (λ b. nat_le 32 b && nat_le b 126) line.now }
+{
+    if line.len() < 8 {
+        return are_plain(line);
+    }
+    let mut done = 0;
+    while line.len() - done > 8 {
+        if !are_plain(&line[done..done + 8]) {
+            return false;
+        }
+        done += 8;
+    }
+    are_plain(&line[line.len() - 8..])
 }
 
 // Whether the line has no byte but blanks.

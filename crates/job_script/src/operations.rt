@@ -25,37 +25,37 @@ pub enum Operation {
     Report,
 }
 
-const OPERATIONS: [Operation; 13] = [
-    Operation::Getmain,
-    Operation::Freemain,
-    Operation::Storage,
-    Operation::Cpool,
-    Operation::Region,
-    Operation::Attach,
-    Operation::Return,
-    Operation::Abend,
-    Operation::Put,
-    Operation::Show,
-    Operation::Move,
-    Operation::Where,
-    Operation::Report,
-];
-
-// The operation that a word names, among all.
-fn find_operation(word: &[u8]) -> Option<Operation>
-    ensures { result ≡ find (λ operation. bytes_eq (operation_text operation) word.now) OPERATIONS }
+// The one operation that a word may name, by its first letters.
+fn likely(word: &[u8]) -> Operation
+    ensures { (operation : Operation) → word.now ≡ operation_text operation → result ≡ operation }
 {
-    OPERATIONS
-        .iter()
-        .copied()
-        .find(|operation| operation.is(word))
+    match word {
+        [b'G', ..] => Operation::Getmain,
+        [b'F', ..] => Operation::Freemain,
+        [b'S', b'T', ..] => Operation::Storage,
+        [b'S', ..] => Operation::Show,
+        [b'C', ..] => Operation::Cpool,
+        [b'A', b'T', ..] => Operation::Attach,
+        [b'A', ..] => Operation::Abend,
+        [b'P', ..] => Operation::Put,
+        [b'M', ..] => Operation::Move,
+        [b'W', ..] => Operation::Where,
+        [b'R', b'E', b'G', ..] => Operation::Region,
+        [b'R', b'E', b'P', ..] => Operation::Report,
+        _ => Operation::Return,
+    }
 }
 
 /// The operation that a word names.
 pub fn read_operation(word: &[u8]) -> Option<Operation>
     ensures { MatchOption result (rows_of word.now ≡ []) (λ operation. word.now ≡ operation_text operation) }
 {
-    find_operation(word)
+    let operation = likely(word);
+    if operation.is(word) {
+        Some(operation)
+    } else {
+        None
+    }
 }
 
 // The row of GETMAIN with a form.
@@ -132,32 +132,25 @@ fn report(form: &[u8]) -> Option<Row>
 }
 
 impl Operation {
-    // The operation as a script writes it.
-    fn text(self) -> &'static [u8]
-        ensures { result.now ≡ operation_text self }
-    {
-        match self {
-            Operation::Region => b"REGION",
-            Operation::Getmain => b"GETMAIN",
-            Operation::Freemain => b"FREEMAIN",
-            Operation::Storage => b"STORAGE",
-            Operation::Cpool => b"CPOOL",
-            Operation::Attach => b"ATTACH",
-            Operation::Return => b"RETURN",
-            Operation::Abend => b"ABEND",
-            Operation::Put => b"PUT",
-            Operation::Show => b"SHOW",
-            Operation::Move => b"MOVE",
-            Operation::Where => b"WHERE",
-            Operation::Report => b"REPORT",
-        }
-    }
-
     // Whether a word names the operation.
     fn is(self, word: &[u8]) -> bool
         ensures { result ≡ bytes_eq (operation_text self) word.now }
     {
-        self.text() == word
+        match self {
+            Operation::Region => word == b"REGION".as_slice(),
+            Operation::Getmain => word == b"GETMAIN".as_slice(),
+            Operation::Freemain => word == b"FREEMAIN".as_slice(),
+            Operation::Storage => word == b"STORAGE".as_slice(),
+            Operation::Cpool => word == b"CPOOL".as_slice(),
+            Operation::Attach => word == b"ATTACH".as_slice(),
+            Operation::Return => word == b"RETURN".as_slice(),
+            Operation::Abend => word == b"ABEND".as_slice(),
+            Operation::Put => word == b"PUT".as_slice(),
+            Operation::Show => word == b"SHOW".as_slice(),
+            Operation::Move => word == b"MOVE".as_slice(),
+            Operation::Where => word == b"WHERE".as_slice(),
+            Operation::Report => word == b"REPORT".as_slice(),
+        }
     }
 
     /// Whether the operation takes a form, which is its first operand.

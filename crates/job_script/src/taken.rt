@@ -23,7 +23,10 @@ pub fn extent(text: &[u8]) -> (Length, Length)
     ensures ordered { result.1 ≤ result.0 }
 {
     match inside(text) {
-        None => (bounded(text), bounded(text)),
+        None => {
+            let length = bounded(text);
+            (length, length)
+        }
         Some(inner) => {
             let (largest, smallest) = two(inner);
             (bounded(largest), bounded(smallest))

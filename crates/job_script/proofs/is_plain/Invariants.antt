@@ -1,7 +1,13 @@
-use Rattle.std.proofs.Common.{◌≡◌, drop}
+use Rattle.std.proofs.Common.{◌≡◌, ◌≤◌, ◌-◌, length, drop}
 use Rattle.std.specs.Prelude.{◌&&◌, nat_le}
 use Rattle.std.specs.List.{list_all}
 use Rattle.job_script.proofs.is_plain.Given as goal
 
-abbrev pub invariant-loop-byte : goal.invariant-loop-byte
-invariant-loop-byte l = (l.plain && list_all (λ b. nat_le 32 b && nat_le b 126) (drop l.byte-index l.line)) ≡ list_all (λ b. nat_le 32 b && nat_le b 126) l.line
+abbrev pub invariant-loop-done : goal.invariant-loop-done
+invariant-loop-done l = record {
+  within : l.done ≤ length l.line;
+  all : list_all (λ b. nat_le 32 b && nat_le b 126) (drop l.done l.line) ≡ list_all (λ b. nat_le 32 b && nat_le b 126) l.line;
+}
+
+abbrev pub decreases-loop-done : goal.decreases-loop-done
+decreases-loop-done l = length l.line - l.done

@@ -8,4 +8,4 @@ use Rattle.job_script.proofs.given.Given.lacks_keyword.Given as goal
 
 abbrev pub invariant-loop-keyword : goal.invariant-loop-keyword
 invariant-loop-keyword l =
-    list_any (λ k. k.required && not (is_some ((by_place l.self).under (key_text k.key)))) (drop l.keyword-index l.keyword-items) ≡ lacks_keyword (row_at l.self.row) (by_place l.self)
+    list_any (λ k. k.required && not (is_some ((by_place l.self).under (key_text k.key)))) (drop l.keyword-index l.self.keywords.now) ≡ lacks_keyword (row_at l.self.row) (by_place l.self)
