@@ -25,7 +25,7 @@ pub covered_above : (lo : ℕ) (rs : List Run) (a n : ℕ) → Rising lo rs → 
 covered_above lo [] a n up f = absurd f
 covered_above lo (r ∷ rs) a n up f = elim f [ inl w ↦ omega (arith, up.0, w.0) | inr g ↦ omega (arith, up.0, covered_above (r.from + r.len + 1) rs a n up.3 g) ]
 
-below_or_not : (a b : ℕ) → (a < b) ⊎ (b ≤ a)
+pub below_or_not : (a b : ℕ) → (a < b) ⊎ (b ≤ a)
 below_or_not zero zero = inr (omega arith)
 below_or_not zero (suc b) = inl (omega arith)
 below_or_not (suc a) zero = inr (omega arith)
@@ -375,6 +375,44 @@ head_whole lo (r ∷ rs) ws h q ends =
     let e : r.from ≡ h = sym s.0 in
     let l : r.len ≡ word ws (h + 4) = sym (subst (λ k. word ws (k + 4) ≡ r.len) e s.1) in
     (subst (λ k. k % 8 ≡ 0) e q.0.4, subst (λ k. k % 8 ≡ 0) l q.0.5)
+
+-- the first run of a queue stays where its two words do
+pub linked : (ws ws2 : ℕ → Option ℕ) (h len rest : ℕ) → 0 < len → h + len ≤ 4096 → h % 8 ≡ 0 → len % 8 ≡ 0 → word ws2 h ≡ rest → word ws2 (h + 4) ≡ len → ((d : ℕ) → (d ≡ h → ⊥) → Same ws ws2 d)
+    → (rs : List Run) → Queue (h + len + 1) ws rest rs → Adds h (h + len) rs ws2 h
+linked ws ws2 h len rest some fits whole_at whole_len is_next is_len same rs q =
+    let n : len ≡ h + len - h = omega arith in
+    put ws ws2 h (h + len) rest (omega (arith, some)) fits whole_at (omega (arith, whole_at, whole_len)) is_next (is_len ∙ n) same rs q
+
+pub same_all : (ws : ℕ → Option ℕ) (d : ℕ) → Same ws ws d
+same_all ws d on i low = refl
+
+-- the queue behind the first run, where the range lies past that one
+pub beyond : (lo : ℕ) (rs : List Run) (ws : ℕ → Option ℕ) (h a n : ℕ) → Queue lo ws h rs → Covers rs a n → 0 < n → h + word ws (h + 4) ≤ a
+    → (h + 8 ≤ 4096) × (h % 8 ≡ 0) × (word ws (h + 4) % 8 ≡ 0) × (0 < word ws (h + 4)) × (h + word ws (h + 4) ≤ 4096)
+    × ((rs' : List Run) × Queue (h + word ws (h + 4) + 1) ws (word ws h) rs' × Covers rs' a n)
+beyond lo rs ws h a n q cov some far =
+    let o = opened lo rs ws h a n q cov in
+    let w = head_whole lo rs ws h q (λ e. omega (arith, e, o.0)) in (
+      omega (arith, o.1, o.2, w.0, w.1),
+      w.0,
+      w.1,
+      o.1,
+      o.2,
+      (o.3.0, o.3.1, elim o.3.2 [ inl v ↦ absurd (omega (arith, v.1, far, some)) | inr k ↦ k ]),
+    )
+
+-- the same where none of the range is free
+pub after : (lo : ℕ) (rs : List Run) (ws : ℕ → Option ℕ) (h a n : ℕ) → lo ≤ a → Queue lo ws h rs → NoneFree rs a n → a + n ≤ 4096 → h + word ws (h + 4) < a
+    → (h + 8 ≤ 4096) × (h % 8 ≡ 0) × (word ws (h + 4) % 8 ≡ 0) × (0 < word ws (h + 4)) × (h + word ws (h + 4) ≤ 4096)
+    × ((rs' : List Run) × Queue (h + word ws (h + 4) + 1) ws (word ws h) rs' × NoneFree rs' a n × (h < word ws h))
+after lo rs ws h a n le q nf inside far =
+    let ends : h ≡ 4294967295 → ⊥ = λ e. omega (arith, e, inside, far) in
+    let p = peel lo rs ws h q ends in let w = head_whole lo rs ws h q ends in
+    (omega (arith, p.1, p.2, w.0, w.1), w.0, w.1, p.1, p.2, (p.3.0, p.3.1, (λ d v g. nf d v ((p.3.2 d).1 (inr g))), next_above lo rs ws h q ends))
+
+-- the first run of a queue keeps its words where nothing but what is free behind it changes
+pub head_stays : (ws ws1 : ℕ → Option ℕ) (h lo : ℕ) (rs : List Run) → h % 8 ≡ 0 → h < lo → Rising lo rs → ((IsFree rs h → ⊥) → Same ws ws1 h) → (word ws1 h ≡ word ws h) × (word ws1 (h + 4) ≡ word ws (h + 4))
+head_stays ws ws1 h lo rs whole lt up kept = same_words ws ws1 h whole (kept (λ f. omega (arith, lt, free_above lo rs h up f)))
 
 -- a page of which some bytes are held, all others free
 pub start_takes : (v mid w : ℕ → Option ℕ) (a n rest h first stop : ℕ) → 0 < n → a + n ≤ 4096

@@ -4,7 +4,7 @@
 //! length of this one in bytes. The runs rise, and no two touch. Here a head is a plain word; `queue` has the calls.
 #![tactic(auto)]
 
-ghost use Rattle.std.specs.Prelude.{◌≡◌, ◌%◌, ℕ, ◌+◌, ◌*◌, ◌<◌, ◌≤◌, ◌⊎◌, ◌↔◌, List, [], ◌∷◌, IsTrue, true};
+ghost use Rattle.std.specs.Prelude.{◌≡◌, ◌%◌, ℕ, ◌+◌, ◌*◌, ◌<◌, ◌≤◌, ◌⊎◌, ◌↔◌, List, [], ◌∷◌, IsTrue, false, true};
 ghost use Rattle.mvs_model.specs.Numbers.{page_bytes, most_pages_above};
 ghost use Rattle.region_raw.specs.Pages.{byte_of, is_open};
 ghost use Rattle.free_queue.specs.Runs.{
@@ -143,6 +143,47 @@ fn next_free(region: &Region, page: usize, head: u32, from: u32) -> Option<(u32,
     }
 }
 
+// Takes bytes that lie in the first free run out of the queue: they are not free then.
+fn take_first(region: &mut Region, page: usize, head: u32, from: u32, n: u32) -> u32
+    requires few { page < most_pages_above }
+    requires there { is_open region.old page ≡ true }
+    requires some { 0 < n }
+    requires whole { (from % 8 ≡ 0) × (n % 8 ≡ 0) }
+    requires queue { (lo : ℕ) × (rs : List Run) × Queue lo (page_of region.old page) head rs × Covers rs from n }
+    requires near { from < head + word (page_of region.old page) (head + 4) }
+    ensures keeps { Keeps region.old page region.new }
+    ensures same { (lo : ℕ) (rs : List Run) → Queue lo (page_of region.old page) head rs → Covers rs from n → (d : ℕ) → (IsFree rs d → ⊥) → Same (page_of region.old page) (page_of region.new page) d }
+    ensures queue { (lo : ℕ) (rs : List Run) → Queue lo (page_of region.old page) head rs → Covers rs from n → Takes lo rs from n (page_of region.new page) result }
+{
+    let next = link(region, page, head);
+    let stop = head + len(region, page, head);
+    let rest = put_run(region, page, from + n, stop, next);
+    put_run(region, page, head, from, rest)
+}
+
+// Takes bytes that lie in a free run behind the first one out of the queue, which keeps its head. Of the runs before
+// them only the last is written.
+fn take_behind(region: &mut Region, page: usize, head: u32, from: u32, n: u32)
+    requires few { page < most_pages_above }
+    requires there { is_open region.old page ≡ true }
+    requires some { 0 < n }
+    requires whole { (from % 8 ≡ 0) × (n % 8 ≡ 0) }
+    requires queue { (lo : ℕ) × (rs : List Run) × Queue lo (page_of region.old page) head rs × Covers rs from n }
+    requires far { head + word (page_of region.old page) (head + 4) ≤ from }
+    ensures keeps { Keeps region.old page region.new }
+    ensures same { (lo : ℕ) (rs : List Run) → Queue lo (page_of region.old page) head rs → Covers rs from n → (d : ℕ) → (IsFree rs d → ⊥) → Same (page_of region.old page) (page_of region.new page) d }
+    ensures queue { (lo : ℕ) (rs : List Run) → Queue lo (page_of region.old page) head rs → Covers rs from n → Takes lo rs from n (page_of region.new page) head }
+{
+    let next = link(region, page, head);
+    if next + len(region, page, next) <= from {
+        take_behind(region, page, next, from, n);
+    } else {
+        let rest = take_first(region, page, next, from, n);
+        let own = len(region, page, head);
+        set(region, page, head, rest, own);
+    }
+}
+
 // Takes bytes that lie in one free run out of the queue: they are not free then.
 fn take(region: &mut Region, page: usize, head: u32, from: u32, n: u32) -> u32
     requires few { page < most_pages_above }
@@ -154,14 +195,73 @@ fn take(region: &mut Region, page: usize, head: u32, from: u32, n: u32) -> u32
     ensures same { (lo : ℕ) (rs : List Run) → Queue lo (page_of region.old page) head rs → Covers rs from n → (d : ℕ) → (IsFree rs d → ⊥) → Same (page_of region.old page) (page_of region.new page) d }
     ensures queue { (lo : ℕ) (rs : List Run) → Queue lo (page_of region.old page) head rs → Covers rs from n → Takes lo rs from n (page_of region.new page) result }
 {
-    let next = link(region, page, head);
-    let stop = head + len(region, page, head);
-    if stop <= from {
-        let rest = take(region, page, next, from, n);
-        put_run(region, page, head, stop, rest)
+    if head + len(region, page, head) <= from {
+        take_behind(region, page, head, from, n);
+        head
     } else {
-        let rest = put_run(region, page, from + n, stop, next);
-        put_run(region, page, head, from, rest)
+        take_first(region, page, head, from, n)
+    }
+}
+
+// Whether there is a first free run, and it ends before an offset and does not touch what begins there.
+fn ends_before(region: &Region, page: usize, head: u32, from: u32) -> bool
+    requires few { page < most_pages_above }
+    requires there { is_open region.now page ≡ true }
+    requires inside { from ≤ page_bytes }
+    requires queue { (lo : ℕ) × (rs : List Run) × Queue lo (page_of region.now page) head rs }
+    ensures run { IsTrue result → head + word (page_of region.now page) (head + 4) < from }
+    ensures none { result ≡ false → head < from → from ≤ head + word (page_of region.now page) (head + 4) }
+{
+    head < from && head + len(region, page, head) < from
+}
+
+// Puts bytes of which none is free into the queue before its first free run, or joins them with that one: they are free
+// then.
+fn give_first(region: &mut Region, page: usize, head: u32, from: u32, n: u32) -> u32
+    requires few { page < most_pages_above }
+    requires there { is_open region.old page ≡ true }
+    requires some { 0 < n }
+    requires inside { from + n ≤ page_bytes }
+    requires whole { (from % 8 ≡ 0) × (n % 8 ≡ 0) }
+    requires queue { (lo : ℕ) × (rs : List Run) × (lo ≤ from) × Queue lo (page_of region.old page) head rs × NoneFree rs from n }
+    requires near { head < from → from ≤ head + word (page_of region.old page) (head + 4) }
+    ensures keeps { Keeps region.old page region.new }
+    ensures same { (lo : ℕ) (rs : List Run) → lo ≤ from → Queue lo (page_of region.old page) head rs → NoneFree rs from n → (d : ℕ) → (IsFree rs d → ⊥) → (Within from n d → ⊥) → Same (page_of region.old page) (page_of region.new page) d }
+    ensures queue { (lo : ℕ) (rs : List Run) → lo ≤ from → Queue lo (page_of region.old page) head rs → NoneFree rs from n → Gives lo rs from n (page_of region.new page) result }
+{
+    let stop = from + n;
+    if stop < head {
+        return put_run(region, page, from, stop, head);
+    }
+    let next = link(region, page, head);
+    let end = head + len(region, page, head);
+    if stop == head {
+        return put_run(region, page, from, end, next);
+    }
+    give_first(region, page, next, head, stop - head)
+}
+
+// Puts bytes of which none is free into the queue behind its first free run, which does not touch them: they are free
+// then, and the queue keeps its head. Of the runs before them only the last is written.
+fn give_behind(region: &mut Region, page: usize, head: u32, from: u32, n: u32)
+    requires few { page < most_pages_above }
+    requires there { is_open region.old page ≡ true }
+    requires some { 0 < n }
+    requires inside { from + n ≤ page_bytes }
+    requires whole { (from % 8 ≡ 0) × (n % 8 ≡ 0) }
+    requires queue { (lo : ℕ) × (rs : List Run) × (lo ≤ from) × Queue lo (page_of region.old page) head rs × NoneFree rs from n }
+    requires far { head + word (page_of region.old page) (head + 4) < from }
+    ensures keeps { Keeps region.old page region.new }
+    ensures same { (lo : ℕ) (rs : List Run) → lo ≤ from → Queue lo (page_of region.old page) head rs → NoneFree rs from n → (d : ℕ) → (IsFree rs d → ⊥) → (Within from n d → ⊥) → Same (page_of region.old page) (page_of region.new page) d }
+    ensures queue { (lo : ℕ) (rs : List Run) → lo ≤ from → Queue lo (page_of region.old page) head rs → NoneFree rs from n → Gives lo rs from n (page_of region.new page) head }
+{
+    let next = link(region, page, head);
+    if ends_before(region, page, next, from) {
+        give_behind(region, page, next, from, n);
+    } else {
+        let rest = give_first(region, page, next, from, n);
+        let own = len(region, page, head);
+        set(region, page, head, rest, own);
     }
 }
 
@@ -177,18 +277,10 @@ fn give(region: &mut Region, page: usize, head: u32, from: u32, n: u32) -> u32
     ensures same { (lo : ℕ) (rs : List Run) → lo ≤ from → Queue lo (page_of region.old page) head rs → NoneFree rs from n → (d : ℕ) → (IsFree rs d → ⊥) → (Within from n d → ⊥) → Same (page_of region.old page) (page_of region.new page) d }
     ensures queue { (lo : ℕ) (rs : List Run) → lo ≤ from → Queue lo (page_of region.old page) head rs → NoneFree rs from n → Gives lo rs from n (page_of region.new page) result }
 {
-    let stop = from + n;
-    if stop < head {
-        return put_run(region, page, from, stop, head);
+    if ends_before(region, page, head, from) {
+        give_behind(region, page, head, from, n);
+        head
+    } else {
+        give_first(region, page, head, from, n)
     }
-    let next = link(region, page, head);
-    let end = head + len(region, page, head);
-    if stop == head {
-        return put_run(region, page, from, end, next);
-    }
-    if end < from {
-        let rest = give(region, page, next, from, n);
-        return put_run(region, page, head, end, rest);
-    }
-    give(region, page, next, head, stop - head)
 }

@@ -13,6 +13,7 @@ pub mod RegionCount
 pub mod StoreCount
 pub mod Scan
 pub mod Short
+pub mod Passed
 pub mod Exact
 pub mod Cover
 pub mod Change

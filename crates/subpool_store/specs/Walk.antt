@@ -4,6 +4,7 @@ use Rattle.mvs_model.specs.Finite.{count_below}
 use Rattle.mvs_model.specs.Numbers.{page_doublewords}
 use Rattle.page_map.specs.Owners.{is_of, owner_of}
 use Rattle.subpool_store.specs.Bits.{digit}
+use Rattle.subpool_store.specs.Edits.{IsFreeRun}
 use Rattle.subpool_store.specs.Memory.{IsCursor, MemoryState}
 use Rattle.subpool_store.specs.Search.{may_take}
 use Rattle.subpool_store.specs.declared.walk.Part.{Part}
@@ -53,3 +54,11 @@ pub record IsWalk (m : MemoryState) (pages : List (Option ℕ)) (s : ℕ) (w : W
   pub stands : Stands m pages s w.end w.inside w.queue
   pub few : w.steps ≤ progress w.end w.inside
   pub counted : w.steps ≡ looked_at m pages s w.end w.inside
+
+-- The first free run of a page from an index on is shorter than n and ends before the page does; then the queue goes on.
+pub record IsShortRun (m : MemoryState) (page from n end queue : ℕ) : Type 0 where
+  pub start : ℕ
+  pub run : IsFreeRun m.held from (page_doublewords * page + page_doublewords) start end
+  pub short : end < start + n
+  pub inside : end < page_doublewords * page + page_doublewords
+  pub cursor : IsCursor m page end queue

@@ -236,18 +236,26 @@ impl Walk {
         ensures part { IsNextPart memory.now pages.now subpool self.new.end true result }
     {
         let page = self.end / PAGE_DOUBLEWORDS;
-        let mut part = examine_run(memory, pages, subpool, page, self.end, self.queue);
-        'runs: while part.inside && part.end - part.start < least {
-            *self = Walk {
-                start: part.end,
-                end: part.end,
-                inside: true,
-                queue: part.queue,
-                steps: self.steps + part.examined,
-            };
-            part = examine_run(memory, pages, subpool, page, self.end, self.queue);
+        let first = PAGE_DOUBLEWORDS * page;
+        let mut at = 8 * (self.end - first) as u32;
+        let mut queue = self.queue;
+        let mut passed = 0;
+        'runs: while let Some((end, behind)) =
+            memory.short_run(page, first + (at / 8) as usize, queue, least)
+        {
+            at = end;
+            queue = behind;
+            passed += 1;
         }
-        part
+        let end = first + (at / 8) as usize;
+        *self = Walk {
+            start: end,
+            end,
+            inside: true,
+            queue,
+            steps: self.steps + passed,
+        };
+        examine_run(memory, pages, subpool, page, end, queue)
     }
 
     // Whether the run that is joined so far is still of use: it may go on in the page that the pass has entered, or it is

@@ -1,20 +1,16 @@
-use Rattle.std.proofs.Common.{◌≡◌, ◌≤◌, ◌+◌, ◌-◌, ◌*◌, ◌/◌, true, false, length}
+use Rattle.std.proofs.Common.{◌≡◌, ◌≤◌, ◌+◌, ◌-◌, ◌*◌, ◌/◌, length}
 use Rattle.subpool_store.specs.Search.{may_take, NoneFits}
-use Rattle.subpool_store.specs.Walk.{IsNextPart, IsWalk, progress}
+use Rattle.subpool_store.specs.Walk.{IsWalk}
+use Rattle.subpool_store.proofs.Passed.{walk_at}
 use Rattle.subpool_store.proofs.walk.Walk.pass_short.Given as goal
 
 abbrev pub invariant-runs : goal.invariant-runs
 invariant-runs l = record {
-  walk : IsWalk l.memory l.pages l.subpool l.self;
-  inside : l.self.inside ≡ true;
-  empty : l.self.start ≡ l.self.end;
-  after : l.fn.self.start ≤ l.self.start;
-  none : NoneFits (may_take l.memory.held l.pages l.subpool) l.least l.fn.self.start l.self.start;
-  part : IsNextPart l.memory l.pages l.subpool l.self.end true l.part;
-  page : l.self.end / 512 ≡ l.page;
-  stays : l.part.inside ≡ true → l.part.end / 512 ≡ l.page;
-  stops : l.part.inside ≡ true → may_take l.memory.held l.pages l.subpool l.part.end ≡ false;
+  walk : IsWalk l.memory l.pages l.subpool (walk_at (512 * l.page + l.at / 8) l.queue (l.fn.self.steps + l.passed));
+  after : l.fn.self.end ≤ 512 * l.page + l.at / 8;
+  page : (512 * l.page + l.at / 8) / 512 ≡ l.page;
+  none : NoneFits (may_take l.memory.held l.pages l.subpool) l.least l.fn.self.start (512 * l.page + l.at / 8);
 }
 
 abbrev pub decreases-runs : goal.decreases-runs
-decreases-runs l = 2 * length l.memory.held + 1 - progress l.self.end l.self.inside
+decreases-runs l = length l.memory.held - (512 * l.page + l.at / 8)

@@ -1,7 +1,7 @@
-use Rattle.std.proofs.Common.{◌+◌, ◌-◌, ◌<◌, ◌≤◌, ◌⊎◌, sym, subst, arith, inr, List, ℕ, ◌≡◌}
+use Rattle.std.proofs.Common.{◌+◌, ◌-◌, ◌<◌, ◌≤◌, ◌⊎◌, sym, subst, arith, inl, inr, List, ℕ, ◌≡◌}
 use Rattle.free_queue.specs.Runs.{Run, Queue, Gives, Adds, Same, IsFree, NoneFree, Within, page_of, word}
-use Rattle.free_queue.proofs.Queues.{head_whole, peel, next_above, free_above, rising_from, give_before, give_join, keep_join, give_far, keep_past, touches, give_after, keep_after}
-use Rattle.free_queue.proofs.+give.Goals as goal
+use Rattle.free_queue.proofs.Queues.{below_or_not, head_whole, peel, next_above, free_above, rising_from, give_before, give_join, keep_join, touches, give_after, keep_after}
+use Rattle.free_queue.proofs.+give_first.Goals as goal
 
 pub returns-then-stop-head-clause-queue : goal.returns-then-stop-head-clause-queue
 returns-then-stop-head-clause-queue t c = give_before (page_of c.args.region.now c.args.page) (page_of c.put_run.new.region c.args.page) c.args.head c.put_run.result c.args.from c.args.n c.if-stop-head.true c.put_run.ensures.queue
@@ -23,42 +23,20 @@ returns-then-stop-head-2-clause-queue t c =
     let added = subst (λ j. (rs : List Run) → Queue (h + word ws (h + 4) + 1) ws j rs → Adds a (h + word ws (h + 4)) rs ws2 res) c.link-next.ensures (subst (λ k. (rs : List Run) → Queue (h + k + 1) ws c.link-next.result rs → Adds a (h + k) rs ws2 res) c.len.ensures c.put_run-then-stop-head-2.ensures.queue) in
     give_join ws ws2 h res a c.args.n c.if-stop-head-2.true c.requires.inside added
 
-pub returns-then-end-from-clause-same : goal.returns-then-end-from-clause-same
-returns-then-end-from-clause-same t c =
-    let h = c.args.head in let ws = (page_of c.args.region.now c.args.page) in let ws1 = (page_of c.give-rest.new.region c.args.page) in let ws2 = (page_of c.put_run-then-end-from.new.region c.args.page) in let a = c.args.from in let n = c.args.n in
-    let rest = c.give-rest.result in let res = c.put_run-then-end-from.result in
-    let far = subst (λ k. h + k < a) c.len.ensures c.if-end-from.true in
-    let given = subst (λ k. (lo : ℕ) (rs : List Run) → lo ≤ a → Queue lo ws k rs → NoneFree rs a n → Gives lo rs a n ws1 rest) c.link-next.ensures c.give-rest.ensures.queue in
-    let kept = subst (λ k. (lo : ℕ) (rs : List Run) → lo ≤ a → Queue lo ws k rs → NoneFree rs a n → (d : ℕ) → (IsFree rs d → ⊥) → (Within a n d → ⊥) → Same ws ws1 d) c.link-next.ensures c.give-rest.ensures.same in
-    let added = subst (λ k. (rs : List Run) → Queue (h + k + 1) ws1 rest rs → Adds h (h + k) rs ws2 res) c.len.ensures c.put_run-then-end-from.ensures.queue in
-    let rest_kept = subst (λ k. (d : ℕ) → (d < h) ⊎ (h + k ≤ d) → Same ws1 ws2 d) c.len.ensures c.put_run-then-end-from.ensures.same in
-    keep_past ws ws1 ws2 h rest res a n c.requires.inside far given kept added rest_kept
-
-pub returns-then-end-from-clause-queue : goal.returns-then-end-from-clause-queue
-returns-then-end-from-clause-queue t c =
-    let h = c.args.head in let ws = (page_of c.args.region.now c.args.page) in let ws1 = (page_of c.give-rest.new.region c.args.page) in let ws2 = (page_of c.put_run-then-end-from.new.region c.args.page) in let a = c.args.from in let n = c.args.n in
-    let rest = c.give-rest.result in let res = c.put_run-then-end-from.result in
-    let far = subst (λ k. h + k < a) c.len.ensures c.if-end-from.true in
-    let given = subst (λ k. (lo : ℕ) (rs : List Run) → lo ≤ a → Queue lo ws k rs → NoneFree rs a n → Gives lo rs a n ws1 rest) c.link-next.ensures c.give-rest.ensures.queue in
-    let kept = subst (λ k. (lo : ℕ) (rs : List Run) → lo ≤ a → Queue lo ws k rs → NoneFree rs a n → (d : ℕ) → (IsFree rs d → ⊥) → (Within a n d → ⊥) → Same ws ws1 d) c.link-next.ensures c.give-rest.ensures.same in
-    let added = subst (λ k. (rs : List Run) → Queue (h + k + 1) ws1 rest rs → Adds h (h + k) rs ws2 res) c.len.ensures c.put_run-then-end-from.ensures.queue in
-    let rest_kept = subst (λ k. (d : ℕ) → (d < h) ⊎ (h + k ≤ d) → Same ws1 ws2 d) c.len.ensures c.put_run-then-end-from.ensures.same in
-    give_far ws ws1 ws2 h rest res a n c.requires.inside far given kept added rest_kept
-
 pub returns-clause-same : goal.returns-clause-same
 returns-clause-same t c =
-    let h = c.args.head in let ws = (page_of c.args.region.now c.args.page) in let ws1 = (page_of c.give.new.region c.args.page) in let a = c.args.from in let n = c.args.n in let res = c.give.result in
-    let near : a ≤ h + word ws (h + 4) = subst (λ k. a ≤ h + k) c.len.ensures c.if-end-from.false in
-    let given = subst (λ k. (lo : ℕ) (rs : List Run) → lo ≤ h → Queue lo ws k rs → NoneFree rs h (a + n - h) → Gives lo rs h (a + n - h) ws1 res) c.link-next.ensures c.give.ensures.queue in
-    let kept = subst (λ k. (lo : ℕ) (rs : List Run) → lo ≤ h → Queue lo ws k rs → NoneFree rs h (a + n - h) → (d : ℕ) → (IsFree rs d → ⊥) → (Within h (a + n - h) d → ⊥) → Same ws ws1 d) c.link-next.ensures c.give.ensures.same in
+    let h = c.args.head in let ws = (page_of c.args.region.now c.args.page) in let ws1 = (page_of c.give_first.new.region c.args.page) in let a = c.args.from in let n = c.args.n in let res = c.give_first.result in
+    let near : a ≤ h + word ws (h + 4) = elim (below_or_not h a) [ inl lt ↦ c.requires.near lt | inr le ↦ omega (arith, le) ] in
+    let given = subst (λ k. (lo : ℕ) (rs : List Run) → lo ≤ h → Queue lo ws k rs → NoneFree rs h (a + n - h) → Gives lo rs h (a + n - h) ws1 res) c.link-next.ensures c.give_first.ensures.queue in
+    let kept = subst (λ k. (lo : ℕ) (rs : List Run) → lo ≤ h → Queue lo ws k rs → NoneFree rs h (a + n - h) → (d : ℕ) → (IsFree rs d → ⊥) → (Within h (a + n - h) d → ⊥) → Same ws ws1 d) c.link-next.ensures c.give_first.ensures.same in
     keep_after ws ws1 h res a n c.requires.some c.requires.inside c.if-stop-head.false c.if-stop-head-2.false near given kept
 
 pub returns-clause-queue : goal.returns-clause-queue
 returns-clause-queue t c =
-    let h = c.args.head in let ws = (page_of c.args.region.now c.args.page) in let ws1 = (page_of c.give.new.region c.args.page) in let a = c.args.from in let n = c.args.n in let res = c.give.result in
-    let near : a ≤ h + word ws (h + 4) = subst (λ k. a ≤ h + k) c.len.ensures c.if-end-from.false in
-    let given = subst (λ k. (lo : ℕ) (rs : List Run) → lo ≤ h → Queue lo ws k rs → NoneFree rs h (a + n - h) → Gives lo rs h (a + n - h) ws1 res) c.link-next.ensures c.give.ensures.queue in
-    let kept = subst (λ k. (lo : ℕ) (rs : List Run) → lo ≤ h → Queue lo ws k rs → NoneFree rs h (a + n - h) → (d : ℕ) → (IsFree rs d → ⊥) → (Within h (a + n - h) d → ⊥) → Same ws ws1 d) c.link-next.ensures c.give.ensures.same in
+    let h = c.args.head in let ws = (page_of c.args.region.now c.args.page) in let ws1 = (page_of c.give_first.new.region c.args.page) in let a = c.args.from in let n = c.args.n in let res = c.give_first.result in
+    let near : a ≤ h + word ws (h + 4) = elim (below_or_not h a) [ inl lt ↦ c.requires.near lt | inr le ↦ omega (arith, le) ] in
+    let given = subst (λ k. (lo : ℕ) (rs : List Run) → lo ≤ h → Queue lo ws k rs → NoneFree rs h (a + n - h) → Gives lo rs h (a + n - h) ws1 res) c.link-next.ensures c.give_first.ensures.queue in
+    let kept = subst (λ k. (lo : ℕ) (rs : List Run) → lo ≤ h → Queue lo ws k rs → NoneFree rs h (a + n - h) → (d : ℕ) → (IsFree rs d → ⊥) → (Within h (a + n - h) d → ⊥) → Same ws ws1 d) c.link-next.ensures c.give_first.ensures.same in
     give_after ws ws1 h res a n c.requires.some c.requires.inside c.if-stop-head.false c.if-stop-head-2.false near given kept
 
 pub link-next-requires-clause-inside : goal.link-next-requires-clause-inside
@@ -76,39 +54,12 @@ put_run-requires-then-stop-head-2-clause-inside t c = let q = c.requires.queue i
 pub put_run-requires-then-stop-head-2-clause-whole : goal.put_run-requires-then-stop-head-2-clause-whole
 put_run-requires-then-stop-head-2-clause-whole t c = let q = c.requires.queue in let ends : c.args.head ≡ 4294967295 → ⊥ = λ e. omega (arith, e, c.requires.inside, c.if-stop-head.false) in let p = peel q.0 q.1 (page_of c.args.region.now c.args.page) c.args.head q.3 ends in let w = head_whole q.0 q.1 (page_of c.args.region.now c.args.page) c.args.head q.3 ends in (c.requires.whole.0, omega (arith, w.0, w.1, c.len.ensures))
 
-pub put_run-requires-then-end-from-clause-whole : goal.put_run-requires-then-end-from-clause-whole
-put_run-requires-then-end-from-clause-whole t c = let q = c.requires.queue in let ends : c.args.head ≡ 4294967295 → ⊥ = λ e. omega (arith, e, c.requires.inside, c.if-stop-head.false) in let p = peel q.0 q.1 (page_of c.args.region.now c.args.page) c.args.head q.3 ends in let w = head_whole q.0 q.1 (page_of c.args.region.now c.args.page) c.args.head q.3 ends in (w.0, omega (arith, w.0, w.1, c.len.ensures))
-
-pub give-rest-requires : goal.give-rest-requires
-give-rest-requires t c =
-    let h = c.args.head in let ws = (page_of c.args.region.now c.args.page) in let q = c.requires.queue in
-    let ends : h ≡ 4294967295 → ⊥ = λ e. omega (arith, e, c.requires.inside, c.if-stop-head.false) in
-    let p = peel q.0 q.1 ws h q.3 ends in let tail = p.3 in let on = next_above q.0 q.1 ws h q.3 ends in (
-      omega (arith, c.decreases, on, c.link-next.ensures, p.1, p.2),
-      (
-        c.requires.few,
-        (
-          c.requires.there,
-          (
-            c.requires.some,
-            (
-              c.requires.inside,
-              (
-                c.requires.whole,
-                (h + word ws (h + 4) + 1, tail.0, omega (arith, c.if-end-from.true, c.len.ensures), subst (λ k. Queue (h + word ws (h + 4) + 1) ws k tail.0) (sym c.link-next.ensures) tail.1, λ d w g. q.4 d w ((tail.2 d).1 (inr g))),
-              ),
-            ),
-          ),
-        ),
-      ),
-    )
-
-pub give-requires : goal.give-requires
-give-requires t c =
+pub give_first-requires : goal.give_first-requires
+give_first-requires t c =
     let h = c.args.head in let ws = (page_of c.args.region.now c.args.page) in let q = c.requires.queue in let a = c.args.from in let n = c.args.n in
     let ends : h ≡ 4294967295 → ⊥ = λ e. omega (arith, e, c.requires.inside, c.if-stop-head.false) in
     let p = peel q.0 q.1 ws h q.3 ends in let tail = p.3 in let on = next_above q.0 q.1 ws h q.3 ends in let w = head_whole q.0 q.1 ws h q.3 ends in
-    let near : a ≤ h + word ws (h + 4) = subst (λ k. a ≤ h + k) c.len.ensures c.if-end-from.false in
+    let near : a ≤ h + word ws (h + 4) = elim (below_or_not h a) [ inl lt ↦ c.requires.near lt | inr le ↦ omega (arith, le) ] in
     let is = touches ws ws h c.link-next.result a n c.requires.some c.requires.inside c.if-stop-head.false c.if-stop-head-2.false near q.0 q.1 q.3 q.4 in (
       omega (arith, c.decreases, on, c.link-next.ensures, p.1, p.2),
       (
@@ -121,13 +72,13 @@ give-requires t c =
               omega (arith, c.requires.inside, c.if-stop-head.false),
               (
                 (w.0, omega (arith, c.requires.whole.0, c.requires.whole.1, w.0, c.if-stop-head.false)),
-                (
+                ((
                   h,
                   tail.0,
                   omega arith,
                   subst (λ k. Queue h ws k tail.0) (sym c.link-next.ensures) (rising_from (h + word ws (h + 4) + 1) h tail.0 (omega arith) tail.1.0, tail.1.1),
                   λ d v g. q.4 d (omega (arith, is, free_above (h + word ws (h + 4) + 1) tail.0 d tail.1.0 g), omega (arith, v.1, c.if-stop-head.false)) ((tail.2 d).1 (inr g)),
-                ),
+                ), λ lt. absurd (omega (arith, lt, on, c.link-next.ensures))),
               ),
             ),
           ),
