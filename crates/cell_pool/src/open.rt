@@ -32,8 +32,8 @@ fn eight_bytes(bytes: &[u8], at: usize) -> u64
     ])
 }
 
-// How many bytes at the front have all their bits set, eight bytes at a time.
-fn full_front(bytes: &[u8]) -> usize
+// How many bytes at the front have all their bits set, as far as whole words of eight bytes tell.
+fn full_words(bytes: &[u8]) -> usize
     requires { length bytes.now ≤ 8192 }
     ensures within { result ≤ length bytes.now }
     ensures full { (k : ℕ) → k < result → slice_index bytes.now k ≡ 255 }
@@ -46,6 +46,20 @@ fn full_front(bytes: &[u8]) -> usize
         at += 8;
     }
     at
+}
+
+// How many bytes at the front have all their bits set: whole words first, then single bytes.
+fn full_front(bytes: &[u8]) -> usize
+    requires { length bytes.now ≤ 8192 }
+    ensures within { result ≤ length bytes.now }
+    ensures full { (k : ℕ) → k < result → slice_index bytes.now k ≡ 255 }
+{
+    for index in full_words(bytes)..bytes.len() {
+        if bytes[index] != 0xFF {
+            return index;
+        }
+    }
+    bytes.len()
 }
 
 // The first bit of a byte, from the high one on, that is not set.

@@ -1,10 +1,11 @@
--- A map of names in order, seen as a finite map.
+-- A list of names with their places, seen as a finite map.
 use Rattle.std.proofs.Common.{◌≡◌, ℕ, Bool, true, false, List, [], ◌∷◌, Option, Some, None, cond, refl, sym, ap, subst, ◌∙◌}
 use Rattle.std.specs.Prelude.{IfSome}
 use Rattle.std.specs.FinMap as map
 use Rattle.std.specs.FinMap.Entries.{find}
 use Rattle.std.specs.Map.{lookup}
-use Rattle.std.specs.BTreeMap.{is_at}
+use Rattle.std.specs.Prelude.{nat_eq}
+use Rattle.std.specs.Cmp.Lexicographic.{pointwise, texts_ties}
 use Rattle.mvs_model.specs.Name.{name_cmp, same_name}
 use Rattle.mvs_model.specs.Place.{PlaceValue}
 use Rattle.job_script.specs.Areas.{IsArea, AreAreas}
@@ -12,17 +13,17 @@ use Rattle.mvs_model.proofs.Orders.{name_cmp_total, name_cmp-IsAntisymmetric, sa
 
 module _ {X : Type 0} where
   -- a look-up in the entries is one in the map
-  lookup_find : (q : List ℕ) (es : List (List ℕ × X)) → lookup (is_at (name_cmp q)) es ≡ find name_cmp q es
+  lookup_find : (q : List ℕ) (es : List (List ℕ × X)) → lookup (pointwise nat_eq q) es ≡ find name_cmp q es
   lookup_find q [] = refl
-  lookup_find q (e ∷ es) = ap (cond (same_name q e.0) (Some e.1)) (lookup_find q es)
+  lookup_find q (e ∷ es) = λ i. cond (texts_ties q e.0 i) (Some e.1) (lookup_find q es i)
 
-  pub get_entries : (q : List ℕ) (es : List (List ℕ × X)) → map.get (map.from_entries {R = name_cmp} es) q ≡ lookup (is_at (name_cmp q)) es
+  pub get_entries : (q : List ℕ) (es : List (List ℕ × X)) → map.get (map.from_entries {R = name_cmp} es) q ≡ lookup (pointwise nat_eq q) es
   get_entries q es = map.get-from_entries name_cmp_total es q ∙ sym (lookup_find q es)
 
   -- entries that answer otherwise at one key
-  pub set_entries : (old new : List (List ℕ × X)) (k : List ℕ) (x : X) → ((q : List ℕ) → lookup (is_at (name_cmp q)) new ≡ cond (is_at (name_cmp k) q) (Some x) (lookup (is_at (name_cmp q)) old)) → map.from_entries {R = name_cmp} new ≡ map.insert (map.from_entries old) k x
+  pub set_entries : (old new : List (List ℕ × X)) (k : List ℕ) (x : X) → ((q : List ℕ) → lookup (pointwise nat_eq q) new ≡ cond (pointwise nat_eq k q) (Some x) (lookup (pointwise nat_eq q) old)) → map.from_entries {R = name_cmp} new ≡ map.insert (map.from_entries old) k x
   set_entries old new k x h = map.same_map name_cmp_total name_cmp-IsAntisymmetric _ _ (λ q.
-      get_entries q new ∙ h q ∙ ap (λ b. cond b (Some x) (lookup (is_at (name_cmp q)) old)) (same_name_sym k q) ∙ ap (cond (same_name q k) (Some x)) (sym (get_entries q old)) ∙ sym (map.get-insert name_cmp_total (map.from_entries old) k x q))
+      get_entries q new ∙ h q ∙ ap (λ b. cond b (Some x) (lookup (pointwise nat_eq q) old)) (texts_ties k q ∙ same_name_sym k q) ∙ ap (cond (same_name q k) (Some x)) (sym (get_entries q old)) ∙ sym (map.get-insert name_cmp_total (map.from_entries old) k x q))
 
 -- no name is set
 pub no_areas : (m : map.FinMap name_cmp PlaceValue) → m ≡ map.empty → AreAreas m

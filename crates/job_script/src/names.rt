@@ -9,13 +9,13 @@ use mvs_model::error::OutOfMemory;
 use mvs_model::name::Name;
 use mvs_model::place::Place;
 use std::alloc::Global;
-use std::collections::BTreeMap;
+use std::collections::HashMap;
 use std::marker::Model;
 
 /// The places of the names that a step has set.
 #[derive(Drop)]
 pub struct Names {
-    places: BTreeMap<Name, Place>,
+    places: HashMap<Name, Place>,
 }
 
 impl Model for Names {
@@ -40,7 +40,7 @@ impl Names {
         ensures { result ≡ map.empty }
     {
         Names {
-            places: BTreeMap::new(alloc),
+            places: HashMap::new(alloc),
         }
     }
 

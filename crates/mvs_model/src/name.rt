@@ -1,15 +1,16 @@
 //! Names of tasks, areas, cells and cell pools.
 
-ghost use Rattle.std.specs.Prelude.{◌≡◌, ◌≤◌, ◌<◌, ◌^◌, ◌==◌, ℕ, MatchOption, length, slice_index};
+ghost use Rattle.std.specs.Prelude.{◌≡◌, ◌≤◌, ◌<◌, ◌^◌, ◌==◌, ℕ, [], ◌∷◌, MatchOption, length, slice_index};
 ghost use Rattle.std.specs.List.{position_or_len};
 ghost use Rattle.std.specs.Int.{w64, from_be_bytes};
 ghost use Rattle.std.specs.Cmp.{partial_order_from_own_ties};
-ghost use Rattle.std.specs.Cmp.Rules.{comparing};
+ghost use Rattle.std.specs.Cmp.Rules.{comparing, hashing};
 ghost use Rattle.std.specs.Ordering.{as_partial_cmp};
 ghost use Rattle.std.proofs.Common.{rules};
 ghost use Rattle.mvs_model.specs.Name.{AreBytes, IsNameText, name_cmp, padded, trimmed};
 
 use std::cmp::Ordering;
+use std::hash::{Hash, Hasher};
 use std::marker::Model;
 
 /// One to eight bytes without a blank, padded with blanks to eight; in byte order. Which bytes a script may
@@ -102,6 +103,17 @@ impl PartialOrd for Name {
 
     fn partial_cmp(&self, other: &Name) -> Option<Ordering> {
         Some(self.cmp(other))
+    }
+}
+
+impl Hash for Name {
+    ghost hash_input = { λ n. n ∷ [] };
+
+    ghost respects_eq = { Prim.search (hashing, rules) };
+
+    // All the bytes at once, so that a fast hasher multiplies once.
+    fn hash<H: Hasher>(&self, state: &mut H) {
+        state.write(&self.bytes);
     }
 }
 
