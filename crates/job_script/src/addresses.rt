@@ -41,10 +41,7 @@ pub fn name(text: &[u8]) -> Name
     requires { is_name text.now ≡ true }
     ensures { result ≡ padded text.now }
 {
-    match Name::new(text) {
-        Some(name) => name,
-        None => unreachable!(),
-    }
+    Name::of(text)
 }
 
 // Whether the digits between quotes are an address.
