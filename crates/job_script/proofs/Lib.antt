@@ -18,3 +18,4 @@ pub mod Showing
 pub mod Named
 pub mod Fitting
 pub mod Plain
+pub mod FormTexts

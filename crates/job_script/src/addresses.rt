@@ -16,7 +16,11 @@ use mvs_model::place::Addr;
 fn is_name_byte(byte: u8) -> bool
     ensures { result ≡ is_name_byte byte }
 {
-    matches!(byte, b'A'..=b'Z' | b'0'..=b'9' | b'@' | b'#' | b'$')
+    if byte >= b'@' {
+        byte <= b'Z'
+    } else {
+        byte.is_ascii_digit() || byte == b'#' || byte == b'$'
+    }
 }
 
 // Whether a name may have each byte.
@@ -41,10 +45,7 @@ pub fn name(text: &[u8]) -> Name
     requires { is_name text.now ≡ true }
     ensures { result ≡ padded text.now }
 {
-    match Name::new(text) {
-        Some(name) => name,
-        None => unreachable!(),
-    }
+    Name::of(text)
 }
 
 // Whether the digits between quotes are an address.

@@ -91,11 +91,12 @@ impl Given<'_> {
     }
 
     // Whether a rule is half kept.
-    fn has_half(&self) -> bool
-        requires { IsRead self.now }
+    fn has_half(&self, rules: &[Rule]) -> bool
+        requires read { IsRead self.now }
+        requires rules { map as_rule rules.now ≡ (row_at self.now.row).rules }
         ensures { result ≡ list_any (is_half (by_place self.now)) (row_at self.now.row).rules }
     {
-        for rule in self.row.rules() {
+        for rule in rules {
             if self.is_half(*rule) {
                 return true;
             }
@@ -148,11 +149,12 @@ impl Given<'_> {
     }
 
     // Whether some operands exclude each other.
-    fn has_conflict(&self) -> bool
-        requires { IsRead self.now }
+    fn has_conflict(&self, rules: &[Rule]) -> bool
+        requires read { IsRead self.now }
+        requires rules { map as_rule rules.now ≡ (row_at self.now.row).rules }
         ensures { result ≡ list_any (is_conflict (by_place self.now)) (row_at self.now.row).rules }
     {
-        for rule in self.row.rules() {
+        for rule in rules {
             if self.is_conflict(*rule) {
                 return true;
             }
@@ -168,10 +170,11 @@ impl Given<'_> {
             ∷ Conflicting when list_any (is_conflict (by_place self.now)) (row_at self.now.row).rules
             ∷ []) }
     {
-        if self.lacks_positional() || self.lacks_keyword() || self.has_half() {
+        let rules = self.row.rules();
+        if self.lacks_positional() || self.lacks_keyword() || self.has_half(rules) {
             return Err(Fault::MissingOperand);
         }
-        if self.has_conflict() {
+        if self.has_conflict(rules) {
             return Err(Fault::Conflicting);
         }
         Ok(())

@@ -115,10 +115,10 @@ fn read_with_form(
         return Err(Fault::MissingOperand);
     }
     let (form, rest) = next_operand(field);
-    if has_key(form) {
-        return Err(Fault::MissingOperand);
-    }
     let Some(row) = operation.row(form) else {
+        if has_key(form) {
+            return Err(Fault::MissingOperand);
+        }
         return Err(Fault::UnknownOperation);
     };
     read_row(task, row, form, rest, line)

@@ -39,8 +39,10 @@ fn pad(text: &[u8]) -> [u8; 8]
     ensures { result ≡ padded text.now }
 {
     let mut bytes = [b' '; 8];
-    for (i, byte) in text.iter().enumerate() {
-        bytes[i] = *byte;
+    for i in 0..8 {
+        if i < text.len() {
+            bytes[i] = text[i];
+        }
     }
     bytes
 }
@@ -54,6 +56,14 @@ impl Name {
             return None;
         }
         Some(Name { bytes: pad(text) })
+    }
+
+    /// The name that a text spells which is known to spell one.
+    pub fn of(text: &[u8]) -> Name
+        requires { IsNameText text.now }
+        ensures { result ≡ padded text.now }
+    {
+        Name { bytes: pad(text) }
     }
 
     // The bytes as a number, the first one the highest.

@@ -130,6 +130,7 @@ fn texts_of_names(rt: HostRuntime) {
     for text in [b"".as_slice(), b"ABCDEFGHI", b" ", b" A", b"A ", b"A B"] {
         assert!(rt; Name::new(text).is_none());
     }
+    assert_eq!(rt; Name::of(b"JOB"), name(&rt, b"JOB"));
 }
 
 // The padding is of blanks: it stands behind X'1F' and before each byte that a script writes in a name.

@@ -1,8 +1,6 @@
-use Rattle.std.proofs.Common.{◌≡◌, ◌≤◌, length, true, arith, sym, ◌∙◌}
-use Rattle.std.specs.List.{list_all}
+use Rattle.std.proofs.Common.{◌≤◌, length, arith, sym, ◌∙◌}
 use Rattle.std.proofs.lemmas.Grind.{common_steps}
 use Rattle.std.proofs.lemmas.List.{drop_all}
-use Rattle.mvs_model.specs.Reading.{is_digit}
 use Rattle.mvs_model.proofs.ReadingLoops.{counted_all}
 use Rattle.job_script.proofs.SameNumbers.{digits_number}
 use Rattle.job_script.proofs.digits.read_number.Goals as goal

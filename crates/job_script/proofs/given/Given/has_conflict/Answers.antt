@@ -10,8 +10,8 @@ use Rattle.job_script.proofs.given.Given.has_conflict.Goals as goal
 pub loop-rule-init : goal.loop-rule-init
 loop-rule-init c =
     let g = by_place c.args.self.now in
-    let rules = c.rules-rule-items.result.now in
+    let rules = c.args.rules.now in
     record {
-      fit = all_map (IsFit g) as_rule rules (subst (AllByRecursion (IsFit g)) (sym c.rules-rule-items.ensures) (rules_fit c.args.self.now c.requires c.args.self.now.row refl));
-      on = sym (any_map as_rule (is_conflict g) rules) ∙ ap (list_any (is_conflict g)) c.rules-rule-items.ensures;
+      fit = all_map (IsFit g) as_rule rules (subst (AllByRecursion (IsFit g)) (sym c.requires.rules) (rules_fit c.args.self.now c.requires.read c.args.self.now.row refl));
+      on = sym (any_map as_rule (is_conflict g) rules) ∙ ap (list_any (is_conflict g)) c.requires.rules;
     }

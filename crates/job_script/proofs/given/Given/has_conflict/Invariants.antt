@@ -8,6 +8,6 @@ use Rattle.job_script.proofs.given.Given.has_conflict.Given as goal
 
 abbrev pub invariant-loop-rule : goal.invariant-loop-rule
 invariant-loop-rule l = record {
-  fit : AllByRecursion (λ rule. IsFit (by_place l.self) (as_rule rule)) (drop l.rule-index l.rule-items);
-  on : list_any (λ rule. is_conflict (by_place l.self) (as_rule rule)) (drop l.rule-index l.rule-items) ≡ list_any (is_conflict (by_place l.self)) (row_at l.self.row).rules;
+  fit : AllByRecursion (λ rule. IsFit (by_place l.self) (as_rule rule)) (drop l.rule-index l.rules);
+  on : list_any (λ rule. is_conflict (by_place l.self) (as_rule rule)) (drop l.rule-index l.rules) ≡ list_any (is_conflict (by_place l.self)) (row_at l.self.row).rules;
 }

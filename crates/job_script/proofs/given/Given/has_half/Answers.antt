@@ -8,5 +8,5 @@ use Rattle.job_script.proofs.given.Given.has_half.Goals as goal
 
 pub loop-rule-init : goal.loop-rule-init
 loop-rule-init c = record {
-  on = sym (any_map as_rule (is_half (by_place c.args.self.now)) c.rules-rule-items.result.now) ∙ ap (list_any (is_half (by_place c.args.self.now))) c.rules-rule-items.ensures;
+  on = sym (any_map as_rule (is_half (by_place c.args.self.now)) c.args.rules.now) ∙ ap (list_any (is_half (by_place c.args.self.now))) c.requires.rules;
 }

@@ -7,5 +7,5 @@ use Rattle.job_script.proofs.given.Given.has_half.Given as goal
 
 abbrev pub invariant-loop-rule : goal.invariant-loop-rule
 invariant-loop-rule l = record {
-  on : list_any (λ rule. is_half (by_place l.self) (as_rule rule)) (drop l.rule-index l.rule-items) ≡ list_any (is_half (by_place l.self)) (row_at l.self.row).rules;
+  on : list_any (λ rule. is_half (by_place l.self) (as_rule rule)) (drop l.rule-index l.rules) ≡ list_any (is_half (by_place l.self)) (row_at l.self.row).rules;
 }
