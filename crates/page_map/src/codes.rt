@@ -79,13 +79,14 @@ pub(crate) fn first_usable(codes: &[u16], own: u16, from: usize) -> usize
     requires from { from ≤ length codes.now }
     ensures { IsFirst (is_usable own) (page_owners codes.now) from result }
 {
-    let start = pass_several(codes, own, from);
-    for page in start..codes.len() {
+    let mut page = pass_several(codes, own, from);
+    'pages: while page < codes.len() {
         if is_usable(codes[page], own) {
             return page;
         }
+        page += 1;
     }
-    codes.len()
+    page
 }
 
 // Whether one of some pages is assigned.
