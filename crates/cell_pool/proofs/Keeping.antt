@@ -1,6 +1,8 @@
 -- What keeps the parts of the pools: a grant, a release that touches no part, and a write of bytes that may be written.
-use Rattle.std.proofs.Common.{◌≡◌, ◌≢◌, ℕ, ◌/◌, ◌<◌, Bool, true, false, cond, Option, Some, None, refl, sym, ap, ◌∙◌, subst, arith}
+use Rattle.std.proofs.Common.{◌≡◌, ◌≢◌, ℕ, zero, suc, ◌+◌, ◌/◌, ◌<◌, Bool, true, false, cond, List, [], ◌∷◌, slice_index_or, is_some, Option, Some, None, refl, sym, ap, ◌∙◌, subst, arith}
 use Rattle.std.specs.Prelude.{not, ◌==◌, unwrap_or}
+use Rattle.std.specs.List.{count_by}
+use Rattle.std.proofs.lemmas.List.Sums.{sum_by-cons}
 use Rattle.std.specs.FinMap.{FinMap, get, empty, get-empty}
 use Rattle.std.proofs.lemmas.Bool.Decides.{nat_tests}
 use Rattle.mvs_model.specs.declared.name.Name.{Name}
@@ -172,3 +174,10 @@ pub drops_subpool : DropsSubpool
 drops_subpool roots fewer st s agree keeps = let d = drops_pools (λ t. t == s) roots fewer st agree keeps in (d.0, d.1, λ name r e. unequal r.subpool (d.2 name r e)) where
   unequal : (t : ℕ) → (t == s) ≡ false → t ≢ s
   unequal t e f = absurd (let g : (t == s) ≡ true = grind (arith, nat_tests) in let h : true ≡ false = sym g ∙ e in cc)
+
+-- a slab without a value has none at any key
+pub none_at : {T : Type 0} (slots : List (Option T)) (k : ℕ) → count_by is_some slots ≡ 0 → slice_index_or slots k None ≡ None
+none_at [] k h = refl
+none_at (None ∷ rest) zero h = refl
+none_at (None ∷ rest) (suc k) h = none_at rest k h
+none_at {T} (Some x ∷ rest) k h = absurd (let e : 1 + count_by is_some rest ≡ 0 = sym (sum_by-cons (λ (o : Option T). cond (is_some o) 1 0) (Some x) rest) ∙ h in omega arith)

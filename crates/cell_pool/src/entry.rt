@@ -1,6 +1,6 @@
 //! What is kept of the pools, by their names.
 
-ghost use Rattle.std.specs.Prelude.{◌≡◌, ◌≢◌, ◌<◌, ◌≤◌, ℕ, not, Some, None, IsSome, MatchOption};
+ghost use Rattle.std.specs.Prelude.{◌≡◌, ◌≢◌, ◌<◌, ◌≤◌, ℕ, not, true, Some, None, IsSome, MatchOption};
 ghost use Rattle.std.specs.FinMap.{get};
 ghost use Rattle.slab.specs.Slab.{get as slab_get, slab_len, Updates};
 ghost use Rattle.mvs_model.specs.Finite.{has, kept};
@@ -17,6 +17,13 @@ use slab::Slab;
 pub(crate) struct Entry {
     pub(crate) name: Name,
     pub(crate) root: Root,
+}
+
+// Whether no pool is kept.
+pub(crate) fn has_none(entries: &Slab<Entry>) -> bool
+    ensures { result ≡ true → (k : ℕ) → slab_get entries.now k ≡ None }
+{
+    entries.is_empty()
 }
 
 // The key of the pool of this name.

@@ -34,7 +34,7 @@ fn eight_bytes(bytes: &[u8], at: usize) -> u64
 
 // How many bytes at the front have all their bits set, as far as whole words of eight bytes tell.
 fn full_words(bytes: &[u8]) -> usize
-    requires { length bytes.now ≤ 8192 }
+    requires { length bytes.now ≤ 65536 / 8 }
     ensures within { result ≤ length bytes.now }
     ensures full { (k : ℕ) → k < result → slice_index bytes.now k ≡ 255 }
 {
@@ -50,7 +50,7 @@ fn full_words(bytes: &[u8]) -> usize
 
 // How many bytes at the front have all their bits set: whole words first, then single bytes.
 fn full_front(bytes: &[u8]) -> usize
-    requires { length bytes.now ≤ 8192 }
+    requires { length bytes.now ≤ 65536 / 8 }
     ensures within { result ≤ length bytes.now }
     ensures full { (k : ℕ) → k < result → slice_index bytes.now k ≡ 255 }
 {
@@ -78,7 +78,7 @@ fn clear_bit(byte: u8) -> Option<u32>
 
 // The first bit of some bytes that is not set.
 fn first_clear(bytes: &[u8]) -> Option<u32>
-    requires { length bytes.now ≤ 8192 }
+    requires { length bytes.now ≤ 65536 / 8 }
     ensures { MatchOption result
         ((i : ℕ) → i < 8 * length bytes.now → (bit_at (slice_index bytes.now (i / 8)) (7 - i % 8) == 1) ≡ true)
         (λ at. (at < 8 * length bytes.now) × ((bit_at (slice_index bytes.now (at / 8)) (7 - at % 8) == 1) ≡ false) × ((i : ℕ) → i < at → (bit_at (slice_index bytes.now (i / 8)) (7 - i % 8) == 1) ≡ true)) }

@@ -28,7 +28,7 @@ ghost use Rattle.cell_pool.specs.Agree.{Agree};
 ghost use Rattle.cell_pool.specs.Answered.{Answered, cell_reply};
 ghost use Rattle.cell_pool.specs.Extended.{Extended, NoRoom};
 
-use crate::entry::{Entry, find, find_key, remove, remove_each, set_root};
+use crate::entry::{Entry, find, find_key, has_none, remove, remove_each, set_root};
 use crate::laying::{lay_out, obtain_part, put_word};
 use crate::open::find_free;
 use crate::release::release_parts;
@@ -80,6 +80,9 @@ fn cell_in(entries: &Slab<Entry>, store: &Store, subpool: SubpoolId, addr: u32) 
         ((k : ℕ) (x : TheEntry) → slab_get entries.now k ≡ Some x → x.root.subpool ≡ subpool → in_taken (pool_of (byte_of store.now) x.root) addr ≡ false)
         (λ p. (k : ℕ) × (x : TheEntry) × (slab_get entries.now k ≡ Some x) × (set.contains (taken_of (byte_of store.now) x.root) p.addr ≡ true) × (p.len ≡ x.root.cell_size) × (has_address p addr ≡ true)) }
 {
+    if has_none(entries) {
+        return None;
+    }
     for key in 0..entries.capacity() {
         let cell = cell_of(entries, store, key, subpool, addr);
         if cell.is_some() {
@@ -140,6 +143,9 @@ fn any_meets(entries: &Slab<Entry>, store: &Store, subpool: SubpoolId, place: Pl
         ((k : ℕ) × (x : TheEntry) × (slab_get entries.now k ≡ Some x) × (x.root.subpool ≡ subpool) × Meets store.now x.root place)
         ((k : ℕ) (x : TheEntry) → slab_get entries.now k ≡ Some x → x.root.subpool ≡ subpool → Meets store.now x.root place → ⊥) }
 {
+    if has_none(entries) {
+        return false;
+    }
     for key in 0..entries.capacity() {
         if entry_meets(entries, store, key, subpool, place) {
             return true;
