@@ -240,9 +240,12 @@ impl Walk {
         let mut at = 8 * (self.end - first) as u32;
         let mut queue = self.queue;
         let mut passed = 0;
-        'runs: while let Some((end, behind)) =
-            memory.short_run(page, first + (at / 8) as usize, queue, least)
-        {
+        'runs: while let Some((end, behind)) = memory.short_run(
+            page,
+            first + (at / 8) as usize,
+            queue,
+            least,
+        ) {
             at = end;
             queue = behind;
             passed += 1;
