@@ -1,12 +1,12 @@
 -- Free runs of a page that are too short, which a pass comes by.
-use Rattle.std.proofs.Common.{◌≡◌, ◌∙◌, ℕ, ◌+◌, ◌*◌, ◌/◌, ◌≤◌, ◌<◌, ◌&&◌, not, true, false, List, Option, Some, length, get_or, refl, sym, ap, subst, inl, inr, arith}
+use Rattle.std.proofs.Common.{◌≡◌, ◌∙◌, ℕ, ◌+◌, ◌*◌, ◌/◌, ◌<◌, ◌&&◌, not, true, false, List, Option, length, get_or, refl, sym, ap, subst, inl, inr, arith}
 use Rattle.std.proofs.lemmas.Bool.{both_ways, cases_lt}
 use Rattle.std.proofs.lemmas.List.{get_or_default, get_or_past}
 use Rattle.page_map.specs.Owners.{is_usable, owner_of}
 use Rattle.subpool_store.specs.Edits.{IsFreeRun}
 use Rattle.subpool_store.specs.Memory.{IsCursor, MemoryState}
 use Rattle.subpool_store.specs.Search.{IsExact, NoneFits, may_take}
-use Rattle.subpool_store.specs.Walk.{IsShortRun, IsWalk, looked_at}
+use Rattle.subpool_store.specs.Walk.{IsShortRun, IsWalk}
 use Rattle.subpool_store.specs.declared.walk.Walk.{Walk}
 use Rattle.subpool_store.proofs.Begun.{run_counted}
 use Rattle.subpool_store.proofs.Short.{fits_short, fits_skip}

@@ -240,9 +240,12 @@ impl Walk {
         let mut at = 8 * (self.end - first) as u32;
         let mut queue = self.queue;
         let mut passed = 0;
-        'runs: while let Some((end, behind)) =
-            memory.short_run(page, first + (at / 8) as usize, queue, least)
-        {
+        'runs: while let Some((end, behind)) = memory.short_run(
+            page,
+            first + (at / 8) as usize,
+            queue,
+            least,
+        ) {
             at = end;
             queue = behind;
             passed += 1;
@@ -261,11 +264,12 @@ impl Walk {
     // Whether the run that is joined so far is still of use: it may go on in the page that the pass has entered, or it is
     // no shorter than the least length.
     fn is_of_use(&self, least: usize) -> bool
-        requires { self.now.start ≤ self.now.end }
+        requires ordered { self.now.start ≤ self.now.end }
+        requires least { 1 ≤ least }
         ensures { result ≡ false → self.now.end < self.now.start + least × ((self.now.start ≡ self.now.end) ⊎ (self.now.end % page_doublewords ≡ 0 → ⊥)) }
     {
         let len = self.end - self.start;
-        least <= len || (0 < len && self.end % PAGE_DOUBLEWORDS == 0)
+        0 < len && (least <= len || self.end % PAGE_DOUBLEWORDS == 0)
     }
 
     // Looks at what comes next, behind free runs that are too short.
@@ -280,6 +284,7 @@ impl Walk {
         requires opened { IsOpened pages.now memory.now.bytes }
         requires walk { IsWalk memory.now pages.now subpool self.old }
         requires within { self.old.end < length memory.now.held }
+        requires least { 1 ≤ least }
         ensures walk { IsWalk memory.now pages.now subpool self.new }
         ensures after { self.old.start ≤ self.new.start }
         ensures on { progress self.old.end self.old.inside ≤ progress self.new.end self.new.inside }

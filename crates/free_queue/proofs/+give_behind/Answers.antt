@@ -1,4 +1,4 @@
-use Rattle.std.proofs.Common.{◌≡◌, ◌+◌, ◌<◌, ◌≤◌, ◌⊎◌, refl, sym, ◌∙◌, subst, arith, inl, inr, List, ℕ}
+use Rattle.std.proofs.Common.{◌+◌, ◌<◌, ◌≤◌, ◌⊎◌, refl, sym, ◌∙◌, subst, arith, inl, inr, List, ℕ}
 use Rattle.free_queue.specs.Runs.{Run, Queue, Gives, NoneFree, Same, IsFree, Within, page_of, word}
 use Rattle.free_queue.proofs.Queues.{after, give_far, head_stays, keep_past, linked, same_all}
 use Rattle.free_queue.proofs.+give_behind.Goals as goal

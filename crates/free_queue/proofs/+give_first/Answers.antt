@@ -72,13 +72,16 @@ give_first-requires t c =
               omega (arith, c.requires.inside, c.if-stop-head.false),
               (
                 (w.0, omega (arith, c.requires.whole.0, c.requires.whole.1, w.0, c.if-stop-head.false)),
-                ((
-                  h,
-                  tail.0,
-                  omega arith,
-                  subst (λ k. Queue h ws k tail.0) (sym c.link-next.ensures) (rising_from (h + word ws (h + 4) + 1) h tail.0 (omega arith) tail.1.0, tail.1.1),
-                  λ d v g. q.4 d (omega (arith, is, free_above (h + word ws (h + 4) + 1) tail.0 d tail.1.0 g), omega (arith, v.1, c.if-stop-head.false)) ((tail.2 d).1 (inr g)),
-                ), λ lt. absurd (omega (arith, lt, on, c.link-next.ensures))),
+                (
+                  (
+                    h,
+                    tail.0,
+                    omega arith,
+                    subst (λ k. Queue h ws k tail.0) (sym c.link-next.ensures) (rising_from (h + word ws (h + 4) + 1) h tail.0 (omega arith) tail.1.0, tail.1.1),
+                    λ d v g. q.4 d (omega (arith, is, free_above (h + word ws (h + 4) + 1) tail.0 d tail.1.0 g), omega (arith, v.1, c.if-stop-head.false)) ((tail.2 d).1 (inr g)),
+                  ),
+                  λ lt. absurd (omega (arith, lt, on, c.link-next.ensures)),
+                ),
               ),
             ),
           ),

@@ -1,4 +1,4 @@
-use Rattle.std.proofs.Common.{◌≡◌, ◌+◌, ◌<◌, ◌≤◌, ◌⊎◌, sym, ◌∙◌, subst, arith, inl, inr, List, ℕ}
+use Rattle.std.proofs.Common.{◌+◌, ◌<◌, ◌≤◌, ◌⊎◌, sym, ◌∙◌, subst, arith, inl, inr, List, ℕ}
 use Rattle.free_queue.specs.Runs.{Run, Queue, Covers, Takes, Same, IsFree, page_of, word}
 use Rattle.free_queue.proofs.Queues.{beyond, head_above, head_stays, head_whole, keep_far, linked, opened, same_all, take_far}
 use Rattle.free_queue.proofs.+take_behind.Goals as goal
@@ -98,4 +98,3 @@ returns-else-next-len-clause-queue t c =
     take_far ws ws1 ws2 h rest h a n c.requires.some c.requires.far taken kept
     (linked ws1 ws2 h (word ws (h + 4)) rest b.3 b.4 b.1 b.2 c.set.ensures.next (c.set.ensures.len ∙ c.len-own.ensures ∙ stays.1) c.set.ensures.same)
     apart
-

@@ -66,7 +66,11 @@ impl Plain {
             return Err(OutOfMemory);
         };
         match vec![in alloc; 0; doublewords] {
-            Ok(bytes) => Ok(Plain { below, owners, bytes }),
+            Ok(bytes) => Ok(Plain {
+                below,
+                owners,
+                bytes,
+            }),
             Err(_) => Err(OutOfMemory),
         }
     }
@@ -237,7 +241,12 @@ fn are_same(store: &Store, plain: &Plain) -> bool {
 }
 
 // Obtains a number of doublewords: the place that comes first.
-fn obtain(store: &mut Store, plain: &mut Plain, numbers: &mut Numbers, placement: Placement) -> bool {
+fn obtain(
+    store: &mut Store,
+    plain: &mut Plain,
+    numbers: &mut Numbers,
+    placement: Placement,
+) -> bool {
     let own = numbers.owner();
     let n = numbers.below(MOST) + 1;
     let side = if numbers.below(2) == 0 {

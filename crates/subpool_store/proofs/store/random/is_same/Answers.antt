@@ -1,5 +1,4 @@
-use Rattle.std.proofs.Common.{rules, ◌≡◌, ◌/◌, ◌∙◌, ap, sym, subst, IsSome, arith}
-use Rattle.mvs_model.specs.Storage.{holder}
+use Rattle.std.proofs.Common.{rules, ◌≡◌, ◌/◌, arith}
 use Rattle.subpool_store.proofs.store.random.is_same.Goals as goal
 
 pub bytes-requires : goal.bytes-requires
