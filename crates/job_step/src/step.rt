@@ -150,12 +150,12 @@ impl Step {
         if !self.machine.is_active(*name) {
             return Reply::NotRun;
         }
-        match act(&mut self.machine, *name, request) {
-            Ok(reply) => reply,
-            Err(code) => {
-                self.abended = true;
-                self.machine.abend(*name, code)
-            }
-        }
+        // A reply is long, and is not copied where it is returned from here.
+        let code = match act(&mut self.machine, *name, request) {
+            Ok(reply) => return reply,
+            Err(code) => code,
+        };
+        self.abended = true;
+        self.machine.abend(*name, code)
     }
 }
