@@ -150,7 +150,7 @@ impl Step {
         if !self.machine.is_active(*name) {
             return Reply::NotRun;
         }
-        // A reply is long, and is not copied where it is returned from here.
+        // A reply is long, and one copy of it is saved where it is returned from here.
         let code = match act(&mut self.machine, *name, request) {
             Ok(reply) => return reply,
             Err(code) => code,
