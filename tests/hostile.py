@@ -55,6 +55,11 @@ def in_pieces(failing, script):
     return all(failing.run(script, PIECES=str(pieces)) == well for pieces in (1, 7))
 
 
+def script_of(path):
+    """A script of tests/scripts without the texts behind its `=>`."""
+    return b"".join(line.partition(b" => ")[0] + b"\n" for line in path.read_bytes().splitlines())
+
+
 def cut(failing, script):
     """Cut after a line it prints the lines up to there and the end; cut inside a line the lines before it."""
     whole = failing.run(script)[1].splitlines()
@@ -108,6 +113,8 @@ def results(program, pool_size=1500):
             script = path.read_bytes()
             found.append((f"{path.name}, each call failing", each_failing(failing, script)))
             found.append((f"{path.name} in pieces", in_pieces(failing, script)))
+        for path in sorted((TOP / "tests/scripts").glob("*.job")):
+            found.append((f"{path.name} in pieces", in_pieces(failing, script_of(path))))
         for name in ("first", "contents", "pools"):
             found.append((f"{name}.job cut", cut(failing, (TOP / f"examples/{name}.job").read_bytes())))
         found.extend(long_scripts(failing))

@@ -1,11 +1,3 @@
-mod codes;
-mod lists;
-mod places;
-mod pools;
-mod reports;
-mod storage;
-mod tasks;
-
 use super::*;
 use std::io::{self, Error, ErrorKind};
 use std::test::Fail;
@@ -129,52 +121,6 @@ fn run(rt: &HostRuntime, script: &[u8], printed: &[u8]) -> Result<(Outcome, bool
         same &= run_from(rt, pieces, printed)? == (outcome, true);
     }
     Ok((outcome, same))
-}
-
-// The outcome of a job by its last line.
-fn outcome_of(end: &str) -> Outcome {
-    match end {
-        "STEP ENDED RC 0" => Outcome::Clean,
-        "STEP ENDED RC 8" => Outcome::SomeAbend,
-        _ => Outcome::ScriptFault,
-    }
-}
-
-// Puts a line and its line feed behind a text.
-fn push_line(text: &mut Vec<u8>, line: &str) -> Result<(), Fail> {
-    text.extend_from_slice(line.as_bytes())?;
-    text.push(b'\n')?;
-    Ok(())
-}
-
-// Puts what a line of the script prints behind a text: each of its own lines behind its number.
-fn push_replies(
-    rt: &HostRuntime,
-    text: &mut Vec<u8>,
-    number: u32,
-    replies: &str,
-) -> Result<(), Fail> {
-    if replies.is_empty() {
-        return Ok(());
-    }
-    for reply in replies.split('\n') {
-        push_line(text, format!(in rt.alloc(); "{number} {reply}")?.as_str())?;
-    }
-    Ok(())
-}
-
-// Runs a script whose lines stand beside what they print, and answers whether this was printed, and this last line.
-fn prints(rt: &HostRuntime, lines: &[(&str, &str)], end: &str) -> Result<bool, Fail> {
-    let mut script = Vec::new(rt.alloc());
-    let mut printed = Vec::new(rt.alloc());
-    let mut number = 0u32;
-    for (line, replies) in lines {
-        number = number.saturating_add(1);
-        push_line(&mut script, line)?;
-        push_replies(rt, &mut printed, number, replies)?;
-    }
-    push_line(&mut printed, end)?;
-    Ok(run(rt, script.as_slice(), printed.as_slice())? == (outcome_of(end), true))
 }
 
 // A body that always answers Memory meets the contract: with ample memory the job has to be run.
