@@ -1,6 +1,6 @@
 //! Requests as they are written: the addresses of their names, and the names that they set.
 
-ghost use Rattle.std.specs.Prelude.{◌≢◌, [], OnErr, ◌≡◌, ◌+◌, ◌≤◌, ◌++◌, None, Some, length, OnOk, MatchBool};
+ghost use Rattle.std.specs.Prelude.{◌≢◌, [], OnErr, ◌≡◌, ◌+◌, ◌≤◌, ◌++◌, None, Some, length, OnOk, MatchBool, MatchOption};
 ghost use Rattle.std.specs.Option.{option_map};
 ghost use Rattle.std.specs.FinMap.{FinMap};
 ghost use Rattle.mvs_model.specs.Name.{name_cmp};
@@ -138,9 +138,9 @@ pub fn set_names(names: &mut Names, written: &Written, reply: &Reply) -> Result<
 }
 
 // A request that releases, where each name that it looks up is set.
-fn release_request(names: &Names, written: &Written) -> Option<Request>
+fn release_request(names: &Names, written: &Written, request: &mut Request) -> Option<()>
     requires { IsRelease written.now }
-    ensures { result ≡ resolved names.now written.now }
+    ensures { MatchOption result (resolved names.now written.now ≡ None) (λ _. resolved names.now written.now ≡ Some request.new) }
 {
     match written {
         Written::Release {
@@ -148,88 +148,104 @@ fn release_request(names: &Names, written: &Written) -> Option<Request>
             number,
             location,
             len,
-        } => place(names, location, *len).map(|place| Request::Release {
-            form: *form,
-            number: *number,
-            place,
-        }),
-        Written::ReleaseArea { form, number, area } => {
-            names.get(area).map(|place| Request::Release {
+        } => {
+            let place = place(names, location, *len)?;
+            *request = Request::Release {
                 form: *form,
                 number: *number,
                 place,
-            })
+            };
+        }
+        Written::ReleaseArea { form, number, area } => {
+            let place = names.get(area)?;
+            *request = Request::Release {
+                form: *form,
+                number: *number,
+                place,
+            };
         }
         Written::ReleaseList {
             form,
             number,
             locations,
             lengths,
-        } => places(names, locations, lengths).map(|places| Request::ReleaseList {
-            form: *form,
-            number: *number,
-            places,
-        }),
-        Written::ReleaseWhole { form, number } => Some(Request::ReleaseWhole {
-            form: *form,
-            number: *number,
-        }),
+        } => {
+            let places = places(names, locations, lengths)?;
+            *request = Request::ReleaseList {
+                form: *form,
+                number: *number,
+                places,
+            };
+        }
+        Written::ReleaseWhole { form, number } => {
+            *request = Request::ReleaseWhole {
+                form: *form,
+                number: *number,
+            };
+        }
         _ => unreachable!(),
     }
+    Some(())
 }
 
 // A request that reads or writes bytes, where each name that it looks up is set.
-fn access_request(names: &Names, written: &Written) -> Option<Request>
+fn access_request(names: &Names, written: &Written, request: &mut Request) -> Option<()>
     requires { IsAccess written.now }
-    ensures { result ≡ resolved names.now written.now }
+    ensures { MatchOption result (resolved names.now written.now ≡ None) (λ _. resolved names.now written.now ≡ Some request.new) }
 {
     match written {
         Written::Show { from, len } => {
-            address(names, from).map(|from| Request::Show { from, len: *len })
+            let from = address(names, from)?;
+            *request = Request::Show { from, len: *len };
         }
-        Written::Put { to, bytes } => address(names, to).map(|to| Request::Put {
-            to,
-            bytes: bytes.copied(),
-        }),
-        Written::Move { to, from, len } => {
-            let Some(to) = address(names, to) else {
-                return None;
+        Written::Put { to, bytes } => {
+            let to = address(names, to)?;
+            *request = Request::Put {
+                to,
+                bytes: bytes.copied(),
             };
-            address(names, from).map(|from| Request::Move {
+        }
+        Written::Move { to, from, len } => {
+            let to = address(names, to)?;
+            let from = address(names, from)?;
+            *request = Request::Move {
                 to,
                 from,
                 len: *len,
-            })
+            };
         }
         _ => unreachable!(),
     }
+    Some(())
 }
 
 // A request that begins or ends a task.
-fn task_request(written: &Written) -> Request
+fn task_request(written: &Written, request: &mut Request)
     requires { IsOfTask written.now }
-    ensures { (names : FinMap name_cmp PlaceValue) → resolved names written.now ≡ Some result }
+    ensures { (names : FinMap name_cmp PlaceValue) → resolved names written.now ≡ Some request.new }
 {
     match written {
         Written::Attach {
             name,
             gifts,
             residence,
-        } => Request::Attach {
-            name: *name,
-            gifts: *gifts,
-            residence: *residence,
-        },
-        Written::Return => Request::Return,
-        Written::Abend(code) => Request::Abend(*code),
+        } => {
+            *request = Request::Attach {
+                name: *name,
+                gifts: *gifts,
+                residence: *residence,
+            };
+        }
+        Written::Return => *request = Request::Return,
+        Written::Abend(code) => *request = Request::Abend(*code),
         _ => unreachable!(),
     }
 }
 
 // A request that obtains storage.
-fn obtain_request(written: &Written) -> Request
+fn obtain_request(written: &Written, request: &mut Request)
     requires { IsObtain written.now }
-    ensures { (names : FinMap name_cmp PlaceValue) → resolved names written.now ≡ Some result }
+    ensures { (names : FinMap name_cmp PlaceValue) → resolved names written.now ≡ Some request.new }
 {
     match written {
         Written::Obtain {
@@ -237,31 +253,35 @@ fn obtain_request(written: &Written) -> Request
             number,
             ask,
             ..
-        } => Request::Obtain {
-            form: *form,
-            number: *number,
-            ask: *ask,
-        },
+        } => {
+            *request = Request::Obtain {
+                form: *form,
+                number: *number,
+                ask: *ask,
+            };
+        }
         Written::ObtainList {
             form,
             number,
             lengths,
             start,
             ..
-        } => Request::ObtainList {
-            form: *form,
-            number: *number,
-            lengths: lengths.copied(),
-            start: *start,
-        },
+        } => {
+            *request = Request::ObtainList {
+                form: *form,
+                number: *number,
+                lengths: lengths.copied(),
+                start: *start,
+            };
+        }
         _ => unreachable!(),
     }
 }
 
 // A request for a cell pool, where the name that it looks up is set.
-fn pool_request(names: &Names, written: &Written) -> Option<Request>
+fn pool_request(names: &Names, written: &Written, request: &mut Request) -> Option<()>
     requires { IsOfPool written.now }
-    ensures { result ≡ resolved names.now written.now }
+    ensures { MatchOption result (resolved names.now written.now ≡ None) (λ _. resolved names.now written.now ≡ Some request.new) }
 {
     match written {
         Written::Build {
@@ -271,47 +291,59 @@ fn pool_request(names: &Names, written: &Written) -> Option<Request>
             primary,
             secondary,
             loc,
-        } => Some(Request::Build {
-            pool: *pool,
-            number: *number,
-            size: *size,
-            primary: *primary,
-            secondary: *secondary,
-            loc: *loc,
-        }),
+        } => {
+            *request = Request::Build {
+                pool: *pool,
+                number: *number,
+                size: *size,
+                primary: *primary,
+                secondary: *secondary,
+                loc: *loc,
+            };
+        }
         Written::Get {
             pool,
             conditional,
             ..
-        } => Some(Request::Get {
-            pool: *pool,
-            conditional: *conditional,
-        }),
-        Written::Free { pool, cell } => {
-            address(names, cell).map(|cell| Request::Free { pool: *pool, cell })
+        } => {
+            *request = Request::Get {
+                pool: *pool,
+                conditional: *conditional,
+            };
         }
-        Written::Delete { pool } => Some(Request::Delete { pool: *pool }),
+        Written::Free { pool, cell } => {
+            let cell = address(names, cell)?;
+            *request = Request::Free { pool: *pool, cell };
+        }
+        Written::Delete { pool } => *request = Request::Delete { pool: *pool },
         _ => unreachable!(),
     }
+    Some(())
 }
 
-/// The request that is asked for, where each name that it looks up is set.
-pub fn resolve(names: &Names, written: &Written) -> Option<Request>
-    ensures { result ≡ resolved names.now written.now }
+/// Writes the request that is asked for over another, where each name that it looks up is set.
+pub fn resolve(names: &Names, written: &Written, request: &mut Request) -> Option<()>
+    ensures { MatchOption result (resolved names.now written.now ≡ None) (λ _. resolved names.now written.now ≡ Some request.new) }
 {
     match written {
-        Written::Obtain { .. } | Written::ObtainList { .. } => Some(obtain_request(written)),
+        Written::Obtain { .. } | Written::ObtainList { .. } => {
+            obtain_request(written, request);
+            Some(())
+        }
         Written::Release { .. }
         | Written::ReleaseArea { .. }
         | Written::ReleaseList { .. }
-        | Written::ReleaseWhole { .. } => release_request(names, written),
+        | Written::ReleaseWhole { .. } => release_request(names, written, request),
         Written::Show { .. } | Written::Put { .. } | Written::Move { .. } => {
-            access_request(names, written)
+            access_request(names, written, request)
         }
         Written::Build { .. }
         | Written::Get { .. }
         | Written::Free { .. }
-        | Written::Delete { .. } => pool_request(names, written),
-        Written::Attach { .. } | Written::Return | Written::Abend(_) => Some(task_request(written)),
+        | Written::Delete { .. } => pool_request(names, written, request),
+        Written::Attach { .. } | Written::Return | Written::Abend(_) => {
+            task_request(written, request);
+            Some(())
+        }
     }
 }

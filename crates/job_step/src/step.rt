@@ -1,6 +1,6 @@
 //! The machine of one step.
 
-ghost use Rattle.std.specs.Prelude.{◌≡◌, ◌<◌, ◌+◌, ◌||◌, ◌↔◌, ℕ, true, false, IfOk, IfSome, IsSome, MatchOption, length, slice_get};
+ghost use Rattle.std.specs.Prelude.{◌≡◌, ◌<◌, ◌+◌, ◌||◌, ◌↔◌, ℕ, true, false, IfOk, IfSome, OnOk, IsSome, MatchOption, length, slice_get};
 ghost use Rattle.std.specs.FinMap.{get};
 ghost use Rattle.mvs_model.specs.Numbers.{subpool_numbers};
 ghost use Rattle.mvs_model.specs.Owners.{is_active};
@@ -8,7 +8,7 @@ ghost use Rattle.mvs_model.specs.Start.{start};
 ghost use Rattle.mvs_model.specs.Changes.{Granted};
 ghost use Rattle.mvs_model.specs.Steps.{Acts, Step as MachineStep};
 ghost use Rattle.mvs_model.specs.Replies.{is_abend};
-ghost use Rattle.request_forms.specs.Answers.{Answers};
+ghost use Rattle.request_forms.specs.Answers.{Answers, told};
 ghost use Rattle.request_forms.specs.Reports.{HasNone, IsMapEnd, IsMapRun, IsSubpoolLine};
 
 use mvs_model::card::Card;
@@ -41,30 +41,35 @@ impl Model for Step {
 }
 
 // What an active task's request is answered, before an abend ends the task.
-fn act(machine: &mut Machine, name: Name, request: &Request) -> Result<Reply, Code>
+fn act(
+    machine: &mut Machine,
+    name: Name,
+    request: &Request,
+    reply: &mut Reply,
+) -> Result<(), Code>
     requires { is_active machine.old.owners name ≡ true }
-    ensures answer { Answers (Acts machine.old name request.now) machine.old name result machine.new }
-    ensures no_abend { IfOk result (λ reply. is_abend reply ≡ false) }
+    ensures answer { Answers (Acts machine.old name request.now) machine.old name (told reply.new result) machine.new }
+    ensures no_abend { OnOk result (is_abend reply.new ≡ false) }
 {
     match request {
-        Request::Obtain { form, number, ask } => machine.obtain(name, *form, *number, ask),
+        Request::Obtain { form, number, ask } => machine.obtain(name, *form, *number, ask, reply),
         Request::ObtainList {
             form,
             number,
             lengths,
             start,
-        } => machine.obtain_list(name, *form, *number, lengths, *start),
+        } => machine.obtain_list(name, *form, *number, lengths, *start, reply),
         Request::Release {
             form,
             number,
             place,
-        } => machine.release(name, *form, *number, *place),
+        } => machine.release(name, *form, *number, *place, reply),
         Request::ReleaseList {
             form,
             number,
             places,
-        } => machine.release_list(name, *form, *number, places),
-        Request::ReleaseWhole { form, number } => machine.release_whole(name, *form, *number),
+        } => machine.release_list(name, *form, *number, places, reply),
+        Request::ReleaseWhole { form, number } => machine.release_whole(name, *form, *number, reply),
         Request::Build {
             pool,
             number,
@@ -72,20 +77,20 @@ fn act(machine: &mut Machine, name: Name, request: &Request) -> Result<Reply, Co
             primary,
             secondary,
             loc,
-        } => machine.build(name, *number, pool, *size, *primary, *secondary, *loc),
-        Request::Get { pool, conditional } => machine.get(pool, *conditional),
-        Request::Free { pool, cell } => machine.free(pool, *cell),
-        Request::Delete { pool } => machine.delete(pool),
+        } => machine.build(name, *number, pool, *size, *primary, *secondary, *loc, reply),
+        Request::Get { pool, conditional } => machine.get(pool, *conditional, reply),
+        Request::Free { pool, cell } => machine.free(pool, *cell, reply),
+        Request::Delete { pool } => machine.delete(pool, reply),
         Request::Attach {
             name: subtask,
             gifts,
             residence,
-        } => machine.attach(name, subtask, gifts, *residence),
-        Request::Return => machine.finish(name),
+        } => machine.attach(name, subtask, gifts, *residence, reply),
+        Request::Return => machine.finish(name, reply),
         Request::Abend(code) => Err(Code::User(code.get() as u16)),
-        Request::Show { from, len } => machine.show(*from, *len),
-        Request::Put { to, bytes } => machine.put(*to, bytes),
-        Request::Move { to, from, len } => machine.move_bytes(*to, *from, *len),
+        Request::Show { from, len } => machine.show(*from, *len, reply),
+        Request::Put { to, bytes } => machine.put(*to, bytes, reply),
+        Request::Move { to, from, len } => machine.move_bytes(*to, *from, *len, reply),
     }
 }
 
@@ -142,20 +147,21 @@ impl Step {
         self.machine.map_run(from)
     }
 
-    /// Serves a request of a task, which need not be active. It always replies.
-    pub fn request(&mut self, name: &Name, request: &Request) -> Reply
-        ensures step { MachineStep self.old.state name.now request.now result self.new.state }
-        ensures abended { self.new.abended ≡ (self.old.abended || is_abend result) }
+    /// Serves a request of a task, which need not be active, and writes what it is answered over the reply.
+    pub fn request(&mut self, name: &Name, request: &Request, reply: &mut Reply)
+        ensures step { MachineStep self.old.state name.now request.now reply.new self.new.state }
+        ensures abended { self.new.abended ≡ (self.old.abended || is_abend reply.new) }
     {
         if !self.machine.is_active(*name) {
-            return Reply::NotRun;
+            *reply = Reply::NotRun;
+            return;
         }
-        // A reply is long, and one copy of it is saved where it is returned from here.
-        let code = match act(&mut self.machine, *name, request) {
-            Ok(reply) => return reply,
-            Err(code) => code,
-        };
-        self.abended = true;
-        self.machine.abend(*name, code)
+        match act(&mut self.machine, *name, request, reply) {
+            Ok(()) => {}
+            Err(code) => {
+                self.abended = true;
+                self.machine.abend(*name, code, reply);
+            }
+        }
     }
 }

@@ -24,7 +24,9 @@ fn each_call(rt: HostRuntime) -> Result<(), Fail> {
     assert!(rt; step.is_active(&job));
     assert!(rt; step.bytes(place).is_none());
     assert!(rt; step.subpool_line(&job, 0).is_none());
-    let Reply::Obtained(granted) = step.request(&job, &obtain) else {
+    let mut reply = Reply::NotRun;
+    step.request(&job, &obtain, &mut reply);
+    let Reply::Obtained(granted) = reply else {
         panic!(rt; "a grant");
     };
     assert_eq!(rt; granted, place);
@@ -44,7 +46,9 @@ fn each_call(rt: HostRuntime) -> Result<(), Fail> {
         (Addr::new(0x7000), 4096, None)
     );
     assert!(rt; !step.abended());
-    let Reply::Abended(code, fallen) = step.request(&job, &Request::Abend(UserCode::new(7))) else {
+    let mut reply = Reply::NotRun;
+    step.request(&job, &Request::Abend(UserCode::new(7)), &mut reply);
+    let Reply::Abended(code, fallen) = reply else {
         panic!(rt; "an abend");
     };
     assert_eq!(rt; code, Code::User(7));

@@ -187,11 +187,13 @@ impl Job {
         ensures ok { OnOk result (writer.new.failed ≡ writer.old.failed) }
         ensures write { IsErrOf result Stop.Write → writer.new.failed ≡ true }
     {
-        let Some(request) = resolve(&self.names, written) else {
+        let mut request = Request::Return;
+        let Some(()) = resolve(&self.names, written, &mut request) else {
             print_no_name(writer, line_number, task)?;
             return Ok(());
         };
-        let reply = self.step.request(task, &request);
+        let mut reply = Reply::NotRun;
+        self.step.request(task, &request, &mut reply);
         let Ok(()) = set_names(&mut self.names, written, &reply) else {
             return Err(Stop::Memory);
         };

@@ -1,6 +1,6 @@
 //! Access to bytes: SHOW, PUT and MOVE, which are this project's own statements.
 
-ghost use Rattle.std.specs.Prelude.{◌≡◌, ◌<◌, ◌≤◌, ◌+◌, ◌^◌, ◌↔◌, ◌⊎◌, Some, IfOk, IfSome, IsSome, IsTrue, MatchOption, ℕ, true, false, length, slice_get};
+ghost use Rattle.std.specs.Prelude.{◌≡◌, ◌<◌, ◌≤◌, ◌+◌, ◌^◌, ◌↔◌, ◌⊎◌, Some, OnOk, IfSome, IsSome, IsTrue, MatchOption, ℕ, true, false, length, slice_get};
 ghost use Rattle.std.specs.FinMap.{get};
 ghost use Rattle.mvs_model.specs.declared.name.Name.{Name};
 ghost use Rattle.mvs_model.specs.declared.request.Request.TheVariants as request;
@@ -13,7 +13,7 @@ ghost use Rattle.mvs_model.specs.Changes.{Granted};
 ghost use Rattle.mvs_model.specs.Steps.{Acts};
 ghost use Rattle.mvs_model.specs.Replies.{is_abend};
 ghost use Rattle.subpool_store.specs.Written.{Puts};
-ghost use Rattle.request_forms.specs.Answers.{Answers};
+ghost use Rattle.request_forms.specs.Answers.{Answers, told};
 ghost use Rattle.request_forms.specs.Access.{Copied};
 ghost use Rattle.request_forms.specs.Machine.{IsStepStorage, machine_state};
 
@@ -183,27 +183,29 @@ impl Machine {
     }
 
     /// SHOW: it only looks whether the bytes may be read.
-    pub fn show(&self, from: Addr, len: ShowLength) -> Result<Reply, Code>
-        ensures answer { (t : Name) → Answers (Acts self.now t (request.Show from len)) self.now t result self.now }
-        ensures no_abend { IfOk result (λ reply. is_abend reply ≡ false) }
+    pub fn show(&self, from: Addr, len: ShowLength, reply: &mut Reply) -> Result<(), Code>
+        ensures answer { (t : Name) → Answers (Acts self.now t (request.Show from len)) self.now t (told reply.new result) self.now }
+        ensures no_abend { OnOk result (is_abend reply.new ≡ false) }
     {
         if !may_access(&self.store, &self.pools, Place::new(from, len.get())) {
             return Err(Code::NO_ACCESS);
         }
-        Ok(Reply::Done)
+        *reply = Reply::Done;
+        Ok(())
     }
 
     /// PUT: the bytes stand at the address and behind it now.
-    pub fn put(&mut self, to: Addr, bytes: &Bytes) -> Result<Reply, Code>
-        ensures answer { (t : Name) → Answers (Acts self.old t (request.Put to bytes.now)) self.old t result self.new }
-        ensures no_abend { IfOk result (λ reply. is_abend reply ≡ false) }
+    pub fn put(&mut self, to: Addr, bytes: &Bytes, reply: &mut Reply) -> Result<(), Code>
+        ensures answer { (t : Name) → Answers (Acts self.old t (request.Put to bytes.now)) self.old t (told reply.new result) self.new }
+        ensures no_abend { OnOk result (is_abend reply.new ≡ false) }
     {
         let place = Place::new(to, bytes.len() as u32);
         if !may_access(&self.store, &self.pools, place) {
             return Err(Code::NO_ACCESS);
         }
         write(&mut self.store, place, bytes.as_slice());
-        Ok(Reply::Done)
+        *reply = Reply::Done;
+        Ok(())
     }
 
     // Whether all bytes that a MOVE reads and writes may be.
@@ -218,14 +220,21 @@ impl Machine {
     }
 
     /// MOVE: the bytes behind one address stand behind the other now.
-    pub fn move_bytes(&mut self, to: Addr, from: Addr, len: MoveLength) -> Result<Reply, Code>
-        ensures answer { (t : Name) → Answers (Acts self.old t (request.Move to from len)) self.old t result self.new }
-        ensures no_abend { IfOk result (λ reply. is_abend reply ≡ false) }
+    pub fn move_bytes(
+        &mut self,
+        to: Addr,
+        from: Addr,
+        len: MoveLength,
+        reply: &mut Reply,
+    ) -> Result<(), Code>
+        ensures answer { (t : Name) → Answers (Acts self.old t (request.Move to from len)) self.old t (told reply.new result) self.new }
+        ensures no_abend { OnOk result (is_abend reply.new ≡ false) }
     {
         if !self.may_move(to, from, len) {
             return Err(Code::NO_ACCESS);
         }
         copy(&mut self.store, to, from, len.get());
-        Ok(Reply::Done)
+        *reply = Reply::Done;
+        Ok(())
     }
 }

@@ -1,7 +1,7 @@
 //! Requests for cells of cell pools (Assembler Services Reference, CPOOL). They have the codes of STORAGE (this project's
 //! choice).
 
-ghost use Rattle.std.specs.Prelude.{◌≡◌, true, false, IfOk};
+ghost use Rattle.std.specs.Prelude.{◌≡◌, true, false, OnOk};
 ghost use Rattle.std.specs.FinMap.{get};
 ghost use Rattle.mvs_model.specs.declared.name.Name.{Name as TheName};
 ghost use Rattle.mvs_model.specs.declared.request.Reply.TheVariants.{Rc0};
@@ -11,7 +11,7 @@ ghost use Rattle.mvs_model.specs.Subpool.{IsSubpoolNumber};
 ghost use Rattle.mvs_model.specs.Steps.{BuildStep, DeleteStep, FreeStep, GetStep, residence_of};
 ghost use Rattle.mvs_model.specs.Want.{side_of};
 ghost use Rattle.cell_pool.specs.Answered.{Answered, cell_reply};
-ghost use Rattle.request_forms.specs.Answers.{Answers};
+ghost use Rattle.request_forms.specs.Answers.{Answers, told};
 
 use crate::codes::bad_subpool;
 use crate::machine::Machine;
@@ -24,14 +24,14 @@ use mvs_model::request::Reply;
 use mvs_model::subpool::SubNo;
 use mvs_model::want::{Loc, Side};
 
-// The reply to a GET.
-fn reply_of(cell: Option<Place>) -> Reply
-    ensures reply { result ≡ cell_reply cell }
-    ensures no_abend { is_abend result ≡ false }
+// Tells what a GET is answered.
+fn tell_cell(cell: Option<Place>, reply: &mut Reply)
+    ensures reply { reply.new ≡ cell_reply cell }
+    ensures no_abend { is_abend reply.new ≡ false }
 {
     match cell {
-        Some(place) => Reply::Cell(place),
-        None => Reply::NoCell,
+        Some(place) => *reply = Reply::Cell(place),
+        None => *reply = Reply::NoCell,
     }
 }
 
@@ -92,51 +92,69 @@ impl Machine {
         primary: CellCount,
         secondary: CellCount,
         loc: Loc,
-    ) -> Result<Reply, Code>
+        reply: &mut Reply,
+    ) -> Result<(), Code>
         requires { is_active self.old.owners name ≡ true }
-        ensures answer { Answers (BuildStep self.old name pool.now number (record { cell_size = size; primary = primary; secondary = secondary; side = side_of loc (residence_of self.old.owners name) })) self.old name result self.new }
-        ensures no_abend { IfOk result (λ reply. is_abend reply ≡ false) }
+        ensures answer { Answers (BuildStep self.old name pool.now number (record { cell_size = size; primary = primary; secondary = secondary; side = side_of loc (residence_of self.old.owners name) })) self.old name (told reply.new result) self.new }
+        ensures no_abend { OnOk result (is_abend reply.new ≡ false) }
     {
         let Some(number) = SubNo::new(number) else {
             return Err(bad_subpool(Form::Storage, true));
         };
         let side = side(loc, self.tasks.residence_of(name));
         match self.build_pool(name, number, pool, size, primary, secondary, side) {
-            Ok(()) => Ok(Reply::Rc0),
+            Ok(()) => {
+                *reply = Reply::Rc0;
+                Ok(())
+            }
             Err(code) => Err(code),
         }
     }
 
     /// CPOOL GET: a free cell of the pool. Where none is free a conditional request gets none, and another one a cell of a
     /// further part.
-    pub fn get(&mut self, pool: &Name, conditional: bool) -> Result<Reply, Code>
-        ensures answer { (t : TheName) → Answers (GetStep self.old t pool.now conditional (get self.old.pools pool.now)) self.old t result self.new }
-        ensures no_abend { IfOk result (λ reply. is_abend reply ≡ false) }
+    pub fn get(
+        &mut self,
+        pool: &Name,
+        conditional: bool,
+        reply: &mut Reply,
+    ) -> Result<(), Code>
+        ensures answer { (t : TheName) → Answers (GetStep self.old t pool.now conditional (get self.old.pools pool.now)) self.old t (told reply.new result) self.new }
+        ensures no_abend { OnOk result (is_abend reply.new ≡ false) }
     {
         match self.pools.get(&mut self.store, pool, conditional) {
-            Ok(cell) => Ok(reply_of(cell)),
+            Ok(cell) => {
+                tell_cell(cell, reply);
+                Ok(())
+            }
             Err(code) => Err(code),
         }
     }
 
     /// CPOOL FREE: a taken cell of the pool is given back.
-    pub fn free(&mut self, pool: &Name, cell: Addr) -> Result<Reply, Code>
-        ensures answer { (t : TheName) → Answers (FreeStep self.old t pool.now cell (get self.old.pools pool.now)) self.old t result self.new }
-        ensures no_abend { IfOk result (λ reply. is_abend reply ≡ false) }
+    pub fn free(&mut self, pool: &Name, cell: Addr, reply: &mut Reply) -> Result<(), Code>
+        ensures answer { (t : TheName) → Answers (FreeStep self.old t pool.now cell (get self.old.pools pool.now)) self.old t (told reply.new result) self.new }
+        ensures no_abend { OnOk result (is_abend reply.new ≡ false) }
     {
         match self.pools.free(&mut self.store, pool, cell) {
-            Ok(()) => Ok(Reply::Rc0),
+            Ok(()) => {
+                *reply = Reply::Rc0;
+                Ok(())
+            }
             Err(code) => Err(code),
         }
     }
 
     /// CPOOL DELETE: the pool is given up with all its parts.
-    pub fn delete(&mut self, pool: &Name) -> Result<Reply, Code>
-        ensures answer { (t : TheName) → Answers (DeleteStep self.old t pool.now (get self.old.pools pool.now)) self.old t result self.new }
-        ensures no_abend { IfOk result (λ reply. is_abend reply ≡ false) }
+    pub fn delete(&mut self, pool: &Name, reply: &mut Reply) -> Result<(), Code>
+        ensures answer { (t : TheName) → Answers (DeleteStep self.old t pool.now (get self.old.pools pool.now)) self.old t (told reply.new result) self.new }
+        ensures no_abend { OnOk result (is_abend reply.new ≡ false) }
     {
         match self.pools.delete(&mut self.store, pool) {
-            Ok(()) => Ok(Reply::Rc0),
+            Ok(()) => {
+                *reply = Reply::Rc0;
+                Ok(())
+            }
             Err(code) => Err(code),
         }
     }

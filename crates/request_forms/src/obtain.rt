@@ -1,6 +1,6 @@
 //! Requests that obtain.
 
-ghost use Rattle.std.specs.Prelude.{◌≡◌, true, false, IfOk, MatchOption, Ok, Err, if◌then◌else◌};
+ghost use Rattle.std.specs.Prelude.{◌≡◌, true, false, OnOk, MatchOption, Ok, Err, if◌then◌else◌};
 ghost use Rattle.mvs_model.specs.declared.request.Reply.TheVariants.{Rc4};
 ghost use Rattle.mvs_model.specs.Codes as table;
 ghost use Rattle.mvs_model.specs.Want.{want_of};
@@ -8,7 +8,7 @@ ghost use Rattle.mvs_model.specs.Changes.{GrantTo, ShortOf};
 ghost use Rattle.mvs_model.specs.Steps.{ObtainStep, side_for};
 ghost use Rattle.mvs_model.specs.Owners.{is_active, keeper};
 ghost use Rattle.mvs_model.specs.Replies.{is_abend};
-ghost use Rattle.request_forms.specs.Answers.{Answers};
+ghost use Rattle.request_forms.specs.Answers.{Answers, told};
 
 use crate::codes::{bad_subpool, form_side, is_conditional, short};
 use crate::machine::Machine;
@@ -20,12 +20,13 @@ use mvs_model::request::Reply;
 use mvs_model::subpool::SubNo;
 use mvs_model::want::{Ask, Want};
 
-// What a refusal is answered: 4 for a conditional form, else an abend.
-pub(crate) fn refused(form: Form, code: Code) -> Result<Reply, Code>
-    ensures { result ≡ (if table.is_conditional form then Ok Rc4 else Err code) }
+// Tells what a refusal is answered: 4 for a conditional form, else an abend.
+pub(crate) fn refused(form: Form, code: Code, reply: &mut Reply) -> Result<(), Code>
+    ensures { told reply.new result ≡ (if table.is_conditional form then Ok Rc4 else Err code) }
 {
     if is_conditional(form) {
-        Ok(Reply::Rc4)
+        *reply = Reply::Rc4;
+        Ok(())
     } else {
         Err(code)
     }
@@ -54,18 +55,28 @@ impl Machine {
     }
 
     /// GETMAIN and STORAGE OBTAIN for one area (Assembler Services Reference).
-    pub fn obtain(&mut self, name: Name, form: Form, number: u8, ask: &Ask) -> Result<Reply, Code>
+    pub fn obtain(
+        &mut self,
+        name: Name,
+        form: Form,
+        number: u8,
+        ask: &Ask,
+        reply: &mut Reply,
+    ) -> Result<(), Code>
         requires { is_active self.old.owners name ≡ true }
-        ensures answer { Answers (ObtainStep self.old name form number (want_of ask.now (side_for self.old name form ask.now.loc))) self.old name result self.new }
-        ensures no_abend { IfOk result (λ reply. is_abend reply ≡ false) }
+        ensures answer { Answers (ObtainStep self.old name form number (want_of ask.now (side_for self.old name form ask.now.loc))) self.old name (told reply.new result) self.new }
+        ensures no_abend { OnOk result (is_abend reply.new ≡ false) }
     {
         let Some(number) = SubNo::new(number) else {
             return Err(bad_subpool(form, true));
         };
         let side = form_side(form, side(ask.loc(), self.tasks.residence_of(name)));
         match self.obtain_area(name, number, &ask.want(side)) {
-            Some(place) => Ok(Reply::Obtained(place)),
-            None => refused(form, short(form)),
+            Some(place) => {
+                *reply = Reply::Obtained(place);
+                Ok(())
+            }
+            None => refused(form, short(form), reply),
         }
     }
 }

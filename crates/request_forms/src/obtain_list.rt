@@ -1,13 +1,13 @@
 //! Requests that obtain a list of areas.
 
-ghost use Rattle.std.specs.Prelude.{◌≡◌, true, ◌+◌, ◌≤◌, ◌<◌, false, IfOk, MatchOption, None, List, [], ◌∷◌, ◌++◌, length};
+ghost use Rattle.std.specs.Prelude.{◌≡◌, true, ◌+◌, ◌≤◌, ◌<◌, false, OnOk, MatchOption, None, List, [], ◌∷◌, ◌++◌, length};
 ghost use Rattle.mvs_model.specs.Changes.{ListGrant, ListShort};
 ghost use Rattle.mvs_model.specs.Owners.{is_active, keeper};
 ghost use Rattle.mvs_model.specs.Replies.{is_abend};
 ghost use Rattle.mvs_model.specs.Place.{PlaceValue};
 ghost use Rattle.mvs_model.specs.Steps.{ObtainListStep};
 ghost use Rattle.mvs_model.specs.Storage.{IsStorage};
-ghost use Rattle.request_forms.specs.Answers.{Answers};
+ghost use Rattle.request_forms.specs.Answers.{Answers, told};
 ghost use Rattle.request_forms.specs.Lists.{GrantsEach, ShortEach, list_wants, so_far};
 
 use crate::codes::{bad_subpool, short};
@@ -119,17 +119,21 @@ impl Machine {
         number: u8,
         lengths: &Lengths,
         start: Exponent,
-    ) -> Result<Reply, Code>
+        reply: &mut Reply,
+    ) -> Result<(), Code>
         requires { is_active self.old.owners name ≡ true }
-        ensures answer { Answers (ObtainListStep self.old name form number (list_wants lengths.now start)) self.old name result self.new }
-        ensures no_abend { IfOk result (λ reply. is_abend reply ≡ false) }
+        ensures answer { Answers (ObtainListStep self.old name form number (list_wants lengths.now start)) self.old name (told reply.new result) self.new }
+        ensures no_abend { OnOk result (is_abend reply.new ≡ false) }
     {
         let Some(number) = SubNo::new(number) else {
             return Err(bad_subpool(form, true));
         };
         match self.obtain_areas(name, number, lengths, start) {
-            Some(places) => Ok(Reply::Listed(places)),
-            None => refused(form, short(form)),
+            Some(places) => {
+                *reply = Reply::Listed(places);
+                Ok(())
+            }
+            None => refused(form, short(form), reply),
         }
     }
 }

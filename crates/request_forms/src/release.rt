@@ -1,6 +1,6 @@
 //! Requests that release.
 
-ghost use Rattle.std.specs.Prelude.{◌≡◌, if◌then◌else◌, Ok, Err, ◌↔◌, ◌+◌, ◌/◌, ◌≤◌, true, false, IsTrue, IfOk, MatchBool, MatchResult, map, [], ◌∷◌};
+ghost use Rattle.std.specs.Prelude.{◌≡◌, if◌then◌else◌, Ok, Err, ◌↔◌, ◌+◌, ◌/◌, ◌≤◌, true, false, IsTrue, OnOk, MatchBool, MatchResult, map, [], ◌∷◌};
 ghost use Rattle.std.specs.List.{AllByRecursion, list_all};
 ghost use Rattle.mvs_model.specs.Changes.{Disjoint, Frees, HeldPlain, Misses};
 ghost use Rattle.mvs_model.specs.Codes as table;
@@ -11,7 +11,7 @@ ghost use Rattle.mvs_model.specs.Replies.{is_abend};
 ghost use Rattle.mvs_model.specs.Steps as step;
 ghost use Rattle.mvs_model.specs.Steps.{MayRelease, ReleaseStep, ReleaseWholeStep};
 ghost use Rattle.mvs_model.specs.Storage.{HeldBy, IsStorage, IsWhole, Release};
-ghost use Rattle.request_forms.specs.Answers.{Answers};
+ghost use Rattle.request_forms.specs.Answers.{Answers, told};
 ghost use Rattle.cell_pool.specs.Agree.{Agree};
 ghost use Rattle.cell_pool.specs.Cells.{Touches, TouchesNone};
 ghost use Rattle.cell_pool.specs.Roots.{pools_of};
@@ -165,16 +165,23 @@ fn take_back_each(store: &mut Store, subpool: SubpoolId, places: &[Place])
     take_back_each(store, subpool, rest);
 }
 
-// What a release is answered that was made or refused.
-fn answered(form: Form, released: Result<(), NotHeld>) -> Result<Reply, Code>
+// Tells what a release is answered that was made or refused.
+fn answered(
+    form: Form,
+    released: Result<(), NotHeld>,
+    reply: &mut Reply,
+) -> Result<(), Code>
     ensures answer { MatchResult released
-        (λ _. result ≡ Ok Rc0)
-        (λ _. result ≡ (if table.is_conditional form then Ok Rc4 else Err (table.not_held (table.family form)))) }
-    ensures no_abend { IfOk result (λ reply. is_abend reply ≡ false) }
+        (λ _. told reply.new result ≡ Ok Rc0)
+        (λ _. told reply.new result ≡ (if table.is_conditional form then Ok Rc4 else Err (table.not_held (table.family form)))) }
+    ensures no_abend { OnOk result (is_abend reply.new ≡ false) }
 {
     match released {
-        Ok(()) => Ok(Reply::Rc0),
-        Err(NotHeld) => refused(form, not_held(form)),
+        Ok(()) => {
+            *reply = Reply::Rc0;
+            Ok(())
+        }
+        Err(NotHeld) => refused(form, not_held(form), reply),
     }
 }
 
@@ -224,9 +231,10 @@ impl Machine {
         form: Form,
         number: u8,
         places: &Places,
-    ) -> Result<Reply, Code>
-        ensures answer { Answers (ReleaseStep self.old name form number places.now) self.old name result self.new }
-        ensures no_abend { IfOk result (λ reply. is_abend reply ≡ false) }
+        reply: &mut Reply,
+    ) -> Result<(), Code>
+        ensures answer { Answers (ReleaseStep self.old name form number places.now) self.old name (told reply.new result) self.new }
+        ensures no_abend { OnOk result (is_abend reply.new ≡ false) }
     {
         let Some(number) = SubNo::new(number) else {
             return Err(bad_subpool(form, false));
@@ -236,7 +244,7 @@ impl Machine {
             return Err(bad_address(form));
         }
         let subpool = self.tasks.subpool_of(name, number);
-        answered(form, self.release_areas(subpool, places))
+        answered(form, self.release_areas(subpool, places), reply)
     }
 
     /// FREEMAIN and STORAGE RELEASE of one place, whose length is rounded up to doublewords (Assembler Services
@@ -247,9 +255,10 @@ impl Machine {
         form: Form,
         number: u8,
         place: Place,
-    ) -> Result<Reply, Code>
-        ensures answer { Answers (ReleaseStep self.old name form number (place ∷ [])) self.old name result self.new }
-        ensures no_abend { IfOk result (λ reply. is_abend reply ≡ false) }
+        reply: &mut Reply,
+    ) -> Result<(), Code>
+        ensures answer { Answers (ReleaseStep self.old name form number (place ∷ [])) self.old name (told reply.new result) self.new }
+        ensures no_abend { OnOk result (is_abend reply.new ≡ false) }
     {
         let Some(number) = SubNo::new(number) else {
             return Err(bad_subpool(form, false));
@@ -258,14 +267,20 @@ impl Machine {
             return Err(bad_address(form));
         }
         let subpool = self.tasks.subpool_of(name, number);
-        answered(form, self.release_area(subpool, whole(place)))
+        answered(form, self.release_area(subpool, whole(place)), reply)
     }
 
     /// FREEMAIN and STORAGE RELEASE of all that a subpool holds, its cell pools included (Assembler Services Reference, subpool release). A
     /// number that the task does not have releases nothing.
-    pub fn release_whole(&mut self, name: Name, form: Form, number: u8) -> Result<Reply, Code>
-        ensures answer { Answers (ReleaseWholeStep self.old name form number) self.old name result self.new }
-        ensures no_abend { IfOk result (λ reply. is_abend reply ≡ false) }
+    pub fn release_whole(
+        &mut self,
+        name: Name,
+        form: Form,
+        number: u8,
+        reply: &mut Reply,
+    ) -> Result<(), Code>
+        ensures answer { Answers (ReleaseWholeStep self.old name form number) self.old name (told reply.new result) self.new }
+        ensures no_abend { OnOk result (is_abend reply.new ≡ false) }
     {
         let Some(number) = SubNo::new(number) else {
             return Err(bad_subpool(form, false));
@@ -277,6 +292,7 @@ impl Machine {
             self.pools.drop_subpool(subpool);
             self.store.release_all(subpool);
         }
-        Ok(Reply::Rc0)
+        *reply = Reply::Rc0;
+        Ok(())
     }
 }

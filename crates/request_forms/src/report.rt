@@ -5,6 +5,7 @@ ghost use Rattle.mvs_model.specs.Numbers.{first_page_above, most_pages_above, pa
 ghost use Rattle.mvs_model.specs.Kept.{OwnersKept};
 ghost use Rattle.mvs_model.specs.Owners.{entry};
 ghost use Rattle.mvs_model.specs.Storage.{IsStorage};
+ghost use Rattle.mvs_model.specs.Subpool.{IsSubpoolNumber};
 ghost use Rattle.task_owner.specs.Tasks.{IsTask, name_of};
 ghost use Rattle.request_forms.specs.Reports.{Begins, EndsAt, GoesOn, HasNone, IsHolder, IsMapEnd, IsMapRun, IsPages, IsSubpoolLine, NoneBegins, page_holder};
 
@@ -17,21 +18,15 @@ use mvs_model::subpool::{SubNo, SubpoolId};
 use subpool_store::Store;
 use task_owner::{TaskId, Tasks};
 
-// The number of a subpool that the task has, with the subpool.
-fn entry_at(tasks: &Tasks, t: TaskId, n: u8) -> Option<(SubNo, SubpoolId)>
-    requires task { IsTask tasks.now t }
-    requires kept { OwnersKept tasks.now.owners }
-    ensures { MatchOption result
-        (entry tasks.now.owners (name_of tasks.now t) n ≡ None)
-        (λ r. (r.0 ≡ n) × (entry tasks.now.owners (name_of tasks.now t) n ≡ Some r.1)) }
+// The subpool number of a value that is one.
+fn number_at(value: u8) -> SubNo
+    requires { IsSubpoolNumber value }
+    ensures { result ≡ value }
 {
-    let Some(number) = SubNo::new(n) else {
-        return None;
-    };
-    let Some(subpool) = tasks.entry(t, number) else {
-        return None;
-    };
-    Some((number, subpool))
+    match SubNo::new(value) {
+        Some(number) => number,
+        None => unreachable!(),
+    }
 }
 
 // The first number at or after one that the task has, with its subpool.
@@ -42,9 +37,10 @@ fn first_entry(tasks: &Tasks, t: TaskId, from: u8) -> Option<(SubNo, SubpoolId)>
         (HasNone tasks.now.owners (name_of tasks.now t) from subpool_numbers)
         (λ r. (from ≤ r.0) × (r.0 < subpool_numbers) × HasNone tasks.now.owners (name_of tasks.now t) from r.0 × (entry tasks.now.owners (name_of tasks.now t) r.0 ≡ Some r.1)) }
 {
+    let entries = tasks.entries(t);
     for n in from.min(SUBPOOL_NUMBERS)..SUBPOOL_NUMBERS {
-        if let Some(found) = entry_at(tasks, t, n) {
-            return Some(found);
+        if let Some(subpool) = entries[usize::from(n)] {
+            return Some((number_at(n), subpool));
         }
     }
     None

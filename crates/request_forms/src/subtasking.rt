@@ -1,6 +1,6 @@
 //! Subtasks, and the end of a task (Assembler Services Guide, subtasking).
 
-ghost use Rattle.std.specs.Prelude.{◌≡◌, false, true, not, IfOk};
+ghost use Rattle.std.specs.Prelude.{◌≡◌, false, true, not, OnOk};
 ghost use Rattle.std.specs.FinMap.{get};
 ghost use Rattle.mvs_model.specs.Finite.{Keeps};
 ghost use Rattle.mvs_model.specs.Storage.{ReleaseEach, is_one_of};
@@ -10,7 +10,7 @@ ghost use Rattle.mvs_model.specs.Owners.{is_active};
 ghost use Rattle.mvs_model.specs.Changes.{End};
 ghost use Rattle.mvs_model.specs.Steps.{Abends, AttachStep, ReturnStep};
 ghost use Rattle.mvs_model.specs.Replies.{is_abend};
-ghost use Rattle.request_forms.specs.Answers.{Answers};
+ghost use Rattle.request_forms.specs.Answers.{Answers, told};
 
 use crate::machine::Machine;
 use cell_pool::Pools;
@@ -48,25 +48,26 @@ impl Machine {
     }
 
     /// Ends a task that abends, with its descendants and what they own.
-    pub fn abend(&mut self, name: Name, code: Code) -> Reply
+    pub fn abend(&mut self, name: Name, code: Code, reply: &mut Reply)
         requires { is_active self.old.owners name ≡ true }
-        ensures abends { Abends self.old name code result self.new }
-        ensures is_abend { is_abend result ≡ true }
+        ensures abends { Abends self.old name code reply.new self.new }
+        ensures is_abend { is_abend reply.new ≡ true }
     {
-        Reply::Abended(code, self.end(name))
+        *reply = Reply::Abended(code, self.end(name));
     }
 
     /// A return ends the task; with an active subtask it is abend A03 (System Codes).
-    pub fn finish(&mut self, name: Name) -> Result<Reply, Code>
+    pub fn finish(&mut self, name: Name, reply: &mut Reply) -> Result<(), Code>
         requires { is_active self.old.owners name ≡ true }
-        ensures answer { Answers (ReturnStep self.old name) self.old name result self.new }
-        ensures no_abend { IfOk result (λ reply. is_abend reply ≡ false) }
+        ensures answer { Answers (ReturnStep self.old name) self.old name (told reply.new result) self.new }
+        ensures no_abend { OnOk result (is_abend reply.new ≡ false) }
     {
         if self.tasks.is_mother(name) {
             return Err(Code::ACTIVE_SUBTASK);
         }
         self.end(name);
-        Ok(Reply::Ended)
+        *reply = Reply::Ended;
+        Ok(())
     }
 
     /// ATTACH (Assembler Services Reference).
@@ -76,13 +77,17 @@ impl Machine {
         name: &Name,
         gifts: &Gifts,
         residence: Residence,
-    ) -> Result<Reply, Code>
+        reply: &mut Reply,
+    ) -> Result<(), Code>
         requires { is_active self.old.owners mother ≡ true }
-        ensures answer { Answers (AttachStep self.old mother name.now gifts.now residence) self.old mother result self.new }
-        ensures no_abend { IfOk result (λ reply. is_abend reply ≡ false) }
+        ensures answer { Answers (AttachStep self.old mother name.now gifts.now residence) self.old mother (told reply.new result) self.new }
+        ensures no_abend { OnOk result (is_abend reply.new ≡ false) }
     {
         match self.tasks.attach_to(mother, name, gifts, residence) {
-            Ok(()) => Ok(Reply::Attached),
+            Ok(()) => {
+                *reply = Reply::Attached;
+                Ok(())
+            }
             Err(code) => Err(code),
         }
     }

@@ -8,7 +8,7 @@ use mvs_model::card::Card;
 use mvs_model::code::{Code, Form};
 use mvs_model::name::Name;
 use mvs_model::place::{Addr, Place};
-use mvs_model::request::{Bytes, Lengths, Reply};
+use mvs_model::request::{Bytes, Lengths, Places, Reply};
 use mvs_model::short_list::ShortList;
 use mvs_model::want::{Ask, Loc, Placement, Residence};
 use std::alloc::Global;
@@ -33,6 +33,14 @@ fn place(addr: u32, len: u32) -> Place
     Place::new(Addr::new(addr), len)
 }
 
+// What was told, or why the task abends.
+fn told(answer: Result<(), Code>, reply: Reply) -> Result<Reply, Code> {
+    match answer {
+        Ok(()) => Ok(reply),
+        Err(code) => Err(code),
+    }
+}
+
 // An area on a doubleword, of a form, for JOB.
 fn getmain(
     rt: &impl Abort,
@@ -44,7 +52,9 @@ fn getmain(
     let job = name(rt, b"JOB");
     assert!(rt; machine.is_active(job));
     let ask = Ask::fixed(len, Exponent::new(3), Loc::Below);
-    machine.obtain(job, form, number, &ask)
+    let mut reply = Reply::NotRun;
+    let answer = machine.obtain(job, form, number, &ask, &mut reply);
+    told(answer, reply)
 }
 
 // A list of areas on doublewords, of a form, for JOB.
@@ -57,7 +67,47 @@ fn getmain_list(
 ) -> Result<Reply, Code> {
     let job = name(rt, b"JOB");
     assert!(rt; machine.is_active(job));
-    machine.obtain_list(job, form, number, lengths, Exponent::new(3))
+    let mut reply = Reply::NotRun;
+    let answer = machine.obtain_list(job, form, number, lengths, Exponent::new(3), &mut reply);
+    told(answer, reply)
+}
+
+// A release of a place of JOB's.
+fn freemain(
+    rt: &impl Abort,
+    machine: &mut Machine,
+    form: Form,
+    number: u8,
+    place: Place,
+) -> Result<Reply, Code> {
+    let mut reply = Reply::NotRun;
+    let answer = machine.release(name(rt, b"JOB"), form, number, place, &mut reply);
+    told(answer, reply)
+}
+
+// A release of a list of places of JOB's.
+fn freemain_list(
+    rt: &impl Abort,
+    machine: &mut Machine,
+    form: Form,
+    number: u8,
+    places: &Places,
+) -> Result<Reply, Code> {
+    let mut reply = Reply::NotRun;
+    let answer = machine.release_list(name(rt, b"JOB"), form, number, places, &mut reply);
+    told(answer, reply)
+}
+
+// A release of a whole subpool of JOB's.
+fn freemain_whole(
+    rt: &impl Abort,
+    machine: &mut Machine,
+    form: Form,
+    number: u8,
+) -> Result<Reply, Code> {
+    let mut reply = Reply::NotRun;
+    let answer = machine.release_whole(name(rt, b"JOB"), form, number, &mut reply);
+    told(answer, reply)
 }
 
 // The code of an abend.
@@ -136,30 +186,29 @@ fn refused_obtains(rt: HostRuntime) {
 // Each form that releases, beside an area of eight bytes of subpool 0.
 #[test]
 fn refused_releases(rt: HostRuntime) {
-    let job = name(&rt, b"JOB");
     let mut machine = pages(&rt, rt.alloc(), 1);
     let first = getmain(&rt, &mut machine, Form::Ru, 0, Length::new(8));
     assert_eq!(rt; granted(&first), Some(place(0x6000, 8)));
     let area = place(0x6000, 8);
     let longer = place(0x6000, 16);
     let inside = place(0x6004, 8);
-    let answer = machine.release(job, Form::Eu, 128, area);
+    let answer = freemain(&rt, &mut machine, Form::Eu, 128, area);
     assert_eq!(rt; abend(&answer), Some(Code::System(0xB05)));
-    let answer = machine.release(job, Form::StorageConditional, 0, inside);
+    let answer = freemain(&rt, &mut machine, Form::StorageConditional, 0, inside);
     assert_eq!(rt; abend(&answer), Some(Code::System(0x978)));
-    let answer = machine.release(job, Form::R, 0, longer);
+    let answer = freemain(&rt, &mut machine, Form::R, 0, longer);
     assert_eq!(rt; abend(&answer), Some(Code::System(0xA0A)));
-    let answer = machine.release(job, Form::Storage, 0, longer);
+    let answer = freemain(&rt, &mut machine, Form::Storage, 0, longer);
     assert_eq!(rt; abend(&answer), Some(Code::System(0xA78)));
-    let answer = machine.release(job, Form::Ec, 9, area);
+    let answer = freemain(&rt, &mut machine, Form::Ec, 9, area);
     assert_eq!(rt; rc(&answer), Some(4));
-    let answer = machine.release_whole(job, Form::Rc, 130);
+    let answer = freemain_whole(&rt, &mut machine, Form::Rc, 130);
     assert_eq!(rt; abend(&answer), Some(Code::System(0xB78)));
-    let answer = machine.release_whole(job, Form::R, 0);
+    let answer = freemain_whole(&rt, &mut machine, Form::R, 0);
     assert_eq!(rt; abend(&answer), Some(Code::User(4006)));
-    let answer = machine.release(job, Form::R, 0, area);
+    let answer = freemain(&rt, &mut machine, Form::R, 0, area);
     assert_eq!(rt; rc(&answer), Some(0));
-    let answer = machine.release(job, Form::R, 0, area);
+    let answer = freemain(&rt, &mut machine, Form::R, 0, area);
     assert_eq!(rt; abend(&answer), Some(Code::System(0xA0A)));
 }
 
@@ -171,13 +220,14 @@ fn contents_are_gone(rt: HostRuntime) {
     let area = place(0x6000, 40);
     assert_eq!(rt; granted(&first), Some(area));
     let bytes: Bytes = ShortList::one(7);
-    assert!(rt; machine.put(Addr::new(0x6020), &bytes).is_ok());
+    let mut reply = Reply::NotRun;
+    assert!(rt; machine.put(Addr::new(0x6020), &bytes, &mut reply).is_ok());
     let last = machine.bytes(place(0x6020, 8)).expect(&rt, "held");
     assert_eq!(rt;
         last,
         [7, 0xA5, 0xA5, 0xA5, 0xA5, 0xA5, 0xA5, 0xA5].as_slice()
     );
-    let answer = machine.release(name(&rt, b"JOB"), Form::R, 0, place(0x6000, 33));
+    let answer = freemain(&rt, &mut machine, Form::R, 0, place(0x6000, 33));
     assert_eq!(rt; rc(&answer), Some(0));
     assert!(rt; machine.bytes(place(0x6020, 1)).is_none());
     assert_eq!(rt; held(&rt, &machine, 0), Some(0));
@@ -190,15 +240,14 @@ fn contents_are_gone(rt: HostRuntime) {
 // The whole of a subpool, whose number the task keeps, and of a number that it does not have.
 #[test]
 fn whole_subpools(rt: HostRuntime) {
-    let job = name(&rt, b"JOB");
     let mut machine = pages(&rt, rt.alloc(), 2);
     let one = getmain(&rt, &mut machine, Form::Ru, 1, Length::new(4096));
     assert_eq!(rt; granted(&one), Some(place(0x6000, 4096)));
     let two = getmain(&rt, &mut machine, Form::Ru, 2, Length::new(8));
     assert_eq!(rt; granted(&two), Some(place(0x7000, 8)));
-    let answer = machine.release_whole(job, Form::Ru, 1);
+    let answer = freemain_whole(&rt, &mut machine, Form::Ru, 1);
     assert_eq!(rt; rc(&answer), Some(0));
-    let answer = machine.release_whole(job, Form::Ru, 3);
+    let answer = freemain_whole(&rt, &mut machine, Form::Ru, 3);
     assert_eq!(rt; rc(&answer), Some(0));
     assert_eq!(rt; held(&rt, &machine, 1), Some(0));
     assert_eq!(rt; held(&rt, &machine, 2), Some(8));
@@ -210,25 +259,24 @@ fn whole_subpools(rt: HostRuntime) {
 // Lists that are granted and released, one area that is named twice, and as many areas as a list may have.
 #[test]
 fn lists(rt: HostRuntime) {
-    let job = name(&rt, b"JOB");
     let mut machine = pages(&rt, rt.alloc(), 1);
     let halves = list(&[Length::new(2048), Length::new(2048)]);
     let answer = getmain_list(&rt, &mut machine, Form::Lc, 0, &halves);
     let granted = [place(0x6000, 2048), place(0x6800, 2048)];
     assert!(rt; listed(&answer) == Some(granted.as_slice()));
     let twice = list(&[place(0x6000, 8), place(0x6000, 8)]);
-    let answer = machine.release_list(job, Form::Lc, 0, &twice);
+    let answer = freemain_list(&rt, &mut machine, Form::Lc, 0, &twice);
     assert_eq!(rt; rc(&answer), Some(4));
     let turned = list(&[place(0x6800, 2048), place(0x6000, 2048)]);
-    let answer = machine.release_list(job, Form::Lc, 0, &turned);
+    let answer = freemain_list(&rt, &mut machine, Form::Lc, 0, &turned);
     assert_eq!(rt; rc(&answer), Some(0));
     let most = list(&[Length::new(256); 16]);
     let answer = getmain_list(&rt, &mut machine, Form::Lc, 0, &most);
     assert_eq!(rt; listed(&answer).map(|places| places.len()), Some(16));
     let beside = list(&[place(0x6000, 8), place(0x6104, 8)]);
-    let answer = machine.release_list(job, Form::Lu, 0, &beside);
+    let answer = freemain_list(&rt, &mut machine, Form::Lu, 0, &beside);
     assert_eq!(rt; abend(&answer), Some(Code::System(0x905)));
-    let answer = machine.release_list(job, Form::Lu, 0, &twice);
+    let answer = freemain_list(&rt, &mut machine, Form::Lu, 0, &twice);
     assert_eq!(rt; abend(&answer), Some(Code::System(0xA05)));
     assert_eq!(rt; held(&rt, &machine, 0), Some(4096));
     let answer = getmain_list(&rt, &mut machine, Form::Lc, 1, &halves);

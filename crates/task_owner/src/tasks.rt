@@ -1,13 +1,13 @@
 //! The active tasks and their subpools.
 
-ghost use Rattle.std.specs.Prelude.{◌≡◌, ◌≢◌, ◌<◌, ◌≤◌, ◌↔◌, ℕ, true, false, not, IsTrue, is_some, IfSome, IfOk, IfErr, OnOk, OnErr, MatchOption, Some, None};
+ghost use Rattle.std.specs.Prelude.{◌≡◌, ◌≢◌, ◌<◌, ◌≤◌, ◌↔◌, ℕ, true, false, not, IsTrue, is_some, IfSome, IfOk, IfErr, OnOk, OnErr, MatchOption, Some, None, length, slice_index_or};
 ghost use Rattle.std.specs.List.{Contains};
 ghost use Rattle.std.specs.List.Sorted.{IsStrictlySortedBy};
 ghost use Rattle.std.specs.Ordering.{nat_cmp};
 ghost use Rattle.std.specs.FinMap.{get, len};
 ghost use Rattle.mvs_model.specs.Finite.{has, kept};
 ghost use Rattle.mvs_model.specs.Kept.{OwnersKept};
-ghost use Rattle.mvs_model.specs.Numbers.{most_subpools, most_tasks, task_numbers};
+ghost use Rattle.mvs_model.specs.Numbers.{most_subpools, most_tasks, subpool_numbers, task_numbers};
 ghost use Rattle.mvs_model.specs.Owners.{entry, keeper, subpool_meant, is_active, has_subtask, owns, IsSpare, Binds, IsFallen, goes, ends_with, Ends, Attach, attach_refusal, gives_shared};
 ghost use Rattle.mvs_model.specs.declared.name.Name.{Name as TheName};
 ghost use Rattle.mvs_model.specs.Start.{first_owners};
@@ -163,6 +163,15 @@ impl Tasks {
         ensures { result ≡ entry self.now.owners (name_of self.now t) number }
     {
         seat_at(&self.active, t.key).numbers[number.get() as usize]
+    }
+
+    /// The subpools that the task has, its own and those that it shares, each at the place of its number.
+    pub fn entries(&self, t: TaskId) -> &[Option<SubpoolId>]
+        requires { IsTask self.now t }
+        ensures len { length result.now ≡ subpool_numbers }
+        ensures entries { (n : ℕ) → n < subpool_numbers → slice_index_or result.now n None ≡ entry self.now.owners (name_of self.now t) n }
+    {
+        &seat_at(&self.active, t.key).numbers
     }
 
     /// The subpool that the task means by the number: that of the job step task for 131 and 132, and else its own (this

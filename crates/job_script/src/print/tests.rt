@@ -210,9 +210,9 @@ fn written(rt: &impl Abort, line: &[u8]) -> Written {
 }
 
 // The address from which a request shows bytes.
-fn from(request: &Option<Request>) -> Option<u32> {
+fn from(request: &Request) -> Option<u32> {
     match request {
-        Some(Request::Show { from, .. }) => Some(from.get()),
+        Request::Show { from, .. } => Some(from.get()),
         _ => None,
     }
 }
@@ -223,7 +223,8 @@ fn names_are_set_and_looked_up(rt: HostRuntime) -> Result<(), Fail> {
     let second = Place::new(Addr::new(0x7000), 16);
     let mut names = Names::new(rt.alloc());
     let shows = written(&rt, b"JOB SHOW X+8,4");
-    assert!(rt; resolve(&names, &shows).is_none());
+    let mut request = Request::Return;
+    assert!(rt; resolve(&names, &shows, &mut request).is_none());
     set_names(
         &mut names,
         &written(&rt, b"JOB GETMAIN R,LV=8,A=X"),
@@ -231,6 +232,7 @@ fn names_are_set_and_looked_up(rt: HostRuntime) -> Result<(), Fail> {
     )?;
     assert!(rt; names.get(&name(&rt, b"X")) == Some(first));
     names.set(name(&rt, b"X"), second)?;
-    assert_eq!(rt; from(&resolve(&names, &shows)), Some(0x7008));
+    assert!(rt; resolve(&names, &shows, &mut request).is_some());
+    assert_eq!(rt; from(&request), Some(0x7008));
     Ok(())
 }

@@ -12,7 +12,7 @@ use Rattle.job_step.proofs.step.Step.request.Goals as goal
 active_step : (old : State) (t : Name) (request : Request) (reply : Reply) (new : State) → is_active old.owners t ≡ true → Acts old t request reply new → Step old t request reply new
 active_step old t request reply new active acts = subst (λ b. MatchBool (not b) (Refuses old NotRun reply new) (Acts old t request reply new)) (sym active) acts
 
-pub returns-clause-step : goal.returns-clause-step
-returns-clause-step c = rw (← c.self.view_is)
-    (active_step c.self.inside.machine c.args.name.now c.args.request.now c.abend.result c.abend.new.self (sym c.is_active.ensures ∙ c.if-not-is_active.false)
-    (c.in-Err.ensures.answer.1 c.abend.result c.abend.new.self (subst (λ st. Abends st c.args.name.now c.in-Err.code c.abend.result c.abend.new.self) c.in-Err.ensures.answer.0 c.abend.ensures.abends)))
+pub returns-in-Err-clause-step : goal.returns-in-Err-clause-step
+returns-in-Err-clause-step c = rw (← c.self.view_is)
+    (active_step c.self.inside.machine c.args.name.now c.args.request.now c.abend.new.reply c.abend.new.self (sym c.is_active.ensures ∙ c.if-not-is_active.false)
+    (c.in-Err.ensures.answer.1 c.abend.new.reply c.abend.new.self (subst (λ st. Abends st c.args.name.now c.in-Err.code c.abend.new.reply c.abend.new.self) c.in-Err.ensures.answer.0 c.abend.ensures.abends)))
