@@ -109,6 +109,14 @@ module _ (m : ℕ → ℕ) (s end : ℕ) (entry : ℕ → Option Entry) where
   unfolding any_below
   none_of = let e : count_below end (λ d. false) ≡ 0 = count_none end (λ d. false) (λ d l. refl) in omega (arith, e)
 
+  -- where there is no entry there are no parts
+  pub nothing_of : ((k : ℕ) → entry k ≡ None) → (n : ℕ) → 0 ≡ 8 * count_below end (λ d. any_below (λ k. is_in_entry m s (entry k) d) n)
+  unfolding any_below
+  nothing_of none n = let e : count_below end (λ d. any_below (λ k. is_in_entry m s (entry k) d) n) ≡ 0 = count_none end (λ d. any_below (λ k. is_in_entry m s (entry k) d) n) (λ d l. empty d n) in omega (arith, e) where
+    empty : (d n : ℕ) → any_below (λ k. is_in_entry m s (entry k) d) n ≡ false
+    empty d zero = refl
+    empty d (suc n) = rw (none n) (empty d n)
+
   pub one_more_of : AreApart m s entry → (n bytes more : ℕ) → bytes ≡ 8 * count_below end (λ d. any_below (λ k. is_in_entry m s (entry k) d) n) → more ≡ 8 * count_below end (is_in_entry m s (entry n))
       → bytes + more ≡ 8 * count_below end (λ d. any_below (λ k. is_in_entry m s (entry k) d) (n + 1))
   unfolding any_below

@@ -97,6 +97,9 @@ pub(crate) fn remove_each(entries: &mut Slab<Entry>, subpools: &SubpoolSet)
     ensures len { slab_len entries.new ≤ slab_len entries.old }
     ensures capacity { entries.new.capacity ≡ entries.old.capacity }
 {
+    if has_none(entries) {
+        return;
+    }
     for key in 0..entries.capacity() {
         if is_of_one(entries, key, subpools) {
             remove(entries, key);

@@ -11,7 +11,7 @@ ghost use Rattle.cell_pool.specs.Report.{is_in_entry, AreApart};
 ghost use Rattle.cell_pool.specs.Walk.{IsChain};
 ghost use Rattle.cell_pool.specs.declared.entry.Entry.{Entry as TheEntry};
 
-use crate::entry::Entry;
+use crate::entry::{Entry, has_none};
 use crate::root::Root;
 use crate::walk::length_of;
 use crate::words::read_header;
@@ -58,6 +58,9 @@ pub(crate) fn bytes_in(entries: &Slab<Entry>, store: &Store, subpool: SubpoolId)
     ensures bytes { result ≡ 8 * count_below (end_of store.now.regions) (λ d. any_below (λ k. is_in_entry (byte_of store.now) subpool (slab_get entries.now k) d) entries.now.capacity) }
     ensures low { (k : ℕ) (x : TheEntry) → slab_get entries.now k ≡ Some x → k < entries.now.capacity }
 {
+    if has_none(entries) {
+        return 0;
+    }
     let mut bytes = 0;
     for key in 0..entries.capacity() {
         bytes += bytes_at(entries, store, key, subpool);

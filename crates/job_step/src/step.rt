@@ -41,12 +41,7 @@ impl Model for Step {
 }
 
 // What an active task's request is answered, before an abend ends the task.
-fn act(
-    machine: &mut Machine,
-    name: Name,
-    request: &Request,
-    reply: &mut Reply,
-) -> Result<(), Code>
+fn act(machine: &mut Machine, name: Name, request: &Request, reply: &mut Reply) -> Result<(), Code>
     requires { is_active machine.old.owners name ≡ true }
     ensures answer { Answers (Acts machine.old name request.now) machine.old name (told reply.new result) machine.new }
     ensures no_abend { OnOk result (is_abend reply.new ≡ false) }
@@ -69,7 +64,9 @@ fn act(
             number,
             places,
         } => machine.release_list(name, *form, *number, places, reply),
-        Request::ReleaseWhole { form, number } => machine.release_whole(name, *form, *number, reply),
+        Request::ReleaseWhole { form, number } => machine.release_whole(
+            name, *form, *number, reply,
+        ),
         Request::Build {
             pool,
             number,
@@ -77,7 +74,9 @@ fn act(
             primary,
             secondary,
             loc,
-        } => machine.build(name, *number, pool, *size, *primary, *secondary, *loc, reply),
+        } => machine.build(
+            name, *number, pool, *size, *primary, *secondary, *loc, reply,
+        ),
         Request::Get { pool, conditional } => machine.get(pool, *conditional, reply),
         Request::Free { pool, cell } => machine.free(pool, *cell, reply),
         Request::Delete { pool } => machine.delete(pool, reply),

@@ -1,6 +1,6 @@
 //! Access to bytes: SHOW, PUT and MOVE, which are this project's own statements.
 
-ghost use Rattle.std.specs.Prelude.{◌≡◌, ◌<◌, ◌≤◌, ◌+◌, ◌^◌, ◌↔◌, ◌⊎◌, Some, OnOk, IfSome, IsSome, IsTrue, MatchOption, ℕ, true, false, length, slice_get};
+ghost use Rattle.std.specs.Prelude.{◌≡◌, ◌<◌, ◌≤◌, ◌+◌, ◌^◌, ◌↔◌, ◌⊎◌, Some, OnOk, IfSome, IsSome, IsTrue, MatchBool, MatchOption, ℕ, true, false, length, slice_get};
 ghost use Rattle.std.specs.FinMap.{get};
 ghost use Rattle.mvs_model.specs.declared.name.Name.{Name};
 ghost use Rattle.mvs_model.specs.declared.request.Request.TheVariants as request;
@@ -98,6 +98,22 @@ fn write(store: &mut Store, place: Place, bytes: &[u8])
 {
     let part = store.bytes_mut(place);
     part.copy_from_slice(bytes);
+}
+
+// Writes bytes over those of a place where each of them may be written, and answers whether it did.
+fn write_where_granted(store: &mut Store, pools: &Pools, place: Place, bytes: &[u8]) -> bool
+    requires agree { Agree pools.now store.old }
+    requires len { length bytes.now ≡ place.len }
+    ensures written { (o : Owners) → MatchBool result
+        (Granted (machine_state pools.now store.old o) place × Puts store.old place bytes.now store.new)
+        ((Granted (machine_state pools.now store.old o) place → ⊥) × (store.new ≡ store.old)) }
+    ensures agree { Agree pools.now store.new }
+{
+    if !may_access(store, pools, place) {
+        return false;
+    }
+    write(store, place, bytes);
+    true
 }
 
 // The address so many bytes behind another one.
@@ -200,10 +216,11 @@ impl Machine {
         ensures no_abend { OnOk result (is_abend reply.new ≡ false) }
     {
         let place = Place::new(to, bytes.len() as u32);
-        if !may_access(&self.store, &self.pools, place) {
+        let bytes = bytes.as_slice();
+        let written = write_where_granted(&mut self.store, &self.pools, place, bytes);
+        if !written {
             return Err(Code::NO_ACCESS);
         }
-        write(&mut self.store, place, bytes.as_slice());
         *reply = Reply::Done;
         Ok(())
     }

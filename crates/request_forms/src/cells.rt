@@ -113,12 +113,7 @@ impl Machine {
 
     /// CPOOL GET: a free cell of the pool. Where none is free a conditional request gets none, and another one a cell of a
     /// further part.
-    pub fn get(
-        &mut self,
-        pool: &Name,
-        conditional: bool,
-        reply: &mut Reply,
-    ) -> Result<(), Code>
+    pub fn get(&mut self, pool: &Name, conditional: bool, reply: &mut Reply) -> Result<(), Code>
         ensures answer { (t : TheName) → Answers (GetStep self.old t pool.now conditional (get self.old.pools pool.now)) self.old t (told reply.new result) self.new }
         ensures no_abend { OnOk result (is_abend reply.new ≡ false) }
     {

@@ -166,11 +166,7 @@ fn take_back_each(store: &mut Store, subpool: SubpoolId, places: &[Place])
 }
 
 // Tells what a release is answered that was made or refused.
-fn answered(
-    form: Form,
-    released: Result<(), NotHeld>,
-    reply: &mut Reply,
-) -> Result<(), Code>
+fn answered(form: Form, released: Result<(), NotHeld>, reply: &mut Reply) -> Result<(), Code>
     ensures answer { MatchResult released
         (λ _. told reply.new result ≡ Ok Rc0)
         (λ _. told reply.new result ≡ (if table.is_conditional form then Ok Rc4 else Err (table.not_held (table.family form)))) }

@@ -4,8 +4,11 @@ use Rattle.cell_pool.specs.Report.{is_in_entry}
 use Rattle.slab.specs.Slab.{get}
 use Rattle.mvs_model.specs.Storage.{end_of}
 use Rattle.cell_pool.specs.Layout.{byte_of}
-use Rattle.cell_pool.proofs.Tallied.{none_of, one_more_of, low_tally}
+use Rattle.cell_pool.proofs.Tallied.{none_of, nothing_of, one_more_of, low_tally}
 use Rattle.cell_pool.proofs.report.bytes_in.Goals as goal
+
+pub returns-then-has_none-clause-bytes : goal.returns-then-has_none-clause-bytes
+returns-then-has_none-clause-bytes c = nothing_of (byte_of c.args.store.now) c.args.subpool (end_of c.args.store.now.regions) (get c.args.entries.now) (c.has_none.ensures c.if-has_none.true) c.args.entries.now.capacity
 
 pub loop-key-init : goal.loop-key-init
 loop-key-init c = none_of (byte_of c.args.store.now) c.args.subpool (end_of c.args.store.now.regions) (get c.args.entries.now)

@@ -1,4 +1,4 @@
-use Rattle.std.proofs.Common.{◌∙◌, sym, inr, refl, []}
+use Rattle.std.proofs.Common.{inr, refl, []}
 use Rattle.std.proofs.KnownBytes.{Appends-nil}
 use Rattle.mvs_model.specs.Memory.{SetsName}
 use Rattle.std.proofs.lemmas.Result.{err_from_is_err_and}

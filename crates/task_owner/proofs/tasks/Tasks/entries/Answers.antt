@@ -1,4 +1,4 @@
-use Rattle.std.proofs.Common.{◌<◌, length, sym, ap, ◌∙◌, arith, None}
+use Rattle.std.proofs.Common.{◌<◌, length, sym, ◌∙◌, arith, None}
 use Rattle.task_owner.proofs.tasks.Tasks.entries.Goals as goal
 use Rattle.task_owner.proofs.Reading.{is_seat, entry_is, number_is}
 
