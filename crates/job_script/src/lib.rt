@@ -22,7 +22,7 @@ pub use crate::print::{
 };
 pub use crate::replies::print_reply;
 pub use crate::report_lines::{print_map_run, print_no_subpool, print_subpool_line};
-pub use crate::resolving::{resolve, set_names};
+pub use crate::resolving::{resolve, resolve_into, set_names};
 use crate::statement::read_operands;
 use mvs_model::line::{Fault, Line};
 
@@ -154,9 +154,21 @@ fn read_into(line: &[u8], first: bool, read: &mut Line) -> Result<(), Fault>
     read_statement(line, first, read)
 }
 
-/// Reads a line without its end into `read`, and answers the first fault that applies; `first` says whether no statement came before it. Of a line
-/// that is too long any front of more than 255 bytes serves. The notation is this project's own.
-pub fn read_line(line: &[u8], first: bool, read: &mut Line) -> Result<(), Fault>
+/// What a line says, without its end, or the first fault that applies; `first` says whether no statement came before it. Of a line that is too long
+/// any front of more than 255 bytes serves. The notation is this project's own.
+pub fn read_line(line: &[u8], first: bool) -> Result<Line, Fault>
+    ensures reading { IsReading first line.now result }
+    ensures in_range { IsLine first result }
+{
+    let mut read = Line::Nothing;
+    match read_line_into(line, first, &mut read) {
+        Ok(()) => Ok(read),
+        Err(fault) => Err(fault),
+    }
+}
+
+/// The same; what the line says is written over `read`, so that nothing of it is copied. Behind a fault `read` says nothing.
+pub fn read_line_into(line: &[u8], first: bool, read: &mut Line) -> Result<(), Fault>
     ensures reading { IsReading first line.now (filled read.new result) }
     ensures in_range { IsLine first (filled read.new result) }
 {

@@ -321,8 +321,19 @@ fn pool_request(names: &Names, written: &Written, request: &mut Request) -> Opti
     Some(())
 }
 
-/// Writes the request that is asked for over another, where each name that it looks up is set.
-pub fn resolve(names: &Names, written: &Written, request: &mut Request) -> Option<()>
+/// The request that is asked for, where each name that it looks up is set.
+pub fn resolve(names: &Names, written: &Written) -> Option<Request>
+    ensures { result ≡ resolved names.now written.now }
+{
+    let mut request = Request::Return;
+    match resolve_into(names, written, &mut request) {
+        Some(()) => Some(request),
+        None => None,
+    }
+}
+
+/// The same; the request is written over another, so that nothing of it is copied. Where a name is not set the other says nothing.
+pub fn resolve_into(names: &Names, written: &Written, request: &mut Request) -> Option<()>
     ensures { MatchOption result (resolved names.now written.now ≡ None) (λ _. resolved names.now written.now ≡ Some request.new) }
 {
     match written {

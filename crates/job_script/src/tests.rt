@@ -5,19 +5,10 @@ use mvs_model::line::{Fault, Line};
 
 mod statements;
 
-// What a line says, or its fault.
-fn read(line: &[u8], first: bool) -> Result<Line, Fault> {
-    let mut read = Line::Nothing;
-    match read_line(line, first, &mut read) {
-        Ok(()) => Ok(read),
-        Err(fault) => Err(fault),
-    }
-}
-
 // The first of the lines that is not answered by this fault.
 fn exception<'a>(lines: &[&'a [u8]], first: bool, fault: Fault) -> Option<&'a [u8]> {
     for line in lines {
-        if read(line, first).err() != Some(fault) {
+        if read_line(line, first).err() != Some(fault) {
             return Some(*line);
         }
     }
@@ -47,8 +38,8 @@ fn a_line_has_at_most_255_bytes(rt: HostRuntime) {
         ),
         None
     );
-    assert!(rt; matches!(read(&[b' '; 255], false), Ok(Line::Nothing)));
-    assert!(rt; matches!(read(&[b'*'; 255], true), Ok(Line::Nothing)));
+    assert!(rt; matches!(read_line(&[b' '; 255], false), Ok(Line::Nothing)));
+    assert!(rt; matches!(read_line(&[b'*'; 255], true), Ok(Line::Nothing)));
     assert_eq!(rt; exception(&[&[0; 255]], false, Fault::InvalidByte), None);
 }
 

@@ -146,8 +146,18 @@ impl Step {
         self.machine.map_run(from)
     }
 
-    /// Serves a request of a task, which need not be active, and writes what it is answered over the reply.
-    pub fn request(&mut self, name: &Name, request: &Request, reply: &mut Reply)
+    /// Serves a request of a task, which need not be active. It always replies.
+    pub fn request(&mut self, name: &Name, request: &Request) -> Reply
+        ensures step { MachineStep self.old.state name.now request.now result self.new.state }
+        ensures abended { self.new.abended ≡ (self.old.abended || is_abend result) }
+    {
+        let mut reply = Reply::NotRun;
+        self.request_into(name, request, &mut reply);
+        reply
+    }
+
+    /// The same; the reply, which can carry 31 names, is written over another, so that nothing of it is copied.
+    pub fn request_into(&mut self, name: &Name, request: &Request, reply: &mut Reply)
         ensures step { MachineStep self.old.state name.now request.now reply.new self.new.state }
         ensures abended { self.new.abended ≡ (self.old.abended || is_abend reply.new) }
     {

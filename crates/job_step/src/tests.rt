@@ -24,9 +24,7 @@ fn each_call(rt: HostRuntime) -> Result<(), Fail> {
     assert!(rt; step.is_active(&job));
     assert!(rt; step.bytes(place).is_none());
     assert!(rt; step.subpool_line(&job, 0).is_none());
-    let mut reply = Reply::NotRun;
-    step.request(&job, &obtain, &mut reply);
-    let Reply::Obtained(granted) = reply else {
+    let Reply::Obtained(granted) = step.request(&job, &obtain) else {
         panic!(rt; "a grant");
     };
     assert_eq!(rt; granted, place);
@@ -46,9 +44,7 @@ fn each_call(rt: HostRuntime) -> Result<(), Fail> {
         (Addr::new(0x7000), 4096, None)
     );
     assert!(rt; !step.abended());
-    let mut reply = Reply::NotRun;
-    step.request(&job, &Request::Abend(UserCode::new(7)), &mut reply);
-    let Reply::Abended(code, fallen) = reply else {
+    let Reply::Abended(code, fallen) = step.request(&job, &Request::Abend(UserCode::new(7))) else {
         panic!(rt; "an abend");
     };
     assert_eq!(rt; code, Code::User(7));

@@ -13,7 +13,7 @@ ghost use Rattle.mvsjob.specs.Serving.{Performs, RunsLine, card_said, ending, ha
 ghost use Rattle.job_script.specs.Writing.{AppendsFront, WritesAll};
 
 use crate::serve::Job;
-use job_script::{print_fault, print_region, print_step_end, read_line};
+use job_script::{print_fault, print_region, print_step_end, read_line_into};
 use mvs_model::card::Card;
 use mvs_model::line::{Fault, Line, Statement};
 use mvs_model::name::Name;
@@ -168,7 +168,7 @@ pub fn run_line<W: Write>(
     ensures write { IsErrOf result Stop.Write → writer.new.failed ≡ true }
 {
     let mut read = Line::Nothing;
-    match read_line(line, stage.is_none(), &mut read) {
+    match read_line_into(line, stage.is_none(), &mut read) {
         Ok(()) => {}
         Err(fault) => {
             print_fault(writer, line_number, fault)?;

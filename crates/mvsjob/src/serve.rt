@@ -21,7 +21,7 @@ use crate::job::Stop;
 use crate::reports::{print_map, print_subpools};
 use job_script::{
     Names, print_data, print_length, print_no_name, print_not_run, print_reply, print_where,
-    resolve, set_names,
+    resolve_into, set_names,
 };
 use job_step::Step;
 use mvs_model::card::Card;
@@ -188,12 +188,12 @@ impl Job {
         ensures write { IsErrOf result Stop.Write → writer.new.failed ≡ true }
     {
         let mut request = Request::Return;
-        let Some(()) = resolve(&self.names, written, &mut request) else {
+        let Some(()) = resolve_into(&self.names, written, &mut request) else {
             print_no_name(writer, line_number, task)?;
             return Ok(());
         };
         let mut reply = Reply::NotRun;
-        self.step.request(task, &request, &mut reply);
+        self.step.request_into(task, &request, &mut reply);
         let Ok(()) = set_names(&mut self.names, written, &reply) else {
             return Err(Stop::Memory);
         };

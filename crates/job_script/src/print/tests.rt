@@ -201,18 +201,16 @@ fn each_failing_write_leaves_a_front(rt: HostRuntime) -> Result<(), Fail> {
 
 // The request of a line.
 fn written(rt: &impl Abort, line: &[u8]) -> Written {
-    let mut read = Line::Nothing;
-    let answered = read_line(line, false, &mut read);
-    match (answered, read) {
-        (Ok(()), Line::Statement(_, Statement::Request(written))) => written,
+    match read_line(line, false) {
+        Ok(Line::Statement(_, Statement::Request(written))) => written,
         _ => panic!(rt; "a request"),
     }
 }
 
 // The address from which a request shows bytes.
-fn from(request: &Request) -> Option<u32> {
+fn from(request: &Option<Request>) -> Option<u32> {
     match request {
-        Request::Show { from, .. } => Some(from.get()),
+        Some(Request::Show { from, .. }) => Some(from.get()),
         _ => None,
     }
 }
@@ -223,8 +221,7 @@ fn names_are_set_and_looked_up(rt: HostRuntime) -> Result<(), Fail> {
     let second = Place::new(Addr::new(0x7000), 16);
     let mut names = Names::new(rt.alloc());
     let shows = written(&rt, b"JOB SHOW X+8,4");
-    let mut request = Request::Return;
-    assert!(rt; resolve(&names, &shows, &mut request).is_none());
+    assert!(rt; resolve(&names, &shows).is_none());
     set_names(
         &mut names,
         &written(&rt, b"JOB GETMAIN R,LV=8,A=X"),
@@ -232,7 +229,6 @@ fn names_are_set_and_looked_up(rt: HostRuntime) -> Result<(), Fail> {
     )?;
     assert!(rt; names.get(&name(&rt, b"X")) == Some(first));
     names.set(name(&rt, b"X"), second)?;
-    assert!(rt; resolve(&names, &shows, &mut request).is_some());
-    assert_eq!(rt; from(&request), Some(0x7008));
+    assert_eq!(rt; from(&resolve(&names, &shows)), Some(0x7008));
     Ok(())
 }

@@ -1,6 +1,6 @@
 //! Lines without a fault, and what they say.
 
-use super::read;
+use crate::read_line;
 use mvs_model::code::Form;
 use mvs_model::line::{Line, Location, Statement, Written};
 use mvs_model::name::Name;
@@ -8,7 +8,7 @@ use mvs_model::want::{Ask, Loc, Residence, Side};
 
 // Whether the line is a REGION of these.
 fn is_region(line: &[u8], below: u32, above: u32, fill: u8, residence: Residence) -> bool {
-    match &read(line, true) {
+    match &read_line(line, true) {
         Ok(
             Line::Statement(
                 _,
@@ -33,7 +33,7 @@ fn regions_are_read(rt: HostRuntime) {
 
 // The request that a line says.
 fn asked(line: &[u8]) -> Option<Written> {
-    match read(line, false) {
+    match read_line(line, false) {
         Ok(Line::Statement(_, Statement::Request(asked))) => Some(asked),
         _ => None,
     }
@@ -172,18 +172,18 @@ fn tasks_and_bytes_are_read(rt: HostRuntime) {
 #[test]
 fn names_and_reports_are_asked_for(rt: HostRuntime) {
     assert!(rt;
-        matches!(&read(b"B  WHERE  AREA0001 , Y", false), Ok(Line::Statement(task, Statement::Where(area)))
+        matches!(&read_line(b"B  WHERE  AREA0001 , Y", false), Ok(Line::Statement(task, Statement::Where(area)))
             if is_name(task, b"B") && is_name(area, b"AREA0001"))
     );
     assert!(rt;
         matches!(
-            read(b"B REPORT SP", false),
+            read_line(b"B REPORT SP", false),
             Ok(Line::Statement(_, Statement::ReportSubpools))
         )
     );
     assert!(rt;
         matches!(
-            read(b"B REPORT MAP", false),
+            read_line(b"B REPORT MAP", false),
             Ok(Line::Statement(_, Statement::ReportMap))
         )
     );

@@ -6,7 +6,7 @@ use Rattle.mvs_model.specs.declared.request.Request.{Request}
 use Rattle.mvs_model.specs.declared.request.Reply.{Reply}
 use Rattle.mvs_model.specs.declared.request.Reply.TheVariants.{NotRun}
 use Rattle.mvs_model.specs.Steps.{Step, Acts, Abends, Refuses}
-use Rattle.job_step.proofs.step.Step.request.Goals as goal
+use Rattle.job_step.proofs.step.Step.request_into.Goals as goal
 
 -- what an active task's request is answered is a step
 active_step : (old : State) (t : Name) (request : Request) (reply : Reply) (new : State) → is_active old.owners t ≡ true → Acts old t request reply new → Step old t request reply new
