@@ -4,11 +4,15 @@ import os
 import random
 import subprocess
 import tempfile
+from concurrent.futures import ProcessPoolExecutor
+from functools import partial
 from pathlib import Path
 
 import random_scripts
 
 TOP = Path(__file__).resolve().parent.parent
+CASES = 20_000
+CUT = ("example first.job", "example contents.job", "example pools.job", "script storage_a_run_is_joined_across_pages.job")
 END = {0: "STEP ENDED RC 0", 8: "STEP ENDED RC 8", 12: "JOB FAULT RC 12"}
 SAYS = {
     "alloc": "mvsjob: out of memory\n",
@@ -22,7 +26,7 @@ class Failing:
     """Runs the program with one call of the operating system failing, or all moving few bytes."""
 
     def __init__(self, program, folder):
-        self.program, self.library, self.calls = program, f"{folder}/failing.so", f"{folder}/calls"
+        self.program, self.folder, self.library = program, folder, f"{folder}/failing.so"
         source = Path(__file__).with_name("failing.c")
         subprocess.run(["cc", "-shared", "-fPIC", "-O1", "-o", self.library, source, "-ldl"], check=True)
 
@@ -32,8 +36,9 @@ class Failing:
         return ran.returncode, ran.stdout, ran.stderr.decode()
 
     def count(self, script, *words):
-        self.run(script, *words, CALLS=self.calls)
-        return dict(zip(("alloc", "read", "write"), map(int, Path(self.calls).read_text().split())))
+        calls = f"{self.folder}/calls{os.getpid()}"
+        self.run(script, *words, CALLS=calls)
+        return dict(zip(("alloc", "read", "write"), map(int, Path(calls).read_text().split())))
 
 
 def each_failing(failing, script):
@@ -93,10 +98,18 @@ def damaged(seed):
     return bytes(script)
 
 
+def damaged_is_sound(failing, seed):
+    return is_sound(failing, damaged(seed), seed)
+
+
 def random_bytes(seed):
     rng = random.Random(seed)
     letters = bytes(range(256)) if seed % 2 else b"JOB REGION BELOW=1\nGETMAIN,()X'09 *"
     return bytes(rng.choice(letters) for _ in range(rng.randrange(400)))
+
+
+def bytes_are_sound(failing, seed):
+    return is_sound(failing, random_bytes(seed), seed)
 
 
 def long_scripts(failing):
@@ -105,20 +118,19 @@ def long_scripts(failing):
     yield "one newline more", failing.run(b"\n" * 16777216) == (16, b"", "mvsjob: script too long\n")
 
 
-def results(program, pool_size=1500):
-    with tempfile.TemporaryDirectory() as folder:
+def results(program, cases=CASES):
+    scripts = {f"example {path.name}": path.read_bytes() for path in sorted((TOP / "examples").glob("*.job"))}
+    scripts |= {f"script {path.name}": script_of(path) for path in sorted((TOP / "tests/scripts").glob("*.job"))}
+    with tempfile.TemporaryDirectory() as folder, ProcessPoolExecutor() as pool:
         failing = Failing(program, folder)
         found = []
-        for path in sorted((TOP / "examples").glob("*.job")):
-            script = path.read_bytes()
-            found.append((f"{path.name}, each call failing", each_failing(failing, script)))
-            found.append((f"{path.name} in pieces", in_pieces(failing, script)))
-        for path in sorted((TOP / "tests/scripts").glob("*.job")):
-            found.append((f"{path.name} in pieces", in_pieces(failing, script_of(path))))
-        for name in ("first", "contents", "pools"):
-            found.append((f"{name}.job cut", cut(failing, (TOP / f"examples/{name}.job").read_bytes())))
+        for kind, holds in ("each call failing", each_failing), ("in pieces", in_pieces):
+            wells = pool.map(partial(holds, failing), scripts.values())
+            found.extend((f"{name}, {kind}", well) for name, well in zip(scripts, wells))
+        for name in CUT:
+            found.append((f"{name} cut", cut(failing, scripts[name])))
         found.extend(long_scripts(failing))
-        for seed in range(pool_size):
-            found.append((f"damaged script {seed}", is_sound(failing, damaged(seed), seed)))
-            found.append((f"random bytes {seed}", is_sound(failing, random_bytes(seed), seed)))
+        for kind, holds in ("damaged script", damaged_is_sound), ("random bytes", bytes_are_sound):
+            wells = pool.map(partial(holds, failing), range(cases), chunksize=50)
+            found.extend((f"{kind} {seed}", well) for seed, well in enumerate(wells))
         return found
