@@ -17,5 +17,7 @@ pub mod PrintedDigits
 pub mod Showing
 pub mod Named
 pub mod Fitting
+pub mod Fronts
+pub mod PlainLines
 pub mod Plain
 pub mod FormTexts

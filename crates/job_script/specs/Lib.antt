@@ -10,6 +10,7 @@ pub mod Taken
 pub mod Said
 pub mod Rowed
 pub mod Stated
+pub mod Frequent
 pub mod LineBuffers
 pub mod Areas
 pub mod Resolving

@@ -12,8 +12,8 @@ use mvs_model::line::Location;
 use mvs_model::name::Name;
 use mvs_model::place::Addr;
 
-// Whether a name may have the byte.
-fn is_name_byte(byte: u8) -> bool
+/// Whether a name may have the byte.
+pub fn is_name_byte(byte: u8) -> bool
     ensures { result ≡ is_name_byte byte }
 {
     if byte >= b'@' {

@@ -11,6 +11,7 @@ ghost use Rattle.job_script.specs.Said.{filled};
 ghost use Rattle.job_script.specs.Stated.{is_in_place, field_of, StatementReading};
 
 use crate::addresses::{is_name, name};
+use crate::frequent::read_frequent;
 pub use crate::data_lines::print_data;
 pub use crate::line_buffer::{LineBuffer, Pushed};
 pub use crate::names::Names;
@@ -31,6 +32,7 @@ mod addresses;
 mod checks;
 mod data_lines;
 mod digits;
+mod frequent;
 mod given;
 mod items;
 mod keys;
@@ -141,6 +143,9 @@ fn read_statement(line: &[u8], first: bool, read: &mut Line) -> Result<(), Fault
 fn read_into(line: &[u8], first: bool, read: &mut Line) -> Result<(), Fault>
     ensures { IsReading first line.now (filled read.new result) }
 {
+    if !first && read_frequent(line, read).is_some() {
+        return Ok(());
+    }
     if line.len() > LONGEST {
         return Err(Fault::TooLong);
     }

@@ -14,7 +14,7 @@ use Rattle.mvs_model.specs.Reading.{has_key, hex_bytes, is_absolute, is_address,
 use Rattle.mvs_model.specs.Spelling.{EachIsWritten, Fits, FitsAlone, AreBetween, IsOperand, absolute_text, bytes_text, closes, joined, list_text, named_text, quoted_text}
 use Rattle.mvs_model.proofs.ReadingTaken.{and_true}
 use Rattle.mvs_model.proofs.ReadingLoops.{counted, counted_all, hex_counted, hex_counted_all}
-use Rattle.mvs_model.proofs.Spelling.{all_append, all_weaker, name_bytes, printed}
+use Rattle.mvs_model.proofs.Spelling.{all_append, all_weaker, name_bytes, not_true, printed}
 
 -- ---- texts of simple bytes: printed, and none that parts or closes
 
@@ -260,16 +260,20 @@ in_range least most n low high small =
 decimal_simple : (n : ℕ) → n < 10 ^ 10 → AllSimple (decimal n)
 decimal_simple n small = all_weaker is_digit simple digit_simple (decimal n) (decimal_writes n (omega arith)).digits
 
+-- digits in their range, whatever zeros stand in front
+pub digits_fit : (least most : ℕ) (text : List ℕ) → is_number text ≡ true → is_in_range least most text ≡ true → FitsAlone (Number least most) text
+digits_fit least most text e range =
+    let a = and_true (not (is_empty text)) (list_all is_digit text) e in
+    let s = all_weaker is_digit simple digit_simple text a.1 in
+    record {
+      fits = record { of_kind = e; within = range; once = refl; operand = simple_operand text (not_true _ a.0) s };
+      no_key = simple_keyless text s;
+    }
+
 number_is : (least most n : ℕ) → least ≤ n → n ≤ most → most < 10 ^ 10 → FitsAlone (Number least most) (decimal n) × (number (decimal n) ≡ n)
 number_is least most n low high few =
     let small : n < 10 ^ 10 = omega arith in
-    let w = decimal_writes n (omega arith) in (
-      record {
-        fits = record { of_kind = number_text n small; within = in_range least most n low high small; once = refl; operand = simple_operand (decimal n) w.some (decimal_simple n small) };
-        no_key = simple_keyless (decimal n) (decimal_simple n small);
-      },
-      w.value,
-    )
+    (digits_fit least most (decimal n) (number_text n small) (in_range least most n low high small), (decimal_writes n (omega arith)).value)
 
 -- ---- a byte
 
@@ -341,39 +345,92 @@ behind_plus [] text = refl
 behind_plus (b ∷ name) text = behind_plus name text
 
 -- a name is not the beginning of X'..'
+no_quote_at : (b c : ℕ) (text : List ℕ) → list_all is_name_byte (b ∷ c ∷ text) ≡ true → ((b == 88) && ((c == 39) && true)) ≡ false
+no_quote_at b c text e =
+    let a = and_true (is_name_byte b) (list_all is_name_byte (c ∷ text)) e in
+    let d = and_true (is_name_byte c) (list_all is_name_byte text) a.1 in
+    let no : (c == 39) ≡ false = grind (arith, nat_tests, d.0) in
+    and_right (b == 88) _ (ap (λ t. t && true) no)
+
 no_quote : (name text : List ℕ) → is_empty name ≡ false → list_all is_name_byte name ≡ true → bytes_eq (take 2 (name ++ (43 ∷ text))) (codes "X'") ≡ false
 no_quote [] text some e = absurd (let f : true ≡ false = some in cc)
 no_quote (b ∷ []) text some e = and_right (b == 88) false refl
-no_quote (b ∷ c ∷ name) text some e =
-    let a = and_true (is_name_byte b) (list_all is_name_byte (c ∷ name)) e in
-    let d = and_true (is_name_byte c) (list_all is_name_byte name) a.1 in
-    let no : (c == 39) ≡ false = grind (arith, nat_tests, d.0) in
-    and_right (b == 88) _ (ap (λ t. t && true) no)
+no_quote (b ∷ c ∷ name) text some e = no_quote_at b c name e
 
 not_quoted : (a b c : Bool) → b ≡ false → (a && b && c) ≡ false
 not_quoted a b c e = ap (λ t. a && t && c) e ∙ (elim a as (λ a. (a && false && c) ≡ false) [ true ↦ refl | false ↦ refl ])
 
-named_is : (name : List ℕ) (n : ℕ) → is_name name ≡ true → n < 2 ^ 25 → FitsAlone Address (named_text name n) × (location (named_text name n) ≡ Named (padded name) n)
-named_is name n e small =
-    let text = named_text name n in
+-- a name with a distance in digits
+pub name_with : (name digits : List ℕ) → is_name name ≡ true → is_number digits ≡ true → is_in_range 0 33554431 digits ≡ true
+    → FitsAlone Address (name ++ (43 ∷ digits)) × (location (name ++ (43 ∷ digits)) ≡ Named (padded name) (number digits))
+name_with name digits e figures range =
+    let text = name ++ (43 ∷ digits) in
     let bytes = name_bytes name e in
-    let w = decimal_writes n (omega arith) in
-    let unquoted : is_quoted text ≡ false = not_quoted (nat_le 3 (length text)) _ _ (no_quote name (decimal n) bytes.0 bytes.1) in
-    let before : before_first is_plus text ≡ name = ap (λ k. take k text) (plus_at name (decimal n) bytes.1) ∙ front_of name (43 ∷ decimal n) in
+    let d = and_true (not (is_empty digits)) (list_all is_digit digits) figures in
+    let unquoted : is_quoted text ≡ false = not_quoted (nat_le 3 (length text)) _ _ (no_quote name digits bytes.0 bytes.1) in
+    let before : before_first is_plus text ≡ name = ap (λ k. take k text) (plus_at name digits bytes.1) ∙ front_of name (43 ∷ digits) in
     let one : length name + 1 ≡ suc (length name) = omega arith in
-    let after : after_first is_plus text ≡ decimal n = ap (λ k. drop (k + 1) text) (plus_at name (decimal n) bytes.1) ∙ ap (λ k. drop k text) one ∙ behind_plus name (decimal n) in
-    let s : AllSimple text = all_append simple name (43 ∷ decimal n) (name_all name e) (decimal_simple n (omega arith)) in
-    let some : is_empty text ≡ false = append_some name (43 ∷ decimal n) bytes.0 in (
+    let after : after_first is_plus text ≡ digits = ap (λ k. drop (k + 1) text) (plus_at name digits bytes.1) ∙ ap (λ k. drop k text) one ∙ behind_plus name digits in
+    let s : AllSimple text = all_append simple name (43 ∷ digits) (name_all name e) (all_weaker is_digit simple digit_simple digits d.1) in
+    let some : is_empty text ≡ false = append_some name (43 ∷ digits) bytes.0 in (
       record {
         fits = record {
-          of_kind = (λ i. if unquoted i then is_absolute (quoted text) else (is_name (before i) && (not (has_plus name (decimal n) i) || is_number (after i)))) ∙ and_from (is_name name) _ e (number_text n (omega arith));
-          within = (λ i. if unquoted i then nat_le (hex_number (quoted text)) 0x7FFFFFFF else (not (has_plus name (decimal n) i) || is_in_range 0 33554431 (after i))) ∙ in_range 0 33554431 n (omega arith) (omega arith) (omega arith);
+          of_kind = (λ i. if unquoted i then is_absolute (quoted text) else (is_name (before i) && (not (has_plus name digits i) || is_number (after i)))) ∙ and_from (is_name name) _ e figures;
+          within = (λ i. if unquoted i then nat_le (hex_number (quoted text)) 0x7FFFFFFF else (not (has_plus name digits i) || is_in_range 0 33554431 (after i))) ∙ range;
           once = refl;
           operand = simple_operand text some s;
         };
         no_key = simple_keyless text s;
       },
-      (λ i. if unquoted i then Absolute (hex_number (quoted text)) else Named (padded (before i)) (number (after i))) ∙ ap (λ m. Named (padded name) m) w.value,
+      (λ i. if unquoted i then Absolute (hex_number (quoted text)) else Named (padded (before i)) (number (after i))),
+    )
+
+named_is : (name : List ℕ) (n : ℕ) → is_name name ≡ true → n < 2 ^ 25 → FitsAlone Address (named_text name n) × (location (named_text name n) ≡ Named (padded name) n)
+named_is name n e small =
+    let is = name_with name (decimal n) e (number_text n (omega arith)) (in_range 0 33554431 n (omega arith) (omega arith) (omega arith)) in
+    (is.0, is.1 ∙ ap (λ m. Named (padded name) m) (decimal_writes n (omega arith)).value)
+
+-- a name alone
+alone_unquoted : (name : List ℕ) → is_empty name ≡ false → list_all is_name_byte name ≡ true → bytes_eq (take 2 name) (codes "X'") ≡ false
+alone_unquoted [] some e = absurd (let f : true ≡ false = some in cc)
+alone_unquoted (b ∷ []) some e = and_right (b == 88) false refl
+alone_unquoted (b ∷ c ∷ name) some e = no_quote_at b c name e
+
+no_plus : (name : List ℕ) → list_all is_name_byte name ≡ true → list_any is_plus name ≡ false
+no_plus [] e = refl
+no_plus (b ∷ name) e =
+    let a = and_true (is_name_byte b) (list_all is_name_byte name) e in
+    ap (λ t. t || list_any is_plus name) (name_no_plus b a.0) ∙ no_plus name a.1
+
+plus_nowhere : (name : List ℕ) → list_all is_name_byte name ≡ true → position_or_len is_plus name ≡ length name
+plus_nowhere [] e = refl
+plus_nowhere (b ∷ name) e =
+    let a = and_true (is_name_byte b) (list_all is_name_byte name) e in
+    ap (λ t. if not t then 1 + position_or_len is_plus name else 0) (name_no_plus b a.0) ∙ ap (λ n. 1 + n) (plus_nowhere name a.1) ∙ omega arith
+
+take_whole : (text : List ℕ) → take (length text) text ≡ text
+take_whole [] = refl
+take_whole (b ∷ text) = ap (λ l. b ∷ l) (take_whole text)
+
+none_behind : (text : List ℕ) → drop (suc (length text)) text ≡ []
+none_behind [] = refl
+none_behind (b ∷ text) = none_behind text
+
+pub name_alone : (name : List ℕ) → is_name name ≡ true → Fits Address name × (location name ≡ Named (padded name) 0)
+name_alone name e =
+    let bytes = name_bytes name e in
+    let unquoted : is_quoted name ≡ false = not_quoted (nat_le 3 (length name)) _ _ (alone_unquoted name bytes.0 bytes.1) in
+    let before : before_first is_plus name ≡ name = ap (λ k. take k name) (plus_nowhere name bytes.1) ∙ take_whole name in
+    let one : length name + 1 ≡ suc (length name) = omega arith in
+    let after : after_first is_plus name ≡ [] = ap (λ k. drop (k + 1) name) (plus_nowhere name bytes.1) ∙ ap (λ k. drop k name) one ∙ none_behind name in
+    let none = no_plus name bytes.1 in (
+      record {
+        of_kind = (λ i. if unquoted i then is_absolute (quoted name) else (is_name (before i) && (not (none i) || is_number (after i)))) ∙ and_from (is_name name) _ e refl;
+        within = (λ i. if unquoted i then nat_le (hex_number (quoted name)) 0x7FFFFFFF else (not (none i) || is_in_range 0 33554431 (after i)));
+        once = refl;
+        operand = simple_operand name bytes.0 (name_all name e);
+      },
+      (λ i. if unquoted i then Absolute (hex_number (quoted name)) else Named (padded (before i)) (number (after i))),
     )
 
 -- ---- bytes

@@ -1,0 +1,119 @@
+-- What stands in front of a text.
+use Rattle.std.specs.Prelude.{◌==◌, nat_le, not, slice_index, codes, Option, Some}
+use Rattle.std.proofs.Common.{drop, zero, append_assoc, append-nil, take-append-drop, ◌≡◌, refl, suc, pow-suc, true, false, Bool, ℕ, ◌+◌, ◌-◌, ◌*◌, ◌^◌, ◌<◌, ◌≤◌, ◌&&◌, List, [], ◌∷◌, ◌++◌, length, take, get_or, sym, ap, subst, ◌∙◌, arith}
+use Rattle.std.specs.List.{list_all}
+use Rattle.std.specs.Char.{is_ascii_digit}
+use Rattle.std.proofs.lemmas.Bool.Decides.{nat_tests}
+use Rattle.std.proofs.lemmas.List.{take_more, take_rest}
+use Rattle.std.proofs.lemmas.Bool.{and_from}
+use Rattle.std.proofs.lemmas.Grind.{common_steps}
+use Rattle.mvs_model.specs.Grammar as grammar
+use Rattle.mvs_model.specs.Reading.{is_digit, is_empty, is_in_range, is_name, is_name_byte, is_number, location, number}
+use Rattle.mvs_model.specs.Name.{padded}
+use Rattle.mvs_model.specs.declared.name.Name.{Name}
+use Rattle.mvs_model.specs.declared.line.Location.TheVariants.{Named}
+use Rattle.mvs_model.proofs.ValueTexts.{digits_fit, each_is_written, name_alone, name_with}
+use Rattle.job_script.specs.Frequent.{EndsWith, IsAddressFront, IsFront, IsNumberFront}
+use Rattle.mvs_model.proofs.ReadingLoops.{counted, counted_all}
+use Rattle.mvs_model.proofs.ReadingTaken.{and_true, nat_same}
+
+all_push : (test : ℕ → Bool) (text : List ℕ) (b : ℕ) → list_all test text ≡ true → test b ≡ true → list_all test (text ++ b ∷ []) ≡ true
+all_push test [] b e f = ap (λ t. t && true) f
+all_push test (x ∷ text) b e f =
+    let a = and_true (test x) (list_all test text) e in
+    ap (λ t. t && list_all test (text ++ b ∷ [])) a.0 ∙ all_push test text b a.1 f
+
+-- one byte more that passes
+pub all_more : (test : ℕ → Bool) (text : List ℕ) (i : ℕ) → i < length text → list_all test (take i text) ≡ true → test (get_or text i 0) ≡ true → list_all test (take (i + 1) text) ≡ true
+all_more test text i h e f = ap (list_all test) (take_more text i 0 h) ∙ all_push test (take i text) (get_or text i 0) e f
+
+counted_push : (so_far : ℕ) (text : List ℕ) (b : ℕ) → counted so_far (text ++ b ∷ []) ≡ counted so_far text * 10 + (b - 48)
+counted_push so_far [] b = refl
+counted_push so_far (x ∷ text) b = counted_push (so_far * 10 + (x - 48)) text b
+
+-- one digit more
+pub number_more : (text : List ℕ) (i : ℕ) → i < length text → number (take (i + 1) text) ≡ number (take i text) * 10 + (get_or text i 0 - 48)
+number_more text i h =
+    ap number (take_more text i 0 h)
+    ∙ sym (counted_all (take i text ++ get_or text i 0 ∷ []))
+    ∙ counted_push 0 (take i text) (get_or text i 0)
+    ∙ ap (λ n. n * 10 + (get_or text i 0 - 48)) (counted_all (take i text))
+
+pub digit_is : (b : ℕ) → is_ascii_digit b ≡ true → is_digit b ≡ true
+digit_is b e = grind (arith, nat_tests)
+
+-- with one digit more it is still less than the power of ten
+pub next_small : (n d i b : ℕ) → is_digit b ≡ true → d ≡ b - 48 → n < 10 ^ i → n * 10 + d < 10 ^ (i + 1)
+next_small n d i b digit is small =
+    let nine : d ≤ 9 = grind (arith, nat_tests) in
+    let power : 10 ^ (i + 1) ≡ 10 ^ i * 10 = ap (λ k. 10 ^ k) (let on : i + 1 ≡ suc i = omega arith in on) ∙ pow-suc 10 i in
+    subst (λ m. n * 10 + d < m) (sym power) (omega arith)
+
+-- a text is its front and what stands behind it
+pub front_rest : (text : List ℕ) (n : ℕ) → text ≡ take n text ++ take (length text - n) (drop n text)
+front_rest text n = sym (ap (λ rest. take n text ++ rest) (take_rest text n) ∙ take-append-drop n text)
+
+some_front : (text : List ℕ) (n : ℕ) → (n ≡ 0 → ⊥) → n ≤ length text → is_empty (take n text) ≡ false
+some_front text zero some h = absurd (some refl)
+some_front [] (suc n) some h = absurd (omega arith)
+some_front (b ∷ text) (suc n) some h = refl
+
+short_front : (text : List ℕ) (n most : ℕ) → n ≤ most → nat_le (length (take n text)) most ≡ true
+short_front text n most h = grind (arith, common_steps, nat_tests)
+
+le_true : (a b : ℕ) → a ≤ b → nat_le a b ≡ true
+le_true a b h = grind (arith, nat_tests)
+
+-- a number in front
+pub number_front : (least most : ℕ) (text : List ℕ) (n value : ℕ) → list_all is_digit (take n text) ≡ true → value ≡ number (take n text) → n ≤ 10 → n ≤ length text → (n ≡ 0 → ⊥) → least ≤ value → value ≤ most
+    → (digits : List ℕ) × IsNumberFront least most text value digits (take (length text - n) (drop n text))
+number_front least most text n value digits is few within some low high =
+    let front = take n text in
+    let number_is : is_number front ≡ true = and_from (not (is_empty front)) _ (ap not (some_front text n some within)) digits in
+    let range : is_in_range least most front ≡ true =
+    and_from (nat_le (length front) 10 && nat_le least (number front)) _
+    (and_from (nat_le (length front) 10) _ (short_front text n 10 few) (ap (nat_le least) (sym is) ∙ le_true least value low)) (ap (λ m. nat_le m most) (sym is) ∙ le_true value most high) in
+    (front, record { front = record { whole = front_rest text n; fits = (digits_fit least most front number_is range).fits }; value = is; low = low; high = high })
+
+-- a name in front
+first_kept : (text : List ℕ) (n : ℕ) → (n ≡ 0 → ⊥) → n ≤ length text → is_ascii_digit (get_or text 0 0) ≡ false → is_digit (slice_index (take n text) 0) ≡ false
+first_kept text zero some h e = absurd (some refl)
+first_kept [] (suc n) some h e = absurd (omega arith)
+first_kept (b ∷ text) (suc n) some h e = grind (arith, nat_tests)
+
+name_is : (text : List ℕ) (n : ℕ) → list_all is_name_byte (take n text) ≡ true → n ≤ 8 → n ≤ length text → (n ≡ 0 → ⊥) → is_ascii_digit (get_or text 0 0) ≡ false → is_name (take n text) ≡ true
+name_is text n bytes few within some first =
+    let front = take n text in
+    and_from (not (is_empty front) && nat_le (length front) 8 && list_all is_name_byte front) _
+    (and_from (not (is_empty front) && nat_le (length front) 8) _ (and_from (not (is_empty front)) _ (ap not (some_front text n some within)) (short_front text n 8 few)) bytes)
+    (ap not (first_kept text n some within first))
+
+pub name_front : (text : List ℕ) (n : ℕ) → list_all is_name_byte (take n text) ≡ true → n ≤ 8 → n ≤ length text → (n ≡ 0 → ⊥) → is_ascii_digit (get_or text 0 0) ≡ false → IsFront grammar.Name text (take n text) (take (length text - n) (drop n text))
+name_front text n bytes few within some first =
+    record { whole = front_rest text n; fits = (each_is_written.name_is (take n text) (name_is text n bytes few within some first)).fits }
+
+-- a name alone is an address
+pub address_alone : (text name rest : List ℕ) → IsFront grammar.Name text name rest → (address : List ℕ) × IsAddressFront text name 0 address rest
+address_alone text name rest front =
+    let alone = name_alone name front.fits.of_kind in
+    (name, record { front = record { whole = front.whole; fits = alone.0 }; named = front.fits.of_kind; location_is = sym alone.1; near = omega arith })
+
+-- and so is one with an offset
+pub address_with : (text name after inner digits rest : List ℕ) (n : ℕ) → IsFront grammar.Name text name after → after ≡ 43 ∷ inner → IsNumberFront 0 33554431 inner n digits rest
+    → (address : List ℕ) × IsAddressFront text name n address rest
+address_with text name after inner digits rest n front plus offset =
+    let with_offset = name_with name digits front.fits.of_kind offset.front.fits.of_kind offset.front.fits.within in
+    let whole : text ≡ (name ++ (43 ∷ digits)) ++ rest = front.whole ∙ ap (λ t. name ++ t) (plus ∙ ap (λ t. 43 ∷ t) offset.front.whole) ∙ sym (append_assoc name (43 ∷ digits) rest) in
+    (name ++ (43 ∷ digits), record { front = record { whole = whole; fits = with_offset.0.fits }; named = front.fits.of_kind; location_is = ap (λ m. Named (padded name) m) offset.value ∙ sym with_offset.1; near = offset.high })
+
+-- nothing stands behind
+pub nothing_behind : (text : List ℕ) → (length text == 0) ≡ true → text ≡ []
+nothing_behind [] e = refl
+nothing_behind (b ∷ text) e = let none : suc (length text) ≡ 0 = nat_same (suc (length text)) 0 e in absurd (omega arith)
+
+pub front_whole : (kind : grammar.Kind) (text value rest : List ℕ) → IsFront kind text value rest → (length rest == 0) ≡ true → text ≡ value
+front_whole kind text value rest front none = front.whole ∙ ap (λ t. value ++ t) (nothing_behind rest none) ∙ append-nil value
+
+pub subpool_said : (text inner digits rest : List ℕ) (n : ℕ) → text ≡ codes ",SP=" ++ inner → IsNumberFront 0 255 inner n digits rest → (length rest == 0) ≡ true → (sp : Option (List ℕ)) × EndsWith text n sp
+subpool_said text inner digits rest n key number none =
+    (Some digits, (key ∙ ap (λ t. codes ",SP=" ++ t) (front_whole (grammar.Number 0 255) inner digits rest number.front none), number.front.fits, number.value))

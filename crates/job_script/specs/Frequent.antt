@@ -1,0 +1,77 @@
+-- The statements that a script repeats most, written plainly.
+use Rattle.std.specs.Prelude.{◌≡◌, ◌≤◌, ℕ, nat_lt, Bool, true, false, List, [], ◌∷◌, ◌++◌, length, Option, Some, None, codes}
+use Rattle.mvs_model.specs.declared.code.Form.{Form}
+use Rattle.mvs_model.specs.declared.code.Form.TheVariants as form
+use Rattle.mvs_model.specs.declared.line.Line.{Line}
+use Rattle.mvs_model.specs.declared.line.Location.TheVariants.{Named}
+use Rattle.mvs_model.specs.declared.name.Name.{Name}
+use Rattle.mvs_model.specs.Name.{padded}
+use Rattle.mvs_model.specs.Grammar as grammar
+use Rattle.mvs_model.specs.Reading.{LineOf, is_name, location, number}
+use Rattle.mvs_model.specs.Spelling.{Fits}
+use Rattle.job_script.specs.declared.frequent.Head.{Head}
+use Rattle.job_script.specs.declared.frequent.Head.TheVariants as head
+
+-- A text that fits a kind stands in front, and behind it the rest.
+pub record IsFront (kind : grammar.Kind) (text value rest : List ℕ) : Type 0 where
+  pub whole : text ≡ value ++ rest
+  pub fits : Fits kind value
+
+-- The text starts with a number from a least to a greatest one.
+pub record IsNumberFront (least most : ℕ) (text : List ℕ) (n : ℕ) (digits rest : List ℕ) : Type 0 where
+  pub front : IsFront (grammar.Number least most) text digits rest
+  pub value : n ≡ number digits
+  pub low : least ≤ n
+  pub high : n ≤ most
+
+-- The text starts with an address by a name, with an offset or without one.
+pub record IsAddressFront (text name : List ℕ) (offset : ℕ) (address rest : List ℕ) : Type 0 where
+  pub front : IsFront grammar.Address text address rest
+  pub named : is_name name ≡ true
+  pub location_is : Named (padded name) offset ≡ location address
+  pub near : offset ≤ 33554431
+
+-- what stands behind the other operands: nothing, or the number of a subpool
+abbrev pub EndsWith : List ℕ → ℕ → Option (List ℕ) → Type 0
+EndsWith text n None = (text ≡ []) × (n ≡ 0)
+EndsWith text n (Some sp) = (text ≡ codes ",SP=" ++ sp) × Fits (grammar.Number 0 255) sp × (n ≡ number sp)
+
+-- the forms that both GETMAIN and FREEMAIN have for one area, and their words
+abbrev pub is_single : Form → Bool
+is_single form.R = true
+is_single form.Rc = true
+is_single form.Ru = true
+is_single _ = false
+
+abbrev pub form_word : Form → List ℕ
+form_word form.R = codes "R"
+form_word form.Rc = codes "RC"
+form_word form.Ru = codes "RU"
+form_word _ = []
+
+-- Operands start with such a form and a length, and with a key behind which this text stands.
+pub record IsSized (field : List ℕ) (f : Form) (n : ℕ) (digits rest : List ℕ) : Type 0 where
+  pub form_is : is_single f ≡ true
+  pub fits : Fits (grammar.Number 1 2147483647) digits
+  pub length_is : n ≡ number digits
+  pub low : 1 ≤ n
+  pub high : n ≤ 2147483647
+  pub whole : field ≡ form_word f ++ (codes ",LV=" ++ (digits ++ (codes ",A=" ++ rest)))
+
+-- Operands start with the name of a cell pool, and with a key behind which this text stands.
+pub record IsPooled (field name rest : List ℕ) : Type 0 where
+  pub fits : Fits grammar.Name name
+  pub whole : field ≡ codes "CPID=" ++ (name ++ (codes ",CELL=" ++ rest))
+
+-- The line of a task with an operation and its operands, where it has at most 255 bytes, says this.
+abbrev pub SaysLine : List ℕ → List ℕ → Name → Line → Type 0
+SaysLine operation field task l =
+    (text : List ℕ) → is_name text ≡ true → task ≡ padded text → nat_lt 255 (length (text ++ (32 ∷ (operation ++ (32 ∷ field))))) ≡ false
+    → LineOf false (text ++ (32 ∷ (operation ++ (32 ∷ field)))) l
+
+-- the operations that are read so behind the name of a task, with the forms of CPOOL, up to their operands
+abbrev pub head_text : Head → List ℕ
+head_text head.Getmain = codes " GETMAIN "
+head_text head.Freemain = codes " FREEMAIN "
+head_text head.Get = codes " CPOOL GET,"
+head_text head.Free = codes " CPOOL FREE,"
