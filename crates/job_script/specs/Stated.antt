@@ -1,12 +1,18 @@
 -- What a statement is read as.
-use Rattle.std.specs.Prelude.{◌≡◌, ℕ, List, [], Bool, not, ◌&&◌, Some, None, Result, Ok, Err, bytes_eq, codes, slice_get, unwrap_or}
+use Rattle.std.specs.Prelude.{◌≡◌, ℕ, List, [], ◌∷◌, length, nat_le, nat_lt, Bool, not, ◌&&◌, Some, None, Result, Ok, Err, bytes_eq, codes, slice_get, unwrap_or}
+use Rattle.std.specs.List.{list_all}
 use Rattle.mvs_model.specs.declared.line.Fault.{Fault}
+use Rattle.mvs_model.specs.declared.line.Fault.TheVariants.{TooLong, InvalidByte}
 use Rattle.mvs_model.specs.declared.line.Line.{Line}
 use Rattle.mvs_model.specs.Name.{padded}
-use Rattle.mvs_model.specs.Reading.{first_of, statement_checks, task_in, operation_in, operands_of, words}
+use Rattle.mvs_model.specs.Reading.{◌when◌, first_of, statement_checks, task_in, operation_in, operands_of, words}
 use Rattle.job_script.specs.declared.operations.Operation.{Operation}
 use Rattle.job_script.specs.declared.operations.Operation.TheVariants as operation
 use Rattle.job_script.specs.Rowed.{said_by}
+
+-- what may be wrong with the bytes of a line
+abbrev pub byte_checks : List ℕ → List (Fault × Bool)
+byte_checks bytes = TooLong when nat_lt 255 (length bytes) ∷ InvalidByte when not (list_all (λ b. nat_le 32 b && nat_le b 126) bytes) ∷ []
 
 -- whether an operation may stand where it stands
 abbrev pub is_in_place : Bool → List ℕ → Bool

@@ -1,14 +1,15 @@
 //! Reads the lines of a script, keeps its names, and prints what its lines are answered.
 #![tactic(auto)]
 
-ghost use Rattle.std.specs.Prelude.{◌≡◌, ◌==◌, ◌&&◌, nat_le};
+ghost use Rattle.std.specs.Prelude.{◌≡◌, ◌==◌, ◌&&◌, nat_le, true, false};
 ghost use Rattle.std.specs.List.{list_all};
 ghost use Rattle.mvs_model.specs.Lines.{IsLine};
-ghost use Rattle.mvs_model.specs.Reading.{IsReading, says_nothing};
+ghost use Rattle.mvs_model.specs.Reading.{IsReading, first_of, says_nothing};
+ghost use Rattle.job_script.specs.Kinds.{fault_in};
 ghost use Rattle.job_script.specs.Operations.{operation_text};
 ghost use Rattle.job_script.specs.Parted.{field_in};
 ghost use Rattle.job_script.specs.Said.{filled};
-ghost use Rattle.job_script.specs.Stated.{is_in_place, field_of, StatementReading};
+ghost use Rattle.job_script.specs.Stated.{is_in_place, byte_checks, field_of, StatementReading};
 
 use crate::addresses::{is_name, name};
 use crate::frequent::read_frequent;
@@ -139,24 +140,50 @@ fn read_statement(line: &[u8], first: bool, read: &mut Line) -> Result<(), Fault
     read_operands(name(task), operation, field_of(operation, rest), read)
 }
 
-// Reads a line, and answers the first fault that applies.
-fn read_into(line: &[u8], first: bool, read: &mut Line) -> Result<(), Fault>
-    ensures { IsReading first line.now (filled read.new result) }
+// What is wrong with the bytes of a line.
+fn check_bytes(line: &[u8]) -> Result<(), Fault>
+    ensures { fault_in result ≡ first_of (byte_checks line.now) }
 {
-    if !first && read_frequent(line, read).is_some() {
-        return Ok(());
-    }
     if line.len() > LONGEST {
         return Err(Fault::TooLong);
     }
     if !is_plain(line) {
         return Err(Fault::InvalidByte);
     }
-    if says_nothing(line) {
-        *read = Line::Nothing;
+    Ok(())
+}
+
+// Reads a line that is blank or a comment.
+fn read_nothing(line: &[u8], first: bool, read: &mut Line) -> Result<(), Fault>
+    requires { says_nothing line.now ≡ true }
+    ensures { IsReading first line.now (filled read.new result) }
+{
+    check_bytes(line)?;
+    *read = Line::Nothing;
+    Ok(())
+}
+
+// Reads a line that says something.
+fn read_something(line: &[u8], first: bool, read: &mut Line) -> Result<(), Fault>
+    requires { says_nothing line.now ≡ false }
+    ensures { IsReading first line.now (filled read.new result) }
+{
+    if !first && read_frequent(line, read).is_some() {
         return Ok(());
     }
+    check_bytes(line)?;
     read_statement(line, first, read)
+}
+
+// Reads a line, and answers the first fault that applies.
+fn read_into(line: &[u8], first: bool, read: &mut Line) -> Result<(), Fault>
+    ensures { IsReading first line.now (filled read.new result) }
+{
+    if says_nothing(line) {
+        read_nothing(line, first, read)
+    } else {
+        read_something(line, first, read)
+    }
 }
 
 /// What a line says, without its end, or the first fault that applies; `first` says whether no statement came before it. Of a line that is too long
