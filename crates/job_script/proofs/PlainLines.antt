@@ -25,7 +25,7 @@ use Rattle.mvs_model.proofs.ReadingTaken.{and_true}
 use Rattle.mvs_model.proofs.Spelling.{not_true}
 use Rattle.mvs_model.proofs.Spellings.{each_is_said}
 use Rattle.mvs_model.proofs.ValueTexts.{not_list}
-use Rattle.job_script.specs.Frequent.{EndsWith, IsAddressFront, IsFront, IsPooled, IsSized, SaysBehind, SaysLine, form_word, is_single}
+use Rattle.job_script.specs.Frequent.{EndsWith, IsAddressFront, IsFront, IsPooled, IsSized, SaysLine, form_word, is_single}
 use Rattle.job_script.proofs.Fronts.{front_whole, nothing_behind}
 
 -- ---- lengths
@@ -286,14 +286,9 @@ pub at_most : (most n : ℕ) → n ≤ most → nat_lt most n ≡ false
 at_most most n h = grind (arith, nat_tests)
 
 -- the line of a task with such an operation
-pub behind_blank : {X : Type 0} (o : Option X) (rest operation field : List ℕ) (name : Name) (l : Line) → rest ≡ operation ++ (32 ∷ field) → MatchOption o (Unit {0}) (λ _. SaysLine operation field name l)
-    → MatchOption o (Unit {0}) (λ _. SaysBehind name rest l)
-behind_blank None rest operation field name l head said = tt
-behind_blank (Some x) rest operation field name l head said = subst (λ t. SaysBehind name t l) (sym head) said
-
--- and the whole of it
-pub whole_line : {X : Type 0} (o : Option X) (line task : List ℕ) (rest : List ℕ) (name : Name) (l : Line) → length line ≤ 255 → is_name task ≡ true → name ≡ padded task → MatchOption o (Unit {0}) (λ _. SaysBehind name rest l)
-    → MatchOption o (Unit {0}) (λ _. line ≡ task ++ (32 ∷ rest) → LineOf false line l)
-whole_line None line task rest name l short named is said = tt
-whole_line (Some x) line task rest name l short named is said = λ whole.
-    subst (λ t. LineOf false t l) (sym whole) (said task named is (ap (λ t. nat_lt 255 (length t)) (sym whole) ∙ at_most 255 (length line) short))
+pub whole_line : {X : Type 0} (o : Option X) (line task rest operation field : List ℕ) (name : Name) (l : Line) → nat_lt 255 (length line) ≡ false → IsFront grammar.Name line task rest → name ≡ padded task
+    → rest ≡ 32 ∷ (operation ++ (32 ∷ field)) → MatchOption o (Unit {0}) (λ _. SaysLine operation field name l) → MatchOption o (Unit {0}) (λ _. LineOf false line l)
+whole_line None line task rest operation field name l short front is head said = tt
+whole_line (Some x) line task rest operation field name l short front is head said =
+    let whole : line ≡ task ++ (32 ∷ (operation ++ (32 ∷ field))) = front.whole ∙ ap (λ t. task ++ t) head in
+    subst (λ t. LineOf false t l) (sym whole) (said task front.fits.of_kind is (ap (λ t. nat_lt 255 (length t)) (sym whole) ∙ short))

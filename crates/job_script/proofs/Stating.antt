@@ -1,21 +1,17 @@
 -- The words of a line and its statement.
-use Rattle.std.proofs.Common.{◌≡◌, ℕ, List, [], ◌∷◌, drop, refl, sym, ap, ◌∙◌, true, false, Bool, Option, Some, None, Result, Ok, Err, length}
-use Rattle.std.specs.Prelude.{MatchOption, nat_le, nat_lt, ◌==◌, ◌&&◌, not, filter, slice_get, unwrap_or, bytes_eq, codes, if◌then◌else◌}
-use Rattle.std.specs.List.{list_all, list_any, slice_split}
-use denote.Bor.{Bor}
+use Rattle.std.proofs.Common.{◌≡◌, ℕ, List, [], ◌∷◌, drop, refl, sym, ap, ◌∙◌, true, false, Bool, Option, Some, Result, Ok, Err}
+use Rattle.std.specs.Prelude.{◌==◌, ◌&&◌, not, filter, slice_get, unwrap_or, bytes_eq, codes, if◌then◌else◌}
+use Rattle.std.specs.List.{list_any, slice_split}
 use Rattle.mvs_model.specs.declared.line.Fault.{Fault}
-use Rattle.mvs_model.specs.declared.line.Fault.TheVariants.{TooLong, InvalidByte, UnknownOperation, OutOfPlace}
+use Rattle.mvs_model.specs.declared.line.Fault.TheVariants.{UnknownOperation, OutOfPlace}
 use Rattle.mvs_model.specs.declared.line.Line.{Line}
-use Rattle.mvs_model.specs.declared.line.Line.TheVariants.{Nothing}
 use Rattle.mvs_model.specs.Name.{padded}
-use Rattle.mvs_model.specs.Reading.{IsReading, ◌when◌, says_nothing, first_of, statement_checks, task_in, operation_in, operands_of, words, is_empty, is_name, rows_of, operands_in}
+use Rattle.mvs_model.specs.Reading.{first_of, statement_checks, task_in, operation_in, operands_of, words, is_empty, is_name, rows_of, operands_in}
 use Rattle.job_script.specs.declared.operations.Operation.{Operation}
 use Rattle.job_script.specs.declared.operations.Operation.TheVariants as operation
 use Rattle.job_script.specs.Operations.{operation_text}
 use Rattle.job_script.specs.Rowed.{FormReading, form_checks, said_by, as_field}
-use Rattle.mvs_model.proofs.Reading.{none_first}
-use Rattle.job_script.specs.Given.{option_now}
-use Rattle.job_script.specs.Stated.{IsParted, byte_checks, is_in_place, field_of, StatementReading}
+use Rattle.job_script.specs.Stated.{is_in_place, field_of, StatementReading}
 
 -- a name is a word
 name_some : (text : List ℕ) → is_name text ≡ true → is_empty text ≡ false
@@ -138,23 +134,3 @@ statement_read first line task o field (Ok l) s n p reading = (
 )
 statement_read first line task o field (Err fault) s n p reading =
     (λ i. first_of (statement_checks first (s.task_is i) (s.operation_is i) (s.operands_are i))) ∙ to_form first task o (operands_in (as_field field)) n p ∙ reading
-
--- a line parted at its first blank
-pub parted_is : (line task : List ℕ) (rest : Option (Bor (List ℕ))) → task ≡ task_in line → MatchOption rest (slice_split (λ b. b == 32) line ≡ task ∷ []) (λ rest. slice_split (λ b. b == 32) line ≡ task ∷ slice_split (λ b. b == 32) rest.now)
-    → IsParted line task (option_now rest)
-parted_is line task None is parts = record { task_is = is; words_are = parts }
-parted_is line task (Some rest) is parts = record { task_is = is; words_are = parts }
-
--- a line that says something and whose bytes are right is read as its statement
-pub line_read : (first : Bool) (line : List ℕ) (result : Result Line Fault) → says_nothing line ≡ false → first_of (byte_checks line) ≡ None → StatementReading first line result → IsReading first line result
-line_read first line (Ok l) something none reading =
-    let a = none_first (TooLong when nat_lt 255 (length line)) (InvalidByte when not (list_all (λ b. nat_le 32 b && nat_le b 126) line) ∷ []) none in
-    let b = none_first (InvalidByte when not (list_all (λ b. nat_le 32 b && nat_le b 126) line)) [] a.1 in
-    record {
-      no_fault = (λ i. first_of (TooLong when a.0 i ∷ InvalidByte when b.0 i ∷ (if something i then [] else statement_checks first (task_in line) (operation_in line) (operands_of line)))) ∙ reading.0;
-      says = (λ i. if something i then Some Nothing else said_by (operation_in line) (padded (task_in line)) (operands_of line)) ∙ reading.1;
-    }
-line_read first line (Err fault) something none reading =
-    let a = none_first (TooLong when nat_lt 255 (length line)) (InvalidByte when not (list_all (λ b. nat_le 32 b && nat_le b 126) line) ∷ []) none in
-    let b = none_first (InvalidByte when not (list_all (λ b. nat_le 32 b && nat_le b 126) line)) [] a.1 in
-    (λ i. first_of (TooLong when a.0 i ∷ InvalidByte when b.0 i ∷ (if something i then [] else statement_checks first (task_in line) (operation_in line) (operands_of line)))) ∙ reading

@@ -1,5 +1,5 @@
 -- Operands, taken one after the other.
-use Rattle.std.proofs.Common.{◌≡◌, ℕ, zero, suc, ◌+◌, ◌<◌, List, [], ◌∷◌, ◌++◌, length, drop, map, get_or, replicate, arith, refl, sym, ap, ◌∙◌, true, false, Bool, cond, Option, Some, None, length-append, append-nil}
+use Rattle.std.proofs.Common.{◌≡◌, ℕ, zero, suc, ◌+◌, ◌<◌, List, [], ◌∷◌, ◌++◌, length, map, get_or, replicate, arith, refl, sym, ap, ◌∙◌, true, false, Bool, cond, Option, Some, None, length-append, append-nil}
 use Rattle.std.proofs.Math.ListN.{set, length-set}
 use Rattle.std.specs.Prelude.{◌==◌, ◌&&◌, ◌||◌, not, bytes_eq, find, filter, position, slice_get, is_some, flat_map, nat_lt, if◌then◌else◌, IfSome, MatchOption}
 use Rattle.std.specs.Option.{option_map}
@@ -13,8 +13,7 @@ use Rattle.mvs_model.specs.Grammar as grammar
 use Rattle.mvs_model.specs.Reading.{first_of, operand_checks, with_left, kind_of, if_kind, is_of, is_within, repeats, has_key, key_of, text_of, is_for, has, value_of, positionals, is_equals, parts_within, ◌when◌}
 use Rattle.mvs_model.specs.ReadingLaws.{IsTaken}
 use Rattle.mvs_model.proofs.Reading.{none_first, or_false, not_false}
-use Rattle.mvs_model.proofs.ReadingTaken.{under_key, bytes_same, nat_same}
-use Rattle.std.proofs.Math.Seq.{drop-cons}
+use Rattle.mvs_model.proofs.ReadingTaken.{under_key, bytes_same}
 use Rattle.job_script.specs.declared.given.Given.{Given}
 use Rattle.std.proofs.lemmas.Option.{slice_get-get_or}
 use Rattle.job_script.specs.declared.rows.Keyword.{Keyword}
@@ -23,7 +22,7 @@ use Rattle.job_script.specs.Kinds.{checks_of, as_kind}
 use Rattle.job_script.specs.Rows.{row_at, key_text, as_keyword, as_positional}
 use Rattle.job_script.specs.Places.{place_by, place_in}
 use Rattle.job_script.specs.Parted.{field_in}
-use Rattle.job_script.proofs.KeyPlaces.{mapped_some, place_passes, same_place}
+use Rattle.job_script.proofs.KeyPlaces.{mapped_some, same_place}
 use Rattle.job_script.specs.Given.{option_now, kept, text_at, by_place, IsPlaced, IsGiven}
 
 -- ---- places of an array
@@ -95,13 +94,6 @@ place_is p (x ∷ xs) =
       | true ↦ ap (λ b. cond b (Some 0) None) (zero_lt (length xs))
       | false ↦ found_step (length xs) (position_or_len p xs) ∙ ap (option_map (λ i. suc i)) (place_is p xs)
     ]
-
--- a byte that is found stands there
-pub found_at : (byte : ℕ) (text : List ℕ) (i : ℕ) → position (λ b. b == byte) text ≡ Some i → i < length text → drop i text ≡ byte ∷ drop (i + 1) text
-found_at byte text i e within =
-    let here = place_passes (λ b. b == byte) text i (sym (place_is (λ b. b == byte) text) ∙ e) 0 in
-    let on : suc i ≡ i + 1 = omega arith in
-    drop-cons text i 0 within ∙ (λ k. nat_same (get_or text i 0) byte here k ∷ drop (on k) text)
 
 pub place_map : {X Y : Type 0} (f : X → Y) (p : Y → Bool) (xs : List X) → place_by (λ x. p (f x)) xs ≡ place_by p (map f xs)
 place_map f p [] = refl

@@ -69,13 +69,9 @@ SaysLine operation field task l =
     (text : List ℕ) → is_name text ≡ true → task ≡ padded text → nat_lt 255 (length (text ++ (32 ∷ (operation ++ (32 ∷ field))))) ≡ false
     → LineOf false (text ++ (32 ∷ (operation ++ (32 ∷ field)))) l
 
--- The line of a task with this text behind its first blank, where it has at most 255 bytes, says this.
-abbrev pub SaysBehind : Name → List ℕ → Line → Type 0
-SaysBehind task rest l = (text : List ℕ) → is_name text ≡ true → task ≡ padded text → nat_lt 255 (length (text ++ (32 ∷ rest))) ≡ false → LineOf false (text ++ (32 ∷ rest)) l
-
--- the operations that are read so, with the forms of CPOOL, up to their operands
+-- the operations that are read so behind the name of a task, with the forms of CPOOL, up to their operands
 abbrev pub head_text : Head → List ℕ
-head_text head.Getmain = codes "GETMAIN "
-head_text head.Freemain = codes "FREEMAIN "
-head_text head.Get = codes "CPOOL GET,"
-head_text head.Free = codes "CPOOL FREE,"
+head_text head.Getmain = codes " GETMAIN "
+head_text head.Freemain = codes " FREEMAIN "
+head_text head.Get = codes " CPOOL GET,"
+head_text head.Free = codes " CPOOL FREE,"

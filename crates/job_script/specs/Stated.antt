@@ -1,6 +1,6 @@
 -- What a statement is read as.
-use Rattle.std.specs.Prelude.{◌≡◌, ◌==◌, ◌++◌, Option, None, ℕ, List, [], ◌∷◌, length, nat_le, nat_lt, Bool, not, ◌&&◌, Some, None, Result, Ok, Err, bytes_eq, codes, slice_get, unwrap_or}
-use Rattle.std.specs.List.{list_all, slice_split}
+use Rattle.std.specs.Prelude.{◌≡◌, ℕ, List, [], ◌∷◌, length, nat_le, nat_lt, Bool, not, ◌&&◌, Some, None, Result, Ok, Err, bytes_eq, codes, slice_get, unwrap_or}
+use Rattle.std.specs.List.{list_all}
 use Rattle.mvs_model.specs.declared.line.Fault.{Fault}
 use Rattle.mvs_model.specs.declared.line.Fault.TheVariants.{TooLong, InvalidByte}
 use Rattle.mvs_model.specs.declared.line.Line.{Line}
@@ -28,17 +28,3 @@ abbrev pub StatementReading : Bool → List ℕ → Result Line Fault → Type 0
 StatementReading first bytes (Ok l) =
     (first_of (statement_checks first (task_in bytes) (operation_in bytes) (operands_of bytes)) ≡ None) × (said_by (operation_in bytes) (padded (task_in bytes)) (operands_of bytes) ≡ Some l)
 StatementReading first bytes (Err fault) = first_of (statement_checks first (task_in bytes) (operation_in bytes) (operands_of bytes)) ≡ Some fault
-
--- The line is parted at its first blank, where it has one.
-abbrev pub IsWhole : List ℕ → List ℕ → Option (List ℕ) → Type 0
-IsWhole line task None = line ≡ task
-IsWhole line task (Some rest) = line ≡ task ++ 32 ∷ rest
-
--- The text before the first blank is the task, and the other words stand behind that blank.
-abbrev pub IsCutAt : List ℕ → List ℕ → Option (List ℕ) → Type 0
-IsCutAt line task None = slice_split (λ b. b == 32) line ≡ task ∷ []
-IsCutAt line task (Some rest) = slice_split (λ b. b == 32) line ≡ task ∷ slice_split (λ b. b == 32) rest
-
-pub record IsParted (line task : List ℕ) (rest : Option (List ℕ)) : Type 0 where
-  pub task_is : task ≡ task_in line
-  pub words_are : IsCutAt line task rest

@@ -7,8 +7,9 @@ ghost use Rattle.std.specs.List.{list_all};
 ghost use Rattle.mvs_model.specs.Name.{padded};
 ghost use Rattle.mvs_model.specs.Grammar as grammar;
 ghost use Rattle.mvs_model.specs.Reading.{LineOf, is_digit, is_name, is_name_byte, location, number};
-ghost use Rattle.job_script.specs.Frequent.{IsFront, IsNumberFront, IsAddressFront, EndsWith, IsPooled, IsSized, SaysBehind, SaysLine, form_word, head_text, is_single};
+ghost use Rattle.job_script.specs.Frequent.{IsFront, IsNumberFront, IsAddressFront, EndsWith, IsPooled, IsSized, SaysLine, form_word, head_text, is_single};
 
+use crate::LONGEST;
 use crate::addresses::{is_name_byte, name};
 use mvs_model::bounded::{Exponent, Length, Offset};
 use mvs_model::code::Form;
@@ -280,17 +281,17 @@ enum Head {
 
 // The text behind CPOOL.
 fn behind_cpool(text: &[u8]) -> Option<&[u8]>
-    ensures { MatchOption result (Unit {0}) (λ rest. text.now ≡ codes "CPOOL " ++ rest.now) }
+    ensures { MatchOption result (Unit {0}) (λ rest. text.now ≡ codes " CPOOL " ++ rest.now) }
 {
     match text {
-        [b'C', b'P', b'O', b'O', b'L', b' ', rest @ ..] => Some(rest),
+        [b' ', b'C', b'P', b'O', b'O', b'L', b' ', rest @ ..] => Some(rest),
         _ => None,
     }
 }
 
 // The form of CPOOL that a text starts with, and the text behind its comma.
 fn pool_form_in_front(text: &[u8]) -> Option<(Head, &[u8])>
-    ensures { MatchOption result (Unit {0}) (λ r. codes "CPOOL " ++ text.now ≡ head_text r.0 ++ r.1.now) }
+    ensures { MatchOption result (Unit {0}) (λ r. codes " CPOOL " ++ text.now ≡ head_text r.0 ++ r.1.now) }
 {
     match text {
         [b'G', b'E', b'T', b',', field @ ..] => Some((Head::Get, field)),
@@ -307,10 +308,10 @@ fn head_in_front(text: &[u8]) -> Option<(Head, &[u8])>
         return pool_form_in_front(rest);
     }
     match text {
-        [b'G', b'E', b'T', b'M', b'A', b'I', b'N', b' ', field @ ..] => {
+        [b' ', b'G', b'E', b'T', b'M', b'A', b'I', b'N', b' ', field @ ..] => {
             Some((Head::Getmain, field))
         }
-        [b'F', b'R', b'E', b'E', b'M', b'A', b'I', b'N', b' ', field @ ..] => {
+        [b' ', b'F', b'R', b'E', b'E', b'M', b'A', b'I', b'N', b' ', field @ ..] => {
             Some((Head::Freemain, field))
         }
         _ => None,
@@ -327,14 +328,20 @@ fn behind_conditional(field: &[u8]) -> Option<&[u8]>
     }
 }
 
-/// What the line of a task says by the text behind its first blank, where it is written so and is not the first statement of a script. It is None of every
-/// other line, which has to be read by the table.
-pub fn read_frequent(task: Name, rest: &[u8], read: &mut Line) -> Option<()>
-    ensures { MatchOption result (Unit {0}) (λ _. SaysBehind task rest.now read.new) }
+/// What a line says that is written so, which is not the first statement of a script. It is None of every other line, which has to be read by the table.
+pub fn read_frequent(line: &[u8], read: &mut Line) -> Option<()>
+    ensures { MatchOption result (Unit {0}) (λ _. LineOf false line.now read.new) }
 {
+    if line.len() > LONGEST {
+        return None;
+    }
+    let Some((task, rest)) = name_in_front(line) else {
+        return None;
+    };
     let Some((head, field)) = head_in_front(rest) else {
         return None;
     };
+    let task = name(task);
     match head {
         Head::Getmain => read_obtain(task, field, read),
         Head::Freemain => read_release(task, field, read),

@@ -1,16 +1,15 @@
 //! Reads the lines of a script, keeps its names, and prints what its lines are answered.
 #![tactic(auto)]
 
-ghost use Rattle.std.specs.Prelude.{◌≡◌, ◌==◌, ◌&&◌, nat_le, true, false, ℕ, List, MatchOption};
+ghost use Rattle.std.specs.Prelude.{◌≡◌, ◌==◌, ◌&&◌, nat_le, true, false};
 ghost use Rattle.std.specs.List.{list_all};
 ghost use Rattle.mvs_model.specs.Lines.{IsLine};
-ghost use Rattle.mvs_model.specs.Reading.{IsReading, LineOf, first_of, says_nothing};
+ghost use Rattle.mvs_model.specs.Reading.{IsReading, first_of, says_nothing};
 ghost use Rattle.job_script.specs.Kinds.{fault_in};
 ghost use Rattle.job_script.specs.Operations.{operation_text};
 ghost use Rattle.job_script.specs.Parted.{field_in};
 ghost use Rattle.job_script.specs.Said.{filled};
-ghost use Rattle.job_script.specs.Given.{option_now};
-ghost use Rattle.job_script.specs.Stated.{IsParted, IsWhole, is_in_place, byte_checks, field_of, StatementReading};
+ghost use Rattle.job_script.specs.Stated.{is_in_place, byte_checks, field_of, StatementReading};
 
 use crate::addresses::{is_name, name};
 use crate::frequent::read_frequent;
@@ -120,15 +119,11 @@ fn field_of<'a>(operation: Operation, rest: &'a [u8]) -> &'a [u8]
     }
 }
 
-// Reads a statement: the text before the first blank of its line, and the text behind that blank, where there is one.
-fn read_statement(
-    task: &[u8],
-    rest: Option<&[u8]>,
-    first: bool,
-    read: &mut Line,
-) -> Result<(), Fault>
-    ensures { (line : List ℕ) → IsParted line task.now (option_now rest.entry) → StatementReading first line (filled read.new result) }
+// Reads a statement.
+fn read_statement(line: &[u8], first: bool, read: &mut Line) -> Result<(), Fault>
+    ensures { StatementReading first line.now (filled read.new result) }
 {
+    let (task, rest) = parted(line, b' ');
     if !is_name(task) {
         return Err(Fault::UnknownOperation);
     }
@@ -168,30 +163,16 @@ fn read_nothing(line: &[u8], first: bool, read: &mut Line) -> Result<(), Fault>
     Ok(())
 }
 
-// Reads a line that says something, where that is written plainly.
-fn read_plain(line: &[u8], task: &[u8], rest: Option<&[u8]>, read: &mut Line) -> Option<()>
-    ensures { MatchOption result (Unit {0}) (λ _. IsWhole line.now task.now (option_now rest.entry) → LineOf false line.now read.new) }
-{
-    if line.len() > LONGEST || !is_name(task) {
-        return None;
-    }
-    let Some(rest) = rest else {
-        return None;
-    };
-    read_frequent(name(task), rest, read)
-}
-
 // Reads a line that says something.
 fn read_something(line: &[u8], first: bool, read: &mut Line) -> Result<(), Fault>
     requires { says_nothing line.now ≡ false }
     ensures { IsReading first line.now (filled read.new result) }
 {
-    let (task, rest) = parted(line, b' ');
-    if !first && read_plain(line, task, rest, read).is_some() {
+    if !first && read_frequent(line, read).is_some() {
         return Ok(());
     }
     check_bytes(line)?;
-    read_statement(task, rest, first, read)
+    read_statement(line, first, read)
 }
 
 // Reads a line, and answers the first fault that applies.

@@ -1,6 +1,6 @@
 //! Texts, parted at bytes.
 
-ghost use Rattle.std.specs.Prelude.{◌≡◌, ◌≤◌, ◌<◌, ◌+◌, ◌^◌, ◌==◌, ◌∷◌, ◌++◌, [], true, false, length, drop, position, slice_get, unwrap_or, MatchOption};
+ghost use Rattle.std.specs.Prelude.{◌≡◌, ◌≤◌, ◌<◌, ◌+◌, ◌^◌, ◌==◌, ◌∷◌, [], true, false, length, drop, position, slice_get, unwrap_or, MatchOption};
 ghost use Rattle.std.specs.List.{before_first, after_first, list_any, slice_split};
 ghost use Rattle.mvs_model.specs.Reading.{words, parts_within};
 ghost use Rattle.job_script.specs.Parted.{starts_word, field_in, ends_at, opened_after, end_from};
@@ -20,7 +20,6 @@ pub fn parted(text: &[u8], byte: u8) -> (&[u8], Option<&[u8]>)
     ensures parts { MatchOption result.1 (slice_split (λ b. b == byte) text.now ≡ result.0.now ∷ [])
         (λ rest. slice_split (λ b. b == byte) text.now ≡ result.0.now ∷ slice_split (λ b. b == byte) rest.now) }
     ensures less { MatchOption result.1 (Unit {0}) (λ rest. length rest.now < length text.now) }
-    ensures whole { MatchOption result.1 (text.now ≡ result.0.now) (λ rest. text.now ≡ result.0.now ++ byte ∷ rest.now) }
 {
     match place(text, byte) {
         None => (text, None),

@@ -1,5 +1,8 @@
 -- Names lie as the numbers that their bytes spell.
-use Rattle.std.proofs.Common.{◌≡◌, ℕ, suc, ◌+◌, ◌*◌, ◌<◌, ◌^◌, List, [], ◌∷◌, length, refl, sym, ap, ◌∙◌, arith}
+use Rattle.std.specs.Prelude.{◌&&◌, nat_eq}
+use Rattle.std.specs.Cmp.Lexicographic.{pointwise}
+use Rattle.std.proofs.lemmas.Bool.Decides.{nat_tests}
+use Rattle.std.proofs.Common.{Bool, true, false, ◌≡◌, ℕ, suc, ◌+◌, ◌*◌, ◌<◌, ◌^◌, List, [], ◌∷◌, length, refl, sym, ap, ◌∙◌, arith}
 use Rattle.std.specs.declared.cmp.Ordering.{Ordering}
 use Rattle.std.specs.declared.cmp.Ordering.TheVariants.{Less, Equal, Greater}
 use Rattle.std.specs.Ordering.{nat_cmp, ordering_then, MatchOrdering}
@@ -53,3 +56,27 @@ eight (a ∷ b ∷ c ∷ d ∷ f ∷ g ∷ h ∷ i ∷ j ∷ more) e = absurd (o
 
 pub names_lie : (xs ys : List ℕ) → length xs ≡ 8 → length ys ≡ 8 → AreBytes xs → AreBytes ys → nat_cmp (from_be_bytes w64 xs) (from_be_bytes w64 ys) ≡ slice_cmp nat_cmp xs ys
 names_lie xs ys ex ey bx by = rw (eight xs ex, eight ys ey) (sym (settles 0 xs ys (ex ∙ sym ey) bx by))
+
+-- the same of whether they are one
+same_front : (m n x y : ℕ) → x < 256 → y < 256 → nat_eq (m * 256 + x) (n * 256 + y) ≡ (nat_eq m n && nat_eq x y)
+same_front m n x y lx ly = grind (arith, nat_tests)
+
+and_last : (a : Bool) → a ≡ (a && true)
+and_last true = refl
+and_last false = refl
+
+and_assoc : (a b c : Bool) → ((a && b) && c) ≡ (a && (b && c))
+and_assoc true b c = refl
+and_assoc false b c = refl
+
+same_spelled : (m n : ℕ) (xs ys : List ℕ) → length xs ≡ length ys → AreBytes xs → AreBytes ys → nat_eq (spelled m xs) (spelled n ys) ≡ (nat_eq m n && pointwise nat_eq xs ys)
+same_spelled m n [] [] e bx by = and_last (nat_eq m n)
+same_spelled m n [] (y ∷ ys) e bx by = absurd (omega arith)
+same_spelled m n (x ∷ xs) [] e bx by = absurd (omega arith)
+same_spelled m n (x ∷ xs) (y ∷ ys) e bx by =
+    same_spelled (m * 256 + x) (n * 256 + y) xs ys (omega arith) (behind x xs bx) (behind y ys by)
+    ∙ ap (λ t. t && pointwise nat_eq xs ys) (same_front m n x y (bx 0) (by 0))
+    ∙ and_assoc (nat_eq m n) (nat_eq x y) (pointwise nat_eq xs ys)
+
+pub names_same : (xs ys : List ℕ) → length xs ≡ 8 → length ys ≡ 8 → AreBytes xs → AreBytes ys → nat_eq (from_be_bytes w64 xs) (from_be_bytes w64 ys) ≡ pointwise nat_eq xs ys
+names_same xs ys ex ey bx by = rw (eight xs ex, eight ys ey) (same_spelled 0 0 xs ys (ex ∙ sym ey) bx by)

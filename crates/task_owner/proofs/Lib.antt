@@ -9,6 +9,7 @@ pub mod Starting
 pub mod Binding
 pub mod Bound
 pub mod Families
+pub mod Found
 pub mod Collecting
 pub mod Ending
 pub mod Fallen

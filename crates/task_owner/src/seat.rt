@@ -79,11 +79,9 @@ pub(crate) fn enter(active: &mut Slab<Seat>, key: usize, number: usize, subpool:
 pub(crate) fn find_key(active: &Slab<Seat>, name: Name) -> Option<usize>
     ensures { MatchOption result ((k : ℕ) (x : Seat) → get active.now k ≡ Some x → x.name ≢ name) (λ k. (x : Seat) × (get active.now k ≡ Some x) × (x.name ≡ name)) }
 {
-    for key in 0..active.capacity() {
-        if let Some(seat) = active.get(key) {
-            if seat.name == name {
-                return Some(key);
-            }
+    for (key, seat) in active.iter() {
+        if seat.name == name {
+            return Some(key);
         }
     }
     None

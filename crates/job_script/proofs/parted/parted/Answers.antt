@@ -1,15 +1,14 @@
-use Rattle.std.proofs.Common.{refl, ◌++◌, take-append-drop, ◌≡◌, ◌+◌, ◌-◌, ◌<◌, ◌∷◌, length, drop, take, arith, ap, sym, ◌∙◌, length-drop}
+use Rattle.std.proofs.Common.{◌≡◌, ◌+◌, ◌-◌, ◌<◌, ◌∷◌, length, drop, take, arith, ap, sym, ◌∙◌, length-drop}
 use Rattle.std.specs.Prelude.{◌==◌}
 use Rattle.std.specs.List.{before_first, after_first, slice_split}
 use Rattle.std.proofs.lemmas.List.{take_rest}
 use Rattle.job_script.proofs.Cut.{no_cut, cut_at}
-use Rattle.job_script.proofs.Taking.{found_at}
 use Rattle.job_script.proofs.parted.parted.Goals as goal
 
 pub returns-in-None : goal.returns-in-None
 returns-in-None c =
     let n = no_cut (λ b. b == c.args.byte) c.args.text.now (sym c.in-None.ensures) in
-    record { before = sym n.before; after = (n.none, n.after); parts = n.parts; less = tt; whole = refl }
+    record { before = sym n.before; after = (n.none, n.after); parts = n.parts; less = tt }
 
 pub returns-in-Some : goal.returns-in-Some
 returns-in-Some c =
@@ -25,5 +24,4 @@ returns-in-Some c =
       after = (n.some, rest);
       parts = n.parts ∙ (λ i. sym before i ∷ slice_split (λ b. b == c.args.byte) (sym rest i));
       less = omega arith;
-      whole = sym (take-append-drop c.in-Some.end text) ∙ ap (λ t. take c.in-Some.end text ++ t) (found_at c.args.byte text c.in-Some.end (sym c.in-Some.ensures) within ∙ ap (λ t. c.args.byte ∷ t) (sym (take_rest text k)));
     }
