@@ -8,9 +8,8 @@ use Rattle.std.proofs.lemmas.List.{take_more, take_rest}
 use Rattle.std.proofs.lemmas.Bool.{and_from}
 use Rattle.std.proofs.lemmas.Grind.{common_steps}
 use Rattle.mvs_model.specs.Grammar as grammar
-use Rattle.mvs_model.specs.Reading.{is_digit, is_empty, is_in_range, is_name, is_name_byte, is_number, location, number}
+use Rattle.mvs_model.specs.Reading.{is_digit, is_empty, is_in_range, is_name, is_name_byte, is_number, number}
 use Rattle.mvs_model.specs.Name.{padded}
-use Rattle.mvs_model.specs.declared.name.Name.{Name}
 use Rattle.mvs_model.specs.declared.line.Location.TheVariants.{Named}
 use Rattle.mvs_model.proofs.ValueTexts.{digits_fit, each_is_written, name_alone, name_with}
 use Rattle.job_script.specs.Frequent.{EndsWith, IsAddressFront, IsFront, IsNumberFront}

@@ -1,6 +1,6 @@
 -- What the statements say that a script repeats most, written plainly.
-use Rattle.std.proofs.Common.{◌≡◌, refl, ◌||◌, ◌&&◌, not, true, false, Bool, ℕ, ◌==◌, List, [], ◌∷◌, ◌++◌, Option, Some, None, ◌≤◌, arith, map, length, sym, ap, subst, ◌∙◌, append-nil, append_assoc}
-use Rattle.std.specs.Prelude.{MatchOption, bytes_eq, codes, nat_lt, slice_get, unwrap_or, if◌then◌else◌}
+use Rattle.std.proofs.Common.{◌≡◌, refl, ◌||◌, not, true, false, Bool, ℕ, ◌==◌, List, [], ◌∷◌, ◌++◌, Option, Some, None, ◌≤◌, arith, length, sym, ap, subst, ◌∙◌, append-nil}
+use Rattle.std.specs.Prelude.{MatchOption, codes, nat_lt, slice_get, unwrap_or, if◌then◌else◌}
 use Rattle.std.specs.List.{list_all}
 use Rattle.std.proofs.lemmas.Bool.Decides.{nat_tests}
 use Rattle.mvs_model.specs.declared.code.Form.{Form}
@@ -17,7 +17,7 @@ use Rattle.mvs_model.specs.declared.want.Loc.TheVariants as loc
 use Rattle.mvs_model.specs.Name.{padded}
 use Rattle.mvs_model.specs.Want.{AskValue}
 use Rattle.mvs_model.specs.Grammar as grammar
-use Rattle.mvs_model.specs.Reading.{ByKey, LineOf, form_of, is_digit, is_empty, is_list, is_name, is_number, is_one_of, items, largest, location, number, smallest}
+use Rattle.mvs_model.specs.Reading.{ByKey, LineOf, form_of, is_digit, is_empty, is_list, is_one_of, items, largest, location, number, smallest}
 use Rattle.mvs_model.specs.Spelling.{Fits, joined, line_text, said_by}
 use Rattle.mvs_model.specs.Spellings.{Says}
 use Rattle.mvs_model.proofs.Allowed.{allowed_is_read}
@@ -26,7 +26,7 @@ use Rattle.mvs_model.proofs.Spelling.{not_true}
 use Rattle.mvs_model.proofs.Spellings.{each_is_said}
 use Rattle.mvs_model.proofs.ValueTexts.{not_list}
 use Rattle.job_script.specs.Frequent.{EndsWith, IsAddressFront, IsFront, IsPooled, IsSized, SaysLine, form_word, is_single}
-use Rattle.job_script.proofs.Fronts.{front_whole, nothing_behind}
+use Rattle.job_script.proofs.Fronts.{front_whole}
 
 -- ---- lengths
 

@@ -308,12 +308,31 @@ fn head_in_front(text: &[u8]) -> Option<(Head, &[u8])>
         return pool_form_in_front(rest);
     }
     match text {
-        [b' ', b'G', b'E', b'T', b'M', b'A', b'I', b'N', b' ', field @ ..] => {
-            Some((Head::Getmain, field))
-        }
-        [b' ', b'F', b'R', b'E', b'E', b'M', b'A', b'I', b'N', b' ', field @ ..] => {
-            Some((Head::Freemain, field))
-        }
+        [
+            b' ',
+            b'G',
+            b'E',
+            b'T',
+            b'M',
+            b'A',
+            b'I',
+            b'N',
+            b' ',
+            field @ ..,
+        ] => { Some((Head::Getmain, field)) }
+        [
+            b' ',
+            b'F',
+            b'R',
+            b'E',
+            b'E',
+            b'M',
+            b'A',
+            b'I',
+            b'N',
+            b' ',
+            field @ ..,
+        ] => { Some((Head::Freemain, field)) }
         _ => None,
     }
 }

@@ -12,8 +12,8 @@ ghost use Rattle.job_script.specs.Said.{filled};
 ghost use Rattle.job_script.specs.Stated.{is_in_place, byte_checks, field_of, StatementReading};
 
 use crate::addresses::{is_name, name};
-use crate::frequent::read_frequent;
 pub use crate::data_lines::print_data;
+use crate::frequent::read_frequent;
 pub use crate::line_buffer::{LineBuffer, Pushed};
 pub use crate::names::Names;
 use crate::operations::{Operation, read_operation};

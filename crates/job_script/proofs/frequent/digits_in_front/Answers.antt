@@ -1,6 +1,5 @@
-use Rattle.std.proofs.Common.{◌≡◌, ◌+◌, ◌-◌, ◌*◌, ◌^◌, ◌<◌, ◌≤◌, ap, sym, ◌∙◌, true, arith, pow-suc, suc, slice_index_or}
-use Rattle.std.proofs.lemmas.Bool.Decides.{nat_tests}
-use Rattle.mvs_model.specs.Reading.{is_digit, number}
+use Rattle.std.proofs.Common.{◌≡◌, ◌+◌, ◌*◌, ◌≤◌, sym, ◌∙◌, true, arith, slice_index_or}
+use Rattle.mvs_model.specs.Reading.{is_digit}
 use Rattle.job_script.proofs.Fronts.{all_more, digit_is, next_small, number_more}
 use Rattle.job_script.proofs.frequent.digits_in_front.Goals as goal
 

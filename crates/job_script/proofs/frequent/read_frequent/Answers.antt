@@ -1,4 +1,4 @@
-use Rattle.std.proofs.Common.{◌≡◌, ◌++◌, ◌∷◌, ap, ◌∙◌, false, length}
+use Rattle.std.proofs.Common.{◌≡◌, ◌++◌, ap, ◌∙◌, false, length}
 use Rattle.std.specs.Prelude.{codes, nat_lt}
 use Rattle.job_script.specs.Frequent.{head_text}
 use Rattle.job_script.proofs.PlainLines.{at_most, whole_line}

@@ -1,8 +1,5 @@
-use Rattle.std.proofs.Common.{◌≡◌, ◌∷◌, ◌<◌, ℕ, length, sym, ap, subst, ◌∙◌, true, false, Some, arith, refl, Contains, inl, inr}
-use Rattle.std.specs.Cmp.Lexicographic.{pointwise}
-use Rattle.std.specs.Prelude.{nat_eq}
-use Rattle.slab.specs.Slab.{entries}
-use Rattle.slab.proofs.SlabLemmas.{Contains-entries, Contains-cons_cases}
+use Rattle.std.proofs.Common.{sym, subst, ◌∙◌, Contains}
+use Rattle.slab.proofs.SlabLemmas.{Contains-entries}
 use Rattle.task_owner.proofs.Found.{listed_behind, listed_first, listed_later, nothing_listed, one_name}
 use Rattle.task_owner.proofs.seat.find_key.Goals as goal
 
