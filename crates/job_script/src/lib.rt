@@ -159,7 +159,9 @@ fn read_nothing(line: &[u8], first: bool, read: &mut Line) -> Result<(), Fault>
     ensures { IsReading first line.now (filled read.new result) }
 {
     check_bytes(line)?;
-    *read = Line::Nothing;
+    if !matches!(read, Line::Nothing) {
+        *read = Line::Nothing;
+    }
     Ok(())
 }
 

@@ -18,6 +18,7 @@ use mvs_model::card::Card;
 use mvs_model::line::{Fault, Line, Statement};
 use mvs_model::name::Name;
 use mvs_model::outcome::Outcome;
+use mvs_model::request::{Reply, Request};
 use mvs_model::want::Placement;
 use mvs_model::watched::{Failed, Watched};
 use std::alloc::Global;
@@ -40,6 +41,32 @@ impl From<Failed> for Stop {
         ensures { result ≡ Stop.Write }
     {
         Stop::Write
+    }
+}
+
+/// What is read, asked and answered for a line. It is kept from one line to the next, so that its places, which are long, are cleared once.
+#[derive(Drop)]
+pub struct Scratch {
+    read: Line,
+    request: Request,
+    reply: Reply,
+}
+
+impl Scratch {
+    ghost use Rattle.mvs_model.specs.declared.request.Request.TheVariants as request;
+    ghost use Rattle.mvs_model.specs.declared.request.Reply.TheVariants as reply;
+
+    /// A line that says nothing, and a request that was not run.
+    pub fn new() -> Scratch
+        ensures read { result.read ≡ line.Nothing }
+        ensures request { result.request ≡ request.Return }
+        ensures reply { result.reply ≡ reply.NotRun }
+    {
+        Scratch {
+            read: Line::Nothing,
+            request: Request::Return,
+            reply: Reply::NotRun,
+        }
     }
 }
 
@@ -138,6 +165,8 @@ fn run_statement<W: Write>(
     line_number: u32,
     task: &Name,
     statement: &Statement,
+    request: &mut Request,
+    reply: &mut Reply,
     writer: &mut Watched<W>,
 ) -> Result<(), Stop>
     requires { IsStatement (is_before (stage_of stage.old)) task.now statement.now }
@@ -149,7 +178,7 @@ fn run_statement<W: Write>(
         return turn_step(stage, alloc, placement, line_number, &card, writer);
     }
     match stage {
-        Some(job) => job.serve(line_number, task, statement, writer),
+        Some(job) => job.serve(line_number, task, statement, request, reply, writer),
         None => unreachable!(),
     }
 }
@@ -161,21 +190,21 @@ pub fn run_line<W: Write>(
     placement: Placement,
     line_number: u32,
     line: &[u8],
+    scratch: &mut Scratch,
     writer: &mut Watched<W>,
 ) -> Result<bool, Stop>
     ensures ran { RunsLine (W.contents writer.old.inner) (W.contents writer.new.inner) line_number (stage_of stage.old) line.now (stage_of stage.new) result }
     ensures ok { OnOk result (writer.new.failed ≡ writer.old.failed) }
     ensures write { IsErrOf result Stop.Write → writer.new.failed ≡ true }
 {
-    let mut read = Line::Nothing;
-    match read_line_into(line, stage.is_none(), &mut read) {
+    match read_line_into(line, stage.is_none(), &mut scratch.read) {
         Ok(()) => {}
         Err(fault) => {
             print_fault(writer, line_number, fault)?;
             return Ok(false);
         }
     }
-    match &read {
+    match &scratch.read {
         Line::Nothing => Ok(true),
         Line::Statement(task, statement) => {
             match run_statement(
@@ -185,6 +214,8 @@ pub fn run_line<W: Write>(
                 line_number,
                 task,
                 statement,
+                &mut scratch.request,
+                &mut scratch.reply,
                 writer,
             ) {
                 Ok(()) => Ok(true),

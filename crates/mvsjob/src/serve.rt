@@ -180,6 +180,8 @@ impl Job {
         line_number: u32,
         task: &Name,
         written: &Written,
+        request: &mut Request,
+        reply: &mut Reply,
         writer: &mut Watched<W>,
     ) -> Result<(), Stop>
         requires { IsWritten written.now }
@@ -187,14 +189,12 @@ impl Job {
         ensures ok { OnOk result (writer.new.failed ≡ writer.old.failed) }
         ensures write { IsErrOf result Stop.Write → writer.new.failed ≡ true }
     {
-        let mut request = Request::Return;
-        let Some(()) = resolve_into(&self.names, written, &mut request) else {
+        let Some(()) = resolve_into(&self.names, written, request) else {
             print_no_name(writer, line_number, task)?;
             return Ok(());
         };
-        let mut reply = Reply::NotRun;
-        self.step.request_into(task, &request, &mut reply);
-        let Ok(()) = set_names(&mut self.names, written, &reply) else {
+        self.step.request_into(task, request, reply);
+        let Ok(()) = set_names(&mut self.names, written, reply) else {
             return Err(Stop::Memory);
         };
         print_answer(
@@ -203,8 +203,8 @@ impl Job {
             task,
             &self.step,
             written,
-            &request,
-            &reply,
+            request,
+            reply,
         )?;
         Ok(())
     }
@@ -215,6 +215,8 @@ impl Job {
         line_number: u32,
         task: &Name,
         statement: &Statement,
+        request: &mut Request,
+        reply: &mut Reply,
         writer: &mut Watched<W>,
     ) -> Result<(), Stop>
         requires in_range { IsStatement false task.now statement.now }
@@ -228,7 +230,9 @@ impl Job {
             return Ok(());
         }
         match statement {
-            Statement::Request(written) => self.ask(line_number, task, written, writer),
+            Statement::Request(written) => {
+                self.ask(line_number, task, written, request, reply, writer)
+            }
             Statement::Where(name) => {
                 print_where(writer, line_number, task, self.names.get(name))?;
                 Ok(())

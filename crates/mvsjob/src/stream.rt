@@ -6,7 +6,7 @@ ghost use Rattle.mvs_model.specs.Runs.{Before};
 ghost use Rattle.mvsjob.specs.Serving.{RunsLine, stage_of};
 ghost use Rattle.mvsjob.specs.Streams.{Feeds, FeedsSome, Finishes, HasBroken, HasEnded, HasGivenUp, IsUnderWay, Printed, PrintedUpTo, Progress, Takes, fault_of};
 
-use crate::job::{Stop, close, run_line};
+use crate::job::{Scratch, Stop, close, run_line};
 use crate::run::RunFault;
 use crate::serve::Job;
 use job_script::{LineBuffer, Pushed};
@@ -34,6 +34,7 @@ pub struct Stream {
     stage: Option<Job>,
     number: u32,
     line: LineBuffer,
+    scratch: Scratch,
 }
 
 // What is written is passed on before a read that may wait.
@@ -87,6 +88,7 @@ impl Stream {
             stage: None,
             number: 1,
             line: LineBuffer::new(),
+            scratch: Scratch::new(),
         }
     }
 
@@ -102,7 +104,15 @@ impl Stream {
     {
         let (alloc, placement, number) = (self.alloc, self.placement, self.number);
         self.number += 1;
-        run_line(&mut self.stage, alloc, placement, number, line, writer)
+        run_line(
+            &mut self.stage,
+            alloc,
+            placement,
+            number,
+            line,
+            &mut self.scratch,
+            writer,
+        )
     }
 
     // Runs the line that is kept.
@@ -123,6 +133,7 @@ impl Stream {
             placement,
             number,
             self.line.bytes(),
+            &mut self.scratch,
             writer,
         );
         self.line.clear();
