@@ -279,6 +279,36 @@ enum Head {
     Free,
 }
 
+// The text behind the end of the words GETMAIN and FREEMAIN.
+fn behind_main(text: &[u8]) -> Option<&[u8]>
+    ensures { MatchOption result (Unit {0}) (λ rest. text.now ≡ codes "MAIN " ++ rest.now) }
+{
+    match text {
+        [b'M', b'A', b'I', b'N', b' ', rest @ ..] => Some(rest),
+        _ => None,
+    }
+}
+
+// The text behind GETMAIN.
+fn behind_getmain(text: &[u8]) -> Option<&[u8]>
+    ensures { MatchOption result (Unit {0}) (λ rest. text.now ≡ codes " GETMAIN " ++ rest.now) }
+{
+    match text {
+        [b' ', b'G', b'E', b'T', rest @ ..] => behind_main(rest),
+        _ => None,
+    }
+}
+
+// The text behind FREEMAIN.
+fn behind_freemain(text: &[u8]) -> Option<&[u8]>
+    ensures { MatchOption result (Unit {0}) (λ rest. text.now ≡ codes " FREEMAIN " ++ rest.now) }
+{
+    match text {
+        [b' ', b'F', b'R', b'E', b'E', rest @ ..] => behind_main(rest),
+        _ => None,
+    }
+}
+
 // The text behind CPOOL.
 fn behind_cpool(text: &[u8]) -> Option<&[u8]>
     ensures { MatchOption result (Unit {0}) (λ rest. text.now ≡ codes " CPOOL " ++ rest.now) }
@@ -304,36 +334,15 @@ fn pool_form_in_front(text: &[u8]) -> Option<(Head, &[u8])>
 fn head_in_front(text: &[u8]) -> Option<(Head, &[u8])>
     ensures { MatchOption result (Unit {0}) (λ r. text.now ≡ head_text r.0 ++ r.1.now) }
 {
-    if let Some(rest) = behind_cpool(text) {
-        return pool_form_in_front(rest);
+    if let Some(field) = behind_getmain(text) {
+        return Some((Head::Getmain, field));
     }
-    match text {
-        [
-            b' ',
-            b'G',
-            b'E',
-            b'T',
-            b'M',
-            b'A',
-            b'I',
-            b'N',
-            b' ',
-            field @ ..,
-        ] => { Some((Head::Getmain, field)) }
-        [
-            b' ',
-            b'F',
-            b'R',
-            b'E',
-            b'E',
-            b'M',
-            b'A',
-            b'I',
-            b'N',
-            b' ',
-            field @ ..,
-        ] => { Some((Head::Freemain, field)) }
-        _ => None,
+    if let Some(field) = behind_freemain(text) {
+        return Some((Head::Freemain, field));
+    }
+    match behind_cpool(text) {
+        Some(rest) => pool_form_in_front(rest),
+        None => None,
     }
 }
 
