@@ -19,12 +19,10 @@ use slab::Slab;
 fn orphan(active: &Slab<Seat>) -> Option<usize>
     ensures { MatchOption result (MothersActive active.now.slots) (λ k. (m : ℕ) × (x : Seat) × (get active.now k ≡ Some x) × (x.mother ≡ Some m) × (get active.now m ≡ None)) }
 {
-    for key in 0..active.capacity() {
-        if let Some(seat) = active.get(key) {
-            if let Some(mother) = seat.mother {
-                if !active.contains(mother) {
-                    return Some(key);
-                }
+    for (key, seat) in active.iter() {
+        if let Some(mother) = seat.mother {
+            if !active.contains(mother) {
+                return Some(key);
             }
         }
     }

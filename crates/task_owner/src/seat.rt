@@ -91,11 +91,9 @@ pub(crate) fn find_key(active: &Slab<Seat>, name: Name) -> Option<usize>
 pub(crate) fn find_first(active: &Slab<Seat>) -> Option<usize>
     ensures { MatchOption result ((k : ℕ) (x : Seat) → get active.now k ≡ Some x → x.mother ≢ None) (λ k. (x : Seat) × (get active.now k ≡ Some x) × (x.mother ≡ None)) }
 {
-    for key in 0..active.capacity() {
-        if let Some(seat) = active.get(key) {
-            if seat.mother.is_none() {
-                return Some(key);
-            }
+    for (key, seat) in active.iter() {
+        if seat.mother.is_none() {
+            return Some(key);
         }
     }
     None
@@ -105,11 +103,9 @@ pub(crate) fn find_first(active: &Slab<Seat>) -> Option<usize>
 pub(crate) fn has_child(active: &Slab<Seat>, mother: usize) -> bool
     ensures { IsTrue result ↔ ((k : ℕ) × (x : Seat) × (get active.now k ≡ Some x) × (x.mother ≡ Some mother)) }
 {
-    for key in 0..active.capacity() {
-        if let Some(seat) = active.get(key) {
-            if seat.mother == Some(mother) {
-                return true;
-            }
+    for (_, seat) in active.iter() {
+        if seat.mother == Some(mother) {
+            return true;
         }
     }
     false

@@ -1,7 +1,6 @@
-use Rattle.std.proofs.Common.{◌≡◌, ◌≢◌, ℕ, ◌<◌, Some}
-use Rattle.slab.specs.Slab.{get}
-use Rattle.task_owner.specs.declared.seat.Seat.{Seat}
+use Rattle.std.proofs.Common.{◌≡◌, Some}
+use Rattle.task_owner.proofs.Found.{Unseen}
 use Rattle.task_owner.proofs.seat.has_child.Given as goal
 
-abbrev pub invariant-loop-key : goal.invariant-loop-key
-invariant-loop-key l = (k : ℕ) → k < l.key → (x : Seat) → get l.active k ≡ Some x → x.mother ≢ Some l.mother
+abbrev pub invariant-loop-seat : goal.invariant-loop-seat
+invariant-loop-seat l = Unseen l.active (λ x. x.mother ≡ Some l.mother) l.seat-iterator
