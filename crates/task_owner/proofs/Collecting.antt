@@ -1,7 +1,8 @@
 -- The subpools whose owner is not active are collected.
 use Rattle.std.proofs.Common.{◌≡◌, ◌≢◌, ℕ, zero, suc, ◌+◌, ◌<◌, ◌≤◌, Bool, true, false, cond, not, is_some, ◌&&◌, ◌||◌, List, [], ◌∷◌, Option, Some, None, length, eqb, ltb, set, sym, ap, subst, refl, ◌∙◌, arith, ◌⊎◌, inl, inr}
-use Rattle.std.specs.Prelude.{◌==◌}
-use Rattle.std.proofs.lemmas.Bool.{eqb-true, cases_lt, cases_eq}
+use Rattle.std.specs.Prelude.{◌==◌, nat_eq, slice_index_or}
+use Rattle.std.specs.Option.{option_eq}
+use Rattle.std.proofs.lemmas.Bool.{eqb-true, eq-eqb, cases_lt, cases_eq}
 use Rattle.std.proofs.lemmas.Bool.Decides.{nat_tests}
 use Rattle.std.specs.List.Sorted.{IsStrictlySortedBy}
 use Rattle.std.specs.Ordering.{nat_cmp}
@@ -12,7 +13,7 @@ use Rattle.task_owner.specs.Seats.{item_at, number_of}
 use Rattle.task_owner.specs.Family.{IsFreed, falls_free, is_owner_active, is_of, is_freed_below, OwnersHave, FreedBelow, TrimsBy, IsTrimmedBy, Loses, IsLost}
 use Rattle.task_owner.specs.declared.seat.Seat.{Seat}
 use Rattle.task_owner.specs.declared.seat.Owned.{Owned}
-use Rattle.task_owner.proofs.Places.{number_cases, same_or_not, set_apart}
+use Rattle.task_owner.proofs.Places.{number_cases, read_at, same_or_not, set_apart}
 use Rattle.task_owner.proofs.Bools.{same_test, either_true, or_true, or_false, both_true}
 
 -- The set has what it had and only subpools that the task owns besides, among these all that stand under a number below the bound.
@@ -80,6 +81,32 @@ module _ (numbers : List (Option ℕ)) (key : ℕ) (owned : List (Option Owned))
 both_not : (b c : Bool) → (b ≡ true → c ≡ false) → (b && c) ≡ false
 both_not true c h = h refl
 both_not false c h = refl
+
+-- what a task has under a number, as it was read
+pub number_read : (x : Seat) (n : ℕ) (o : Option ℕ) → o ≡ slice_index_or x.numbers n o → n < 133 → length x.numbers ≡ 133 → number_of x n ≡ o
+number_read x n o e low long = ap (λ b. cond b (item_at x.numbers n) None) (let t : ltb n 133 ≡ true = grind (arith, nat_tests) in t) ∙ read_at x.numbers n n o e refl (omega (arith, long))
+
+-- two that are told to be one, and two that are not
+pub told_same : (o : Option ℕ) (s : ℕ) → option_eq nat_eq o (Some s) ≡ true → o ≡ Some s
+told_same None s e = absurd (let f : false ≡ true = e in cc)
+told_same (Some r) s e = ap Some (eqb-true r s e)
+
+pub told_other : (o : Option ℕ) (s : ℕ) → option_eq nat_eq o (Some s) ≡ false → o ≡ Some s → ⊥
+told_other o s e same = let f : false ≡ true = sym e ∙ ap (λ p. option_eq nat_eq p (Some s)) same ∙ eq-eqb s s refl in cc
+
+-- a task that has not got a subpool loses nothing
+pub nothing_lost : (number s : ℕ) (o : Option Seat) → ((x : Seat) → o ≡ Some x → number_of x number ≡ Some s → ⊥) → IsLost number s o o
+nothing_lost number s None h = refl
+nothing_lost number s (Some x) h = (x, refl, record { name = refl; mother = refl; residence = refl; numbers = λ n. sym (ap (λ b. cond b None (number_of x n)) (fails n)) }) where
+  other : (o : Option ℕ) → (o ≡ Some s → ⊥) → has (λ r. r == s) o ≡ false
+  other None d = refl
+  other (Some r) d = by (number_cases r s) where
+    by : ((eqb r s ≡ true) × (r ≡ s)) ⊎ ((eqb r s ≡ false) × (r ≢ s)) → eqb r s ≡ false
+    by (inl p) = absurd (d (ap Some p.1))
+    by (inr p) = p.0
+
+  fails : (n : ℕ) → ((n == number) && has (λ r. r == s) (number_of x n)) ≡ false
+  fails n = both_not (n == number) (has (λ r. r == s) (number_of x n)) (λ t. other (number_of x n) (λ e. h x refl (ap (number_of x) (sym (eqb-true n number t)) ∙ e)))
 
 none_here : {X : Type 0} (xs : List (Option X)) (r : ℕ) → item_at (set xs r None) r ≡ None
 none_here [] r = refl

@@ -10,7 +10,7 @@ ghost use Rattle.task_owner.specs.Family.{Falls, IsFreed, OwnersHave};
 ghost use Rattle.task_owner.specs.declared.seat.Seat.{Seat};
 
 use crate::freed::collect_owned;
-use crate::seat::{Owned, Seat};
+use crate::seat::{Owned, Seat, seat_at};
 use mvs_model::request::TaskNames;
 use mvs_model::subpool_set::SubpoolSet;
 use slab::Slab;
@@ -48,13 +48,11 @@ pub(crate) fn remove_family(
     ensures freed { IsFreed active.new owned.now freed.new }
     ensures rising { IsStrictlySortedBy nat_cmp freed.new }
 {
-    let first = active.remove(t);
-    collect_owned(&first.numbers, t, owned, freed);
-    let mut names = TaskNames::empty(first.name);
+    collect_owned(&seat_at(active, t).numbers, t, owned, freed);
+    let mut names = TaskNames::empty(active.remove(t).name);
     'family: while let Some(key) = orphan(active) {
-        let seat = active.remove(key);
-        collect_owned(&seat.numbers, key, owned, freed);
-        names.push(seat.name);
+        collect_owned(&seat_at(active, key).numbers, key, owned, freed);
+        names.push(active.remove(key).name);
     }
     names
 }

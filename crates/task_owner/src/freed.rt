@@ -1,12 +1,12 @@
 //! The subpools that fall free when their owner goes.
 
-ghost use Rattle.std.specs.Prelude.{◌≡◌, ◌≢◌, ◌<◌, ◌==◌, ◌&&◌, ◌||◌, ℕ, length, true, IsSome, Some};
+ghost use Rattle.std.specs.Prelude.{◌≡◌, ◌≢◌, ◌<◌, ◌==◌, ◌&&◌, ◌||◌, ◌↔◌, ℕ, length, true, IsTrue, IsSome, Some};
 ghost use Rattle.std.specs.List.Sorted.{IsStrictlySortedBy};
 ghost use Rattle.std.specs.Ordering.{nat_cmp};
 ghost use Rattle.slab.specs.Slab.{get, slab_len};
 ghost use Rattle.mvs_model.specs.Numbers.{most_subpools, subpool_numbers};
 ghost use Rattle.mvs_model.specs.Storage.{is_one_of};
-ghost use Rattle.task_owner.specs.Seats.{item_at};
+ghost use Rattle.task_owner.specs.Seats.{item_at, number_of};
 ghost use Rattle.task_owner.specs.Family.{is_of, is_freed_below, EntriesStand, IsLost, IsTrimmed, FreedBelow};
 ghost use Rattle.task_owner.specs.declared.seat.Seat.{Seat};
 ghost use Rattle.task_owner.specs.declared.seat.Owned.{Owned};
@@ -67,13 +67,29 @@ fn lose(active: &mut Slab<Seat>, key: usize, number: usize, subpool: SubpoolId)
     }
 }
 
-// Drops each task's entry for a subpool under a number.
+// Whether a task has the subpool under the number.
+fn is_held(active: &Slab<Seat>, number: usize, subpool: SubpoolId) -> bool
+    requires { number < subpool_numbers }
+    ensures { IsTrue result ↔ ((k : ℕ) × (x : Seat) × (get active.now k ≡ Some x) × (number_of x number ≡ Some subpool)) }
+{
+    for (_, seat) in active.iter() {
+        if seat.numbers[number] == Some(subpool) {
+            return true;
+        }
+    }
+    false
+}
+
+// Drops each task's entry for a subpool under a number. Few subpools are still held when they fall free.
 fn drop_entries(active: &mut Slab<Seat>, number: usize, subpool: SubpoolId)
     requires { number < subpool_numbers }
     ensures each { (k : ℕ) → IsLost number subpool (get active.old k) (get active.new k) }
     ensures len { slab_len active.new ≡ slab_len active.old }
     ensures capacity { active.new.capacity ≡ active.old.capacity }
 {
+    if !is_held(active, number, subpool) {
+        return;
+    }
     for key in 0..active.capacity() {
         if active.contains(key) {
             lose(active, key, number, subpool);
