@@ -1,6 +1,6 @@
 -- What stands in front of a text.
-use Rattle.std.specs.Prelude.{◌==◌, nat_le, not, slice_index, codes, Option, Some}
-use Rattle.std.proofs.Common.{drop, zero, append_assoc, append-nil, take-append-drop, ◌≡◌, refl, suc, pow-suc, true, false, Bool, ℕ, ◌+◌, ◌-◌, ◌*◌, ◌^◌, ◌<◌, ◌≤◌, ◌&&◌, List, [], ◌∷◌, ◌++◌, length, take, get_or, sym, ap, subst, ◌∙◌, arith}
+use Rattle.std.specs.Prelude.{◌==◌, ◌%◌, nat_le, not, slice_index, codes, Option, Some}
+use Rattle.std.proofs.Common.{drop, zero, append_assoc, take-append-drop, ◌≡◌, refl, suc, pow-suc, true, false, Bool, ℕ, ◌+◌, ◌-◌, ◌*◌, ◌^◌, ◌<◌, ◌≤◌, ◌&&◌, List, [], ◌∷◌, ◌++◌, length, take, get_or, sym, ap, subst, ◌∙◌, arith}
 use Rattle.std.specs.List.{list_all}
 use Rattle.std.specs.Char.{is_ascii_digit}
 use Rattle.std.proofs.lemmas.Bool.Decides.{nat_tests}
@@ -8,13 +8,14 @@ use Rattle.std.proofs.lemmas.List.{take_more, take_rest}
 use Rattle.std.proofs.lemmas.Bool.{and_from}
 use Rattle.std.proofs.lemmas.Grind.{common_steps}
 use Rattle.mvs_model.specs.Grammar as grammar
-use Rattle.mvs_model.specs.Reading.{is_digit, is_empty, is_in_range, is_name, is_name_byte, is_number, number}
+use Rattle.mvs_model.specs.Reading.{is_digit, is_empty, is_hex_digit, is_in_range, is_name, is_name_byte, is_number, number}
 use Rattle.mvs_model.specs.Name.{padded}
 use Rattle.mvs_model.specs.declared.line.Location.TheVariants.{Named}
-use Rattle.mvs_model.proofs.ValueTexts.{digits_fit, each_is_written, name_alone, name_with}
-use Rattle.job_script.specs.Frequent.{EndsWith, IsAddressFront, IsFront, IsNumberFront}
+use Rattle.mvs_model.proofs.ValueTexts.{bytes_fit, digits_fit, each_is_written, name_alone, name_with}
+use Rattle.mvs_model.specs.Spelling.{FitsAlone, quoted_text}
+use Rattle.job_script.specs.Frequent.{IsAddressFront, IsFront, IsNumberFront, IsSubpoolFront}
 use Rattle.mvs_model.proofs.ReadingLoops.{counted, counted_all}
-use Rattle.mvs_model.proofs.ReadingTaken.{and_true, nat_same}
+use Rattle.mvs_model.proofs.ReadingTaken.{and_true}
 
 all_push : (test : ℕ → Bool) (text : List ℕ) (b : ℕ) → list_all test text ≡ true → test b ≡ true → list_all test (text ++ b ∷ []) ≡ true
 all_push test [] b e f = ap (λ t. t && true) f
@@ -72,7 +73,7 @@ number_front least most text n value digits is few within some low high =
     let range : is_in_range least most front ≡ true =
     and_from (nat_le (length front) 10 && nat_le least (number front)) _
     (and_from (nat_le (length front) 10) _ (short_front text n 10 few) (ap (nat_le least) (sym is) ∙ le_true least value low)) (ap (λ m. nat_le m most) (sym is) ∙ le_true value most high) in
-    (front, record { front = record { whole = front_rest text n; fits = (digits_fit least most front number_is range).fits }; value = is; low = low; high = high })
+    (front, record { front = record { whole = front_rest text n; alone = digits_fit least most front number_is range }; value = is; low = low; high = high })
 
 -- a name in front
 first_kept : (text : List ℕ) (n : ℕ) → (n ≡ 0 → ⊥) → n ≤ length text → is_ascii_digit (get_or text 0 0) ≡ false → is_digit (slice_index (take n text) 0) ≡ false
@@ -89,30 +90,42 @@ name_is text n bytes few within some first =
 
 pub name_front : (text : List ℕ) (n : ℕ) → list_all is_name_byte (take n text) ≡ true → n ≤ 8 → n ≤ length text → (n ≡ 0 → ⊥) → is_ascii_digit (get_or text 0 0) ≡ false → IsFront grammar.Name text (take n text) (take (length text - n) (drop n text))
 name_front text n bytes few within some first =
-    record { whole = front_rest text n; fits = (each_is_written.name_is (take n text) (name_is text n bytes few within some first)).fits }
+    record { whole = front_rest text n; alone = each_is_written.name_is (take n text) (name_is text n bytes few within some first) }
 
 -- a name alone is an address
 pub address_alone : (text name rest : List ℕ) → IsFront grammar.Name text name rest → (address : List ℕ) × IsAddressFront text name 0 address rest
 address_alone text name rest front =
-    let alone = name_alone name front.fits.of_kind in
-    (name, record { front = record { whole = front.whole; fits = alone.0 }; named = front.fits.of_kind; location_is = sym alone.1; near = omega arith })
+    let named = front.alone.fits.of_kind in
+    let alone = name_alone name named in
+    (name, record { front = record { whole = front.whole; alone = alone.0 }; named = named; location_is = sym alone.1; near = omega arith })
 
 -- and so is one with an offset
 pub address_with : (text name after inner digits rest : List ℕ) (n : ℕ) → IsFront grammar.Name text name after → after ≡ 43 ∷ inner → IsNumberFront 0 33554431 inner n digits rest
     → (address : List ℕ) × IsAddressFront text name n address rest
 address_with text name after inner digits rest n front plus offset =
-    let with_offset = name_with name digits front.fits.of_kind offset.front.fits.of_kind offset.front.fits.within in
+    let named = front.alone.fits.of_kind in
+    let figures = offset.front.alone.fits in
+    let with_offset = name_with name digits named figures.of_kind figures.within in
     let whole : text ≡ (name ++ (43 ∷ digits)) ++ rest = front.whole ∙ ap (λ t. name ++ t) (plus ∙ ap (λ t. 43 ∷ t) offset.front.whole) ∙ sym (append_assoc name (43 ∷ digits) rest) in
-    (name ++ (43 ∷ digits), record { front = record { whole = whole; fits = with_offset.0.fits }; named = front.fits.of_kind; location_is = ap (λ m. Named (padded name) m) offset.value ∙ sym with_offset.1; near = offset.high })
+    (name ++ (43 ∷ digits), record { front = record { whole = whole; alone = with_offset.0 }; named = named; location_is = ap (λ m. Named (padded name) m) offset.value ∙ sym with_offset.1; near = offset.high })
 
--- nothing stands behind
-pub nothing_behind : (text : List ℕ) → (length text == 0) ≡ true → text ≡ []
-nothing_behind [] e = refl
-nothing_behind (b ∷ text) e = let none : suc (length text) ≡ 0 = nat_same (suc (length text)) 0 e in absurd (omega arith)
+-- the number of a subpool behind its key
+pub subpool_said : (text inner digits rest : List ℕ) (n : ℕ) → text ≡ codes ",SP=" ++ inner → IsNumberFront 0 255 inner n digits rest → (sp : Option (List ℕ)) × IsSubpoolFront text n sp rest
+subpool_said text inner digits rest n key number = (Some digits, (key ∙ ap (λ t. codes ",SP=" ++ t) number.front.whole, number.front.alone.fits, number.value))
 
-pub front_whole : (kind : grammar.Kind) (text value rest : List ℕ) → IsFront kind text value rest → (length rest == 0) ≡ true → text ≡ value
-front_whole kind text value rest front none = front.whole ∙ ap (λ t. value ++ t) (nothing_behind rest none) ∙ append-nil value
+-- digits between quotes
+long_front : (text : List ℕ) (n : ℕ) → n ≤ length text → length (take n text) ≡ n
+long_front text n h = grind (arith, common_steps)
 
-pub subpool_said : (text inner digits rest : List ℕ) (n : ℕ) → text ≡ codes ",SP=" ++ inner → IsNumberFront 0 255 inner n digits rest → (length rest == 0) ≡ true → (sp : Option (List ℕ)) × EndsWith text n sp
-subpool_said text inner digits rest n key number none =
-    (Some digits, (key ∙ ap (λ t. codes ",SP=" ++ t) (front_whole (grammar.Number 0 255) inner digits rest number.front none), number.front.fits, number.value))
+pub bytes_front : (text digits : List ℕ) (n : ℕ) → text ≡ 88 ∷ 39 ∷ digits → list_all is_hex_digit (take n digits) ≡ true → (n ≡ 0 → ⊥) → n ≤ 200 → (n % 2 == 0) ≡ true → n < length digits → get_or digits n 0 ≡ 39
+    → IsFront (grammar.Bytes 100) text (take (n + 3) text) (take (length text - (n + 3)) (drop (n + 3) text))
+bytes_front text digits n whole hex some few even within closed =
+    let inside : n ≤ length digits = omega arith in
+    let long : length (take n digits) ≡ n = long_front digits n inside in
+    let three : n + 3 ≡ suc (suc (n + 1)) = omega arith in
+    let front : take (n + 3) text ≡ quoted_text (take n digits) =
+    ap (take (n + 3)) whole ∙ ap (λ k. take k (88 ∷ 39 ∷ digits)) three ∙ ap (λ l. 88 ∷ 39 ∷ l) (take_more digits n 0 within ∙ ap (λ b. take n digits ++ (b ∷ [])) closed) in
+    record {
+      whole = front_rest text (n + 3);
+      alone = subst (FitsAlone (grammar.Bytes 100)) (sym front) (bytes_fit 100 (take n digits) hex (some_front digits n some inside) (ap (λ k. k % 2 == 0) long ∙ even) (omega (arith, long)));
+    }

@@ -18,6 +18,7 @@ pub mod Showing
 pub mod Named
 pub mod Fitting
 pub mod Fronts
+pub mod Remarks
 pub mod PlainLines
 pub mod Plain
 pub mod FormTexts

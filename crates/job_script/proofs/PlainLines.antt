@@ -1,6 +1,6 @@
 -- What the statements say that a script repeats most, written plainly.
-use Rattle.std.proofs.Common.{◌≡◌, refl, ◌||◌, not, true, false, Bool, ℕ, ◌==◌, List, [], ◌∷◌, ◌++◌, Option, Some, None, ◌≤◌, arith, length, sym, ap, subst, ◌∙◌, append-nil}
-use Rattle.std.specs.Prelude.{MatchOption, codes, nat_lt, slice_get, unwrap_or, if◌then◌else◌}
+use Rattle.std.proofs.Common.{◌≡◌, refl, ◌||◌, not, true, false, Bool, ℕ, ◌==◌, ◌+◌, ◌&&◌, suc, List, [], ◌∷◌, ◌++◌, Option, Some, None, ◌≤◌, arith, length, sym, ap, subst, ◌∙◌, append-nil, append_assoc, length-append}
+use Rattle.std.specs.Prelude.{MatchOption, codes, nat_le, nat_lt, slice_get, slice_index, unwrap_or, if◌then◌else◌}
 use Rattle.std.specs.List.{list_all}
 use Rattle.std.proofs.lemmas.Bool.Decides.{nat_tests}
 use Rattle.mvs_model.specs.declared.code.Form.{Form}
@@ -13,20 +13,23 @@ use Rattle.mvs_model.specs.declared.line.Statement.{Statement}
 use Rattle.mvs_model.specs.declared.line.Statement.TheVariants as says
 use Rattle.mvs_model.specs.declared.line.Written.TheVariants as written
 use Rattle.mvs_model.specs.declared.name.Name.{Name}
+use Rattle.mvs_model.specs.declared.want.Loc.{Loc}
 use Rattle.mvs_model.specs.declared.want.Loc.TheVariants as loc
 use Rattle.mvs_model.specs.Name.{padded}
 use Rattle.mvs_model.specs.Want.{AskValue}
 use Rattle.mvs_model.specs.Grammar as grammar
-use Rattle.mvs_model.specs.Reading.{ByKey, LineOf, form_of, is_digit, is_empty, is_list, is_one_of, items, largest, location, number, smallest}
-use Rattle.mvs_model.specs.Spelling.{Fits, joined, line_text, said_by}
+use Rattle.mvs_model.specs.Reading.{ByKey, LineOf, form_of, hex_bytes, is_digit, is_empty, is_list, is_name, is_name_byte, is_one_of, items, largest, location, number, quoted, smallest}
+use Rattle.mvs_model.specs.Spelling.{Fits, IsWord, closes, joined, said_by}
 use Rattle.mvs_model.specs.Spellings.{Says}
 use Rattle.mvs_model.proofs.Allowed.{allowed_is_read}
-use Rattle.mvs_model.proofs.ReadingTaken.{and_true}
-use Rattle.mvs_model.proofs.Spelling.{not_true}
+use Rattle.mvs_model.proofs.ReadingTaken.{and_true, nat_same}
+use Rattle.mvs_model.proofs.Spelling.{not_true, plain, printed}
 use Rattle.mvs_model.proofs.Spellings.{each_is_said}
 use Rattle.mvs_model.proofs.ValueTexts.{not_list}
-use Rattle.job_script.specs.Frequent.{EndsWith, IsAddressFront, IsFront, IsPooled, IsSized, SaysLine, form_word, is_single}
-use Rattle.job_script.proofs.Fronts.{front_whole}
+use Rattle.job_script.specs.declared.frequent.Head.{Head}
+use Rattle.job_script.specs.Frequent.{IsAddressFront, IsFront, IsNumberFront, IsPooled, IsSized, IsSubpoolFront, SaysBehind, form_word, get_text, head_text, is_remark, is_single, loc_text, may_place}
+use Rattle.job_script.specs.Taken.{IsSomeBytes}
+use Rattle.job_script.proofs.Remarks.{begins_word, with_remark, without_blank}
 
 -- ---- lengths
 
@@ -42,50 +45,77 @@ largest_is n fits = ap (λ t. if t then number (unwrap_or (slice_get (items n) 0
 smallest_is : (n : List ℕ) → IsLength n → smallest n ≡ number n
 smallest_is n fits = ap (λ t. if t then number (unwrap_or (slice_get (items n) 1) []) else number n) (no_list n fits)
 
--- ---- the number of a subpool, where it is written
+-- ---- the number of a subpool and the place in storage, where they are written
 
 abbrev FitsSubpool : Option (List ℕ) → Type 0
 FitsSubpool None = Unit {0}
 FitsSubpool (Some sp) = Fits (grammar.Number 0 255) sp
 
+abbrev subpool_text : Option (List ℕ) → List ℕ
+subpool_text None = []
+subpool_text (Some sp) = codes ",SP=" ++ sp
+
 abbrev subpool_operand : Option (List ℕ) → List (List ℕ)
 subpool_operand None = []
 subpool_operand (Some sp) = (codes "SP=" ++ sp) ∷ []
+
+abbrev loc_operand : Loc → List (List ℕ)
+loc_operand loc.Any = codes "LOC=ANY" ∷ []
+loc_operand loc.Below = codes "LOC=BELOW" ∷ []
+loc_operand loc.Res = []
 
 abbrev subpool_number : Option (List ℕ) → ℕ
 subpool_number None = 0
 subpool_number (Some sp) = number sp
 
-fits_end : (text : List ℕ) (n : ℕ) (sp : Option (List ℕ)) → EndsWith text n sp → FitsSubpool sp
-fits_end text n None e = tt
-fits_end text n (Some sp) e = e.1
+fits_subpool : (text : List ℕ) (n : ℕ) (sp : Option (List ℕ)) (rest : List ℕ) → IsSubpoolFront text n sp rest → FitsSubpool sp
+fits_subpool text n None rest e = tt
+fits_subpool text n (Some sp) rest e = e.1
 
-number_end : (text : List ℕ) (n : ℕ) (sp : Option (List ℕ)) → EndsWith text n sp → n ≡ subpool_number sp
-number_end text n None e = e.1
-number_end text n (Some sp) e = e.2
+number_is : (text : List ℕ) (n : ℕ) (sp : Option (List ℕ)) (rest : List ℕ) → IsSubpoolFront text n sp rest → n ≡ subpool_number sp
+number_is text n None rest e = e.1
+number_is text n (Some sp) rest e = e.2
 
--- the last operand before it
-joined_end : (text operand : List ℕ) (n : ℕ) (sp : Option (List ℕ)) → EndsWith text n sp → operand ++ text ≡ joined (operand ∷ subpool_operand sp)
-joined_end text operand n None e = ap (λ t. operand ++ t) e.0 ∙ append-nil operand
-joined_end text operand n (Some sp) e = ap (λ t. operand ++ t) e.0
+-- the last operand before them
+joined_with : (operand : List ℕ) (sp : Option (List ℕ)) (l : Loc) → joined (operand ∷ (subpool_operand sp ++ loc_operand l)) ≡ operand ++ (subpool_text sp ++ loc_text l)
+joined_with operand None loc.Res = sym (append-nil operand)
+joined_with operand None loc.Any = refl
+joined_with operand None loc.Below = refl
+joined_with operand (Some sp) loc.Res = ap (λ t. operand ++ t) (sym (append-nil (codes ",SP=" ++ sp)))
+joined_with operand (Some sp) loc.Any = refl
+joined_with operand (Some sp) loc.Below = refl
+
+both_are : (text : List ℕ) (n : ℕ) (sp : Option (List ℕ)) (after : List ℕ) (l : Loc) (behind : List ℕ) → IsSubpoolFront text n sp after → after ≡ loc_text l ++ behind → text ≡ (subpool_text sp ++ loc_text l) ++ behind
+both_are text n None after l behind e placed = e.0 ∙ placed
+both_are text n (Some sp) after l behind e placed = e.0 ∙ ap (λ t. codes ",SP=" ++ t) (ap (λ t. sp ++ t) placed ∙ sym (append_assoc sp (loc_text l) behind))
+
+joined_end : (operand text : List ℕ) (n : ℕ) (sp : Option (List ℕ)) (after : List ℕ) (l : Loc) (behind : List ℕ) → IsSubpoolFront text n sp after → after ≡ loc_text l ++ behind
+    → operand ++ text ≡ joined (operand ∷ (subpool_operand sp ++ loc_operand l)) ++ behind
+joined_end operand text n sp after l behind e placed =
+    ap (λ t. operand ++ t) (both_are text n sp after l behind e placed) ∙ sym (append_assoc operand (subpool_text sp ++ loc_text l) behind) ∙ ap (λ t. t ++ behind) (sym (joined_with operand sp l))
 
 -- ---- obtains
 
 abbrev IsWordOf : grammar.Row → List ℕ → Form → Type 0
 IsWordOf row word f = ((is_empty row.forms || is_one_of row.forms word) ≡ true) × ((os : ByKey) → form_of word os ≡ f)
 
-abbrev asked : List ℕ → AskValue
-asked n = record { least = number n; most = number n; start = 3; within = None; loc = loc.Res }
+abbrev asked : List ℕ → Loc → AskValue
+asked n l = record { least = number n; most = number n; start = 3; within = None; loc = l }
 
-abbrev obtaining : Form → List ℕ → List ℕ → Option (List ℕ) → Statement
-obtaining f n area sp = says.Request (written.Obtain f (subpool_number sp) (asked n) false (padded area))
+abbrev obtaining : Form → List ℕ → List ℕ → Option (List ℕ) → Loc → Statement
+obtaining f n area sp l = says.Request (written.Obtain f (subpool_number sp) (asked n l) false (padded area))
 
-abbrev Obtains : List ℕ → Form → Type 0
-Obtains word f =
+abbrev Obtains : List ℕ → Form → Loc → Type 0
+Obtains word f l =
     (n area : List ℕ) (sp : Option (List ℕ)) → IsLength n → Fits grammar.Name area → FitsSubpool sp
-    → Says (codes "GETMAIN") (word ∷ (codes "LV=" ++ n) ∷ (codes "A=" ++ area) ∷ subpool_operand sp) (obtaining f n area sp)
+    → Says (codes "GETMAIN") (word ∷ (codes "LV=" ++ n) ∷ (codes "A=" ++ area) ∷ (subpool_operand sp ++ loc_operand l)) (obtaining f n area sp l)
 
-fixed : (word : List ℕ) (f : Form) → IsWordOf grammar.getmain_fixed word f → Obtains word f
+-- a location of the table
+loc_fits : (word : List ℕ) → is_one_of (codes "BELOW" ∷ codes "24" ∷ codes "ANY" ∷ codes "31" ∷ codes "RES" ∷ []) word ≡ true → IsWord word → closes 0 word ≡ true
+    → Fits (grammar.Word (codes "BELOW" ∷ codes "24" ∷ codes "ANY" ∷ codes "31" ∷ codes "RES" ∷ [])) word
+loc_fits word e is closed = record { of_kind = e; within = refl; once = refl; operand = record { word = is; closed = closed } }
+
+fixed : (word : List ℕ) (f : Form) → IsWordOf grammar.getmain_fixed word f → Obtains word f loc.Res
 fixed word f is n area None fits_n fits_area fits_sp task named short =
     allowed_is_read false task grammar.getmain_fixed word [] ((codes "LV", n) ∷ (codes "A", area) ∷ []) _ named
     (record {
@@ -100,7 +130,7 @@ fixed word f is n area None fits_n fits_area fits_sp task named short =
       none_half = refl;
       no_conflict = refl;
     }) refl short
-    (λ i. Some (says.Request (written.Obtain (is.1 (said_by [] ((codes "LV", n) ∷ (codes "A", area) ∷ [])) i) 0 (record { least = smallest_is n fits_n i; most = largest_is n fits_n i; start = 3; within = None; loc = loc.Res }) (no_list n fits_n i) (padded area))))
+    (λ i. Some (says.Request (written.Obtain (is.1 (said_by [] ((codes "LV", n) ∷ (codes "A", area) ∷ [])) i) (0) (record { least = smallest_is n fits_n i; most = largest_is n fits_n i; start = 3; within = None; loc = loc.Res }) (no_list n fits_n i) (padded area))))
 fixed word f is n area (Some sp) fits_n fits_area fits_sp task named short =
     allowed_is_read false task grammar.getmain_fixed word [] ((codes "LV", n) ∷ (codes "A", area) ∷ (codes "SP", sp) ∷ []) _ named
     (record {
@@ -117,8 +147,8 @@ fixed word f is n area (Some sp) fits_n fits_area fits_sp task named short =
     }) refl short
     (λ i. Some (says.Request (written.Obtain (is.1 (said_by [] ((codes "LV", n) ∷ (codes "A", area) ∷ (codes "SP", sp) ∷ [])) i) (number sp) (record { least = smallest_is n fits_n i; most = largest_is n fits_n i; start = 3; within = None; loc = loc.Res }) (no_list n fits_n i) (padded area))))
 
-placed : (word : List ℕ) (f : Form) → IsWordOf grammar.getmain_fixed_placed word f → Obtains word f
-placed word f is n area None fits_n fits_area fits_sp task named short =
+placed : (word : List ℕ) (f : Form) (l : Loc) → IsWordOf grammar.getmain_fixed_placed word f → Obtains word f l
+placed word f loc.Res is n area None fits_n fits_area fits_sp task named short =
     allowed_is_read false task grammar.getmain_fixed_placed word [] ((codes "LV", n) ∷ (codes "A", area) ∷ []) _ named
     (record {
       in_table = (2, refl);
@@ -132,8 +162,8 @@ placed word f is n area None fits_n fits_area fits_sp task named short =
       none_half = refl;
       no_conflict = refl;
     }) refl short
-    (λ i. Some (says.Request (written.Obtain (is.1 (said_by [] ((codes "LV", n) ∷ (codes "A", area) ∷ [])) i) 0 (record { least = smallest_is n fits_n i; most = largest_is n fits_n i; start = 3; within = None; loc = loc.Res }) (no_list n fits_n i) (padded area))))
-placed word f is n area (Some sp) fits_n fits_area fits_sp task named short =
+    (λ i. Some (says.Request (written.Obtain (is.1 (said_by [] ((codes "LV", n) ∷ (codes "A", area) ∷ [])) i) (0) (record { least = smallest_is n fits_n i; most = largest_is n fits_n i; start = 3; within = None; loc = loc.Res }) (no_list n fits_n i) (padded area))))
+placed word f loc.Res is n area (Some sp) fits_n fits_area fits_sp task named short =
     allowed_is_read false task grammar.getmain_fixed_placed word [] ((codes "LV", n) ∷ (codes "A", area) ∷ (codes "SP", sp) ∷ []) _ named
     (record {
       in_table = (2, refl);
@@ -148,21 +178,83 @@ placed word f is n area (Some sp) fits_n fits_area fits_sp task named short =
       no_conflict = refl;
     }) refl short
     (λ i. Some (says.Request (written.Obtain (is.1 (said_by [] ((codes "LV", n) ∷ (codes "A", area) ∷ (codes "SP", sp) ∷ [])) i) (number sp) (record { least = smallest_is n fits_n i; most = largest_is n fits_n i; start = 3; within = None; loc = loc.Res }) (no_list n fits_n i) (padded area))))
+placed word f loc.Any is n area None fits_n fits_area fits_sp task named short =
+    allowed_is_read false task grammar.getmain_fixed_placed word [] ((codes "LV", n) ∷ (codes "A", area) ∷ (codes "LOC", codes "ANY") ∷ []) _ named
+    (record {
+      in_table = (2, refl);
+      field = refl;
+      form_is = is.0;
+      places_fit = tt;
+      pairs_fit = ((_, refl, fits_n), ((_, refl, fits_area), ((_, refl, loc_fits (codes "ANY") refl (record { some = refl; printed = refl }) refl), tt)));
+      keys_once = refl;
+      places_enough = refl;
+      keys_enough = refl;
+      none_half = refl;
+      no_conflict = refl;
+    }) refl short
+    (λ i. Some (says.Request (written.Obtain (is.1 (said_by [] ((codes "LV", n) ∷ (codes "A", area) ∷ (codes "LOC", codes "ANY") ∷ [])) i) (0) (record { least = smallest_is n fits_n i; most = largest_is n fits_n i; start = 3; within = None; loc = loc.Any }) (no_list n fits_n i) (padded area))))
+placed word f loc.Any is n area (Some sp) fits_n fits_area fits_sp task named short =
+    allowed_is_read false task grammar.getmain_fixed_placed word [] ((codes "LV", n) ∷ (codes "A", area) ∷ (codes "SP", sp) ∷ (codes "LOC", codes "ANY") ∷ []) _ named
+    (record {
+      in_table = (2, refl);
+      field = refl;
+      form_is = is.0;
+      places_fit = tt;
+      pairs_fit = ((_, refl, fits_n), ((_, refl, fits_area), ((_, refl, fits_sp), ((_, refl, loc_fits (codes "ANY") refl (record { some = refl; printed = refl }) refl), tt))));
+      keys_once = refl;
+      places_enough = refl;
+      keys_enough = refl;
+      none_half = refl;
+      no_conflict = refl;
+    }) refl short
+    (λ i. Some (says.Request (written.Obtain (is.1 (said_by [] ((codes "LV", n) ∷ (codes "A", area) ∷ (codes "SP", sp) ∷ (codes "LOC", codes "ANY") ∷ [])) i) (number sp) (record { least = smallest_is n fits_n i; most = largest_is n fits_n i; start = 3; within = None; loc = loc.Any }) (no_list n fits_n i) (padded area))))
+placed word f loc.Below is n area None fits_n fits_area fits_sp task named short =
+    allowed_is_read false task grammar.getmain_fixed_placed word [] ((codes "LV", n) ∷ (codes "A", area) ∷ (codes "LOC", codes "BELOW") ∷ []) _ named
+    (record {
+      in_table = (2, refl);
+      field = refl;
+      form_is = is.0;
+      places_fit = tt;
+      pairs_fit = ((_, refl, fits_n), ((_, refl, fits_area), ((_, refl, loc_fits (codes "BELOW") refl (record { some = refl; printed = refl }) refl), tt)));
+      keys_once = refl;
+      places_enough = refl;
+      keys_enough = refl;
+      none_half = refl;
+      no_conflict = refl;
+    }) refl short
+    (λ i. Some (says.Request (written.Obtain (is.1 (said_by [] ((codes "LV", n) ∷ (codes "A", area) ∷ (codes "LOC", codes "BELOW") ∷ [])) i) (0) (record { least = smallest_is n fits_n i; most = largest_is n fits_n i; start = 3; within = None; loc = loc.Below }) (no_list n fits_n i) (padded area))))
+placed word f loc.Below is n area (Some sp) fits_n fits_area fits_sp task named short =
+    allowed_is_read false task grammar.getmain_fixed_placed word [] ((codes "LV", n) ∷ (codes "A", area) ∷ (codes "SP", sp) ∷ (codes "LOC", codes "BELOW") ∷ []) _ named
+    (record {
+      in_table = (2, refl);
+      field = refl;
+      form_is = is.0;
+      places_fit = tt;
+      pairs_fit = ((_, refl, fits_n), ((_, refl, fits_area), ((_, refl, fits_sp), ((_, refl, loc_fits (codes "BELOW") refl (record { some = refl; printed = refl }) refl), tt))));
+      keys_once = refl;
+      places_enough = refl;
+      keys_enough = refl;
+      none_half = refl;
+      no_conflict = refl;
+    }) refl short
+    (λ i. Some (says.Request (written.Obtain (is.1 (said_by [] ((codes "LV", n) ∷ (codes "A", area) ∷ (codes "SP", sp) ∷ (codes "LOC", codes "BELOW") ∷ [])) i) (number sp) (record { least = smallest_is n fits_n i; most = largest_is n fits_n i; start = 3; within = None; loc = loc.Below }) (no_list n fits_n i) (padded area))))
 
-obtains : (f : Form) → is_single f ≡ true → Obtains (form_word f) f
-obtains form.R e = fixed (codes "R") form.R (refl, λ os. refl)
-obtains form.Rc e = placed (codes "RC") form.Rc (refl, λ os. refl)
-obtains form.Ru e = placed (codes "RU") form.Ru (refl, λ os. refl)
-obtains form.Vrc e = absurd (let g : false ≡ true = e in cc)
-obtains form.Vru e = absurd (let g : false ≡ true = e in cc)
-obtains form.Ec e = absurd (let g : false ≡ true = e in cc)
-obtains form.Eu e = absurd (let g : false ≡ true = e in cc)
-obtains form.Vc e = absurd (let g : false ≡ true = e in cc)
-obtains form.Vu e = absurd (let g : false ≡ true = e in cc)
-obtains form.Lc e = absurd (let g : false ≡ true = e in cc)
-obtains form.Lu e = absurd (let g : false ≡ true = e in cc)
-obtains form.Storage e = absurd (let g : false ≡ true = e in cc)
-obtains form.StorageConditional e = absurd (let g : false ≡ true = e in cc)
+obtains : (f : Form) (l : Loc) → is_single f ≡ true → may_place f l ≡ true → Obtains (form_word f) f l
+obtains form.R loc.Res e m = fixed (codes "R") form.R (refl, λ os. refl)
+obtains form.R loc.Any e m = absurd (let g : false ≡ true = m in cc)
+obtains form.R loc.Below e m = absurd (let g : false ≡ true = m in cc)
+obtains form.Rc l e m = placed (codes "RC") form.Rc l (refl, λ os. refl)
+obtains form.Ru l e m = placed (codes "RU") form.Ru l (refl, λ os. refl)
+obtains form.Vrc l e m = absurd (let g : false ≡ true = e in cc)
+obtains form.Vru l e m = absurd (let g : false ≡ true = e in cc)
+obtains form.Ec l e m = absurd (let g : false ≡ true = e in cc)
+obtains form.Eu l e m = absurd (let g : false ≡ true = e in cc)
+obtains form.Vc l e m = absurd (let g : false ≡ true = e in cc)
+obtains form.Vu l e m = absurd (let g : false ≡ true = e in cc)
+obtains form.Lc l e m = absurd (let g : false ≡ true = e in cc)
+obtains form.Lu l e m = absurd (let g : false ≡ true = e in cc)
+obtains form.Storage l e m = absurd (let g : false ≡ true = e in cc)
+obtains form.StorageConditional l e m = absurd (let g : false ≡ true = e in cc)
 
 -- ---- releases
 
@@ -172,7 +264,7 @@ releasing f n address sp = says.Request (written.Release f (subpool_number sp) (
 abbrev Releases : List ℕ → Form → Type 0
 Releases word f =
     (n address : List ℕ) (sp : Option (List ℕ)) → IsLength n → Fits grammar.Address address → FitsSubpool sp
-    → Says (codes "FREEMAIN") (word ∷ (codes "LV=" ++ n) ∷ (codes "A=" ++ address) ∷ subpool_operand sp) (releasing f n address sp)
+    → Says (codes "FREEMAIN") (word ∷ (codes "LV=" ++ n) ∷ (codes "A=" ++ address) ∷ (subpool_operand sp ++ loc_operand loc.Res)) (releasing f n address sp)
 
 place : (word : List ℕ) (f : Form) → IsWordOf grammar.freemain_or_whole word f → Releases word f
 place word f is n address None fits_n fits_address fits_sp task named short =
@@ -223,72 +315,180 @@ releases form.StorageConditional e = absurd (let g : false ≡ true = e in cc)
 
 -- ---- lines
 
+-- the line of a task with an operation and its operands says this, where it has at most 255 bytes
+abbrev SaysLine : List ℕ → List ℕ → Name → Line → Type 0
+SaysLine operation field task l =
+    (text : List ℕ) → is_name text ≡ true → task ≡ padded text → nat_lt 255 (length (text ++ (32 ∷ (operation ++ (32 ∷ field))))) ≡ false
+    → LineOf false (text ++ (32 ∷ (operation ++ (32 ∷ field)))) l
+
+shorter : (a b : List ℕ) → nat_lt 255 (length (a ++ b)) ≡ false → nat_lt 255 (length a) ≡ false
+shorter a b e = let long : length (a ++ b) ≡ length a + length b = length-append a b in grind (arith, nat_tests)
+
+-- what stands behind the operands says nothing
+behind_too : (text operation field behind : List ℕ) (l : Line) → is_name text ≡ true → IsWord operation → begins_word field ≡ true → is_remark behind ≡ true
+    → nat_lt 255 (length (text ++ (32 ∷ (operation ++ (32 ∷ (field ++ behind)))))) ≡ false
+    → (nat_lt 255 (length (text ++ (32 ∷ (operation ++ (32 ∷ field))))) ≡ false → LineOf false (text ++ (32 ∷ (operation ++ (32 ∷ field)))) l)
+    → LineOf false (text ++ (32 ∷ (operation ++ (32 ∷ (field ++ behind))))) l
+behind_too text operation field [] l named is_word begins e short said =
+    subst (λ f. LineOf false (text ++ (32 ∷ (operation ++ (32 ∷ f)))) l) (sym (append-nil field))
+    (said (ap (λ f. nat_lt 255 (length (text ++ (32 ∷ (operation ++ (32 ∷ f)))))) (sym (append-nil field)) ∙ short))
+behind_too text operation field (b ∷ bs) l named is_word begins e short said =
+    let a = and_true (b == 32) (list_all plain bs) e in
+    let front : List ℕ = text ++ (32 ∷ (operation ++ (32 ∷ field))) in
+    let whole : front ++ (32 ∷ bs) ≡ text ++ (32 ∷ (operation ++ (32 ∷ (field ++ (b ∷ bs))))) =
+    append_assoc text (32 ∷ (operation ++ (32 ∷ field))) (32 ∷ bs) ∙ ap (λ r. text ++ (32 ∷ r)) (append_assoc operation (32 ∷ field) (32 ∷ bs))
+    ∙ ap (λ c. text ++ (32 ∷ (operation ++ (32 ∷ (field ++ (c ∷ bs)))))) (sym (nat_same b 32 a.0)) in
+    let short_too : nat_lt 255 (length (front ++ (32 ∷ bs))) ≡ false = ap (λ t. nat_lt 255 (length t)) whole ∙ short in
+    subst (λ t. LineOf false t l) whole (with_remark false text operation field bs l named is_word begins a.1 short_too (said (shorter front (32 ∷ bs) short_too)))
+
+printed_begins : (x : List ℕ) (rest : List ℕ) → IsWord x → begins_word (x ++ rest) ≡ true
+printed_begins [] rest is = absurd (let f : true ≡ false = is.some in cc)
+printed_begins (b ∷ bs) rest is = let a = and_true (printed b) (list_all printed bs) is.printed in grind (arith, nat_tests, a.0)
+
+joined_begins : (x : List ℕ) (xs : List (List ℕ)) → IsWord x → begins_word (joined (x ∷ xs)) ≡ true
+joined_begins x [] is = ap begins_word (sym (append-nil x)) ∙ printed_begins x [] is
+joined_begins x (y ∷ ys) is = printed_begins x (44 ∷ joined (y ∷ ys)) is
+
 -- what operands say says the field in which they are joined
-to_line : (operation field : List ℕ) (operands : List (List ℕ)) (task : Name) (s t : Statement) → Says operation operands s → field ≡ joined operands → t ≡ s → SaysLine operation field task (line.Statement task t)
-to_line operation field operands task s t said whole same text named is short =
-    let at : nat_lt 255 (length (line_text text operation operands)) ≡ false = ap (λ f. nat_lt 255 (length (text ++ (32 ∷ (operation ++ (32 ∷ f)))))) (sym whole) ∙ short in
-    let as_written : LineOf false (text ++ (32 ∷ (operation ++ (32 ∷ field)))) (line.Statement (padded text) s) =
-    subst (λ f. LineOf false (text ++ (32 ∷ (operation ++ (32 ∷ f)))) (line.Statement (padded text) s)) (sym whole) (said text named at) in
-    let of_task : LineOf false (text ++ (32 ∷ (operation ++ (32 ∷ field)))) (line.Statement task s) =
-    subst (λ u. LineOf false (text ++ (32 ∷ (operation ++ (32 ∷ field)))) (line.Statement u s)) (sym is) as_written in
-    subst (λ u. LineOf false (text ++ (32 ∷ (operation ++ (32 ∷ field)))) (line.Statement task u)) (sym same) of_task
+to_line : (operation field x : List ℕ) (xs : List (List ℕ)) (behind : List ℕ) (task : Name) (s t : Statement) → Says operation (x ∷ xs) s → IsWord operation → IsWord x
+    → field ≡ joined (x ∷ xs) ++ behind → is_remark behind ≡ true → t ≡ s → SaysLine operation field task (line.Statement task t)
+to_line operation field x xs behind task s t said is_word first whole remark same text named is short =
+    let short_too : nat_lt 255 (length (text ++ (32 ∷ (operation ++ (32 ∷ (joined (x ∷ xs) ++ behind)))))) ≡ false = ap (λ f. nat_lt 255 (length (text ++ (32 ∷ (operation ++ (32 ∷ f)))))) (sym whole) ∙ short in
+    let written : LineOf false (text ++ (32 ∷ (operation ++ (32 ∷ (joined (x ∷ xs) ++ behind))))) (line.Statement (padded text) s) =
+    behind_too text operation (joined (x ∷ xs)) behind (line.Statement (padded text) s) named is_word (joined_begins x xs first) remark short_too (said text named) in
+    let in_field : LineOf false (text ++ (32 ∷ (operation ++ (32 ∷ field)))) (line.Statement (padded text) s) =
+    subst (λ f. LineOf false (text ++ (32 ∷ (operation ++ (32 ∷ f)))) (line.Statement (padded text) s)) (sym whole) written in
+    subst (λ u. LineOf false (text ++ (32 ∷ (operation ++ (32 ∷ field)))) u) (λ i. line.Statement (sym is i) (sym same i)) in_field
+
+-- a word of letters
+word : (text : List ℕ) → is_empty text ≡ false → list_all printed text ≡ true → IsWord text
+word text some are = record { some = some; printed = are }
+
+form_is_word : (f : Form) → is_single f ≡ true → IsWord (form_word f)
+form_is_word form.R e = word (codes "R") refl refl
+form_is_word form.Rc e = word (codes "RC") refl refl
+form_is_word form.Ru e = word (codes "RU") refl refl
+form_is_word form.Vrc e = absurd (let g : false ≡ true = e in cc)
+form_is_word form.Vru e = absurd (let g : false ≡ true = e in cc)
+form_is_word form.Ec e = absurd (let g : false ≡ true = e in cc)
+form_is_word form.Eu e = absurd (let g : false ≡ true = e in cc)
+form_is_word form.Vc e = absurd (let g : false ≡ true = e in cc)
+form_is_word form.Vu e = absurd (let g : false ≡ true = e in cc)
+form_is_word form.Lc e = absurd (let g : false ≡ true = e in cc)
+form_is_word form.Lu e = absurd (let g : false ≡ true = e in cc)
+form_is_word form.Storage e = absurd (let g : false ≡ true = e in cc)
+form_is_word form.StorageConditional e = absurd (let g : false ≡ true = e in cc)
 
 -- the operands of a request for one area or of its release
-sized_field : (field : List ℕ) (f : Form) (n : ℕ) (digits rest area after : List ℕ) (sub : ℕ) (sp : Option (List ℕ)) → IsSized field f n digits rest → rest ≡ area ++ after → EndsWith after sub sp
-    → field ≡ joined (form_word f ∷ (codes "LV=" ++ digits) ∷ (codes "A=" ++ area) ∷ subpool_operand sp)
-sized_field field f n digits rest area after sub sp sized whole end =
-    sized.whole ∙ ap (λ t. form_word f ++ (codes ",LV=" ++ (digits ++ (44 ∷ t)))) (ap (λ t. codes "A=" ++ t) whole ∙ joined_end after (codes "A=" ++ area) sub sp end)
+sized_field : (field : List ℕ) (f : Form) (n : ℕ) (digits rest area after : List ℕ) (sub : ℕ) (sp : Option (List ℕ)) (last : List ℕ) (l : Loc) (behind : List ℕ) → IsSized field f n digits rest → rest ≡ area ++ after
+    → IsSubpoolFront after sub sp last → last ≡ loc_text l ++ behind → field ≡ joined (form_word f ∷ (codes "LV=" ++ digits) ∷ (codes "A=" ++ area) ∷ (subpool_operand sp ++ loc_operand l)) ++ behind
+sized_field field f n digits rest area after sub sp last l behind sized whole end placed =
+    let from_area : codes "A=" ++ rest ≡ joined ((codes "A=" ++ area) ∷ (subpool_operand sp ++ loc_operand l)) ++ behind = ap (λ t. codes "A=" ++ t) whole ∙ joined_end (codes "A=" ++ area) after sub sp last l behind end placed in
+    let inner : List ℕ = joined ((codes "A=" ++ area) ∷ (subpool_operand sp ++ loc_operand l)) in
+    sized.whole ∙ ap (λ t. form_word f ++ (codes ",LV=" ++ (digits ++ (44 ∷ t)))) from_area
+    ∙ ap (λ t. form_word f ++ (codes ",LV=" ++ t)) (sym (append_assoc digits (44 ∷ inner) behind))
+    ∙ sym (append_assoc (form_word f) (codes ",LV=" ++ (digits ++ (44 ∷ inner))) behind)
 
-pub obtain_line : (field : List ℕ) (task : Name) (f : Form) (n : ℕ) (digits rest text after : List ℕ) (area : Name) (sub : ℕ) (sp : Option (List ℕ)) (ask : AskValue)
-    → IsSized field f n digits rest → IsFront grammar.Name rest text after → area ≡ padded text → EndsWith after sub sp → ask ≡ record { least = n; most = n; start = 3; within = None; loc = loc.Res }
-    → SaysLine (codes "GETMAIN") field task (line.Statement task (says.Request (written.Obtain f sub ask false area)))
-obtain_line field task f n digits rest text after area sub sp ask sized front is end asks =
-    to_line (codes "GETMAIN") field (form_word f ∷ (codes "LV=" ++ digits) ∷ (codes "A=" ++ text) ∷ subpool_operand sp) task (obtaining f digits text sp) _
-    (obtains f sized.form_is digits text sp sized.fits front.fits (fits_end after sub sp end))
-    (sized_field field f n digits rest text after sub sp sized front.whole end)
-    (λ i. says.Request (written.Obtain f (number_end after sub sp end i) ((asks ∙ (λ k. record { least = sized.length_is k; most = sized.length_is k; start = 3; within = None; loc = loc.Res })) i) false (is i)))
+pub obtain_line : (field : List ℕ) (task : Name) (f : Form) (n : ℕ) (digits rest text after : List ℕ) (area : Name) (sub : ℕ) (sp : Option (List ℕ)) (last : List ℕ) (l : Loc) (behind : List ℕ) (ask : AskValue)
+    → IsSized field f n digits rest → IsFront grammar.Name rest text after → area ≡ padded text → IsSubpoolFront after sub sp last → last ≡ loc_text l ++ behind → may_place f l ≡ true → is_remark behind ≡ true
+    → ask ≡ record { least = n; most = n; start = 3; within = None; loc = l }
+    → SaysBehind (codes " GETMAIN ") field task (line.Statement task (says.Request (written.Obtain f sub ask false area)))
+obtain_line field task f n digits rest text after area sub sp last l behind ask sized front is end placed may remark asks =
+    to_line (codes "GETMAIN") field (form_word f) ((codes "LV=" ++ digits) ∷ (codes "A=" ++ text) ∷ (subpool_operand sp ++ loc_operand l)) behind task (obtaining f digits text sp l) _
+    (obtains f l sized.form_is may digits text sp sized.fits front.alone.fits (fits_subpool after sub sp last end)) (word (codes "GETMAIN") refl refl) (form_is_word f sized.form_is)
+    (sized_field field f n digits rest text after sub sp last l behind sized front.whole end placed) remark
+    (λ i. says.Request (written.Obtain f (number_is after sub sp last end i) ((asks ∙ (λ k. record { least = sized.length_is k; most = sized.length_is k; start = 3; within = None; loc = l })) i) false (is i)))
 
-pub release_line : (field : List ℕ) (task : Name) (f : Form) (n : ℕ) (digits rest name text after : List ℕ) (offset : ℕ) (address : Location) (len sub : ℕ) (sp : Option (List ℕ))
-    → IsSized field f n digits rest → IsAddressFront rest name offset text after → address ≡ Named (padded name) offset → len ≡ n → EndsWith after sub sp
-    → SaysLine (codes "FREEMAIN") field task (line.Statement task (says.Request (written.Release f sub address len)))
-release_line field task f n digits rest name text after offset address len sub sp sized place is same end =
-    to_line (codes "FREEMAIN") field (form_word f ∷ (codes "LV=" ++ digits) ∷ (codes "A=" ++ text) ∷ subpool_operand sp) task (releasing f digits text sp) _
-    (releases f sized.form_is digits text sp sized.fits place.front.fits (fits_end after sub sp end))
-    (sized_field field f n digits rest text after sub sp sized place.front.whole end)
-    (λ i. says.Request (written.Release f (number_end after sub sp end i) ((is ∙ place.location_is) i) ((same ∙ sized.length_is) i)))
+pub release_line : (field : List ℕ) (task : Name) (f : Form) (n : ℕ) (digits rest name text after : List ℕ) (offset : ℕ) (address : Location) (len sub : ℕ) (sp : Option (List ℕ)) (behind : List ℕ)
+    → IsSized field f n digits rest → IsAddressFront rest name offset text after → address ≡ Named (padded name) offset → len ≡ n → IsSubpoolFront after sub sp behind → is_remark behind ≡ true
+    → SaysBehind (codes " FREEMAIN ") field task (line.Statement task (says.Request (written.Release f sub address len)))
+release_line field task f n digits rest name text after offset address len sub sp behind sized address_front is same end remark =
+    to_line (codes "FREEMAIN") field (form_word f) ((codes "LV=" ++ digits) ∷ (codes "A=" ++ text) ∷ (subpool_operand sp ++ loc_operand loc.Res)) behind task (releasing f digits text sp) _
+    (releases f sized.form_is digits text sp sized.fits address_front.front.alone.fits (fits_subpool after sub sp behind end)) (word (codes "FREEMAIN") refl refl) (form_is_word f sized.form_is)
+    (sized_field field f n digits rest text after sub sp behind loc.Res behind sized address_front.front.whole end refl) remark
+    (λ i. says.Request (written.Release f (number_is after sub sp behind end i) ((is ∙ address_front.location_is) i) ((same ∙ sized.length_is) i)))
 
 -- the operands of a request for a cell or of its release
-pooled_field : (field name rest text : List ℕ) → IsPooled field name rest → rest ≡ text → field ≡ joined ((codes "CPID=" ++ name) ∷ (codes "CELL=" ++ text) ∷ [])
-pooled_field field name rest text pooled whole = pooled.whole ∙ ap (λ t. codes "CPID=" ++ (name ++ (codes ",CELL=" ++ t))) whole
+pooled_field : (field name rest text behind : List ℕ) → IsPooled field name rest → rest ≡ text ++ behind → field ≡ joined ((codes "CPID=" ++ name) ∷ (codes "CELL=" ++ text) ∷ []) ++ behind
+pooled_field field name rest text behind pooled whole =
+    pooled.whole ∙ ap (λ t. codes "CPID=" ++ (name ++ (codes ",CELL=" ++ t))) whole ∙ ap (λ t. codes "CPID=" ++ t) (sym (append_assoc name (codes ",CELL=" ++ text) behind))
 
-pub get_line : (conditional : Bool) (field : List ℕ) (task pool cell : Name) (name rest text after : List ℕ) → IsPooled field name rest → pool ≡ padded name → IsFront grammar.Name rest text after → cell ≡ padded text → (length after == 0) ≡ true
-    → SaysLine (codes "CPOOL") (codes "GET," ++ ((if conditional then codes "C," else []) ++ field)) task (line.Statement task (says.Request (written.Get pool conditional cell)))
-get_line true field task pool cell name rest text after pooled pool_is front is none =
-    to_line (codes "CPOOL") (codes "GET,C," ++ field) (codes "GET" ∷ codes "C" ∷ (codes "CPID=" ++ name) ∷ (codes "CELL=" ++ text) ∷ []) task _ _
-    (each_is_said.get_c name text pooled.fits front.fits)
-    (ap (λ t. codes "GET,C," ++ t) (pooled_field field name rest text pooled (front_whole grammar.Name rest text after front none)))
+pub get_line : (conditional : Bool) (field : List ℕ) (task pool cell : Name) (name rest text behind : List ℕ) → IsPooled field name rest → pool ≡ padded name → IsFront grammar.Name rest text behind → cell ≡ padded text → is_remark behind ≡ true
+    → SaysBehind (get_text conditional) field task (line.Statement task (says.Request (written.Get pool conditional cell)))
+get_line true field task pool cell name rest text behind pooled pool_is front is remark =
+    to_line (codes "CPOOL") (codes "GET,C," ++ field) (codes "GET") (codes "C" ∷ (codes "CPID=" ++ name) ∷ (codes "CELL=" ++ text) ∷ []) behind task _ _
+    (each_is_said.get_c name text pooled.fits front.alone.fits) (word (codes "CPOOL") refl refl) (word (codes "GET") refl refl)
+    (ap (λ t. codes "GET,C," ++ t) (pooled_field field name rest text behind pooled front.whole)) remark
     (λ i. says.Request (written.Get (pool_is i) true (is i)))
-get_line false field task pool cell name rest text after pooled pool_is front is none =
-    to_line (codes "CPOOL") (codes "GET," ++ field) (codes "GET" ∷ (codes "CPID=" ++ name) ∷ (codes "CELL=" ++ text) ∷ []) task _ _
-    (each_is_said.get name text pooled.fits front.fits)
-    (ap (λ t. codes "GET," ++ t) (pooled_field field name rest text pooled (front_whole grammar.Name rest text after front none)))
+get_line false field task pool cell name rest text behind pooled pool_is front is remark =
+    to_line (codes "CPOOL") (codes "GET," ++ field) (codes "GET") ((codes "CPID=" ++ name) ∷ (codes "CELL=" ++ text) ∷ []) behind task _ _
+    (each_is_said.get name text pooled.fits front.alone.fits) (word (codes "CPOOL") refl refl) (word (codes "GET") refl refl)
+    (ap (λ t. codes "GET," ++ t) (pooled_field field name rest text behind pooled front.whole)) remark
     (λ i. says.Request (written.Get (pool_is i) false (is i)))
 
-pub free_line : (field : List ℕ) (task pool : Name) (cell : Location) (name rest area text after : List ℕ) (offset : ℕ) → IsPooled field name rest → pool ≡ padded name → IsAddressFront rest area offset text after → cell ≡ Named (padded area) offset → (length after == 0) ≡ true
-    → SaysLine (codes "CPOOL") (codes "FREE," ++ field) task (line.Statement task (says.Request (written.Free pool cell)))
-free_line field task pool cell name rest area text after offset pooled pool_is place is none =
-    to_line (codes "CPOOL") (codes "FREE," ++ field) (codes "FREE" ∷ (codes "CPID=" ++ name) ∷ (codes "CELL=" ++ text) ∷ []) task _ _
-    (each_is_said.free name text pooled.fits place.front.fits)
-    (ap (λ t. codes "FREE," ++ t) (pooled_field field name rest text pooled (front_whole grammar.Address rest text after place.front none)))
+pub free_line : (field : List ℕ) (task pool : Name) (cell : Location) (name rest area text behind : List ℕ) (offset : ℕ) → IsPooled field name rest → pool ≡ padded name → IsAddressFront rest area offset text behind → cell ≡ Named (padded area) offset → is_remark behind ≡ true
+    → SaysBehind (codes " CPOOL FREE,") field task (line.Statement task (says.Request (written.Free pool cell)))
+free_line field task pool cell name rest area text behind offset pooled pool_is place is remark =
+    to_line (codes "CPOOL") (codes "FREE," ++ field) (codes "FREE") ((codes "CPID=" ++ name) ∷ (codes "CELL=" ++ text) ∷ []) behind task _ _
+    (each_is_said.free name text pooled.fits place.front.alone.fits) (word (codes "CPOOL") refl refl) (word (codes "FREE") refl refl)
+    (ap (λ t. codes "FREE," ++ t) (pooled_field field name rest text behind pooled place.front.whole)) remark
     (λ i. says.Request (written.Free (pool_is i) ((is ∙ place.location_is) i)))
+
+-- a name is short
+short_name : (name : List ℕ) → is_name name ≡ true → length name ≤ 8
+short_name name e =
+    let a = and_true (not (is_empty name) && nat_le (length name) 8 && list_all is_name_byte name) (not (is_digit (slice_index name 0))) e in
+    let b = and_true (not (is_empty name) && nat_le (length name) 8) (list_all is_name_byte name) a.0 in
+    let c = and_true (not (is_empty name)) (nat_le (length name) 8) b.0 in
+    grind (arith, nat_tests, c.1)
+
+pub return_line : (field : List ℕ) (task : Name) → (length field == 0) ≡ true → SaysBehind (codes " RETURN") field task (line.Statement task (says.Request written.Return))
+return_line [] task none text named is short =
+    let long : length (text ++ codes " RETURN ") ≡ length text + 8 = length-append text (codes " RETURN ") in
+    let small : length text ≤ 8 = short_name text named in
+    let with_blank : nat_lt 255 (length (text ++ codes " RETURN ")) ≡ false = grind (arith, nat_tests) in
+    without_blank false text (codes "RETURN") (line.Statement task (says.Request written.Return)) named (word (codes "RETURN") refl refl) short
+    (subst (λ u. LineOf false (text ++ codes " RETURN ") (line.Statement u (says.Request written.Return))) (sym is) (each_is_said.return text named with_blank))
+return_line (b ∷ field) task none text named is short = absurd (let zero : suc (length field) ≡ 0 = nat_same (suc (length field)) 0 none in omega arith)
+
+pub put_line : (field : List ℕ) (task : Name) (to : Location) (bytes : List ℕ) (name text rest after value behind : List ℕ) (offset : ℕ) → IsAddressFront field name offset text rest → to ≡ Named (padded name) offset → rest ≡ 44 ∷ after
+    → IsFront (grammar.Bytes 100) after value behind → bytes ≡ hex_bytes (quoted value) → is_remark behind ≡ true → SaysBehind (codes " PUT ") field task (line.Statement task (says.Request (written.Put to bytes)))
+put_line field task to bytes name text rest after value behind offset place is comma value_front said remark =
+    to_line (codes "PUT") field text (value ∷ []) behind task _ _ (each_is_said.put text value place.front.alone value_front.alone) (word (codes "PUT") refl refl) place.front.alone.fits.operand.word
+    (place.front.whole ∙ ap (λ t. text ++ t) (comma ∙ ap (λ t. 44 ∷ t) value_front.whole) ∙ sym (append_assoc text (44 ∷ value) behind)) remark
+    (λ i. says.Request (written.Put ((is ∙ place.location_is) i) (said i)))
+
+pub some_bytes : (text value rest : List ℕ) → IsFront (grammar.Bytes 100) text value rest → IsSomeBytes value
+some_bytes text value rest front = record { are = front.alone.fits.of_kind; few = grind (arith, nat_tests, front.alone.fits.within) }
+
+pub show_line : (field : List ℕ) (task : Name) (from : Location) (len n : ℕ) (name text rest after digits behind : List ℕ) (offset : ℕ) → IsAddressFront field name offset text rest → from ≡ Named (padded name) offset → rest ≡ 44 ∷ after
+    → IsNumberFront 1 4096 after n digits behind → len ≡ n → is_remark behind ≡ true → SaysBehind (codes " SHOW ") field task (line.Statement task (says.Request (written.Show from len)))
+show_line field task from len n name text rest after digits behind offset place is comma count same remark =
+    to_line (codes "SHOW") field text (digits ∷ []) behind task _ _ (each_is_said.show text digits place.front.alone count.front.alone) (word (codes "SHOW") refl refl) place.front.alone.fits.operand.word
+    (place.front.whole ∙ ap (λ t. text ++ t) (comma ∙ ap (λ t. 44 ∷ t) count.front.whole) ∙ sym (append_assoc text (44 ∷ digits) behind)) remark
+    (λ i. says.Request (written.Show ((is ∙ place.location_is) i) ((same ∙ count.value) i)))
+
+pub where_line : (field : List ℕ) (task area : Name) (text behind : List ℕ) → IsFront grammar.Name field text behind → area ≡ padded text → is_remark behind ≡ true
+    → SaysBehind (codes " WHERE ") field task (line.Statement task (says.Where area))
+where_line field task area text behind front is remark =
+    to_line (codes "WHERE") field text [] behind task _ _ (each_is_said.where_is text front.alone) (word (codes "WHERE") refl refl) front.alone.fits.operand.word front.whole remark (λ i. says.Where (is i))
+
+pub report_line : (field : List ℕ) (task : Name) → is_remark field ≡ true → SaysBehind (codes " REPORT SP") field task (line.Statement task says.ReportSubpools)
+report_line field task remark =
+    to_line (codes "REPORT") (codes "SP" ++ field) (codes "SP") [] field task _ _ each_is_said.report_sp (word (codes "REPORT") refl refl) (word (codes "SP") refl refl) refl remark refl
+
+-- what a head says that is known
+pub of_head : {X : Type 0} (o : Option X) (h known : Head) (field : List ℕ) (task : Name) (l : Line) → h ≡ known → MatchOption o (Unit {0}) (λ _. SaysBehind (head_text known) field task l)
+    → MatchOption o (Unit {0}) (λ _. SaysBehind (head_text h) field task l)
+of_head o h known field task l is said = subst (λ h. MatchOption o (Unit {0}) (λ _. SaysBehind (head_text h) field task l)) (sym is) said
 
 pub at_most : (most n : ℕ) → n ≤ most → nat_lt most n ≡ false
 at_most most n h = grind (arith, nat_tests)
 
--- the line of a task with such an operation
-pub whole_line : {X : Type 0} (o : Option X) (line task rest operation field : List ℕ) (name : Name) (l : Line) → nat_lt 255 (length line) ≡ false → IsFront grammar.Name line task rest → name ≡ padded task
-    → rest ≡ 32 ∷ (operation ++ (32 ∷ field)) → MatchOption o (Unit {0}) (λ _. SaysLine operation field name l) → MatchOption o (Unit {0}) (λ _. LineOf false line l)
-whole_line None line task rest operation field name l short front is head said = tt
-whole_line (Some x) line task rest operation field name l short front is head said =
-    let whole : line ≡ task ++ (32 ∷ (operation ++ (32 ∷ field))) = front.whole ∙ ap (λ t. task ++ t) head in
-    subst (λ t. LineOf false t l) (sym whole) (said task front.fits.of_kind is (ap (λ t. nat_lt 255 (length t)) (sym whole) ∙ short))
+-- the line of a task, and what stands behind its name
+pub whole_line : {X : Type 0} (o : Option X) (line task rest head field : List ℕ) (name : Name) (l : Line) → nat_lt 255 (length line) ≡ false → IsFront grammar.Name line task rest → name ≡ padded task
+    → rest ≡ head ++ field → MatchOption o (Unit {0}) (λ _. SaysBehind head field name l) → MatchOption o (Unit {0}) (λ _. LineOf false line l)
+whole_line None line task rest head field name l short front is behind said = tt
+whole_line (Some x) line task rest head field name l short front is behind said =
+    let whole : line ≡ task ++ (head ++ field) = front.whole ∙ ap (λ t. task ++ t) behind in
+    subst (λ t. LineOf false t l) (sym whole) (said task front.alone.fits.of_kind is (ap (λ t. nat_lt 255 (length t)) (sym whole) ∙ short))

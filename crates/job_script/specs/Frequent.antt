@@ -1,21 +1,24 @@
 -- The statements that a script repeats most, written plainly.
-use Rattle.std.specs.Prelude.{◌≡◌, ◌≤◌, ℕ, nat_lt, Bool, true, false, List, [], ◌∷◌, ◌++◌, length, Option, Some, None, codes}
+use Rattle.std.specs.Prelude.{◌≡◌, ◌≤◌, ℕ, nat_le, nat_lt, ◌==◌, ◌&&◌, Bool, true, false, List, [], ◌∷◌, ◌++◌, length, Option, Some, None, codes, if◌then◌else◌}
+use Rattle.std.specs.List.{list_all}
 use Rattle.mvs_model.specs.declared.code.Form.{Form}
 use Rattle.mvs_model.specs.declared.code.Form.TheVariants as form
 use Rattle.mvs_model.specs.declared.line.Line.{Line}
 use Rattle.mvs_model.specs.declared.line.Location.TheVariants.{Named}
 use Rattle.mvs_model.specs.declared.name.Name.{Name}
+use Rattle.mvs_model.specs.declared.want.Loc.{Loc}
+use Rattle.mvs_model.specs.declared.want.Loc.TheVariants as loc
 use Rattle.mvs_model.specs.Name.{padded}
 use Rattle.mvs_model.specs.Grammar as grammar
 use Rattle.mvs_model.specs.Reading.{LineOf, is_name, location, number}
-use Rattle.mvs_model.specs.Spelling.{Fits}
+use Rattle.mvs_model.specs.Spelling.{Fits, FitsAlone}
 use Rattle.job_script.specs.declared.frequent.Head.{Head}
 use Rattle.job_script.specs.declared.frequent.Head.TheVariants as head
 
 -- A text that fits a kind stands in front, and behind it the rest.
 pub record IsFront (kind : grammar.Kind) (text value rest : List ℕ) : Type 0 where
   pub whole : text ≡ value ++ rest
-  pub fits : Fits kind value
+  pub alone : FitsAlone kind value
 
 -- The text starts with a number from a least to a greatest one.
 pub record IsNumberFront (least most : ℕ) (text : List ℕ) (n : ℕ) (digits rest : List ℕ) : Type 0 where
@@ -31,10 +34,26 @@ pub record IsAddressFront (text name : List ℕ) (offset : ℕ) (address rest : 
   pub location_is : Named (padded name) offset ≡ location address
   pub near : offset ≤ 33554431
 
--- what stands behind the other operands: nothing, or the number of a subpool
-abbrev pub EndsWith : List ℕ → ℕ → Option (List ℕ) → Type 0
-EndsWith text n None = (text ≡ []) × (n ≡ 0)
-EndsWith text n (Some sp) = (text ≡ codes ",SP=" ++ sp) × Fits (grammar.Number 0 255) sp × (n ≡ number sp)
+-- what may stand behind operands: nothing, or a remark behind a blank
+abbrev pub is_remark : List ℕ → Bool
+is_remark [] = true
+is_remark (b ∷ bs) = (b == 32) && list_all (λ b. nat_le 32 b && nat_le b 126) bs
+
+-- the text starts with the number of a subpool, or has none there, which means 0
+abbrev pub IsSubpoolFront : List ℕ → ℕ → Option (List ℕ) → List ℕ → Type 0
+IsSubpoolFront text n None rest = (text ≡ rest) × (n ≡ 0)
+IsSubpoolFront text n (Some sp) rest = (text ≡ codes ",SP=" ++ (sp ++ rest)) × Fits (grammar.Number 0 255) sp × (n ≡ number sp)
+
+-- the operand that asks for a place in storage, and whether a form takes it; without one it is that of the task
+abbrev pub loc_text : Loc → List ℕ
+loc_text loc.Any = codes ",LOC=ANY"
+loc_text loc.Below = codes ",LOC=BELOW"
+loc_text loc.Res = []
+
+abbrev pub may_place : Form → Loc → Bool
+may_place f loc.Res = true
+may_place form.R l = false
+may_place f l = true
 
 -- the forms that both GETMAIN and FREEMAIN have for one area, and their words
 abbrev pub is_single : Form → Bool
@@ -63,15 +82,24 @@ pub record IsPooled (field name rest : List ℕ) : Type 0 where
   pub fits : Fits grammar.Name name
   pub whole : field ≡ codes "CPID=" ++ (name ++ (codes ",CELL=" ++ rest))
 
--- The line of a task with an operation and its operands, where it has at most 255 bytes, says this.
-abbrev pub SaysLine : List ℕ → List ℕ → Name → Line → Type 0
-SaysLine operation field task l =
-    (text : List ℕ) → is_name text ≡ true → task ≡ padded text → nat_lt 255 (length (text ++ (32 ∷ (operation ++ (32 ∷ field))))) ≡ false
-    → LineOf false (text ++ (32 ∷ (operation ++ (32 ∷ field)))) l
+-- The line of a task that goes on with two texts says this, where it has at most 255 bytes.
+abbrev pub SaysBehind : List ℕ → List ℕ → Name → Line → Type 0
+SaysBehind head field task l =
+    (text : List ℕ) → is_name text ≡ true → task ≡ padded text → nat_lt 255 (length (text ++ (head ++ field))) ≡ false → LineOf false (text ++ (head ++ field)) l
 
--- the operations that are read so behind the name of a task, with the forms of CPOOL, up to their operands
+-- CPOOL GET up to its operands, conditional or not
+abbrev pub get_text : Bool → List ℕ
+get_text conditional = if conditional then codes " CPOOL GET,C," else codes " CPOOL GET,"
+
+-- what stands between the name of a task and the operands of a statement that is read so
 abbrev pub head_text : Head → List ℕ
 head_text head.Getmain = codes " GETMAIN "
 head_text head.Freemain = codes " FREEMAIN "
-head_text head.Get = codes " CPOOL GET,"
+head_text head.Get = get_text false
+head_text head.ConditionalGet = get_text true
 head_text head.Free = codes " CPOOL FREE,"
+head_text head.Return = codes " RETURN"
+head_text head.Put = codes " PUT "
+head_text head.Show = codes " SHOW "
+head_text head.Where = codes " WHERE "
+head_text head.Report = codes " REPORT SP"

@@ -106,8 +106,8 @@ pub fn is_same_number(one: &[u8], other: &[u8]) -> bool
     }
 }
 
-// Whether the byte is one of 0 to 9 and A to F.
-fn is_hex_digit(byte: u8) -> bool
+/// Whether the byte is one of 0 to 9 and A to F.
+pub fn is_hex_digit(byte: u8) -> bool
     ensures { result ≡ is_hex_digit byte }
 {
     matches!(byte, b'0'..=b'9' | b'A'..=b'F')

@@ -1,99 +1,22 @@
-//! The statements that a script repeats most, read in one pass where they are written plainly: one blank between the words, the operands in the
-//! order of the table, and nothing behind them. Every other line is read by the table. Both are proved against one definition, so that no line is read
-//! otherwise here than there.
+//! The statements that a script repeats most, read in one pass where they are written plainly: one blank between the words, and the operands in the
+//! order of the table. Every other line is read by the table. Both are proved against one definition, so that no line is read otherwise here than
+//! there.
 
-ghost use Rattle.std.specs.Prelude.{◌≡◌, ◌≤◌, ◌++◌, ◌∷◌, [], ℕ, List, Option, Some, length, take, codes, true, false, if◌then◌else◌, MatchOption};
-ghost use Rattle.std.specs.List.{list_all};
-ghost use Rattle.mvs_model.specs.Name.{padded};
-ghost use Rattle.mvs_model.specs.Grammar as grammar;
-ghost use Rattle.mvs_model.specs.Reading.{LineOf, is_digit, is_name, is_name_byte, location, number};
-ghost use Rattle.job_script.specs.Frequent.{IsFront, IsNumberFront, IsAddressFront, EndsWith, IsPooled, IsSized, SaysLine, form_word, head_text, is_single};
+ghost use Rattle.std.specs.Prelude.{◌≡◌, ◌++◌, ◌∷◌, ℕ, List, Option, codes, true, false, MatchOption};
+ghost use Rattle.mvs_model.specs.Reading.{LineOf};
+ghost use Rattle.job_script.specs.Frequent.{IsPooled, IsSized, IsSubpoolFront, SaysBehind, form_word, get_text, head_text, is_single, loc_text, may_place};
 
 use crate::LONGEST;
-use crate::addresses::{is_name_byte, name};
-use mvs_model::bounded::{Exponent, Length, Offset};
+use crate::addresses::name;
+use crate::in_front::{
+    address_in_front, behind_comma, bytes_in_front, is_remark, name_in_front, number_in_front,
+};
+use crate::taken::bytes;
+use mvs_model::bounded::{Exponent, Length, Offset, ShowLength};
 use mvs_model::code::Form;
 use mvs_model::line::{Line, Location, Statement, Written};
 use mvs_model::name::Name;
 use mvs_model::want::{Ask, Loc};
-
-// How many digits a text starts with, at most ten, and the number that they write.
-fn digits_in_front(text: &[u8]) -> (usize, u64)
-    ensures digits { list_all is_digit (take result.0 text.now) ≡ true }
-    ensures value { result.1 ≡ number (take result.0 text.now) }
-    ensures few { result.0 ≤ 10 }
-    ensures within { result.0 ≤ length text.now }
-{
-    let mut value = 0;
-    for (i, byte) in text.iter().enumerate() {
-        if i == 10 || !byte.is_ascii_digit() {
-            return (i, value);
-        }
-        value = value * 10 + u64::from(*byte - b'0');
-    }
-    (text.len(), value)
-}
-
-// The number that a text starts with, where it has at most ten digits and lies between two others, and the text behind it.
-fn number_in_front(least: u32, most: u32, text: &[u8]) -> Option<(u32, &[u8])>
-    ensures { MatchOption result (Unit {0}) (λ r. (digits : List ℕ) × IsNumberFront least most text.now r.0 digits r.1.now) }
-{
-    let (end, value) = digits_in_front(text);
-    if end == 0 || value < u64::from(least) || u64::from(most) < value {
-        return None;
-    }
-    Some((value as u32, &text[end..]))
-}
-
-// Where the bytes end that a name may have.
-fn name_end(text: &[u8]) -> usize
-    ensures bytes { list_all is_name_byte (take result text.now) ≡ true }
-    ensures within { result ≤ length text.now }
-{
-    for (i, byte) in text.iter().enumerate() {
-        if !is_name_byte(*byte) {
-            return i;
-        }
-    }
-    text.len()
-}
-
-// The name that a text starts with, and the text behind it.
-fn name_in_front(text: &[u8]) -> Option<(&[u8], &[u8])>
-    ensures { MatchOption result (Unit {0}) (λ r. IsFront grammar.Name text.now r.0.now r.1.now) }
-{
-    let end = name_end(text);
-    if end == 0 || end > 8 || text[0].is_ascii_digit() {
-        return None;
-    }
-    Some((&text[..end], &text[end..]))
-}
-
-// The text behind a plus sign.
-fn behind_plus(text: &[u8]) -> Option<&[u8]>
-    ensures { MatchOption result (Unit {0}) (λ rest. text.now ≡ 43 ∷ rest.now) }
-{
-    match text {
-        [b'+', rest @ ..] => Some(rest),
-        _ => None,
-    }
-}
-
-// The name that a text starts with, the offset behind it, or 0, and the text behind both.
-fn address_in_front(text: &[u8]) -> Option<(&[u8], u32, &[u8])>
-    ensures { MatchOption result (Unit {0}) (λ r. (address : List ℕ) × IsAddressFront text.now r.0.now r.1 address r.2.now) }
-{
-    let Some((area, rest)) = name_in_front(text) else {
-        return None;
-    };
-    let Some(digits) = behind_plus(rest) else {
-        return Some((area, 0, rest));
-    };
-    let Some((offset, rest)) = number_in_front(0, 33_554_431, digits) else {
-        return None;
-    };
-    Some((area, offset, rest))
-}
 
 // The text behind the key of a subpool.
 fn behind_subpool_key(text: &[u8]) -> Option<&[u8]>
@@ -105,23 +28,31 @@ fn behind_subpool_key(text: &[u8]) -> Option<&[u8]>
     }
 }
 
-// The number of the subpool behind the other operands, or 0 where nothing is behind them.
-fn subpool_at_end(text: &[u8]) -> Option<u8>
-    ensures { MatchOption result (Unit {0}) (λ n. (sp : Option (List ℕ)) × EndsWith text.now n sp) }
+// The number of the subpool that a text starts with, or 0, and the text behind it.
+fn subpool_in_front(text: &[u8]) -> Option<(u8, &[u8])>
+    ensures { MatchOption result (Unit {0}) (λ r. (sp : Option (List ℕ)) × IsSubpoolFront text.now r.0 sp r.1.now) }
 {
-    if text.is_empty() {
-        return Some(0);
-    }
     let Some(digits) = behind_subpool_key(text) else {
-        return None;
+        return Some((0, text));
     };
     let Some((number, rest)) = number_in_front(0, 255, digits) else {
         return None;
     };
-    if rest.is_empty() {
-        Some(number as u8)
-    } else {
-        None
+    Some((number as u8, rest))
+}
+
+// The place in storage that a text starts with, or that of the task, and the text behind it. (GETMAIN R has no such operand.)
+fn loc_in_front(form: Form, text: &[u8]) -> (Loc, &[u8])
+    ensures text { text.now ≡ loc_text result.0 ++ result.1.now }
+    ensures form { may_place form result.0 ≡ true }
+{
+    match (form, text) {
+        (Form::R, _) => (Loc::Res, text),
+        (_, [b',', b'L', b'O', b'C', b'=', b'A', b'N', b'Y', rest @ ..]) => (Loc::Any, rest),
+        (_, [b',', b'L', b'O', b'C', b'=', b'B', b'E', b'L', b'O', b'W', rest @ ..]) => {
+            (Loc::Below, rest)
+        }
+        _ => (Loc::Res, text),
     }
 }
 
@@ -174,7 +105,7 @@ fn pool_in_front(field: &[u8]) -> Option<(&[u8], &[u8])>
 
 // GETMAIN of one area.
 fn read_obtain(task: Name, field: &[u8], line: &mut Line) -> Option<()>
-    ensures { MatchOption result (Unit {0}) (λ _. SaysLine (codes "GETMAIN") field.now task line.new) }
+    ensures { MatchOption result (Unit {0}) (λ _. SaysBehind (codes " GETMAIN ") field.now task line.new) }
 {
     let Some((form, len, rest)) = sized_in_front(field) else {
         return None;
@@ -182,15 +113,19 @@ fn read_obtain(task: Name, field: &[u8], line: &mut Line) -> Option<()>
     let Some((area, rest)) = name_in_front(rest) else {
         return None;
     };
-    let Some(number) = subpool_at_end(rest) else {
+    let Some((number, rest)) = subpool_in_front(rest) else {
         return None;
     };
+    let (loc, rest) = loc_in_front(form, rest);
+    if !is_remark(rest) {
+        return None;
+    }
     *line = Line::Statement(
         task,
         Statement::Request(Written::Obtain {
             form,
             number,
-            ask: Ask::fixed(Length::new(len), Exponent::new(3), Loc::Res),
+            ask: Ask::fixed(Length::new(len), Exponent::new(3), loc),
             variable: false,
             area: name(area),
         }),
@@ -200,7 +135,7 @@ fn read_obtain(task: Name, field: &[u8], line: &mut Line) -> Option<()>
 
 // FREEMAIN of one area.
 fn read_release(task: Name, field: &[u8], line: &mut Line) -> Option<()>
-    ensures { MatchOption result (Unit {0}) (λ _. SaysLine (codes "FREEMAIN") field.now task line.new) }
+    ensures { MatchOption result (Unit {0}) (λ _. SaysBehind (codes " FREEMAIN ") field.now task line.new) }
 {
     let Some((form, len, rest)) = sized_in_front(field) else {
         return None;
@@ -208,9 +143,12 @@ fn read_release(task: Name, field: &[u8], line: &mut Line) -> Option<()>
     let Some((area, offset, rest)) = address_in_front(rest) else {
         return None;
     };
-    let Some(number) = subpool_at_end(rest) else {
+    let Some((number, rest)) = subpool_in_front(rest) else {
         return None;
     };
+    if !is_remark(rest) {
+        return None;
+    }
     *line = Line::Statement(
         task,
         Statement::Request(Written::Release {
@@ -225,7 +163,7 @@ fn read_release(task: Name, field: &[u8], line: &mut Line) -> Option<()>
 
 // CPOOL GET.
 fn read_get(task: Name, conditional: bool, field: &[u8], line: &mut Line) -> Option<()>
-    ensures { MatchOption result (Unit {0}) (λ _. SaysLine (codes "CPOOL") (codes "GET," ++ ((if conditional then codes "C," else []) ++ field.now)) task line.new) }
+    ensures { MatchOption result (Unit {0}) (λ _. SaysBehind (get_text conditional) field.now task line.new) }
 {
     let Some((pool, rest)) = pool_in_front(field) else {
         return None;
@@ -233,7 +171,7 @@ fn read_get(task: Name, conditional: bool, field: &[u8], line: &mut Line) -> Opt
     let Some((cell, rest)) = name_in_front(rest) else {
         return None;
     };
-    if !rest.is_empty() {
+    if !is_remark(rest) {
         return None;
     }
     *line = Line::Statement(
@@ -249,7 +187,7 @@ fn read_get(task: Name, conditional: bool, field: &[u8], line: &mut Line) -> Opt
 
 // CPOOL FREE.
 fn read_free(task: Name, field: &[u8], line: &mut Line) -> Option<()>
-    ensures { MatchOption result (Unit {0}) (λ _. SaysLine (codes "CPOOL") (codes "FREE," ++ field.now) task line.new) }
+    ensures { MatchOption result (Unit {0}) (λ _. SaysBehind (codes " CPOOL FREE,") field.now task line.new) }
 {
     let Some((pool, rest)) = pool_in_front(field) else {
         return None;
@@ -257,7 +195,7 @@ fn read_free(task: Name, field: &[u8], line: &mut Line) -> Option<()>
     let Some((cell, offset, rest)) = address_in_front(rest) else {
         return None;
     };
-    if !rest.is_empty() {
+    if !is_remark(rest) {
         return None;
     }
     *line = Line::Statement(
@@ -270,53 +208,107 @@ fn read_free(task: Name, field: &[u8], line: &mut Line) -> Option<()>
     Some(())
 }
 
-// The operations that are read here, with the forms of CPOOL.
+// RETURN, with nothing behind it.
+fn read_return(task: Name, field: &[u8], line: &mut Line) -> Option<()>
+    ensures { MatchOption result (Unit {0}) (λ _. SaysBehind (codes " RETURN") field.now task line.new) }
+{
+    if !field.is_empty() {
+        return None;
+    }
+    *line = Line::Statement(task, Statement::Request(Written::Return));
+    Some(())
+}
+
+// PUT, to an area that has a name.
+fn read_put(task: Name, field: &[u8], line: &mut Line) -> Option<()>
+    ensures { MatchOption result (Unit {0}) (λ _. SaysBehind (codes " PUT ") field.now task line.new) }
+{
+    let Some((area, offset, rest)) = address_in_front(field) else {
+        return None;
+    };
+    let Some(rest) = behind_comma(rest) else {
+        return None;
+    };
+    let Some((quoted, rest)) = bytes_in_front(rest) else {
+        return None;
+    };
+    if !is_remark(rest) {
+        return None;
+    }
+    *line = Line::Statement(
+        task,
+        Statement::Request(Written::Put {
+            to: Location::Named(name(area), Offset::new(offset)),
+            bytes: bytes(quoted),
+        }),
+    );
+    Some(())
+}
+
+// SHOW, of an area that has a name.
+fn read_show(task: Name, field: &[u8], line: &mut Line) -> Option<()>
+    ensures { MatchOption result (Unit {0}) (λ _. SaysBehind (codes " SHOW ") field.now task line.new) }
+{
+    let Some((area, offset, rest)) = address_in_front(field) else {
+        return None;
+    };
+    let Some(rest) = behind_comma(rest) else {
+        return None;
+    };
+    let Some((len, rest)) = number_in_front(1, 4_096, rest) else {
+        return None;
+    };
+    if !is_remark(rest) {
+        return None;
+    }
+    *line = Line::Statement(
+        task,
+        Statement::Request(Written::Show {
+            from: Location::Named(name(area), Offset::new(offset)),
+            len: ShowLength::new(len),
+        }),
+    );
+    Some(())
+}
+
+// WHERE.
+fn read_where(task: Name, field: &[u8], line: &mut Line) -> Option<()>
+    ensures { MatchOption result (Unit {0}) (λ _. SaysBehind (codes " WHERE ") field.now task line.new) }
+{
+    let Some((area, rest)) = name_in_front(field) else {
+        return None;
+    };
+    if !is_remark(rest) {
+        return None;
+    }
+    *line = Line::Statement(task, Statement::Where(name(area)));
+    Some(())
+}
+
+// REPORT SP.
+fn read_report(task: Name, field: &[u8], line: &mut Line) -> Option<()>
+    ensures { MatchOption result (Unit {0}) (λ _. SaysBehind (codes " REPORT SP") field.now task line.new) }
+{
+    if !is_remark(field) {
+        return None;
+    }
+    *line = Line::Statement(task, Statement::ReportSubpools);
+    Some(())
+}
+
+// What stands between the name of a task and the operands of a statement that is read here; the word that is an operand for itself stands with it.
 #[derive(Clone, Copy)]
 enum Head {
     Getmain,
     Freemain,
     Get,
+    ConditionalGet,
     Free,
-}
-
-// The text behind the end of the words GETMAIN and FREEMAIN.
-fn behind_main(text: &[u8]) -> Option<&[u8]>
-    ensures { MatchOption result (Unit {0}) (λ rest. text.now ≡ codes "MAIN " ++ rest.now) }
-{
-    match text {
-        [b'M', b'A', b'I', b'N', b' ', rest @ ..] => Some(rest),
-        _ => None,
-    }
-}
-
-// The text behind GETMAIN.
-fn behind_getmain(text: &[u8]) -> Option<&[u8]>
-    ensures { MatchOption result (Unit {0}) (λ rest. text.now ≡ codes " GETMAIN " ++ rest.now) }
-{
-    match text {
-        [b' ', b'G', b'E', b'T', rest @ ..] => behind_main(rest),
-        _ => None,
-    }
-}
-
-// The text behind FREEMAIN.
-fn behind_freemain(text: &[u8]) -> Option<&[u8]>
-    ensures { MatchOption result (Unit {0}) (λ rest. text.now ≡ codes " FREEMAIN " ++ rest.now) }
-{
-    match text {
-        [b' ', b'F', b'R', b'E', b'E', rest @ ..] => behind_main(rest),
-        _ => None,
-    }
-}
-
-// The text behind CPOOL.
-fn behind_cpool(text: &[u8]) -> Option<&[u8]>
-    ensures { MatchOption result (Unit {0}) (λ rest. text.now ≡ codes " CPOOL " ++ rest.now) }
-{
-    match text {
-        [b' ', b'C', b'P', b'O', b'O', b'L', b' ', rest @ ..] => Some(rest),
-        _ => None,
-    }
+    Return,
+    Put,
+    Show,
+    Where,
+    Report,
 }
 
 // The form of CPOOL that a text starts with, and the text behind its comma.
@@ -324,35 +316,70 @@ fn pool_form_in_front(text: &[u8]) -> Option<(Head, &[u8])>
     ensures { MatchOption result (Unit {0}) (λ r. codes " CPOOL " ++ text.now ≡ head_text r.0 ++ r.1.now) }
 {
     match text {
+        [b'G', b'E', b'T', b',', b'C', b',', field @ ..] => Some((Head::ConditionalGet, field)),
         [b'G', b'E', b'T', b',', field @ ..] => Some((Head::Get, field)),
         [b'F', b'R', b'E', b'E', b',', field @ ..] => Some((Head::Free, field)),
         _ => None,
     }
 }
 
-// The operation behind the name of a task, and the text behind it and its form.
-fn head_in_front(text: &[u8]) -> Option<(Head, &[u8])>
+// The head of a storage request behind the name of a task, and the text behind it.
+fn storage_head_in_front(text: &[u8]) -> Option<(Head, &[u8])>
     ensures { MatchOption result (Unit {0}) (λ r. text.now ≡ head_text r.0 ++ r.1.now) }
 {
-    if let Some(field) = behind_getmain(text) {
-        return Some((Head::Getmain, field));
-    }
-    if let Some(field) = behind_freemain(text) {
-        return Some((Head::Freemain, field));
-    }
-    match behind_cpool(text) {
-        Some(rest) => pool_form_in_front(rest),
-        None => None,
+    match text {
+        [b' ', b'G', b'E', b'T', b'M', b'A', b'I', b'N', b' ', field @ ..] => {
+            Some((Head::Getmain, field))
+        }
+        [b' ', b'F', b'R', b'E', b'E', b'M', b'A', b'I', b'N', b' ', field @ ..] => {
+            Some((Head::Freemain, field))
+        }
+        [b' ', b'C', b'P', b'O', b'O', b'L', b' ', rest @ ..] => pool_form_in_front(rest),
+        _ => None,
     }
 }
 
-// The text behind the word that makes CPOOL GET conditional.
-fn behind_conditional(field: &[u8]) -> Option<&[u8]>
-    ensures { MatchOption result (Unit {0}) (λ rest. field.now ≡ codes "C," ++ rest.now) }
+// The head of another statement behind the name of a task, and the text behind it.
+fn other_head_in_front(text: &[u8]) -> Option<(Head, &[u8])>
+    ensures { MatchOption result (Unit {0}) (λ r. text.now ≡ head_text r.0 ++ r.1.now) }
 {
-    match field {
-        [b'C', b',', rest @ ..] => Some(rest),
+    match text {
+        [b' ', b'P', b'U', b'T', b' ', field @ ..] => Some((Head::Put, field)),
+        [b' ', b'S', b'H', b'O', b'W', b' ', field @ ..] => Some((Head::Show, field)),
+        [b' ', b'W', b'H', b'E', b'R', b'E', b' ', field @ ..] => Some((Head::Where, field)),
+        [b' ', b'R', b'E', b'T', b'U', b'R', b'N', field @ ..] => Some((Head::Return, field)),
+        [b' ', b'R', b'E', b'P', b'O', b'R', b'T', b' ', b'S', b'P', field @ ..] => {
+            Some((Head::Report, field))
+        }
         _ => None,
+    }
+}
+
+// The head behind the name of a task, and the text behind it.
+fn head_in_front(text: &[u8]) -> Option<(Head, &[u8])>
+    ensures { MatchOption result (Unit {0}) (λ r. text.now ≡ head_text r.0 ++ r.1.now) }
+{
+    match storage_head_in_front(text) {
+        Some(found) => Some(found),
+        None => other_head_in_front(text),
+    }
+}
+
+// What is said behind a head.
+fn read_behind(head: Head, task: Name, field: &[u8], read: &mut Line) -> Option<()>
+    ensures { MatchOption result (Unit {0}) (λ _. SaysBehind (head_text head) field.now task read.new) }
+{
+    match head {
+        Head::Getmain => read_obtain(task, field, read),
+        Head::Freemain => read_release(task, field, read),
+        Head::Get => read_get(task, false, field, read),
+        Head::ConditionalGet => read_get(task, true, field, read),
+        Head::Free => read_free(task, field, read),
+        Head::Return => read_return(task, field, read),
+        Head::Put => read_put(task, field, read),
+        Head::Show => read_show(task, field, read),
+        Head::Where => read_where(task, field, read),
+        Head::Report => read_report(task, field, read),
     }
 }
 
@@ -369,14 +396,5 @@ pub fn read_frequent(line: &[u8], read: &mut Line) -> Option<()>
     let Some((head, field)) = head_in_front(rest) else {
         return None;
     };
-    let task = name(task);
-    match head {
-        Head::Getmain => read_obtain(task, field, read),
-        Head::Freemain => read_release(task, field, read),
-        Head::Get => match behind_conditional(field) {
-            Some(operands) => read_get(task, true, operands, read),
-            None => read_get(task, false, field, read),
-        },
-        Head::Free => read_free(task, field, read),
-    }
+    read_behind(head, name(task), field, read)
 }

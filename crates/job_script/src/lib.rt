@@ -35,6 +35,7 @@ mod data_lines;
 mod digits;
 mod frequent;
 mod given;
+mod in_front;
 mod items;
 mod keys;
 mod kinds;

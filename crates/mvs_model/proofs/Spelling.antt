@@ -15,7 +15,7 @@ use Rattle.mvs_model.proofs.ReadingTaken.{and_true}
 abbrev pub printed : ℕ → Bool
 printed b = nat_le 33 b && nat_le b 126
 
-abbrev plain : ℕ → Bool
+abbrev pub plain : ℕ → Bool
 plain b = nat_le 32 b && nat_le b 126
 
 pub not_true : (a : Bool) → not a ≡ true → a ≡ false
@@ -40,13 +40,13 @@ name_is_printed b e = grind (arith, nat_tests)
 
 -- ---- cut at blanks
 
-blank_behind : (xs rest : List ℕ) → list_all printed xs ≡ true → slice_split (λ b. b == 32) (xs ++ 32 ∷ rest) ≡ xs ∷ slice_split (λ b. b == 32) rest
+pub blank_behind : (xs rest : List ℕ) → list_all printed xs ≡ true → slice_split (λ b. b == 32) (xs ++ 32 ∷ rest) ≡ xs ∷ slice_split (λ b. b == 32) rest
 blank_behind [] rest e = refl
 blank_behind (x ∷ xs) rest e =
     let a = and_true (printed x) (list_all printed xs) e in
     slice_split-cons_no (λ b. b == 32) x (xs ++ 32 ∷ rest) (printed_no_blank x a.0) ∙ ap (onto_first x) (blank_behind xs rest a.1)
 
-no_blank : (xs : List ℕ) → list_all printed xs ≡ true → slice_split (λ b. b == 32) xs ≡ xs ∷ []
+pub no_blank : (xs : List ℕ) → list_all printed xs ≡ true → slice_split (λ b. b == 32) xs ≡ xs ∷ []
 no_blank [] e = refl
 no_blank (x ∷ xs) e =
     let a = and_true (printed x) (list_all printed xs) e in
@@ -68,7 +68,7 @@ words_are a b c is_a is_b is_c =
     ap (filter (λ word. not (is_empty word))) (blank_behind a (b ++ (32 ∷ c)) is_a.printed ∙ ap (λ l. a ∷ l) (blank_behind b c is_b.printed ∙ ap (λ l. b ∷ l) (no_blank c is_c.printed)))
     ∙ three_kept a b c is_a.some is_b.some is_c.some
 
-before_blank : (xs rest : List ℕ) → list_all printed xs ≡ true → before_first (λ b. b == 32) (xs ++ 32 ∷ rest) ≡ xs
+pub before_blank : (xs rest : List ℕ) → list_all printed xs ≡ true → before_first (λ b. b == 32) (xs ++ 32 ∷ rest) ≡ xs
 before_blank [] rest e = refl
 before_blank (x ∷ xs) rest e =
     let a = and_true (printed x) (list_all printed xs) e in
@@ -119,7 +119,7 @@ name_bytes name e =
     let b = and_true (not (is_empty name) && nat_le (length name) 8) (list_all is_name_byte name) a.0 in
     (not_true _ (and_true (not (is_empty name)) (nat_le (length name) 8) b.0).0, b.1)
 
-name_word : (name : List ℕ) → is_name name ≡ true → IsWord name
+pub name_word : (name : List ℕ) → is_name name ≡ true → IsWord name
 name_word name e =
     let n = name_bytes name e in
     record { some = n.0; printed = all_weaker is_name_byte printed name_is_printed name n.1 }
@@ -130,12 +130,12 @@ not_nothing b bs e =
     let star : (b == 42) ≡ false = grind (arith, nat_tests) in
     ap (λ t. (t && list_all (λ b. b == 32) bs) || (b == 42)) blank ∙ star
 
-says_something : (name rest : List ℕ) → is_name name ≡ true → says_nothing (name ++ rest) ≡ false
+pub says_something : (name rest : List ℕ) → is_name name ≡ true → says_nothing (name ++ rest) ≡ false
 says_something [] rest e = absurd (let f : false ≡ true = e in cc)
 says_something (b ∷ bs) rest e =
     not_nothing b (bs ++ rest) (and_true (is_name_byte b) (list_all is_name_byte bs) (name_bytes (b ∷ bs) e).1).0
 
-plain_word : (a : List ℕ) → IsWord a → list_all plain a ≡ true
+pub plain_word : (a : List ℕ) → IsWord a → list_all plain a ≡ true
 plain_word a is = all_weaker printed plain printed_is_plain a is.printed
 
 two_words : (a b : List ℕ) → IsWord a → IsWord b → words (a ++ (32 ∷ (b ++ (32 ∷ [])))) ≡ a ∷ b ∷ []

@@ -416,7 +416,7 @@ none_behind : (text : List ℕ) → drop (suc (length text)) text ≡ []
 none_behind [] = refl
 none_behind (b ∷ text) = none_behind text
 
-pub name_alone : (name : List ℕ) → is_name name ≡ true → Fits Address name × (location name ≡ Named (padded name) 0)
+pub name_alone : (name : List ℕ) → is_name name ≡ true → FitsAlone Address name × (location name ≡ Named (padded name) 0)
 name_alone name e =
     let bytes = name_bytes name e in
     let unquoted : is_quoted name ≡ false = not_quoted (nat_le 3 (length name)) _ _ (alone_unquoted name bytes.0 bytes.1) in
@@ -425,10 +425,13 @@ name_alone name e =
     let after : after_first is_plus name ≡ [] = ap (λ k. drop (k + 1) name) (plus_nowhere name bytes.1) ∙ ap (λ k. drop k name) one ∙ none_behind name in
     let none = no_plus name bytes.1 in (
       record {
-        of_kind = (λ i. if unquoted i then is_absolute (quoted name) else (is_name (before i) && (not (none i) || is_number (after i)))) ∙ and_from (is_name name) _ e refl;
-        within = (λ i. if unquoted i then nat_le (hex_number (quoted name)) 0x7FFFFFFF else (not (none i) || is_in_range 0 33554431 (after i)));
-        once = refl;
-        operand = simple_operand name bytes.0 (name_all name e);
+        fits = record {
+          of_kind = (λ i. if unquoted i then is_absolute (quoted name) else (is_name (before i) && (not (none i) || is_number (after i)))) ∙ and_from (is_name name) _ e refl;
+          within = (λ i. if unquoted i then nat_le (hex_number (quoted name)) 0x7FFFFFFF else (not (none i) || is_in_range 0 33554431 (after i)));
+          once = refl;
+          operand = simple_operand name bytes.0 (name_all name e);
+        };
+        no_key = simple_keyless name (name_all name e);
       },
       (λ i. if unquoted i then Absolute (hex_number (quoted name)) else Named (padded (before i)) (number (after i))),
     )
@@ -458,27 +461,31 @@ digits_of (b ∷ bytes) small =
       values = first_pair (hex 2 b) (flat_map (hex 2) bytes) w.many ∙ (λ i. w.value i ∷ d.values i);
     }
 
+-- digits between quotes, an even number of them
+pub bytes_fit : (most : ℕ) (digits : List ℕ) → list_all is_hex_digit digits ≡ true → is_empty digits ≡ false → (length digits % 2 == 0) ≡ true → length digits ≤ 2 * most → FitsAlone (Bytes most) (quoted_text digits)
+bytes_fit most digits are some even few =
+    let q = quoting digits are in
+    let room : nat_le (length digits) (2 * most) ≡ true = le_true _ (2 * most) few in
+    record {
+      fits = record {
+        of_kind = (λ i. q.quotes i && not (is_empty (q.inside i)) && (length (q.inside i) % 2 == 0) && list_all is_hex_digit (q.inside i)) ∙ (λ i. not (some i) && even i && are i);
+        within = ap (λ l. nat_le (length l) (2 * most)) q.inside ∙ room;
+        once = refl;
+        operand = simple_operand (quoted_text digits) refl q.all_simple;
+      };
+      no_key = simple_keyless (quoted_text digits) q.all_simple;
+    }
+
 bytes_are : (most : ℕ) (bytes : List ℕ) → is_empty bytes ≡ false → length bytes ≤ most → AllByRecursion (λ b. b < 256) bytes
     → FitsAlone (Bytes most) (bytes_text bytes) × (hex_bytes (quoted (bytes_text bytes)) ≡ bytes)
 bytes_are most [] some few small = absurd (let f : true ≡ false = some in cc)
 bytes_are most (b ∷ bytes) some few small =
     let digits = flat_map (hex 2) (b ∷ bytes) in
     let d = digits_of (b ∷ bytes) small in
-    let q = quoting digits d.digits in
-    let there : not (is_empty digits) ≡ true = ap not (some_of digits (1 + 2 * length bytes) (d.many ∙ omega arith)) in
+    let there : is_empty digits ≡ false = some_of digits (1 + 2 * length bytes) (d.many ∙ omega arith) in
     let even : (length digits % 2 == 0) ≡ true = ap (λ n. n % 2 == 0) d.many ∙ (let e : (2 * suc (length bytes) % 2 == 0) ≡ true = grind (arith, nat_tests) in e) in
-    let room : nat_le (length digits) (2 * most) ≡ true = le_true _ (2 * most) (let l : suc (length bytes) ≤ most = few in omega (arith, d.many)) in (
-      record {
-        fits = record {
-          of_kind = (λ i. q.quotes i && not (is_empty (q.inside i)) && (length (q.inside i) % 2 == 0) && list_all is_hex_digit (q.inside i)) ∙ (λ i. there i && even i && d.digits i);
-          within = ap (λ l. nat_le (length l) (2 * most)) q.inside ∙ room;
-          once = refl;
-          operand = simple_operand (quoted_text digits) refl q.all_simple;
-        };
-        no_key = simple_keyless (quoted_text digits) q.all_simple;
-      },
-      ap hex_bytes q.inside ∙ d.values,
-    )
+    let room : length digits ≤ 2 * most = (let l : suc (length bytes) ≤ most = few in omega (arith, d.many)) in
+    (bytes_fit most digits d.digits there even room, ap hex_bytes (quoting digits d.digits).inside ∙ d.values)
 
 -- ---- lengths
 

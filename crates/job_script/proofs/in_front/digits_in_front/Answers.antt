@@ -1,7 +1,7 @@
 use Rattle.std.proofs.Common.{◌≡◌, ◌+◌, ◌*◌, ◌≤◌, sym, ◌∙◌, true, arith, slice_index_or}
 use Rattle.mvs_model.specs.Reading.{is_digit}
 use Rattle.job_script.proofs.Fronts.{all_more, digit_is, next_small, number_more}
-use Rattle.job_script.proofs.frequent.digits_in_front.Goals as goal
+use Rattle.job_script.proofs.in_front.digits_in_front.Goals as goal
 
 pub loop-i-preserved : goal.loop-i-preserved
 loop-i-preserved c =

@@ -1,6 +1,6 @@
 use Rattle.std.proofs.Common.{sym, ◌∙◌}
 use Rattle.job_script.proofs.Fronts.{name_front}
-use Rattle.job_script.proofs.frequent.name_in_front.Goals as goal
+use Rattle.job_script.proofs.in_front.name_in_front.Goals as goal
 
 pub returns : goal.returns
 returns c =

@@ -1,7 +1,7 @@
 use Rattle.std.proofs.Common.{◌≡◌, ◌<◌, ◌≤◌, ◌^◌, take, true}
 use Rattle.std.specs.List.{list_all}
 use Rattle.mvs_model.specs.Reading.{is_digit, number}
-use Rattle.job_script.proofs.frequent.digits_in_front.Given as goal
+use Rattle.job_script.proofs.in_front.digits_in_front.Given as goal
 
 abbrev pub invariant-loop-i : goal.invariant-loop-i
 invariant-loop-i l = record {

@@ -1,5 +1,5 @@
 use Rattle.job_script.proofs.Fronts.{address_alone, address_with}
-use Rattle.job_script.proofs.frequent.address_in_front.Goals as goal
+use Rattle.job_script.proofs.in_front.address_in_front.Goals as goal
 
 pub returns-in_default-behind_plus : goal.returns-in_default-behind_plus
 returns-in_default-behind_plus c = address_alone c.args.text.now c.in-Some.area.now c.in-Some.rest.now c.in-Some.ensures

@@ -1,6 +1,6 @@
 use Rattle.std.proofs.Common.{◌≤◌, arith}
 use Rattle.job_script.proofs.Fronts.{number_front}
-use Rattle.job_script.proofs.frequent.number_in_front.Goals as goal
+use Rattle.job_script.proofs.in_front.number_in_front.Goals as goal
 
 pub returns : goal.returns
 returns c =

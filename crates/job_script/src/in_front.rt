@@ -1,0 +1,149 @@
+//! What a text starts with: a number, a name, an address, bytes in quotes.
+
+ghost use Rattle.std.specs.Prelude.{◌≡◌, ◌≤◌, ◌∷◌, ℕ, List, length, take, true, MatchOption};
+ghost use Rattle.std.specs.List.{list_all};
+ghost use Rattle.mvs_model.specs.Grammar as grammar;
+ghost use Rattle.mvs_model.specs.Reading.{is_digit, is_hex_digit, is_name_byte, number};
+ghost use Rattle.job_script.specs.Frequent.{IsAddressFront, IsFront, IsNumberFront, is_remark};
+
+use crate::addresses::is_name_byte;
+use crate::are_plain;
+use crate::digits::is_hex_digit;
+
+// How many digits a text starts with, at most ten, and the number that they write.
+fn digits_in_front(text: &[u8]) -> (usize, u64)
+    ensures digits { list_all is_digit (take result.0 text.now) ≡ true }
+    ensures value { result.1 ≡ number (take result.0 text.now) }
+    ensures few { result.0 ≤ 10 }
+    ensures within { result.0 ≤ length text.now }
+{
+    let mut value = 0;
+    for (i, byte) in text.iter().enumerate() {
+        if i == 10 || !byte.is_ascii_digit() {
+            return (i, value);
+        }
+        value = value * 10 + u64::from(*byte - b'0');
+    }
+    (text.len(), value)
+}
+
+/// The number that a text starts with, where it has at most ten digits and lies between two others, and the text behind it.
+pub fn number_in_front(least: u32, most: u32, text: &[u8]) -> Option<(u32, &[u8])>
+    ensures { MatchOption result (Unit {0}) (λ r. (digits : List ℕ) × IsNumberFront least most text.now r.0 digits r.1.now) }
+{
+    let (end, value) = digits_in_front(text);
+    if end == 0 || value < u64::from(least) || u64::from(most) < value {
+        return None;
+    }
+    Some((value as u32, &text[end..]))
+}
+
+// Where the bytes end that a name may have.
+fn name_end(text: &[u8]) -> usize
+    ensures bytes { list_all is_name_byte (take result text.now) ≡ true }
+    ensures within { result ≤ length text.now }
+{
+    for (i, byte) in text.iter().enumerate() {
+        if !is_name_byte(*byte) {
+            return i;
+        }
+    }
+    text.len()
+}
+
+/// The name that a text starts with, and the text behind it.
+pub fn name_in_front(text: &[u8]) -> Option<(&[u8], &[u8])>
+    ensures { MatchOption result (Unit {0}) (λ r. IsFront grammar.Name text.now r.0.now r.1.now) }
+{
+    let end = name_end(text);
+    if end == 0 || end > 8 || text[0].is_ascii_digit() {
+        return None;
+    }
+    Some((&text[..end], &text[end..]))
+}
+
+// The text behind a plus sign.
+fn behind_plus(text: &[u8]) -> Option<&[u8]>
+    ensures { MatchOption result (Unit {0}) (λ rest. text.now ≡ 43 ∷ rest.now) }
+{
+    match text {
+        [b'+', rest @ ..] => Some(rest),
+        _ => None,
+    }
+}
+
+/// The name that a text starts with, the offset behind it, or 0, and the text behind both.
+pub fn address_in_front(text: &[u8]) -> Option<(&[u8], u32, &[u8])>
+    ensures { MatchOption result (Unit {0}) (λ r. (address : List ℕ) × IsAddressFront text.now r.0.now r.1 address r.2.now) }
+{
+    let Some((area, rest)) = name_in_front(text) else {
+        return None;
+    };
+    let Some(digits) = behind_plus(rest) else {
+        return Some((area, 0, rest));
+    };
+    let Some((offset, rest)) = number_in_front(0, 33_554_431, digits) else {
+        return None;
+    };
+    Some((area, offset, rest))
+}
+
+/// The text behind a comma.
+pub fn behind_comma(text: &[u8]) -> Option<&[u8]>
+    ensures { MatchOption result (Unit {0}) (λ rest. text.now ≡ 44 ∷ rest.now) }
+{
+    match text {
+        [b',', rest @ ..] => Some(rest),
+        _ => None,
+    }
+}
+
+// Where the hexadecimal digits end.
+fn hex_end(text: &[u8]) -> usize
+    ensures digits { list_all is_hex_digit (take result text.now) ≡ true }
+    ensures within { result ≤ length text.now }
+{
+    for (i, byte) in text.iter().enumerate() {
+        if !is_hex_digit(*byte) {
+            return i;
+        }
+    }
+    text.len()
+}
+
+// The text behind an X and a quote.
+fn behind_quote(text: &[u8]) -> Option<&[u8]>
+    ensures { MatchOption result (Unit {0}) (λ rest. text.now ≡ 88 ∷ 39 ∷ rest.now) }
+{
+    match text {
+        [b'X', b'\'', rest @ ..] => Some(rest),
+        _ => None,
+    }
+}
+
+/// The bytes X'..' that a text starts with, at most a hundred of them, and the text behind.
+pub fn bytes_in_front(text: &[u8]) -> Option<(&[u8], &[u8])>
+    ensures { MatchOption result (Unit {0}) (λ r. IsFront (grammar.Bytes 100) text.now r.0.now r.1.now) }
+{
+    let Some(digits) = behind_quote(text) else {
+        return None;
+    };
+    let end = hex_end(digits);
+    if end == 0 || end > 200 || end % 2 != 0 {
+        return None;
+    }
+    if end == digits.len() || digits[end] != b'\'' {
+        return None;
+    }
+    Some((&text[..end + 3], &text[end + 3..]))
+}
+
+/// Whether a text that stands behind operands is no operand: nothing, or a remark behind a blank.
+pub fn is_remark(text: &[u8]) -> bool
+    ensures { result ≡ is_remark text.now }
+{
+    match text {
+        [] => true,
+        [blank, remark @ ..] => *blank == b' ' && are_plain(remark),
+    }
+}
