@@ -345,15 +345,15 @@ impl Tasks {
         ensures fresh { name_at self.old result ≡ None }
         ensures others { (k : ℕ) → k ≢ result → name_at self.new k ≡ name_at self.old k }
     {
-        let numbers = hand_over(&mut self.active, mother.key, gifts);
-        let key = self.active.vacant_key();
-        pass_on(&mut self.owned, &numbers, mother.key, key, gifts);
-        let key = self.active.insert_reserved(Seat {
+        let subtask = Seat {
             name: *name,
             mother: Some(mother.key),
             residence,
-            numbers,
-        });
+            numbers: hand_over(&mut self.active, mother.key, gifts),
+        };
+        let key = self.active.vacant_key();
+        pass_on(&mut self.owned, &subtask.numbers, mother.key, key, gifts);
+        let key = self.active.insert_reserved(subtask);
         TaskId { key }
     }
 
