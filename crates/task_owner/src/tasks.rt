@@ -25,7 +25,7 @@ use mvs_model::code::Code;
 use mvs_model::error::OutOfMemory;
 use mvs_model::gifts::Gifts;
 use mvs_model::name::Name;
-use mvs_model::numbers::MOST_TASKS;
+use mvs_model::numbers::{MOST_SUBPOOLS, MOST_TASKS};
 use mvs_model::request::Fallen;
 use mvs_model::subpool::{SubNo, SubpoolId};
 use mvs_model::subpool_set::SubpoolSet;
@@ -213,7 +213,8 @@ impl Tasks {
         ensures { IsSpare self.now.owners result }
     {
         let _number = number.get();
-        SubpoolId::new(first_spare(self.owned.as_slice()) as u16)
+        // Where the length is known the compiler unrolls the loop.
+        SubpoolId::new(first_spare(&self.owned.as_slice()[..MOST_SUBPOOLS]) as u16)
     }
 
     /// Enters a subpool that no task owns under a number by which the task means none; the number's keeper then has it
