@@ -47,24 +47,26 @@ fn act(machine: &mut Machine, name: Name, request: &Request, reply: &mut Reply) 
     ensures no_abend { OnOk result (is_abend reply.new ≡ false) }
 {
     match request {
-        Request::Obtain { form, number, ask } => machine.obtain(name, *form, *number, ask, reply),
+        Request::Obtain { form, number, ask } => machine.obtain_into(
+            name, *form, *number, ask, reply,
+        ),
         Request::ObtainList {
             form,
             number,
             lengths,
             start,
-        } => machine.obtain_list(name, *form, *number, lengths, *start, reply),
+        } => machine.obtain_list_into(name, *form, *number, lengths, *start, reply),
         Request::Release {
             form,
             number,
             place,
-        } => machine.release(name, *form, *number, *place, reply),
+        } => machine.release_into(name, *form, *number, *place, reply),
         Request::ReleaseList {
             form,
             number,
             places,
-        } => machine.release_list(name, *form, *number, places, reply),
-        Request::ReleaseWhole { form, number } => machine.release_whole(
+        } => machine.release_list_into(name, *form, *number, places, reply),
+        Request::ReleaseWhole { form, number } => machine.release_whole_into(
             name, *form, *number, reply,
         ),
         Request::Build {
@@ -74,22 +76,22 @@ fn act(machine: &mut Machine, name: Name, request: &Request, reply: &mut Reply) 
             primary,
             secondary,
             loc,
-        } => machine.build(
+        } => machine.build_into(
             name, *number, pool, *size, *primary, *secondary, *loc, reply,
         ),
-        Request::Get { pool, conditional } => machine.get(pool, *conditional, reply),
-        Request::Free { pool, cell } => machine.free(pool, *cell, reply),
-        Request::Delete { pool } => machine.delete(pool, reply),
+        Request::Get { pool, conditional } => machine.get_into(pool, *conditional, reply),
+        Request::Free { pool, cell } => machine.free_into(pool, *cell, reply),
+        Request::Delete { pool } => machine.delete_into(pool, reply),
         Request::Attach {
             name: subtask,
             gifts,
             residence,
-        } => machine.attach(name, subtask, gifts, *residence, reply),
-        Request::Return => machine.finish(name, reply),
+        } => machine.attach_into(name, subtask, gifts, *residence, reply),
+        Request::Return => machine.finish_into(name, reply),
         Request::Abend(code) => Err(Code::User(code.get() as u16)),
-        Request::Show { from, len } => machine.show(*from, *len, reply),
-        Request::Put { to, bytes } => machine.put(*to, bytes, reply),
-        Request::Move { to, from, len } => machine.move_bytes(*to, *from, *len, reply),
+        Request::Show { from, len } => machine.show_into(*from, *len, reply),
+        Request::Put { to, bytes } => machine.put_into(*to, bytes, reply),
+        Request::Move { to, from, len } => machine.move_bytes_into(*to, *from, *len, reply),
     }
 }
 
@@ -169,7 +171,7 @@ impl Step {
             Ok(()) => {}
             Err(code) => {
                 self.abended = true;
-                self.machine.abend(*name, code, reply);
+                self.machine.abend_into(*name, code, reply);
             }
         }
     }

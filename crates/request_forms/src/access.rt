@@ -1,6 +1,6 @@
 //! Access to bytes: SHOW, PUT and MOVE, which are this project's own statements.
 
-ghost use Rattle.std.specs.Prelude.{◌≡◌, ◌<◌, ◌≤◌, ◌+◌, ◌^◌, ◌↔◌, ◌⊎◌, Some, OnOk, IfSome, IsSome, IsTrue, MatchBool, MatchOption, ℕ, true, false, length, slice_get};
+ghost use Rattle.std.specs.Prelude.{◌≡◌, ◌<◌, ◌≤◌, ◌+◌, ◌^◌, ◌↔◌, ◌⊎◌, Some, IfOk, OnOk, IfSome, IsSome, IsTrue, MatchBool, MatchOption, ℕ, true, false, length, slice_get};
 ghost use Rattle.std.specs.FinMap.{get};
 ghost use Rattle.mvs_model.specs.declared.name.Name.{Name};
 ghost use Rattle.mvs_model.specs.declared.request.Request.TheVariants as request;
@@ -17,7 +17,7 @@ ghost use Rattle.request_forms.specs.Answers.{Answers, told};
 ghost use Rattle.request_forms.specs.Access.{Copied};
 ghost use Rattle.request_forms.specs.Machine.{IsStepStorage, machine_state};
 
-use crate::machine::Machine;
+use crate::machine::{Machine, answer_of};
 use crate::release::is_outside_pools;
 use cell_pool::Pools;
 use mvs_model::bounded::{MoveLength, ShowLength};
@@ -199,7 +199,17 @@ impl Machine {
     }
 
     /// SHOW: it only looks whether the bytes may be read.
-    pub fn show(&self, from: Addr, len: ShowLength, reply: &mut Reply) -> Result<(), Code>
+    pub fn show(&self, from: Addr, len: ShowLength) -> Result<Reply, Code>
+        ensures answer { (t : Name) → Answers (Acts self.now t (request.Show from len)) self.now t result self.now }
+        ensures no_abend { IfOk result (λ reply. is_abend reply ≡ false) }
+    {
+        let mut reply = Reply::NotRun;
+        let answer = self.show_into(from, len, &mut reply);
+        answer_of(answer, reply)
+    }
+
+    /// The same; the reply is written over `reply`, so that nothing of it is copied.
+    pub fn show_into(&self, from: Addr, len: ShowLength, reply: &mut Reply) -> Result<(), Code>
         ensures answer { (t : Name) → Answers (Acts self.now t (request.Show from len)) self.now t (told reply.new result) self.now }
         ensures no_abend { OnOk result (is_abend reply.new ≡ false) }
     {
@@ -211,7 +221,17 @@ impl Machine {
     }
 
     /// PUT: the bytes stand at the address and behind it now.
-    pub fn put(&mut self, to: Addr, bytes: &Bytes, reply: &mut Reply) -> Result<(), Code>
+    pub fn put(&mut self, to: Addr, bytes: &Bytes) -> Result<Reply, Code>
+        ensures answer { (t : Name) → Answers (Acts self.old t (request.Put to bytes.now)) self.old t result self.new }
+        ensures no_abend { IfOk result (λ reply. is_abend reply ≡ false) }
+    {
+        let mut reply = Reply::NotRun;
+        let answer = self.put_into(to, bytes, &mut reply);
+        answer_of(answer, reply)
+    }
+
+    /// The same; the reply is written over `reply`, so that nothing of it is copied.
+    pub fn put_into(&mut self, to: Addr, bytes: &Bytes, reply: &mut Reply) -> Result<(), Code>
         ensures answer { (t : Name) → Answers (Acts self.old t (request.Put to bytes.now)) self.old t (told reply.new result) self.new }
         ensures no_abend { OnOk result (is_abend reply.new ≡ false) }
     {
@@ -237,7 +257,17 @@ impl Machine {
     }
 
     /// MOVE: the bytes behind one address stand behind the other now.
-    pub fn move_bytes(
+    pub fn move_bytes(&mut self, to: Addr, from: Addr, len: MoveLength) -> Result<Reply, Code>
+        ensures answer { (t : Name) → Answers (Acts self.old t (request.Move to from len)) self.old t result self.new }
+        ensures no_abend { IfOk result (λ reply. is_abend reply ≡ false) }
+    {
+        let mut reply = Reply::NotRun;
+        let answer = self.move_bytes_into(to, from, len, &mut reply);
+        answer_of(answer, reply)
+    }
+
+    /// The same; the reply is written over `reply`, so that nothing of it is copied.
+    pub fn move_bytes_into(
         &mut self,
         to: Addr,
         from: Addr,

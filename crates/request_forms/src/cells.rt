@@ -1,7 +1,7 @@
 //! Requests for cells of cell pools (Assembler Services Reference, CPOOL). They have the codes of STORAGE (this project's
 //! choice).
 
-ghost use Rattle.std.specs.Prelude.{◌≡◌, true, false, OnOk};
+ghost use Rattle.std.specs.Prelude.{◌≡◌, true, false, IfOk, OnOk};
 ghost use Rattle.std.specs.FinMap.{get};
 ghost use Rattle.mvs_model.specs.declared.name.Name.{Name as TheName};
 ghost use Rattle.mvs_model.specs.declared.request.Reply.TheVariants.{Rc0};
@@ -14,7 +14,7 @@ ghost use Rattle.cell_pool.specs.Answered.{Answered, cell_reply};
 ghost use Rattle.request_forms.specs.Answers.{Answers, told};
 
 use crate::codes::bad_subpool;
-use crate::machine::Machine;
+use crate::machine::{Machine, answer_of};
 use boundary_loc::side;
 use mvs_model::bounded::{CellCount, CellSize};
 use mvs_model::code::{Code, Form};
@@ -92,6 +92,28 @@ impl Machine {
         primary: CellCount,
         secondary: CellCount,
         loc: Loc,
+    ) -> Result<Reply, Code>
+        requires { is_active self.old.owners name ≡ true }
+        ensures answer { Answers (BuildStep self.old name pool.now number (record { cell_size = size; primary = primary; secondary = secondary; side = side_of loc (residence_of self.old.owners name) })) self.old name result self.new }
+        ensures no_abend { IfOk result (λ reply. is_abend reply ≡ false) }
+    {
+        let mut reply = Reply::NotRun;
+        let answer = self.build_into(
+            name, number, pool, size, primary, secondary, loc, &mut reply,
+        );
+        answer_of(answer, reply)
+    }
+
+    /// The same; the reply is written over `reply`, so that nothing of it is copied.
+    pub fn build_into(
+        &mut self,
+        name: Name,
+        number: u8,
+        pool: &Name,
+        size: CellSize,
+        primary: CellCount,
+        secondary: CellCount,
+        loc: Loc,
         reply: &mut Reply,
     ) -> Result<(), Code>
         requires { is_active self.old.owners name ≡ true }
@@ -113,7 +135,22 @@ impl Machine {
 
     /// CPOOL GET: a free cell of the pool. Where none is free a conditional request gets none, and another one a cell of a
     /// further part.
-    pub fn get(&mut self, pool: &Name, conditional: bool, reply: &mut Reply) -> Result<(), Code>
+    pub fn get(&mut self, pool: &Name, conditional: bool) -> Result<Reply, Code>
+        ensures answer { (t : TheName) → Answers (GetStep self.old t pool.now conditional (get self.old.pools pool.now)) self.old t result self.new }
+        ensures no_abend { IfOk result (λ reply. is_abend reply ≡ false) }
+    {
+        let mut reply = Reply::NotRun;
+        let answer = self.get_into(pool, conditional, &mut reply);
+        answer_of(answer, reply)
+    }
+
+    /// The same; the reply is written over `reply`, so that nothing of it is copied.
+    pub fn get_into(
+        &mut self,
+        pool: &Name,
+        conditional: bool,
+        reply: &mut Reply,
+    ) -> Result<(), Code>
         ensures answer { (t : TheName) → Answers (GetStep self.old t pool.now conditional (get self.old.pools pool.now)) self.old t (told reply.new result) self.new }
         ensures no_abend { OnOk result (is_abend reply.new ≡ false) }
     {
@@ -127,7 +164,17 @@ impl Machine {
     }
 
     /// CPOOL FREE: a taken cell of the pool is given back.
-    pub fn free(&mut self, pool: &Name, cell: Addr, reply: &mut Reply) -> Result<(), Code>
+    pub fn free(&mut self, pool: &Name, cell: Addr) -> Result<Reply, Code>
+        ensures answer { (t : TheName) → Answers (FreeStep self.old t pool.now cell (get self.old.pools pool.now)) self.old t result self.new }
+        ensures no_abend { IfOk result (λ reply. is_abend reply ≡ false) }
+    {
+        let mut reply = Reply::NotRun;
+        let answer = self.free_into(pool, cell, &mut reply);
+        answer_of(answer, reply)
+    }
+
+    /// The same; the reply is written over `reply`, so that nothing of it is copied.
+    pub fn free_into(&mut self, pool: &Name, cell: Addr, reply: &mut Reply) -> Result<(), Code>
         ensures answer { (t : TheName) → Answers (FreeStep self.old t pool.now cell (get self.old.pools pool.now)) self.old t (told reply.new result) self.new }
         ensures no_abend { OnOk result (is_abend reply.new ≡ false) }
     {
@@ -141,7 +188,17 @@ impl Machine {
     }
 
     /// CPOOL DELETE: the pool is given up with all its parts.
-    pub fn delete(&mut self, pool: &Name, reply: &mut Reply) -> Result<(), Code>
+    pub fn delete(&mut self, pool: &Name) -> Result<Reply, Code>
+        ensures answer { (t : TheName) → Answers (DeleteStep self.old t pool.now (get self.old.pools pool.now)) self.old t result self.new }
+        ensures no_abend { IfOk result (λ reply. is_abend reply ≡ false) }
+    {
+        let mut reply = Reply::NotRun;
+        let answer = self.delete_into(pool, &mut reply);
+        answer_of(answer, reply)
+    }
+
+    /// The same; the reply is written over `reply`, so that nothing of it is copied.
+    pub fn delete_into(&mut self, pool: &Name, reply: &mut Reply) -> Result<(), Code>
         ensures answer { (t : TheName) → Answers (DeleteStep self.old t pool.now (get self.old.pools pool.now)) self.old t (told reply.new result) self.new }
         ensures no_abend { OnOk result (is_abend reply.new ≡ false) }
     {

@@ -3,11 +3,14 @@
 ghost use Rattle.std.specs.Prelude.{◌≡◌, IfOk};
 ghost use Rattle.mvs_model.specs.Owners.{is_active};
 ghost use Rattle.mvs_model.specs.Start.{start};
+ghost use Rattle.request_forms.specs.Answers.{told};
 
 use cell_pool::Pools;
 use mvs_model::card::Card;
+use mvs_model::code::Code;
 use mvs_model::error::OutOfMemory;
 use mvs_model::name::Name;
+use mvs_model::request::Reply;
 use mvs_model::want::Placement;
 use std::alloc::Global;
 use std::marker::Model;
@@ -34,6 +37,16 @@ impl Model for Machine {
     ghost view = { λ m. machine_state m.pools m.store m.tasks.owners };
 
     ghost invariant = { λ m. Agree m.pools m.store };
+}
+
+// The answer as a value: the reply that was written, or the code.
+pub(crate) fn answer_of(answer: Result<(), Code>, reply: Reply) -> Result<Reply, Code>
+    ensures { result ≡ told reply answer }
+{
+    match answer {
+        Ok(()) => Ok(reply),
+        Err(code) => Err(code),
+    }
 }
 
 impl Machine {

@@ -1,6 +1,6 @@
 //! Requests that obtain.
 
-ghost use Rattle.std.specs.Prelude.{◌≡◌, true, false, OnOk, MatchOption, Ok, Err, if◌then◌else◌};
+ghost use Rattle.std.specs.Prelude.{◌≡◌, true, false, IfOk, OnOk, MatchOption, Ok, Err, if◌then◌else◌};
 ghost use Rattle.mvs_model.specs.declared.request.Reply.TheVariants.{Rc4};
 ghost use Rattle.mvs_model.specs.Codes as table;
 ghost use Rattle.mvs_model.specs.Want.{want_of};
@@ -11,7 +11,7 @@ ghost use Rattle.mvs_model.specs.Replies.{is_abend};
 ghost use Rattle.request_forms.specs.Answers.{Answers, told};
 
 use crate::codes::{bad_subpool, form_side, is_conditional, short};
-use crate::machine::Machine;
+use crate::machine::{Machine, answer_of};
 use boundary_loc::side;
 use mvs_model::code::{Code, Form};
 use mvs_model::name::Name;
@@ -55,7 +55,18 @@ impl Machine {
     }
 
     /// GETMAIN and STORAGE OBTAIN for one area (Assembler Services Reference).
-    pub fn obtain(
+    pub fn obtain(&mut self, name: Name, form: Form, number: u8, ask: &Ask) -> Result<Reply, Code>
+        requires { is_active self.old.owners name ≡ true }
+        ensures answer { Answers (ObtainStep self.old name form number (want_of ask.now (side_for self.old name form ask.now.loc))) self.old name result self.new }
+        ensures no_abend { IfOk result (λ reply. is_abend reply ≡ false) }
+    {
+        let mut reply = Reply::NotRun;
+        let answer = self.obtain_into(name, form, number, ask, &mut reply);
+        answer_of(answer, reply)
+    }
+
+    /// The same; the reply is written over `reply`, so that nothing of it is copied.
+    pub fn obtain_into(
         &mut self,
         name: Name,
         form: Form,

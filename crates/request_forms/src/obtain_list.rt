@@ -1,6 +1,6 @@
 //! Requests that obtain a list of areas.
 
-ghost use Rattle.std.specs.Prelude.{◌≡◌, true, ◌+◌, ◌≤◌, ◌<◌, false, OnOk, MatchOption, None, List, [], ◌∷◌, ◌++◌, length};
+ghost use Rattle.std.specs.Prelude.{◌≡◌, true, ◌+◌, ◌≤◌, ◌<◌, false, IfOk, OnOk, MatchOption, None, List, [], ◌∷◌, ◌++◌, length};
 ghost use Rattle.mvs_model.specs.Changes.{ListGrant, ListShort};
 ghost use Rattle.mvs_model.specs.Owners.{is_active, keeper};
 ghost use Rattle.mvs_model.specs.Replies.{is_abend};
@@ -11,7 +11,7 @@ ghost use Rattle.request_forms.specs.Answers.{Answers, told};
 ghost use Rattle.request_forms.specs.Lists.{GrantsEach, ShortEach, list_wants, so_far};
 
 use crate::codes::{bad_subpool, short};
-use crate::machine::Machine;
+use crate::machine::{Machine, answer_of};
 use crate::obtain::refused;
 use crate::release::take_back;
 use mvs_model::bounded::{Exponent, Length};
@@ -113,6 +113,24 @@ impl Machine {
     /// GETMAIN for a list of areas, all of which are granted or none (Assembler Services Reference, GETMAIN; all or none
     /// is this project's choice). `start` is the power of two of the boundary that each begins on.
     pub fn obtain_list(
+        &mut self,
+        name: Name,
+        form: Form,
+        number: u8,
+        lengths: &Lengths,
+        start: Exponent,
+    ) -> Result<Reply, Code>
+        requires { is_active self.old.owners name ≡ true }
+        ensures answer { Answers (ObtainListStep self.old name form number (list_wants lengths.now start)) self.old name result self.new }
+        ensures no_abend { IfOk result (λ reply. is_abend reply ≡ false) }
+    {
+        let mut reply = Reply::NotRun;
+        let answer = self.obtain_list_into(name, form, number, lengths, start, &mut reply);
+        answer_of(answer, reply)
+    }
+
+    /// The same; the reply is written over `reply`, so that nothing of it is copied.
+    pub fn obtain_list_into(
         &mut self,
         name: Name,
         form: Form,

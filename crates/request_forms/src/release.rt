@@ -1,6 +1,6 @@
 //! Requests that release.
 
-ghost use Rattle.std.specs.Prelude.{◌≡◌, if◌then◌else◌, Ok, Err, ◌↔◌, ◌+◌, ◌/◌, ◌≤◌, true, false, IsTrue, OnOk, MatchBool, MatchResult, map, [], ◌∷◌};
+ghost use Rattle.std.specs.Prelude.{◌≡◌, if◌then◌else◌, Ok, Err, ◌↔◌, ◌+◌, ◌/◌, ◌≤◌, true, false, IsTrue, IfOk, OnOk, MatchBool, MatchResult, map, [], ◌∷◌};
 ghost use Rattle.std.specs.List.{AllByRecursion, list_all};
 ghost use Rattle.mvs_model.specs.Changes.{Disjoint, Frees, HeldPlain, Misses};
 ghost use Rattle.mvs_model.specs.Codes as table;
@@ -19,7 +19,7 @@ ghost use Rattle.request_forms.specs.Lists.{HoldsApart, ReleasesEach};
 ghost use Rattle.request_forms.specs.Machine.{machine_state};
 
 use crate::codes::{bad_address, bad_subpool, not_held};
-use crate::machine::Machine;
+use crate::machine::{Machine, answer_of};
 use crate::obtain::refused;
 use cell_pool::Pools;
 use mvs_model::code::{Code, Form};
@@ -227,6 +227,22 @@ impl Machine {
         form: Form,
         number: u8,
         places: &Places,
+    ) -> Result<Reply, Code>
+        ensures answer { Answers (ReleaseStep self.old name form number places.now) self.old name result self.new }
+        ensures no_abend { IfOk result (λ reply. is_abend reply ≡ false) }
+    {
+        let mut reply = Reply::NotRun;
+        let answer = self.release_list_into(name, form, number, places, &mut reply);
+        answer_of(answer, reply)
+    }
+
+    /// The same; the reply is written over `reply`, so that nothing of it is copied.
+    pub fn release_list_into(
+        &mut self,
+        name: Name,
+        form: Form,
+        number: u8,
+        places: &Places,
         reply: &mut Reply,
     ) -> Result<(), Code>
         ensures answer { Answers (ReleaseStep self.old name form number places.now) self.old name (told reply.new result) self.new }
@@ -251,6 +267,22 @@ impl Machine {
         form: Form,
         number: u8,
         place: Place,
+    ) -> Result<Reply, Code>
+        ensures answer { Answers (ReleaseStep self.old name form number (place ∷ [])) self.old name result self.new }
+        ensures no_abend { IfOk result (λ reply. is_abend reply ≡ false) }
+    {
+        let mut reply = Reply::NotRun;
+        let answer = self.release_into(name, form, number, place, &mut reply);
+        answer_of(answer, reply)
+    }
+
+    /// The same; the reply is written over `reply`, so that nothing of it is copied.
+    pub fn release_into(
+        &mut self,
+        name: Name,
+        form: Form,
+        number: u8,
+        place: Place,
         reply: &mut Reply,
     ) -> Result<(), Code>
         ensures answer { Answers (ReleaseStep self.old name form number (place ∷ [])) self.old name (told reply.new result) self.new }
@@ -268,7 +300,17 @@ impl Machine {
 
     /// FREEMAIN and STORAGE RELEASE of all that a subpool holds, its cell pools included (Assembler Services Reference, subpool release). A
     /// number that the task does not have releases nothing.
-    pub fn release_whole(
+    pub fn release_whole(&mut self, name: Name, form: Form, number: u8) -> Result<Reply, Code>
+        ensures answer { Answers (ReleaseWholeStep self.old name form number) self.old name result self.new }
+        ensures no_abend { IfOk result (λ reply. is_abend reply ≡ false) }
+    {
+        let mut reply = Reply::NotRun;
+        let answer = self.release_whole_into(name, form, number, &mut reply);
+        answer_of(answer, reply)
+    }
+
+    /// The same; the reply is written over `reply`, so that nothing of it is copied.
+    pub fn release_whole_into(
         &mut self,
         name: Name,
         form: Form,

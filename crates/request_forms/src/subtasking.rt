@@ -1,6 +1,6 @@
 //! Subtasks, and the end of a task (Assembler Services Guide, subtasking).
 
-ghost use Rattle.std.specs.Prelude.{◌≡◌, false, true, not, OnOk};
+ghost use Rattle.std.specs.Prelude.{◌≡◌, false, true, not, IfOk, OnOk};
 ghost use Rattle.std.specs.FinMap.{get};
 ghost use Rattle.mvs_model.specs.Finite.{Keeps};
 ghost use Rattle.mvs_model.specs.Storage.{ReleaseEach, is_one_of};
@@ -12,7 +12,7 @@ ghost use Rattle.mvs_model.specs.Steps.{Abends, AttachStep, ReturnStep};
 ghost use Rattle.mvs_model.specs.Replies.{is_abend};
 ghost use Rattle.request_forms.specs.Answers.{Answers, told};
 
-use crate::machine::Machine;
+use crate::machine::{Machine, answer_of};
 use cell_pool::Pools;
 use mvs_model::code::Code;
 use mvs_model::gifts::Gifts;
@@ -48,7 +48,18 @@ impl Machine {
     }
 
     /// Ends a task that abends, with its descendants and what they own.
-    pub fn abend(&mut self, name: Name, code: Code, reply: &mut Reply)
+    pub fn abend(&mut self, name: Name, code: Code) -> Reply
+        requires { is_active self.old.owners name ≡ true }
+        ensures abends { Abends self.old name code result self.new }
+        ensures is_abend { is_abend result ≡ true }
+    {
+        let mut reply = Reply::NotRun;
+        self.abend_into(name, code, &mut reply);
+        reply
+    }
+
+    /// The same; the reply is written over `reply`, so that nothing of it is copied.
+    pub fn abend_into(&mut self, name: Name, code: Code, reply: &mut Reply)
         requires { is_active self.old.owners name ≡ true }
         ensures abends { Abends self.old name code reply.new self.new }
         ensures is_abend { is_abend reply.new ≡ true }
@@ -57,7 +68,18 @@ impl Machine {
     }
 
     /// A return ends the task; with an active subtask it is abend A03 (System Codes).
-    pub fn finish(&mut self, name: Name, reply: &mut Reply) -> Result<(), Code>
+    pub fn finish(&mut self, name: Name) -> Result<Reply, Code>
+        requires { is_active self.old.owners name ≡ true }
+        ensures answer { Answers (ReturnStep self.old name) self.old name result self.new }
+        ensures no_abend { IfOk result (λ reply. is_abend reply ≡ false) }
+    {
+        let mut reply = Reply::NotRun;
+        let answer = self.finish_into(name, &mut reply);
+        answer_of(answer, reply)
+    }
+
+    /// The same; the reply is written over `reply`, so that nothing of it is copied.
+    pub fn finish_into(&mut self, name: Name, reply: &mut Reply) -> Result<(), Code>
         requires { is_active self.old.owners name ≡ true }
         ensures answer { Answers (ReturnStep self.old name) self.old name (told reply.new result) self.new }
         ensures no_abend { OnOk result (is_abend reply.new ≡ false) }
@@ -72,6 +94,23 @@ impl Machine {
 
     /// ATTACH (Assembler Services Reference).
     pub fn attach(
+        &mut self,
+        mother: Name,
+        name: &Name,
+        gifts: &Gifts,
+        residence: Residence,
+    ) -> Result<Reply, Code>
+        requires { is_active self.old.owners mother ≡ true }
+        ensures answer { Answers (AttachStep self.old mother name.now gifts.now residence) self.old mother result self.new }
+        ensures no_abend { IfOk result (λ reply. is_abend reply ≡ false) }
+    {
+        let mut reply = Reply::NotRun;
+        let answer = self.attach_into(mother, name, gifts, residence, &mut reply);
+        answer_of(answer, reply)
+    }
+
+    /// The same; the reply is written over `reply`, so that nothing of it is copied.
+    pub fn attach_into(
         &mut self,
         mother: Name,
         name: &Name,

@@ -14,5 +14,5 @@ active_step old t request reply new active acts = subst (λ b. MatchBool (not b)
 
 pub returns-in-Err-clause-step : goal.returns-in-Err-clause-step
 returns-in-Err-clause-step c = rw (← c.self.view_is)
-    (active_step c.self.inside.machine c.args.name.now c.args.request.now c.abend.new.reply c.abend.new.self (sym c.is_active.ensures ∙ c.if-not-is_active.false)
-    (c.in-Err.ensures.answer.1 c.abend.new.reply c.abend.new.self (subst (λ st. Abends st c.args.name.now c.in-Err.code c.abend.new.reply c.abend.new.self) c.in-Err.ensures.answer.0 c.abend.ensures.abends)))
+    (active_step c.self.inside.machine c.args.name.now c.args.request.now c.abend_into.new.reply c.abend_into.new.self (sym c.is_active.ensures ∙ c.if-not-is_active.false)
+    (c.in-Err.ensures.answer.1 c.abend_into.new.reply c.abend_into.new.self (subst (λ st. Abends st c.args.name.now c.in-Err.code c.abend_into.new.reply c.abend_into.new.self) c.in-Err.ensures.answer.0 c.abend_into.ensures.abends)))

@@ -3,8 +3,8 @@ use Rattle.mvs_model.specs.Owners.{subpool_meant}
 use Rattle.request_forms.specs.Machine.{machine_state}
 use Rattle.request_forms.proofs.Pooling.{subpool_agrees}
 use Rattle.request_forms.proofs.Releasing.{invalid_whole, done_whole, emptied_entry, no_entry, not_zero}
-use Rattle.request_forms.proofs.machine.Machine.release_whole.Goals as goal
-use Rattle.request_forms.proofs.machine.Machine.release_whole.Goals.{in-Some-subpool_of, in_default-subpool_of}
+use Rattle.request_forms.proofs.machine.Machine.release_whole_into.Goals as goal
+use Rattle.request_forms.proofs.machine.Machine.release_whole_into.Goals.{in-Some-subpool_of, in_default-subpool_of}
 
 pub returns-in_default-clause-answer : goal.returns-in_default-clause-answer
 returns-in_default-clause-answer c = rw (c.bad_subpool.ensures) (invalid_whole _ _ c.args.form c.args.number c.in_default.ensures)

@@ -6,7 +6,7 @@ use Rattle.mvs_model.specs.Owners.{keeper}
 use Rattle.mvs_model.specs.Codes.{family, form_side}
 use Rattle.task_owner.specs.Tasks.{residence_of}
 use Rattle.request_forms.proofs.Obtaining.{invalid_answers, short_answers, side_seen}
-use Rattle.request_forms.proofs.machine.Machine.obtain.Goals as goal
+use Rattle.request_forms.proofs.machine.Machine.obtain_into.Goals as goal
 
 pub returns-in_default-clause-answer : goal.returns-in_default-clause-answer
 returns-in_default-clause-answer c = rw (c.bad_subpool.ensures) (invalid_answers _ _ c.args.form c.args.number _ c.in_default.ensures)

@@ -3,7 +3,7 @@ use Rattle.mvs_model.specs.Owners.{subpool_meant}
 use Rattle.mvs_model.specs.State.{State}
 use Rattle.request_forms.specs.Answers.{told}
 use Rattle.request_forms.proofs.Releasing.{invalid_release, misplaced_release, release_answered, one_on_doubleword}
-use Rattle.request_forms.proofs.machine.Machine.release.Goals as goal
+use Rattle.request_forms.proofs.machine.Machine.release_into.Goals as goal
 
 pub returns-in_default-clause-answer : goal.returns-in_default-clause-answer
 returns-in_default-clause-answer c = rw (c.bad_subpool.ensures) (invalid_release _ _ c.args.form c.args.number (c.args.place ∷ []) c.in_default.ensures)

@@ -5,7 +5,7 @@ use Rattle.mvs_model.specs.Steps.{BuildStep}
 use Rattle.mvs_model.specs.declared.request.Reply.TheVariants.{Rc0}
 use Rattle.mvs_model.specs.Want.{side_of}
 use Rattle.request_forms.proofs.Building.{invalid_build, residence_seen}
-use Rattle.request_forms.proofs.machine.Machine.build.Goals as goal
+use Rattle.request_forms.proofs.machine.Machine.build_into.Goals as goal
 
 pub returns-in_default-clause-answer : goal.returns-in_default-clause-answer
 returns-in_default-clause-answer c = rw (c.bad_subpool.ensures) (invalid_build _ _ _ c.args.number _ c.in_default.ensures)

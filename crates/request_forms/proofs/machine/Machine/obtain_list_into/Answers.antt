@@ -3,7 +3,7 @@ use Rattle.mvs_model.specs.Changes.{ListShort}
 use Rattle.mvs_model.specs.Owners.{keeper}
 use Rattle.request_forms.specs.Lists.{list_wants}
 use Rattle.request_forms.proofs.Listing.{invalid_list, short_list}
-use Rattle.request_forms.proofs.machine.Machine.obtain_list.Goals as goal
+use Rattle.request_forms.proofs.machine.Machine.obtain_list_into.Goals as goal
 
 pub returns-in_default-clause-answer : goal.returns-in_default-clause-answer
 returns-in_default-clause-answer c = rw (c.bad_subpool.ensures) (invalid_list _ _ c.args.form c.args.number (list_wants c.args.lengths.now c.args.start) c.in_default.ensures)

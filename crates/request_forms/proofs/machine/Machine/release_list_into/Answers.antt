@@ -5,7 +5,7 @@ use Rattle.mvs_model.specs.State.{State}
 use Rattle.mvs_model.specs.Steps.{on_doubleword}
 use Rattle.request_forms.specs.Answers.{told}
 use Rattle.request_forms.proofs.Releasing.{invalid_release, misplaced_release, release_answered}
-use Rattle.request_forms.proofs.machine.Machine.release_list.Goals as goal
+use Rattle.request_forms.proofs.machine.Machine.release_list_into.Goals as goal
 
 pub returns-in_default-clause-answer : goal.returns-in_default-clause-answer
 returns-in_default-clause-answer c = rw (c.bad_subpool.ensures) (invalid_release _ _ c.args.form c.args.number c.args.places.now c.in_default.ensures)
