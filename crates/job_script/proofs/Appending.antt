@@ -1,7 +1,8 @@
 -- What is appended in turn is appended at once.
-use Rattle.std.proofs.Common.{◌≡◌, ℕ, ◌+◌, ◌-◌, ◌<◌, List, [], ◌∷◌, ◌++◌, get_or, take, drop, length, append_assoc, ap, ◌∙◌, sym, None, Some, Option}
+use Rattle.std.proofs.Common.{◌≡◌, refl, ℕ, zero, suc, ◌+◌, ◌-◌, ◌<◌, ◌≤◌, List, [], ◌∷◌, ◌++◌, get_or, take, drop, length, append_assoc, ap, ◌∙◌, sym, None, Some, Option}
 use Rattle.std.proofs.Math.Seq.{take-add}
-use Rattle.std.proofs.lemmas.List.{take_rest, take-append-drop, take_more, flat_map_more}
+use Rattle.std.proofs.lemmas.List.{take_rest, take-append-drop, take_more, flat_map_more, take_at, drop_at, take-append-le, length-take-le}
+use borrow.Rule.Slice.PartMut.{put_mid, post_of}
 use Rattle.std.proofs.lemmas.Grind.{flat_map-append}
 use Rattle.std.specs.List.{flat_map}
 use Rattle.std.proofs.KnownBytes.{Appends-trans}
@@ -43,3 +44,15 @@ module _ {X : Type 0} (f : X → List ℕ) (head : List ℕ) (xs : List X) where
 
   pub lines_front : (a b c : Option (List ℕ)) (i : ℕ) (x : X) → i < length xs → x ≡ get_or xs i x → Appends a b (head ++ flat_map f (take i xs)) → AppendsFront b c (f x) → AppendsFront a c (head ++ flat_map f xs)
   lines_front a b c i x l e p q = rw (← lines_rest (i + 1), ← one_line_more i x l e) (front_longer a c _ _ (front_more a b c _ _ p q))
+
+-- a name of which only the front is kept, behind a text in its array
+pub name_put : (bytes ws : List ℕ) (len m k : ℕ) → len ≤ length bytes → k ≤ length ws → take (len + k) (put_mid len m bytes ws) ≡ take len bytes ++ take k ws
+name_put bytes ws len m k within few =
+    let front : length (take len bytes) ≡ len = length-take-le len bytes within in
+    take-add len k (put_mid len m bytes ws)
+    ∙ (rw (take_at (take len bytes) (ws ++ post_of len m bytes) _ front, drop_at (take len bytes) (ws ++ post_of len m bytes) _ front, take-append-le k ws (post_of len m bytes) few) refl)
+
+pub taken_again : (n : ℕ) (l : List ℕ) → take (length (take n l)) l ≡ take n l
+taken_again zero l = refl
+taken_again (suc n) [] = refl
+taken_again (suc n) (x ∷ l) = ap (λ l. x ∷ l) (taken_again n l)

@@ -21,6 +21,10 @@ split_end p i n xs = split p n (drop i xs) ∙ ap (λ ys. list_all p (take n (dr
 pub part_passes : (p : ℕ → Bool) (i n : ℕ) (xs : List ℕ) → list_all p (take n (drop i xs)) ≡ true → list_all p (drop (i + n) xs) ≡ list_all p (drop i xs)
 part_passes p i n xs e = sym (split_end p i n xs ∙ ap (λ b. b && list_all p (drop (i + n) xs)) e)
 
+-- one that does not
+pub part_fails : (p : ℕ → Bool) (i n : ℕ) (xs : List ℕ) → list_all p (take n (drop i xs)) ≡ false → false ≡ list_all p (drop i xs)
+part_fails p i n xs e = sym (split_end p i n xs ∙ ap (λ b. b && list_all p (drop (i + n) xs)) e)
+
 -- where an end decides, a longer end does
 pub longer_end : (p : ℕ → Bool) (j i : ℕ) (xs : List ℕ) → j ≤ i → list_all p (drop i xs) ≡ list_all p xs → list_all p (drop j xs) ≡ list_all p xs
 longer_end p j i xs le e =

@@ -7,8 +7,8 @@ ghost use Rattle.mvs_model.specs.Reading.{is_digit, is_hex_digit, is_name_byte, 
 ghost use Rattle.job_script.specs.Frequent.{IsAddressFront, IsFront, IsNumberFront, is_remark};
 
 use crate::addresses::is_name_byte;
-use crate::are_plain;
 use crate::digits::is_hex_digit;
+use crate::is_plain;
 
 // How many digits a text starts with, at most ten, and the number that they write.
 fn digits_in_front(text: &[u8]) -> (usize, u64)
@@ -144,6 +144,6 @@ pub fn is_remark(text: &[u8]) -> bool
 {
     match text {
         [] => true,
-        [blank, remark @ ..] => *blank == b' ' && are_plain(remark),
+        [blank, remark @ ..] => *blank == b' ' && is_plain(remark),
     }
 }

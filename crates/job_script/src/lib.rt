@@ -1,7 +1,7 @@
 //! Reads the lines of a script, keeps its names, and prints what its lines are answered.
 #![tactic(auto)]
 
-ghost use Rattle.std.specs.Prelude.{◌≡◌, ◌==◌, ◌&&◌, nat_le, true, false};
+ghost use Rattle.std.specs.Prelude.{◌≡◌, ◌<◌, ◌≤◌, ◌==◌, ◌&&◌, nat_le, true, false, length};
 ghost use Rattle.std.specs.List.{list_all};
 ghost use Rattle.mvs_model.specs.Lines.{IsLine};
 ghost use Rattle.mvs_model.specs.Reading.{IsReading, first_of, says_nothing};
@@ -69,21 +69,31 @@ fn are_plain(bytes: &[u8]) -> bool
     plain
 }
 
-// The same of a line, eight bytes at a time, of which the last eight may overlap those before them.
+// The same of a line, so many bytes at a time, of which the last may overlap those before them.
+fn is_plain_by<const SIZE: usize>(line: &[u8]) -> bool
+    requires some { 0 < SIZE }
+    requires long { SIZE ≤ length line.now }
+    ensures { result ≡ list_all (λ b. nat_le 32 b && nat_le b 126) line.now }
+{
+    let mut done = 0;
+    while line.len() - done > SIZE {
+        if !are_plain(&line[done..done + SIZE]) {
+            return false;
+        }
+        done += SIZE;
+    }
+    are_plain(&line[line.len() - SIZE..])
+}
+
+// The same of a line of any length.
 fn is_plain(line: &[u8]) -> bool
     ensures { result ≡ list_all (λ b. nat_le 32 b && nat_le b 126) line.now }
 {
-    if line.len() < 8 {
-        return are_plain(line);
+    match line.len() {
+        0..=7 => are_plain(line),
+        8..=15 => is_plain_by::<8>(line),
+        _ => is_plain_by::<16>(line),
     }
-    let mut done = 0;
-    while line.len() - done > 8 {
-        if !are_plain(&line[done..done + 8]) {
-            return false;
-        }
-        done += 8;
-    }
-    are_plain(&line[line.len() - 8..])
 }
 
 // Whether the line has no byte but blanks.

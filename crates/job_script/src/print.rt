@@ -36,7 +36,7 @@ pub fn push_head(text: &mut Text, line_number: u32, task: &Name)
 {
     text.push_decimal(line_number);
     text.push_all(b" ");
-    text.push_all(task.text());
+    text.push_name(task);
     text.push_all(b" ");
 }
 

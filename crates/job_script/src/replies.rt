@@ -58,7 +58,7 @@ fn push_ended_with(text: &mut Text, other: &Name)
     ensures len { length text.new ≤ length text.old + 20 }
 {
     text.push_all(b"ENDED WITH ");
-    text.push_all(other.text());
+    text.push_name(other);
 }
 
 // Prints that a task ended with another.

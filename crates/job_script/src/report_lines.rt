@@ -83,7 +83,7 @@ fn push_holder(text: &mut Text, holder: &Option<(SubNo, Name)>)
             text.push_all(b"SP ");
             text.push_decimal(u32::from(number.get()));
             text.push_all(b" OWNER ");
-            text.push_all(owner.text());
+            text.push_name(owner);
         }
         None => text.push_all(b"FREE"),
     }

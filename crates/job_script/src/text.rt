@@ -1,8 +1,10 @@
 //! A line of text in a fixed array.
 
 ghost use Rattle.std.specs.Prelude.{◌≡◌, ◌<◌, ◌≤◌, ◌+◌, ◌/◌, ◌%◌, ◌++◌, ◌∷◌, [], List, ℕ, length, take, decimal};
+ghost use Rattle.mvs_model.specs.Name.{trimmed};
 ghost use Rattle.mvs_model.specs.Texts.{last_digits, hex, glyph};
 
+use mvs_model::name::Name;
 use std::marker::Model;
 
 /// The most bytes that a printed line has.
@@ -76,6 +78,17 @@ impl Text {
         self.len = end;
     }
 
+    /// A name without its padding, which may take eight bytes while it is put there.
+    pub fn push_name(&mut self, name: &Name)
+        requires { length self.old + 8 ≤ 160 }
+        ensures text { self.new ≡ self.old ++ trimmed name.now }
+        ensures len { length self.new ≤ length self.old + 8 }
+    {
+        let at = self.len;
+        self.bytes[at..at + 8].copy_from_slice(&name.bytes());
+        self.len = at + name.text().len();
+    }
+
     /// The two hexadecimal digits of a byte.
     pub fn push_byte(&mut self, byte: u8)
         requires { length self.old + 2 ≤ 160 }
@@ -139,8 +152,11 @@ impl Text {
         requires { length self.old + 3 ≤ 160 }
         ensures { self.new ≡ self.old ++ (48 + number / 100 % 10) ∷ (48 + number / 10 % 10) ∷ (48 + number % 10) ∷ [] }
     {
-        self.push(last_digit(number / 100));
-        self.push_two(number);
+        let at = self.len;
+        self.bytes[at] = last_digit(number / 100);
+        self.bytes[at + 1] = last_digit(number / 10);
+        self.bytes[at + 2] = last_digit(number);
+        self.len = at + 3;
     }
 
     // The last two digits of a number.
@@ -148,8 +164,10 @@ impl Text {
         requires { length self.old + 2 ≤ 160 }
         ensures { self.new ≡ self.old ++ (48 + number / 10 % 10) ∷ (48 + number % 10) ∷ [] }
     {
-        self.push(last_digit(number / 10));
-        self.push(last_digit(number));
+        let at = self.len;
+        self.bytes[at] = last_digit(number / 10);
+        self.bytes[at + 1] = last_digit(number);
+        self.len = at + 2;
     }
 
     /// The last digits of a number in a base of at most sixteen, as many as are asked for.

@@ -181,6 +181,13 @@ module _ (ws set : List ℕ) (is : members ws ≡ set) where
       let word : s / 64 ≡ from / 64 = omega arith in
       in_set s ∙ ap (λ k. eqb (bit_at (get_or ws k 0) (s % 64)) 1) word ∙ ap (λ x. eqb x 1) (none (s % 64) (omega arith) (omega arith))
 
+  -- none from one on in its word, and then words that are zero
+  pub none_in_words : (from next : ℕ) → ((i : ℕ) → from % 64 ≤ i → i < 64 → bit_at (get_or ws (from / 64) 0) i ≡ 0) → ((w : ℕ) → from / 64 + 1 ≤ w → w < next → get_or ws w 0 ≡ 0) → (s : ℕ) → from ≤ s → s < 64 * next → is_one_of set s ≡ false
+  none_in_words from next none clear s low high = elim (cases_lt s (from / 64 * 64 + 64)) [
+    | inl here ↦ none_in_word from (from / 64 * 64) (from / 64 * 64 + 64) refl refl none s low here
+    | inr there ↦ in_set s ∙ ap (λ w. eqb (bit_at w (s % 64)) 1) (clear (s / 64) (omega arith) (omega arith)) ∙ ap (λ x. eqb x 1) (bit_at-zero (s % 64))
+  ]
+
   pub in_word : (from first bit : ℕ) → first ≡ from / 64 * 64 → bit < 64 → bit_at (get_or ws (from / 64) 0) bit ≡ 1 → is_one_of set (first + bit) ≡ true
   in_word from first bit at low one =
       let word : (first + bit) / 64 ≡ from / 64 = omega arith in

@@ -76,6 +76,13 @@ impl Name {
         spelled(self.bytes)
     }
 
+    /// The text with its padding.
+    pub fn bytes(&self) -> [u8; 8]
+        ensures { result ≡ self.now }
+    {
+        self.bytes
+    }
+
     /// The text without its padding.
     pub fn text(&self) -> &[u8]
         ensures text { result.now ≡ trimmed self.now }

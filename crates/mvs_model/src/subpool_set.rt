@@ -1,6 +1,6 @@
 //! Sets of subpools.
 
-ghost use Rattle.std.specs.Prelude.{◌≡◌, ◌<◌, ◌≤◌, ◌==◌, ◌||◌, ℕ, [], false, true, ◌↔◌, IsTrue, MatchOption};
+ghost use Rattle.std.specs.Prelude.{◌≡◌, ◌<◌, ◌≤◌, ◌==◌, ◌||◌, ℕ, [], false, true, ◌↔◌, IsTrue, MatchOption, slice_index};
 ghost use Rattle.std.specs.Int.{bit_at};
 ghost use Rattle.std.specs.List.Sorted.{IsStrictlySortedBy};
 ghost use Rattle.std.specs.Ordering.{nat_cmp};
@@ -53,6 +53,21 @@ fn first_bit(word: u64, from: u32) -> Option<u32>
     }
 }
 
+// The first word from a place on that is not zero; the number of words where each is.
+fn first_word(words: &[u64; WORDS], from: usize) -> usize
+    requires { from ≤ 65 }
+    ensures after { from ≤ result }
+    ensures clear { (w : ℕ) → from ≤ w → w < result → slice_index words.now w ≡ 0 }
+    ensures most { result ≤ 65 }
+{
+    for w in from..WORDS {
+        if words[w] != 0 {
+            return w;
+        }
+    }
+    WORDS
+}
+
 impl SubpoolSet {
     /// The set without a member.
     pub fn empty() -> SubpoolSet
@@ -100,7 +115,7 @@ impl SubpoolSet {
             if let Some(bit) = first_bit(self.words[at / 64], (at % 64) as u32) {
                 return Some(SubpoolId::new((first + bit as usize) as u16));
             }
-            at = first + 64;
+            at = 64 * first_word(&self.words, at / 64 + 1);
         }
         None
     }

@@ -1,5 +1,8 @@
 -- What the reports say of the store and the tasks.
-use Rattle.std.proofs.Common.{◌≡◌, ℕ, true, ◌+◌, ◌-◌, ◌*◌, ◌/◌, ◌<◌, ◌≤◌, Option, Some, None, sym, ap, subst, inl, inr, ◌⊎◌, ◌∙◌, arith, MatchOption}
+use Rattle.std.proofs.Common.{◌≡◌, refl, ℕ, zero, suc, List, [], ◌∷◌, take, drop, get_or, not, true, false, ◌+◌, ◌-◌, ◌*◌, ◌/◌, ◌<◌, ◌≤◌, Option, Some, None, sym, ap, subst, inl, inr, ◌⊎◌, ◌∙◌, arith, MatchOption}
+use Rattle.std.specs.Prelude.{is_some}
+use Rattle.std.specs.List.{list_all}
+use Rattle.std.proofs.lemmas.Grind.{common_steps}
 use Rattle.std.specs.Option.{option_and_then}
 use Rattle.std.specs.FinMap.{FinMap, get}
 use Rattle.mvs_model.specs.declared.name.Name.{Name}
@@ -97,3 +100,18 @@ module _ (roots : FinMap name_cmp Root) (st : Storage) (o : Owners) (is : IsStep
         subst (λ b. NoneBegins (page_holder st) 6 from (6 + b)) below_is (none_from (page_holder st) 6 at from (6 + below) first_page lower),
         subst (λ b. NoneBegins (page_holder st) 4096 from (4096 + b)) above_is (none_from (page_holder st) 4096 at from (4096 + above) first_page upper),
       )
+
+-- numbers of which none has a subpool
+none_in : (os : List (Option ℕ)) → list_all (λ s. not (is_some s)) os ≡ true → (k : ℕ) → get_or os k None ≡ None
+none_in [] e k = refl
+none_in (None ∷ os) e zero = refl
+none_in (None ∷ os) e (suc k) = none_in os e k
+none_in (Some s ∷ os) e k = absurd (let f : false ≡ true = e in cc)
+
+pub none_within : (os : List (Option ℕ)) (at n m : ℕ) → list_all (λ s. not (is_some s)) (take m (drop at os)) ≡ true → at ≤ n → n < at + m → get_or os n None ≡ None
+none_within os at n m e low high =
+    let k : ℕ = n - at in
+    let place : at + k ≡ n = omega arith in
+    let inside : k < m = omega arith in
+    let there : get_or (take m (drop at os)) k None ≡ get_or os (at + k) None = grind (arith, common_steps) in
+    ap (λ n. get_or os n None) (sym place) ∙ sym there ∙ none_in (take m (drop at os)) e k

@@ -2,7 +2,7 @@
 
 use crate::read_line;
 use mvs_model::code::Form;
-use mvs_model::line::{Line, Location, Statement, Written};
+use mvs_model::line::{Fault, Line, Location, Statement, Written};
 use mvs_model::name::Name;
 use mvs_model::want::{Ask, Loc, Residence, Side};
 
@@ -187,6 +187,30 @@ fn names_and_reports_are_asked_for(rt: HostRuntime) {
             Ok(Line::Statement(_, Statement::ReportMap))
         )
     );
+}
+
+#[test]
+fn what_only_looks_plain_is_read_by_the_table(rt: HostRuntime) {
+    assert!(rt;
+        matches!(&asked(b"T GETMAIN RC,LV=9,A=X,LOC=ANY  LOC=31"), Some(Written::Obtain { ask, .. })
+            if is_ask(ask, 16, 16, 3, None, Loc::Any))
+    );
+    assert!(rt;
+        matches!(&asked(b"T GETMAIN RC,LV=8,A=X,LOC=31"), Some(Written::Obtain { ask, .. })
+            if is_ask(ask, 8, 8, 3, None, Loc::Any))
+    );
+    assert!(rt;
+        matches!(read_line(b"T GETMAIN R,LV=8,A=X,LOC=ANY", false), Err(Fault::InvalidOperand))
+    );
+    assert!(rt;
+        matches!(read_line(b"T GETMAIN RC,LV=8,A=X,LOC=ANYX", false), Err(Fault::InvalidOperand))
+    );
+    assert!(rt; matches!(asked(b"T RETURN "), Some(Written::Return)));
+    assert!(rt; matches!(read_line(b"T RETURNED", false), Err(Fault::UnknownOperation)));
+    assert!(rt; matches!(read_line(b"T REPORT SPX", false), Err(Fault::UnknownOperation)));
+    assert!(rt; matches!(read_line(b"T WHERE X \x7F", false), Err(Fault::InvalidByte)));
+    assert!(rt; matches!(read_line(b"T PUT X,X'0'", false), Err(Fault::InvalidOperand)));
+    assert!(rt; matches!(read_line(b"T SHOW X,4097", false), Err(Fault::OutOfRange)));
 }
 
 // Whether the name is this text.

@@ -1,6 +1,8 @@
 use Rattle.std.proofs.Common.{◌≡◌, ◌-◌, ◌≤◌}
+use Rattle.std.specs.Prelude.{MatchOption}
 use Rattle.std.specs.Io.KnownBytes.{Appends}
 use Rattle.mvs_model.specs.Reports.{each_below}
+use Rattle.request_forms.specs.Reports.{HasNone, IsSubpoolLine}
 use Rattle.mvsjob.proofs.Numbers.{number_line}
 use Rattle.mvsjob.proofs.reports.print_numbers.Given as goal
 
@@ -8,6 +10,7 @@ abbrev pub invariant-lines : goal.invariant-lines
 invariant-lines g l = record {
   so_far : Appends (g.W.Write.contents l.initial.writer.inner) (g.W.Write.contents l.writer.inner) (each_below l.from (number_line l.line_number l.step.state l.task));
   low : l.from ≤ 133;
+  found : MatchOption l.next (HasNone l.step.state.owners l.task l.from 133) (IsSubpoolLine l.step.state l.task l.from);
   same : l.writer.failed ≡ l.initial.writer.failed;
 }
 

@@ -1,7 +1,7 @@
 use Rattle.std.proofs.Common.{◌≡◌, ◌≤◌, ◌+◌, ◌*◌, ◌/◌, sym, inl, inr, refl, arith, ap, ◌∙◌}
 use Rattle.std.proofs.lemmas.Bool.{cases_lt}
 use Rattle.mvs_model.specs.Storage.{is_one_of}
-use Rattle.mvs_model.proofs.SubpoolSets.{in_set, none_before, none_in_word, in_word, none_past}
+use Rattle.mvs_model.proofs.SubpoolSets.{in_set, none_before, none_in_words, in_word, none_past}
 use Rattle.mvs_model.proofs.subpool_set.SubpoolSet.first_from.Goals as goal
 
 pub new-requires : goal.new-requires
@@ -27,7 +27,7 @@ words-preserved c = record {
   after = let low : c.args.from ≤ c.words.at = c.words.invariant.after in omega arith;
   skipped = λ s low high. elim (cases_lt s c.words.at) [
     | inl before ↦ c.words.invariant.skipped s low before
-    | inr from ↦ none_in_word c.self.inside.words c.args.self.now c.self.view_is c.words.at (c.words.at / 64 * 64) (c.words.at / 64 * 64 + 64) refl refl c.in_default.ensures s from high
+    | inr from ↦ none_in_words c.self.inside.words c.args.self.now c.self.view_is c.words.at c.first_word-at.result c.in_default.ensures c.first_word-at.ensures.clear s from high
   ];
 }
 
