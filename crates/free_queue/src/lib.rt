@@ -100,8 +100,19 @@ fn put_run(region: &mut Region, page: usize, at: u32, stop: u32, next: u32) -> u
     }
 }
 
+// Makes all of an open page free, and gives its head.
+fn start(region: &mut Region, page: usize) -> u32
+    requires few { page < most_pages_above }
+    requires there { is_open region.old page ≡ true }
+    ensures keeps { Keeps region.old page region.new }
+    ensures queue { Queue 0 (page_of region.new page) result (record { from = 0; len = page_bytes } ∷ []) }
+{
+    set(region, page, 0, END, PAGE_BYTES);
+    0
+}
+
 // Makes all of an open page free but some bytes from an offset on, and gives its head.
-fn start(region: &mut Region, page: usize, from: u32, n: u32) -> u32
+fn start_around(region: &mut Region, page: usize, from: u32, n: u32) -> u32
     requires few { page < most_pages_above }
     requires there { is_open region.old page ≡ true }
     requires some { 0 < n }

@@ -57,9 +57,20 @@ impl Head {
     }
 }
 
+/// Makes all of a page free. What it holds is lost.
+pub fn start(region: &mut Region, page: usize) -> Head
+    requires few { page < most_pages_above }
+    requires there { is_open region.old page ≡ true }
+    ensures keeps { Keeps region.old page region.new }
+    ensures queue { Queue 0 (page_of region.new page) result (record { from = 0; len = page_bytes } ∷ []) }
+{
+    let offset = crate::start(region, page);
+    Head { offset }
+}
+
 /// Makes all of a page free but `n` bytes from an offset on, at least 8, which keep what they are. What all others hold
 /// is lost.
-pub fn start(region: &mut Region, page: usize, from: u32, n: u32) -> Head
+pub fn start_around(region: &mut Region, page: usize, from: u32, n: u32) -> Head
     requires few { page < most_pages_above }
     requires there { is_open region.old page ≡ true }
     requires some { 0 < n }
@@ -69,7 +80,7 @@ pub fn start(region: &mut Region, page: usize, from: u32, n: u32) -> Head
     ensures same { (d : ℕ) → Within from n d → Same (page_of region.old page) (page_of region.new page) d }
     ensures queue { Takes 0 whole_page from n (page_of region.new page) result }
 {
-    let offset = crate::start(region, page, from, n);
+    let offset = crate::start_around(region, page, from, n);
     Head { offset }
 }
 

@@ -49,13 +49,16 @@ begins_word (b ∷ bs) = not (b == 32)
 first_word : (field : List ℕ) → begins_word field ≡ true → (w : List ℕ) × (ws : List (List ℕ)) × (words field ≡ w ∷ ws)
 first_word [] e = absurd (let f : false ≡ true = e in cc)
 first_word (b ∷ bs) e =
-    let shape = parts (slice_split (λ b. b == 32) bs) (omega (arith, length-slice_split (λ b. b == 32) bs)) in
-    (b ∷ shape.0, filter (λ word. not (is_empty word)) shape.1,
-    ap (filter (λ word. not (is_empty word))) (ap (λ c. if c then [] ∷ slice_split (λ b. b == 32) bs else onto_first b (slice_split (λ b. b == 32) bs)) (no (b == 32) e) ∙ ap (onto_first b) shape.2))
+    let shape = parts (slice_split (λ b. b == 32) bs) (omega (arith, length-slice_split (λ b. b == 32) bs)) in (
+      b ∷ shape.0,
+      filter (λ word. not (is_empty word)) shape.1,
+      ap (filter (λ word. not (is_empty word))) (ap (λ c. if c then [] ∷ slice_split (λ b. b == 32) bs else onto_first b (slice_split (λ b. b == 32) bs)) (no (b == 32) e) ∙ ap (onto_first b) shape.2),
+    )
   where
     no : (c : Bool) → not c ≡ true → c ≡ false
     no false e = refl
     no true e = absurd (let f : false ≡ true = e in cc)
+
     parts : (l : List (List ℕ)) → 0 < length l → (p : List ℕ) × (ps : List (List ℕ)) × (l ≡ p ∷ ps)
     parts [] some = absurd (omega arith)
     parts (p ∷ ps) some = (p, ps, refl)

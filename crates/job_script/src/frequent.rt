@@ -49,9 +49,22 @@ fn loc_in_front(form: Form, text: &[u8]) -> (Loc, &[u8])
     match (form, text) {
         (Form::R, _) => (Loc::Res, text),
         (_, [b',', b'L', b'O', b'C', b'=', b'A', b'N', b'Y', rest @ ..]) => (Loc::Any, rest),
-        (_, [b',', b'L', b'O', b'C', b'=', b'B', b'E', b'L', b'O', b'W', rest @ ..]) => {
-            (Loc::Below, rest)
-        }
+        (
+            _,
+            [
+                b',',
+                b'L',
+                b'O',
+                b'C',
+                b'=',
+                b'B',
+                b'E',
+                b'L',
+                b'O',
+                b'W',
+                rest @ ..,
+            ],
+        ) => { (Loc::Below, rest) }
         _ => (Loc::Res, text),
     }
 }
@@ -328,12 +341,31 @@ fn storage_head_in_front(text: &[u8]) -> Option<(Head, &[u8])>
     ensures { MatchOption result (Unit {0}) (λ r. text.now ≡ head_text r.0 ++ r.1.now) }
 {
     match text {
-        [b' ', b'G', b'E', b'T', b'M', b'A', b'I', b'N', b' ', field @ ..] => {
-            Some((Head::Getmain, field))
-        }
-        [b' ', b'F', b'R', b'E', b'E', b'M', b'A', b'I', b'N', b' ', field @ ..] => {
-            Some((Head::Freemain, field))
-        }
+        [
+            b' ',
+            b'G',
+            b'E',
+            b'T',
+            b'M',
+            b'A',
+            b'I',
+            b'N',
+            b' ',
+            field @ ..,
+        ] => { Some((Head::Getmain, field)) }
+        [
+            b' ',
+            b'F',
+            b'R',
+            b'E',
+            b'E',
+            b'M',
+            b'A',
+            b'I',
+            b'N',
+            b' ',
+            field @ ..,
+        ] => { Some((Head::Freemain, field)) }
         [b' ', b'C', b'P', b'O', b'O', b'L', b' ', rest @ ..] => pool_form_in_front(rest),
         _ => None,
     }
@@ -348,9 +380,19 @@ fn other_head_in_front(text: &[u8]) -> Option<(Head, &[u8])>
         [b' ', b'S', b'H', b'O', b'W', b' ', field @ ..] => Some((Head::Show, field)),
         [b' ', b'W', b'H', b'E', b'R', b'E', b' ', field @ ..] => Some((Head::Where, field)),
         [b' ', b'R', b'E', b'T', b'U', b'R', b'N', field @ ..] => Some((Head::Return, field)),
-        [b' ', b'R', b'E', b'P', b'O', b'R', b'T', b' ', b'S', b'P', field @ ..] => {
-            Some((Head::Report, field))
-        }
+        [
+            b' ',
+            b'R',
+            b'E',
+            b'P',
+            b'O',
+            b'R',
+            b'T',
+            b' ',
+            b'S',
+            b'P',
+            field @ ..,
+        ] => { Some((Head::Report, field)) }
         _ => None,
     }
 }

@@ -68,7 +68,7 @@ impl Memory {
         let at = 8 * (from - PAGE_DOUBLEWORDS * page) as u32;
         let len = 8 * (to - from) as u32;
         self.region.open_page(page, value);
-        self.heads[page] = queue::start(&mut self.region, page, at, len);
+        self.heads[page] = queue::start_around(&mut self.region, page, at, len);
     }
 
     // Makes an open page blank.

@@ -200,16 +200,37 @@ fn what_only_looks_plain_is_read_by_the_table(rt: HostRuntime) {
             if is_ask(ask, 8, 8, 3, None, Loc::Any))
     );
     assert!(rt;
-        matches!(read_line(b"T GETMAIN R,LV=8,A=X,LOC=ANY", false), Err(Fault::InvalidOperand))
+        matches!(
+            read_line(b"T GETMAIN R,LV=8,A=X,LOC=ANY", false),
+            Err(Fault::InvalidOperand)
+        )
     );
     assert!(rt;
-        matches!(read_line(b"T GETMAIN RC,LV=8,A=X,LOC=ANYX", false), Err(Fault::InvalidOperand))
+        matches!(
+            read_line(b"T GETMAIN RC,LV=8,A=X,LOC=ANYX", false),
+            Err(Fault::InvalidOperand)
+        )
     );
     assert!(rt; matches!(asked(b"T RETURN "), Some(Written::Return)));
-    assert!(rt; matches!(read_line(b"T RETURNED", false), Err(Fault::UnknownOperation)));
-    assert!(rt; matches!(read_line(b"T REPORT SPX", false), Err(Fault::UnknownOperation)));
+    assert!(rt;
+        matches!(
+            read_line(b"T RETURNED", false),
+            Err(Fault::UnknownOperation)
+        )
+    );
+    assert!(rt;
+        matches!(
+            read_line(b"T REPORT SPX", false),
+            Err(Fault::UnknownOperation)
+        )
+    );
     assert!(rt; matches!(read_line(b"T WHERE X \x7F", false), Err(Fault::InvalidByte)));
-    assert!(rt; matches!(read_line(b"T PUT X,X'0'", false), Err(Fault::InvalidOperand)));
+    assert!(rt;
+        matches!(
+            read_line(b"T PUT X,X'0'", false),
+            Err(Fault::InvalidOperand)
+        )
+    );
     assert!(rt; matches!(read_line(b"T SHOW X,4097", false), Err(Fault::OutOfRange)));
 }
 

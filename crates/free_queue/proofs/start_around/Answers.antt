@@ -1,7 +1,7 @@
 use Rattle.std.proofs.Common.{arith, inl, inr}
 use Rattle.free_queue.specs.Runs.{page_of}
 use Rattle.free_queue.proofs.Queues.{same_trans, start_takes}
-use Rattle.free_queue.proofs.start.Goals as goal
+use Rattle.free_queue.proofs.start_around.Goals as goal
 
 pub returns-clause-same : goal.returns-clause-same
 returns-clause-same c =
