@@ -2,7 +2,7 @@
 //! order of the table. Every other line is read by the table. Both are proved against one definition, so that no line is read otherwise here than
 //! there.
 
-ghost use Rattle.std.specs.Prelude.{◌≡◌, ◌++◌, ◌∷◌, ℕ, List, Option, codes, true, false, MatchOption};
+ghost use Rattle.std.specs.Prelude.{◌≡◌, ◌≢◌, ◌++◌, ◌∷◌, ℕ, List, Option, codes, true, false, MatchOption};
 ghost use Rattle.mvs_model.specs.Reading.{LineOf};
 ghost use Rattle.job_script.specs.Frequent.{IsPooled, IsSized, IsSubpoolFront, SaysBehind, form_word, get_text, head_text, is_single, loc_text, may_place};
 
@@ -41,31 +41,37 @@ fn subpool_in_front(text: &[u8]) -> Option<(u8, &[u8])>
     Some((number as u8, rest))
 }
 
-// The place in storage that a text starts with, or that of the task, and the text behind it. (GETMAIN R has no such operand.)
-fn loc_in_front(form: Form, text: &[u8]) -> (Loc, &[u8])
-    ensures text { text.now ≡ loc_text result.0 ++ result.1.now }
-    ensures form { may_place form result.0 ≡ true }
+// The text behind the key of a place in storage.
+fn behind_loc_key(text: &[u8]) -> Option<&[u8]>
+    ensures { MatchOption result (Unit {0}) (λ rest. text.now ≡ codes ",LOC=" ++ rest.now) }
 {
-    match (form, text) {
-        (Form::R, _) => (Loc::Res, text),
-        (_, [b',', b'L', b'O', b'C', b'=', b'A', b'N', b'Y', rest @ ..]) => (Loc::Any, rest),
-        (
-            _,
-            [
-                b',',
-                b'L',
-                b'O',
-                b'C',
-                b'=',
-                b'B',
-                b'E',
-                b'L',
-                b'O',
-                b'W',
-                rest @ ..,
-            ],
-        ) => { (Loc::Below, rest) }
-        _ => (Loc::Res, text),
+    match text {
+        [b',', b'L', b'O', b'C', b'=', rest @ ..] => Some(rest),
+        _ => None,
+    }
+}
+
+// The place that a text starts with, where it is not that of the task, and the text behind it.
+fn loc_word_in_front(text: &[u8]) -> Option<(Loc, &[u8])>
+    ensures { MatchOption result (Unit {0}) (λ r. (codes ",LOC=" ++ text.now ≡ loc_text r.0 ++ r.1.now) × (r.0 ≢ Loc.Res)) }
+{
+    match text {
+        [b'A', b'N', b'Y', rest @ ..] => Some((Loc::Any, rest)),
+        [b'B', b'E', b'L', b'O', b'W', rest @ ..] => Some((Loc::Below, rest)),
+        _ => None,
+    }
+}
+
+// The place in storage that a text starts with, or that of the task, and the text behind it. (GETMAIN R has no such operand.)
+fn loc_in_front(form: Form, text: &[u8]) -> Option<(Loc, &[u8])>
+    ensures { MatchOption result (Unit {0}) (λ r. (text.now ≡ loc_text r.0 ++ r.1.now) × (may_place form r.0 ≡ true)) }
+{
+    let Some(word) = behind_loc_key(text) else {
+        return Some((Loc::Res, text));
+    };
+    match form {
+        Form::R => None,
+        _ => loc_word_in_front(word),
     }
 }
 
@@ -129,7 +135,9 @@ fn read_obtain(task: Name, field: &[u8], line: &mut Line) -> Option<()>
     let Some((number, rest)) = subpool_in_front(rest) else {
         return None;
     };
-    let (loc, rest) = loc_in_front(form, rest);
+    let Some((loc, rest)) = loc_in_front(form, rest) else {
+        return None;
+    };
     if !is_remark(rest) {
         return None;
     }
@@ -336,37 +344,79 @@ fn pool_form_in_front(text: &[u8]) -> Option<(Head, &[u8])>
     }
 }
 
+// The text behind the end of the words GETMAIN and FREEMAIN.
+#[inline(always)]
+fn behind_main(text: &[u8]) -> Option<&[u8]>
+    ensures { MatchOption result (Unit {0}) (λ rest. text.now ≡ codes "MAIN " ++ rest.now) }
+{
+    match text {
+        [b'M', b'A', b'I', b'N', b' ', rest @ ..] => Some(rest),
+        _ => None,
+    }
+}
+
+// The text behind GETMAIN.
+fn behind_getmain(text: &[u8]) -> Option<&[u8]>
+    ensures { MatchOption result (Unit {0}) (λ rest. text.now ≡ codes " GETMAIN " ++ rest.now) }
+{
+    match text {
+        [b' ', b'G', b'E', b'T', rest @ ..] => behind_main(rest),
+        _ => None,
+    }
+}
+
+// The text behind FREEMAIN.
+fn behind_freemain(text: &[u8]) -> Option<&[u8]>
+    ensures { MatchOption result (Unit {0}) (λ rest. text.now ≡ codes " FREEMAIN " ++ rest.now) }
+{
+    match text {
+        [b' ', b'F', b'R', b'E', b'E', rest @ ..] => behind_main(rest),
+        _ => None,
+    }
+}
+
+// The text behind CPOOL.
+fn behind_cpool(text: &[u8]) -> Option<&[u8]>
+    ensures { MatchOption result (Unit {0}) (λ rest. text.now ≡ codes " CPOOL " ++ rest.now) }
+{
+    match text {
+        [b' ', b'C', b'P', b'O', b'O', b'L', b' ', rest @ ..] => Some(rest),
+        _ => None,
+    }
+}
+
 // The head of a storage request behind the name of a task, and the text behind it.
 fn storage_head_in_front(text: &[u8]) -> Option<(Head, &[u8])>
     ensures { MatchOption result (Unit {0}) (λ r. text.now ≡ head_text r.0 ++ r.1.now) }
 {
+    if let Some(field) = behind_getmain(text) {
+        return Some((Head::Getmain, field));
+    }
+    if let Some(field) = behind_freemain(text) {
+        return Some((Head::Freemain, field));
+    }
+    match behind_cpool(text) {
+        Some(rest) => pool_form_in_front(rest),
+        None => None,
+    }
+}
+
+// The text behind a blank and SP.
+fn behind_sp(text: &[u8]) -> Option<&[u8]>
+    ensures { MatchOption result (Unit {0}) (λ rest. text.now ≡ codes " SP" ++ rest.now) }
+{
     match text {
-        [
-            b' ',
-            b'G',
-            b'E',
-            b'T',
-            b'M',
-            b'A',
-            b'I',
-            b'N',
-            b' ',
-            field @ ..,
-        ] => { Some((Head::Getmain, field)) }
-        [
-            b' ',
-            b'F',
-            b'R',
-            b'E',
-            b'E',
-            b'M',
-            b'A',
-            b'I',
-            b'N',
-            b' ',
-            field @ ..,
-        ] => { Some((Head::Freemain, field)) }
-        [b' ', b'C', b'P', b'O', b'O', b'L', b' ', rest @ ..] => pool_form_in_front(rest),
+        [b' ', b'S', b'P', rest @ ..] => Some(rest),
+        _ => None,
+    }
+}
+
+// The text behind REPORT SP.
+fn behind_report(text: &[u8]) -> Option<&[u8]>
+    ensures { MatchOption result (Unit {0}) (λ rest. text.now ≡ codes " REPORT SP" ++ rest.now) }
+{
+    match text {
+        [b' ', b'R', b'E', b'P', b'O', b'R', b'T', rest @ ..] => behind_sp(rest),
         _ => None,
     }
 }
@@ -375,24 +425,14 @@ fn storage_head_in_front(text: &[u8]) -> Option<(Head, &[u8])>
 fn other_head_in_front(text: &[u8]) -> Option<(Head, &[u8])>
     ensures { MatchOption result (Unit {0}) (λ r. text.now ≡ head_text r.0 ++ r.1.now) }
 {
+    if let Some(field) = behind_report(text) {
+        return Some((Head::Report, field));
+    }
     match text {
         [b' ', b'P', b'U', b'T', b' ', field @ ..] => Some((Head::Put, field)),
         [b' ', b'S', b'H', b'O', b'W', b' ', field @ ..] => Some((Head::Show, field)),
         [b' ', b'W', b'H', b'E', b'R', b'E', b' ', field @ ..] => Some((Head::Where, field)),
         [b' ', b'R', b'E', b'T', b'U', b'R', b'N', field @ ..] => Some((Head::Return, field)),
-        [
-            b' ',
-            b'R',
-            b'E',
-            b'P',
-            b'O',
-            b'R',
-            b'T',
-            b' ',
-            b'S',
-            b'P',
-            field @ ..,
-        ] => { Some((Head::Report, field)) }
         _ => None,
     }
 }

@@ -1,5 +1,4 @@
-use Rattle.std.proofs.Common.{◌≡◌, ◌≤◌, ◌++◌, length, take, arith, ap, ◌∙◌, rules}
-use Rattle.mvs_model.specs.Name.{trimmed}
+use Rattle.std.proofs.Common.{◌≤◌, ◌++◌, length, take, arith, ap, ◌∙◌, rules}
 use Rattle.job_script.proofs.Appending.{name_put, taken_again}
 use Rattle.job_script.proofs.text.Text.push_name.Goals as goal
 
