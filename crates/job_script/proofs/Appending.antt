@@ -33,13 +33,16 @@ front_longer a b x y f = (f.0, f.1 ++ y, ap (λ z. z ++ y) f.2 ∙ append_assoc 
 
 -- a line for each element of a list, one after another
 module _ {X : Type 0} (f : X → List ℕ) (head : List ℕ) (xs : List X) where
-  one_line_more : (i : ℕ) (x : X) → i < length xs → x ≡ get_or xs i x → (head ++ flat_map f (take i xs)) ++ f x ≡ head ++ flat_map f (take (i + 1) xs)
+  pub one_line_more : (i : ℕ) (x : X) → i < length xs → x ≡ get_or xs i x → (head ++ flat_map f (take i xs)) ++ f x ≡ head ++ flat_map f (take (i + 1) xs)
   one_line_more i x l e = flat_map_more f head (take i xs) x ∙ ap (λ ys. head ++ flat_map f ys) (ap (λ y. take i xs ++ y ∷ []) e ∙ sym (take_more xs i x l))
 
   pub lines_more : (a b c : Option (List ℕ)) (i : ℕ) (x : X) → i < length xs → x ≡ get_or xs i x → Appends a b (head ++ flat_map f (take i xs)) → Appends b c (f x) → Appends a c (head ++ flat_map f (take (i + 1) xs))
   lines_more a b c i x l e p q = rw (← one_line_more i x l e) (Appends-trans a b c _ _ p q)
 
-  lines_rest : (i : ℕ) → (head ++ flat_map f (take i xs)) ++ flat_map f (drop i xs) ≡ head ++ flat_map f xs
+  pub piece_more : (i m : ℕ) → (head ++ flat_map f (take i xs)) ++ flat_map f (take m (drop i xs)) ≡ head ++ flat_map f (take (i + m) xs)
+  piece_more i m = append_assoc head _ _ ∙ ap (λ z. head ++ z) (sym (flat_map-append f (take i xs) (take m (drop i xs))) ∙ ap (flat_map f) (sym (take-add i m xs)))
+
+  pub lines_rest : (i : ℕ) → (head ++ flat_map f (take i xs)) ++ flat_map f (drop i xs) ≡ head ++ flat_map f xs
   lines_rest i = append_assoc head _ _ ∙ ap (λ z. head ++ z) (sym (flat_map-append f (take i xs) (drop i xs)) ∙ ap (flat_map f) (take-append-drop i xs))
 
   pub lines_front : (a b c : Option (List ℕ)) (i : ℕ) (x : X) → i < length xs → x ≡ get_or xs i x → Appends a b (head ++ flat_map f (take i xs)) → AppendsFront b c (f x) → AppendsFront a c (head ++ flat_map f xs)

@@ -1,7 +1,6 @@
 //! The lines of bytes.
 
 ghost use Rattle.std.specs.Prelude.{◌≡◌, ◌≤◌, ◌+◌, ◌*◌, ◌/◌, ◌++◌, length, true, OnOk, OnErr, codes};
-ghost use Rattle.std.specs.List.{flat_map};
 ghost use Rattle.mvs_model.specs.Numbers.{line_bytes, most_shown};
 ghost use Rattle.mvs_model.specs.Texts.{data_lines, hex, line_count};
 ghost use Rattle.job_script.specs.Writing.{WritesAll, data_said};
@@ -12,17 +11,6 @@ use mvs_model::name::Name;
 use mvs_model::numbers::LINE_BYTES;
 use mvs_model::watched::{Failed, Watched};
 use std::io::Write;
-
-// Puts two digits for each byte behind a text.
-fn push_bytes(text: &mut Text, bytes: &[u8])
-    requires { length text.old + 2 * length bytes.now ≤ 160 }
-    ensures text { text.new ≡ text.old ++ flat_map (hex 2) bytes.now }
-    ensures len { length text.new ≡ length text.old + 2 * length bytes.now }
-{
-    for byte in bytes {
-        text.push_byte(*byte);
-    }
-}
 
 // Prints a line of bytes behind its number and its task, which the text keeps: the offset of the first one, and two digits for each.
 fn print_data_line<W: Write>(
@@ -42,7 +30,7 @@ fn print_data_line<W: Write>(
     text.push_all(b"DATA +");
     text.push_halfword(offset);
     text.push_all(b" ");
-    push_bytes(text, bytes);
+    text.push_bytes(bytes);
     text.push_all(b"\n");
     let written = write_all(writer, text.as_slice());
     text.cut(head);

@@ -1,6 +1,7 @@
 //! A line of text in a fixed array.
 
-ghost use Rattle.std.specs.Prelude.{◌≡◌, ◌<◌, ◌≤◌, ◌+◌, ◌/◌, ◌%◌, ◌++◌, ◌∷◌, [], List, ℕ, length, take, decimal};
+ghost use Rattle.std.specs.Prelude.{◌≡◌, ◌<◌, ◌≤◌, ◌+◌, ◌*◌, ◌/◌, ◌%◌, ◌++◌, ◌∷◌, [], List, ℕ, length, take, decimal};
+ghost use Rattle.std.specs.List.{flat_map};
 ghost use Rattle.mvs_model.specs.Name.{trimmed};
 ghost use Rattle.mvs_model.specs.Texts.{last_digits, hex, glyph};
 
@@ -101,6 +102,32 @@ impl Text {
         self.len = at + 2;
     }
 
+    // The two digits of each of some bytes, in one piece where their number is known.
+    #[inline(always)]
+    fn push_piece(&mut self, bytes: &[u8])
+        requires { length self.old + 2 * length bytes.now ≤ 160 }
+        ensures text { self.new ≡ self.old ++ flat_map (hex 2) bytes.now }
+        ensures len { length self.new ≡ length self.old + 2 * length bytes.now }
+    {
+        let end = self.len + 2 * bytes.len();
+        write_digits(&mut self.bytes[self.len..end], bytes);
+        self.len = end;
+    }
+
+    /// The two hexadecimal digits of each byte, of sixteen bytes at a time.
+    pub fn push_bytes(&mut self, bytes: &[u8])
+        requires { length self.old + 2 * length bytes.now ≤ 160 }
+        ensures text { self.new ≡ self.old ++ flat_map (hex 2) bytes.now }
+        ensures len { length self.new ≡ length self.old + 2 * length bytes.now }
+    {
+        let mut done = 0;
+        while bytes.len() - done >= 16 {
+            self.push_piece(&bytes[done..done + 16]);
+            done += 16;
+        }
+        self.push_piece(&bytes[done..]);
+    }
+
     /// The four hexadecimal digits of a number of sixteen bits.
     pub fn push_halfword(&mut self, number: u16)
         requires { length self.old + 4 ≤ 160 }
@@ -198,4 +225,28 @@ fn digit_glyph(digit: u8) -> u8
     ensures { result ≡ glyph digit }
 {
     GLYPHS[usize::from(digit)]
+}
+
+// The same, computed, which takes less where many are written at once.
+fn computed_glyph(digit: u8) -> u8
+    requires { digit < 16 }
+    ensures { result ≡ glyph digit }
+{
+    if digit < 10 {
+        b'0' + digit
+    } else {
+        b'A' - 10 + digit
+    }
+}
+
+// Writes the two digits of each byte.
+#[inline(always)]
+fn write_digits(place: &mut [u8], bytes: &[u8])
+    requires { length place.old ≡ 2 * length bytes.now }
+    ensures { place.new ≡ flat_map (hex 2) bytes.now }
+{
+    for i in 0..bytes.len() {
+        place[2 * i] = computed_glyph(bytes[i] / 16);
+        place[2 * i + 1] = computed_glyph(bytes[i] % 16);
+    }
 }
