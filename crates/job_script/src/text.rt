@@ -102,19 +102,18 @@ impl Text {
         self.len = at + 2;
     }
 
-    // The two digits of each of some bytes, in one piece where their number is known.
-    #[inline(always)]
-    fn push_piece(&mut self, bytes: &[u8])
+    // The two digits of each byte, one byte after another.
+    fn push_each(&mut self, bytes: &[u8])
         requires { length self.old + 2 * length bytes.now ≤ 160 }
         ensures text { self.new ≡ self.old ++ flat_map (hex 2) bytes.now }
         ensures len { length self.new ≡ length self.old + 2 * length bytes.now }
     {
-        let end = self.len + 2 * bytes.len();
-        write_digits(&mut self.bytes[self.len..end], bytes);
-        self.len = end;
+        for byte in bytes {
+            self.push_byte(*byte);
+        }
     }
 
-    /// The two hexadecimal digits of each byte, of sixteen bytes at a time.
+    /// The two hexadecimal digits of each byte.
     pub fn push_bytes(&mut self, bytes: &[u8])
         requires { length self.old + 2 * length bytes.now ≤ 160 }
         ensures text { self.new ≡ self.old ++ flat_map (hex 2) bytes.now }
@@ -122,10 +121,10 @@ impl Text {
     {
         let mut done = 0;
         while bytes.len() - done >= 16 {
-            self.push_piece(&bytes[done..done + 16]);
+            self.push_all(&digits_of_sixteen(&bytes[done..done + 16]));
             done += 16;
         }
-        self.push_piece(&bytes[done..]);
+        self.push_each(&bytes[done..]);
     }
 
     /// The four hexadecimal digits of a number of sixteen bits.
@@ -227,7 +226,7 @@ fn digit_glyph(digit: u8) -> u8
     GLYPHS[usize::from(digit)]
 }
 
-// The same, computed, which takes less where many are written at once.
+// The same, computed, which can be done for many digits at once.
 fn computed_glyph(digit: u8) -> u8
     requires { digit < 16 }
     ensures { result ≡ glyph digit }
@@ -239,14 +238,15 @@ fn computed_glyph(digit: u8) -> u8
     }
 }
 
-// Writes the two digits of each byte.
-#[inline(always)]
-fn write_digits(place: &mut [u8], bytes: &[u8])
-    requires { length place.old ≡ 2 * length bytes.now }
-    ensures { place.new ≡ flat_map (hex 2) bytes.now }
+// The two digits of each of sixteen bytes.
+fn digits_of_sixteen(bytes: &[u8]) -> [u8; 32]
+    requires { length bytes.now ≡ 16 }
+    ensures { result ≡ flat_map (hex 2) bytes.now }
 {
-    for i in 0..bytes.len() {
-        place[2 * i] = computed_glyph(bytes[i] / 16);
-        place[2 * i + 1] = computed_glyph(bytes[i] % 16);
+    let mut digits = [0; 32];
+    for i in 0..16 {
+        digits[2 * i] = computed_glyph(bytes[i] / 16);
+        digits[2 * i + 1] = computed_glyph(bytes[i] % 16);
     }
+    digits
 }

@@ -46,6 +46,14 @@ impl SubNo {
         }
     }
 
+    /// The number of a subpool that is known to be one.
+    pub fn of(value: u8) -> SubNo
+        requires { IsSubpoolNumber value }
+        ensures { result ≡ value }
+    {
+        SubNo { value }
+    }
+
     pub fn get(&self) -> u8
         ensures value { result ≡ self.now }
         ensures valid { IsSubpoolNumber result }

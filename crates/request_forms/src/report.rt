@@ -6,7 +6,6 @@ ghost use Rattle.mvs_model.specs.Numbers.{first_page_above, most_pages_above, pa
 ghost use Rattle.mvs_model.specs.Kept.{OwnersKept};
 ghost use Rattle.mvs_model.specs.Owners.{entry};
 ghost use Rattle.mvs_model.specs.Storage.{IsStorage};
-ghost use Rattle.mvs_model.specs.Subpool.{IsSubpoolNumber};
 ghost use Rattle.task_owner.specs.Tasks.{IsTask, name_of};
 ghost use Rattle.request_forms.specs.Reports.{Begins, EndsAt, GoesOn, HasNone, IsHolder, IsMapEnd, IsMapRun, IsPages, IsSubpoolLine, NoneBegins, page_holder};
 
@@ -18,17 +17,6 @@ use mvs_model::report::{MapRun, SubpoolLine};
 use mvs_model::subpool::{SubNo, SubpoolId};
 use subpool_store::Store;
 use task_owner::{TaskId, Tasks};
-
-// The subpool number of a value that is one.
-fn number_at(value: u8) -> SubNo
-    requires { IsSubpoolNumber value }
-    ensures { result ≡ value }
-{
-    match SubNo::new(value) {
-        Some(number) => number,
-        None => unreachable!(),
-    }
-}
 
 // Whether none of some numbers has a subpool.
 fn are_none(entries: &[Option<SubpoolId>]) -> bool
@@ -67,7 +55,7 @@ fn first_entry(tasks: &Tasks, t: TaskId, from: u8) -> Option<(SubNo, SubpoolId)>
     let from = pass_none(entries, usize::from(from.min(SUBPOOL_NUMBERS))) as u8;
     for n in from..SUBPOOL_NUMBERS {
         if let Some(subpool) = entries[usize::from(n)] {
-            return Some((number_at(n), subpool));
+            return Some((SubNo::of(n), subpool));
         }
     }
     None

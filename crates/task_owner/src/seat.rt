@@ -3,14 +3,13 @@
 ghost use Rattle.std.specs.Prelude.{◌≡◌, ◌≢◌, ◌<◌, ◌↔◌, ℕ, length, replicate, IsTrue, IsSome, IfOk, MatchOption, Some, None, slice_set};
 ghost use Rattle.slab.specs.Slab.{get, slab_len};
 ghost use Rattle.mvs_model.specs.Numbers.{most_subpools, subpool_numbers};
-ghost use Rattle.mvs_model.specs.Subpool.{IsSubpoolNumber};
 ghost use Rattle.task_owner.specs.Seats.{item_at};
 ghost use Rattle.task_owner.specs.declared.seat.Seat.{Seat};
 ghost use Rattle.task_owner.specs.declared.seat.Owned.{Owned};
 
 use mvs_model::name::Name;
 use mvs_model::numbers::{MOST_SUBPOOLS, SUBPOOL_NUMBERS};
-use mvs_model::subpool::{SubNo, SubpoolId};
+use mvs_model::subpool::SubpoolId;
 use mvs_model::want::Residence;
 use slab::Slab;
 use std::alloc::{AllocError, Global};
@@ -35,17 +34,6 @@ pub(crate) struct Seat {
 pub(crate) struct Owned {
     pub(crate) owner: usize,
     pub(crate) number: u8,
-}
-
-// The subpool number of a value that is one.
-pub(crate) fn number_at(value: u8) -> SubNo
-    requires { IsSubpoolNumber value }
-    ensures { result ≡ value }
-{
-    match SubNo::new(value) {
-        Some(number) => number,
-        None => unreachable!(),
-    }
 }
 
 // The task at a key.

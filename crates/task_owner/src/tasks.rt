@@ -18,7 +18,7 @@ use crate::family::remove_family;
 use crate::freed::free_subpools;
 use crate::handing::{hand_over, pass_on};
 use crate::seat::{
-    Owned, SLOTS, Seat, enter, find_first, find_key, first_spare, has_child, no_owners, number_at,
+    Owned, SLOTS, Seat, enter, find_first, find_key, first_spare, has_child, no_owners,
     seat_at,
 };
 use mvs_model::code::Code;
@@ -288,7 +288,7 @@ impl Tasks {
     {
         let mut from = 0;
         'given: while let Some(number) = gifts.first_given(from) {
-            if self.is_shared(mother, number_at(number)) {
+            if self.is_shared(mother, SubNo::of(number)) {
                 return true;
             }
             from = number + 1;
@@ -330,7 +330,7 @@ impl Tasks {
     {
         let mut from = 0;
         'shared: while let Some(number) = gifts.first_shared(from) {
-            self.enter_one(mother, number_at(number));
+            self.enter_one(mother, SubNo::of(number));
             from = number + 1;
         }
     }
@@ -384,7 +384,7 @@ impl Tasks {
     {
         match self.owned[subpool.get() as usize] {
             Some(owned) => Some((
-                number_at(owned.number),
+                SubNo::of(owned.number),
                 seat_at(&self.active, owned.owner).name,
             )),
             None => None,

@@ -12,8 +12,9 @@ loop-done-preserved c =
     let size : (done + 16) - done ≡ 16 = omega arith in
     record {
       within = omega arith;
-      text = c.push_piece.ensures.text
-        ∙ ap (λ front. front ++ flat_map (hex 2) (take ((done + 16) - done) (drop done bytes))) c.loop-done.invariant.text
+      text = c.push_all.ensures.text
+        ∙ ap (λ front. front ++ c.digits_of_sixteen.result) c.loop-done.invariant.text
+        ∙ ap (λ digits. (c.args.self.now ++ flat_map (hex 2) (take done bytes)) ++ digits) c.digits_of_sixteen.ensures
         ∙ ap (λ n. (c.args.self.now ++ flat_map (hex 2) (take done bytes)) ++ flat_map (hex 2) (take n (drop done bytes))) size
         ∙ piece_more (hex 2) c.args.self.now bytes done 16;
       len = omega arith;
@@ -23,7 +24,7 @@ pub returns-clause-text : goal.returns-clause-text
 returns-clause-text c =
     let bytes = c.args.bytes.now in
     let done = c.loop-done.done in
-    c.push_piece-2.ensures.text
+    c.push_each.ensures.text
     ∙ ap (λ front. front ++ flat_map (hex 2) (take (length bytes - done) (drop done bytes))) c.loop-done.invariant.text
     ∙ ap (λ rest. (c.args.self.now ++ flat_map (hex 2) (take done bytes)) ++ flat_map (hex 2) rest) (take_rest bytes done)
     ∙ lines_rest (hex 2) c.args.self.now bytes done

@@ -13,7 +13,7 @@ shared-preserved c =
       within = omega (arith, e.1);
       shared = one_entered c.args.self.now c.shared.self c.enter_one.new.self c.args.mother c.in-Some.number c.args.gifts.now
           (passed_to c.args.self.now c.shared.self c.args.mother c.args.gifts.now c.shared.from c.in-Some.number e.0 c.shared.invariant.shared e.3) e.2
-          (subst (λ m. GetsEntry c.shared.self.owners (name_of c.shared.self c.args.mother) m c.enter_one.new.self.owners) c.number_at.ensures c.enter_one.ensures.entered)
+          (subst (λ m. GetsEntry c.shared.self.owners (name_of c.shared.self c.args.mother) m c.enter_one.new.self.owners) c.of.ensures c.enter_one.ensures.entered)
           c.enter_one.ensures.names;
     }
 

@@ -12,7 +12,7 @@ pub returns-then-is_shared : goal.returns-then-is_shared
 returns-then-is_shared c =
     let e = c.in-Some.ensures in
     sym (found_below (is_shared_gift c.args.self.now.owners (name_of c.args.self.now c.args.mother) c.args.gifts.now) c.in-Some.number 128 e.1
-    (sym (shared_gift c.args.self.now.owners (name_of c.args.self.now c.args.mother) c.args.gifts.now c.in-Some.number _ _ _ refl c.number_at.ensures c.is_shared.ensures) ∙ (λ i. e.2 i && c.if-is_shared.true i)))
+    (sym (shared_gift c.args.self.now.owners (name_of c.args.self.now c.args.mother) c.args.gifts.now c.in-Some.number _ _ _ refl c.of.ensures c.is_shared.ensures) ∙ (λ i. e.2 i && c.if-is_shared.true i)))
 
 pub given-preserved : goal.given-preserved
 given-preserved c =
@@ -21,7 +21,7 @@ given-preserved c =
       within = omega (arith, e.1);
       none = none_more test c.in-Some.number
           (none_to test c.given.from c.in-Some.number e.0 c.given.invariant.none (λ i low high. not_given c.args.self.now.owners (name_of c.args.self.now c.args.mother) c.args.gifts.now i (e.3 i low high)))
-          (sym (shared_gift c.args.self.now.owners (name_of c.args.self.now c.args.mother) c.args.gifts.now c.in-Some.number _ _ _ refl c.number_at.ensures c.is_shared.ensures) ∙ (λ i. e.2 i && c.if-is_shared.false i));
+          (sym (shared_gift c.args.self.now.owners (name_of c.args.self.now c.args.mother) c.args.gifts.now c.in-Some.number _ _ _ refl c.of.ensures c.is_shared.ensures) ∙ (λ i. e.2 i && c.if-is_shared.false i));
     }
 
 pub returns : goal.returns

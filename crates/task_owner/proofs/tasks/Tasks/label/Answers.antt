@@ -6,8 +6,8 @@ use Rattle.task_owner.proofs.Having.{is_number}
 use Rattle.task_owner.proofs.Keeping.{kept_at}
 use Rattle.task_owner.proofs.Labels.{labelled, unlabelled}
 
-pub number_at-requires : goal.number_at-requires
-number_at-requires c =
+pub of-requires : goal.of-requires
+of-requires c =
     let range : c.get.result < length c.self.inside.owned.items = omega (arith, c.self.invariant.1, c.get.ensures.low) in
     let o = read_at c.self.inside.owned.items c.get.result c.args.subpool c.index.result.now c.index.ensures c.get.ensures.value range ∙ c.in-Some.is in
     let x = c.self.invariant.0.owners c.args.subpool c.in-Some.owned o in
@@ -24,7 +24,7 @@ returns-in-Some-clause-label c =
     let range : c.get.result < length c.self.inside.owned.items = omega (arith, c.self.invariant.1, c.get.ensures.low) in
     let o = read_at c.self.inside.owned.items c.get.result c.args.subpool c.index.result.now c.index.ensures c.get.ensures.value range ∙ c.in-Some.is in
     let both = labelled _ _ _ c.args.subpool c.self.view_is c.self.invariant.0 c.in-Some.owned c.seat_at.result.now o c.seat_at.ensures in
-    (both.0, ap (entry c.args.self.now.owners c.seat_at.result.now.name) c.number_at.ensures ∙ both.1)
+    (both.0, ap (entry c.args.self.now.owners c.seat_at.result.now.name) c.of.ensures ∙ both.1)
 
 pub returns-in-None-clause-label : goal.returns-in-None-clause-label
 returns-in-None-clause-label c =
