@@ -18,8 +18,7 @@ use crate::family::remove_family;
 use crate::freed::free_subpools;
 use crate::handing::{hand_over, pass_on};
 use crate::seat::{
-    Owned, SLOTS, Seat, enter, find_first, find_key, first_spare, has_child, no_owners,
-    seat_at,
+    Owned, SLOTS, Seat, enter, find_first, find_key, first_spare, has_child, no_owners, seat_at,
 };
 use mvs_model::code::Code;
 use mvs_model::error::OutOfMemory;

@@ -1,4 +1,4 @@
-use Rattle.std.proofs.Common.{◌≡◌, ◌+◌, ◌*◌, ◌-◌, ◌++◌, length, take, drop, arith, ap, sym, ◌∙◌}
+use Rattle.std.proofs.Common.{◌≡◌, ◌+◌, ◌-◌, ◌++◌, length, take, drop, arith, ap, ◌∙◌}
 use Rattle.std.proofs.lemmas.List.{take_rest}
 use Rattle.std.specs.List.{flat_map}
 use Rattle.mvs_model.specs.Texts.{hex}
@@ -13,10 +13,10 @@ loop-done-preserved c =
     record {
       within = omega arith;
       text = c.push_all.ensures.text
-        ∙ ap (λ front. front ++ c.digits_of_sixteen.result) c.loop-done.invariant.text
-        ∙ ap (λ digits. (c.args.self.now ++ flat_map (hex 2) (take done bytes)) ++ digits) c.digits_of_sixteen.ensures
-        ∙ ap (λ n. (c.args.self.now ++ flat_map (hex 2) (take done bytes)) ++ flat_map (hex 2) (take n (drop done bytes))) size
-        ∙ piece_more (hex 2) c.args.self.now bytes done 16;
+          ∙ ap (λ front. front ++ c.digits_of_sixteen.result) c.loop-done.invariant.text
+          ∙ ap (λ digits. (c.args.self.now ++ flat_map (hex 2) (take done bytes)) ++ digits) c.digits_of_sixteen.ensures
+          ∙ ap (λ n. (c.args.self.now ++ flat_map (hex 2) (take done bytes)) ++ flat_map (hex 2) (take n (drop done bytes))) size
+          ∙ piece_more (hex 2) c.args.self.now bytes done 16;
       len = omega arith;
     }
 
