@@ -39,6 +39,7 @@ module _ {X : Type 0} (f : X → List ℕ) (head : List ℕ) (xs : List X) where
   pub lines_more : (a b c : Option (List ℕ)) (i : ℕ) (x : X) → i < length xs → x ≡ get_or xs i x → Appends a b (head ++ flat_map f (take i xs)) → Appends b c (f x) → Appends a c (head ++ flat_map f (take (i + 1) xs))
   lines_more a b c i x l e p q = rw (← one_line_more i x l e) (Appends-trans a b c _ _ p q)
 
+  -- several of them at once
   pub piece_more : (i m : ℕ) → (head ++ flat_map f (take i xs)) ++ flat_map f (take m (drop i xs)) ≡ head ++ flat_map f (take (i + m) xs)
   piece_more i m = append_assoc head _ _ ∙ ap (λ z. head ++ z) (sym (flat_map-append f (take i xs) (take m (drop i xs))) ∙ ap (flat_map f) (sym (take-add i m xs)))
 
