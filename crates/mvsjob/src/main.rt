@@ -6,18 +6,13 @@ ghost use Rattle.mvsjob.specs.Statuses.{status_of};
 
 mod choices;
 mod command_line;
-mod job;
-mod reports;
-mod run;
-mod serve;
-mod stream;
 
 use choices::Settings;
 use command_line::settings;
+use mvs_job::{RunFault, run_job};
 use mvs_model::outcome::Outcome;
 use mvs_model::want::Placement;
 use mvs_model::watched::Watched;
-use run::{RunFault, run_job};
 use std::env;
 use std::fs::File;
 use std::io::{self, BufWriter, ErrorKind, Read, Write};

@@ -1,0 +1,6 @@
+pub mod Answering
+pub mod Exchanging
+pub mod Serving
+pub mod Sessions
+pub mod Steady
+pub mod Streams

@@ -1,0 +1,88 @@
+//! The whole job, from a reader to a writer.
+
+ghost use Rattle.std.specs.Prelude.{◌≡◌, ◌≢◌, ◌+◌, ◌<◌, ◌≤◌, length, true, false, IfOk, IfErr, OnOk, IsErrOf};
+ghost use Rattle.std.specs.Io.KnownBytes.{IsAtEnd};
+ghost use Rattle.mvs_model.specs.Runs.{IsPrinting, IsPrintingFront};
+ghost use Rattle.mvs_model.specs.Labels.{IsLabelText};
+ghost use Rattle.mvs_model.specs.Memory.{IsPrintingBefore};
+ghost use Rattle.mvs_model.specs.Numbers.{most_script_bytes};
+ghost use Rattle.mvs_model.specs.Tidy.{Tidy, IsPrintingInFull};
+ghost use Rattle.mvs_job.specs.Exchanging.{Exchanges};
+
+use crate::stream::{Stream, Turn};
+use mvs_model::numbers::MOST_SCRIPT_BYTES;
+use mvs_model::outcome::Outcome;
+use mvs_model::want::Placement;
+use mvs_model::watched::Watched;
+use std::alloc::Global;
+use std::io::{Read, Write};
+use thiserror::Error;
+
+/// Why a job gave up.
+#[derive(Clone, Copy, Debug, PartialEq, Eq, Error)]
+pub enum RunFault {
+    /// A read failed.
+    #[error("read failed")]
+    Read,
+    /// A write failed, or took no byte.
+    #[error("write failed")]
+    Write,
+    /// A growth was refused.
+    #[error("out of memory")]
+    Memory,
+    /// The script has more than 16,777,215 bytes.
+    #[error("script too long")]
+    ReadTooLong,
+}
+
+/// How many bytes a read asks for at most.
+const CHUNK: usize = 65_536;
+
+/// Runs a script as it comes: 16,777,215 bytes at most, and a byte more to see that there are too many. It keeps no more of it than a
+/// line, passes on what it printed before each read, and reads no further behind a fault of the script.
+pub fn run_job<R: Read, W: Write>(
+    alloc: Global,
+    reader: &mut Watched<R>,
+    writer: &mut Watched<W>,
+    placement: Placement,
+) -> Result<Outcome, RunFault>
+    requires reader { reader.old.failed ≡ false }
+    requires writer { writer.old.failed ≡ false }
+    // What is written is the printing of a run of the script: of what was told and what the reader has left.
+    ensures ok { IfOk result (λ outcome.
+        Exchanges (R.remaining reader.old.inner) (R.remaining reader.new.inner) (W.contents writer.old.inner) (W.contents writer.new.inner)
+        (λ told script written. (length told ≤ most_script_bytes) × IsPrinting script written outcome)) }
+    // Where a tidy script was granted in full, it is what the label machine prints, wherever the areas lie.
+    ensures tidy { IfOk result (λ outcome.
+        Exchanges (R.remaining reader.old.inner) (R.remaining reader.new.inner) (W.contents writer.old.inner) (W.contents writer.new.inner)
+        (λ told script written. IsPrinting script written outcome × (Tidy script → IsPrintingInFull script written outcome → IsLabelText script written))) }
+    // All was read, or the script has a fault.
+    ensures end { IfOk result (λ outcome. outcome ≢ Outcome.ScriptFault → IsAtEnd (R.remaining reader.new.inner)) }
+    ensures healthy { OnOk result ((reader.new.failed ≡ false) × (writer.new.failed ≡ false)) }
+    // Else it is a front of such a printing.
+    ensures fault { IfErr result (λ fault.
+        Exchanges (R.remaining reader.old.inner) (R.remaining reader.new.inner) (W.contents writer.old.inner) (W.contents writer.new.inner)
+        (λ told script written. (length told ≤ most_script_bytes + 1) × IsPrintingFront script written
+        × (fault ≡ RunFault.ReadTooLong → most_script_bytes < length told))) }
+    // For want of memory it is the whole printing before the reply to a REGION statement, or to a granted request that sets a name.
+    ensures memory { IfErr result (λ fault. fault ≡ RunFault.Memory →
+        Exchanges (R.remaining reader.old.inner) (R.remaining reader.new.inner) (W.contents writer.old.inner) (W.contents writer.new.inner)
+        (λ told script written. IsPrintingBefore script written)) }
+    ensures read { IsErrOf result RunFault.Read → reader.new.failed ≡ true }
+    ensures write { IsErrOf result RunFault.Write → writer.new.failed ≡ true }
+{
+    let mut stream = Stream::new(alloc, placement);
+    let mut chunk = [0u8; CHUNK];
+    let mut count = 0usize;
+    'reading: while count < MOST_SCRIPT_BYTES {
+        let room = (MOST_SCRIPT_BYTES - count).min(CHUNK);
+        match stream.turn(reader, writer, &mut chunk[..room])? {
+            Turn::On(told) => count += told,
+            Turn::Ended(outcome) => return Ok(outcome),
+        }
+    }
+    stream.last_turn(reader, writer)
+}
+
+#[cfg(test)]
+mod tests;
