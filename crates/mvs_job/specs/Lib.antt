@@ -1,5 +1,6 @@
 pub mod Answering
 pub mod Exchanging
+pub mod Giving
 pub mod Serving
 pub mod Sessions
 pub mod Steady

@@ -8,6 +8,7 @@ ghost use Rattle.mvs_model.specs.Memory.{IsPrintingBefore};
 ghost use Rattle.mvs_model.specs.Numbers.{most_script_bytes};
 ghost use Rattle.mvs_model.specs.Tidy.{Tidy, IsPrintingInFull};
 ghost use Rattle.mvs_job.specs.Exchanging.{Exchanges};
+ghost use Rattle.mvs_job.specs.Giving.{fault_text};
 
 use crate::stream::{Stream, Turn};
 use mvs_model::numbers::MOST_SCRIPT_BYTES;
@@ -15,25 +16,44 @@ use mvs_model::outcome::Outcome;
 use mvs_model::want::Placement;
 use mvs_model::watched::Watched;
 use std::alloc::Global;
+use std::error::Error;
+use std::fmt;
 use std::io::{Read, Write};
-use thiserror::Error;
 
 /// Why a job gave up.
-#[derive(Clone, Copy, Debug, PartialEq, Eq, Error)]
+#[derive(Clone, Copy, Debug, PartialEq, Eq)]
 pub enum RunFault {
     /// A read failed.
-    #[error("read failed")]
     Read,
     /// A write failed, or took no byte.
-    #[error("write failed")]
     Write,
     /// A growth was refused.
-    #[error("out of memory")]
     Memory,
     /// The script has more than 16,777,215 bytes.
-    #[error("script too long")]
     ReadTooLong,
 }
+
+impl RunFault {
+    /// What is said of it, in lower case and without a full stop. This project's choice.
+    pub fn text(self) -> &'static str
+        ensures { result.now ≡ fault_text self }
+    {
+        match self {
+            RunFault::Read => "read failed",
+            RunFault::Write => "write failed",
+            RunFault::Memory => "out of memory",
+            RunFault::ReadTooLong => "script too long",
+        }
+    }
+}
+
+impl fmt::Display for RunFault {
+    fn fmt<W: fmt::Write>(&self, f: &mut fmt::Formatter<W>) -> fmt::Result {
+        f.write_str(self.text())
+    }
+}
+
+impl Error for RunFault {}
 
 /// How many bytes a read asks for at most.
 const CHUNK: usize = 65_536;

@@ -1,6 +1,6 @@
 -- What the words of the command line say, the program's name first. (this project's choice)
 use Rattle.std.specs.Prelude.{◌≡◌, List, [], ◌∷◌, codes, map, Option, Some, true}
-use Rattle.clap.specs.Words.{App, Text, first_of, matches_of, new_app, new_rule, takes, with_rule}
+use Rattle.clap.specs.Words.{App, Kinds, Text, fault_of, first_of, matches_of, new_app, new_rule, takes, with_rule}
 use Rattle.clap.specs.Walk.{Rule}
 use Rattle.clap.specs.declared.builder.value_parser.ValueParser.{ValueParser}
 use Rattle.clap.specs.declared.builder.value_parser.ValueParser.TheVariants.{Names}
@@ -27,3 +27,7 @@ Assigns words file place = (parser : ValueParser) × IsLowOrHigh parser
 -- Clap takes the words.
 abbrev pub IsTaken : List Text → Type 0
 IsTaken words = (parser : ValueParser) → IsLowOrHigh parser → takes (command parser) words ≡ true
+
+-- Clap finds this wrong with the words: the kinds of error that it may give, and none where it takes them.
+abbrev pub FindsWrong : List Text → Kinds → Type 0
+FindsWrong words kinds = (parser : ValueParser) × IsLowOrHigh parser × (fault_of (command parser) words ≡ kinds)

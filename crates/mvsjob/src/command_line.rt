@@ -1,11 +1,11 @@
 //! The words of the command line, which `clap` reads.
 
-ghost use Rattle.std.specs.Prelude.{◌≡◌, ◌↔◌, ℕ, List, Option, Some, IfOk, IfErr, codes, map, string_bytes};
+ghost use Rattle.std.specs.Prelude.{◌≡◌, ◌↔◌, ◌⊎◌, ℕ, List, [], Option, Some, IfOk, IfErr, codes, map, string_bytes};
 ghost use Rattle.std.specs.Option.{unwrap_or};
-ghost use Rattle.clap.specs.Words.{app_of, first_value, found_of, kind_of};
+ghost use Rattle.clap.specs.Words.{IsAmong, Kinds, app_of, first_value, found_of, kind_of};
 ghost use Rattle.clap.specs.declared.builder.value_parser.ValueParser.{ValueParser};
 ghost use Rattle.clap.specs.declared.error.kind.ErrorKind.TheVariants.{OutOfMemory};
-ghost use Rattle.mvsjob.specs.CommandLine.{Assigns, IsLowOrHigh, IsTaken, command};
+ghost use Rattle.mvsjob.specs.CommandLine.{Assigns, FindsWrong, IsLowOrHigh, IsTaken, command};
 
 use crate::choices::Settings;
 use clap::{Arg, ArgMatches, Command};
@@ -68,6 +68,10 @@ pub fn settings<'a>(alloc: Global, words: &'a [String]) -> Result<Settings<'a>, 
     // What clap assigns the words to.
     ensures ok { IfOk result (λ s. (file : Option (List ℕ)) × (place : Option (List ℕ)) × Assigns (map string_bytes words.entry.now) file place
         × (s.file.now ≡ unwrap_or file (codes "-")) × (s.placement ≡ Placement.High ↔ place ≡ Some (codes "high"))) }
+    // Clap finds nothing wrong with words that are taken; an error is of a kind that it finds, or want of memory.
+    ensures taken { IfOk result (λ _. FindsWrong (map string_bytes words.entry.now) []) }
+    ensures kinds { IfErr result (λ error. (kind_of error ≡ OutOfMemory)
+        ⊎ ((kinds : Kinds) × FindsWrong (map string_bytes words.entry.now) kinds × IsAmong (kind_of error) kinds)) }
     // Words that clap takes are refused for want of memory alone.
     ensures refused { IfErr result (λ error. IsTaken (map string_bytes words.entry.now) → kind_of error ≡ OutOfMemory) }
 {

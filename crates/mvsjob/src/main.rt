@@ -2,13 +2,16 @@
 #![tactic(auto)]
 
 ghost use Rattle.std.specs.Prelude.{◌≡◌};
-ghost use Rattle.mvsjob.specs.Statuses.{status_of};
+ghost use Rattle.std.specs.Process.{exit_status};
+ghost use Rattle.mvsjob.specs.Endings.{status_of};
 
 mod choices;
 mod command_line;
+mod ending;
 
 use choices::Settings;
 use command_line::settings;
+use ending::{Ending, GiveUp};
 use mvs_job::{RunFault, run_job};
 use mvs_model::outcome::Outcome;
 use mvs_model::want::Placement;
@@ -17,32 +20,6 @@ use std::env;
 use std::fs::File;
 use std::io::{self, BufWriter, ErrorKind, Read, Write};
 use std::process::ExitCode;
-use thiserror::Error;
-
-/// The exit status of a program that gave up, or could not begin.
-const GAVE_UP: u8 = 16;
-
-/// Why the program gives up.
-#[derive(Clone, Copy, Debug, Error)]
-enum GiveUp {
-    /// There is no such file, or it may not be read.
-    #[error("cannot open script")]
-    Script,
-    /// The job gave up, or a call around it failed as one of a job does.
-    #[error(transparent)]
-    Job(#[from] RunFault),
-}
-
-// The exit status of a job that ended. This project's choice.
-fn status_of(outcome: Outcome) -> u8
-    ensures { result ≡ status_of outcome }
-{
-    match outcome {
-        Outcome::Clean => 0,
-        Outcome::SomeAbend => 8,
-        Outcome::ScriptFault => 12,
-    }
-}
 
 // Runs the script that a reader tells, and flushes what it printed. A flush that fails is a write that failed.
 fn run_from<R: Read + Drop>(
@@ -77,14 +54,14 @@ fn run_named(rt: &HostRuntime, settings: &Settings<'_>) -> Result<Outcome, GiveU
     Ok(run_from(rt, script, settings.placement)?)
 }
 
-// Prints what `clap` says of the words, and answers the exit status.
-fn explain(rt: &HostRuntime, error: &clap::Error) -> Result<u8, GiveUp> {
+// Prints what `clap` says of the words.
+fn explain(rt: &HostRuntime, error: &clap::Error) -> Result<Ending, GiveUp> {
     if error.kind() == clap::error::ErrorKind::OutOfMemory {
         return Err(GiveUp::Job(RunFault::Memory));
     }
     match error.print(rt) {
-        Ok(()) if error.use_stderr() => Ok(GAVE_UP),
-        Ok(()) => Ok(0),
+        Ok(()) if error.use_stderr() => Ok(Ending::Refused),
+        Ok(()) => Ok(Ending::Helped),
         Err(_) => Err(GiveUp::Job(RunFault::Write)),
     }
 }
@@ -104,20 +81,29 @@ fn words(rt: &HostRuntime) -> Result<Vec<String>, GiveUp> {
     }
 }
 
-// Reads the words, then opens the script, then runs it; the first fault ends the program. It answers the exit status.
-fn run_program(rt: &HostRuntime) -> Result<u8, GiveUp> {
+// Reads the words, then opens the script, then runs it; the first failure ends the program.
+fn run_program(rt: &HostRuntime) -> Result<Ending, GiveUp> {
     let words = words(rt)?;
     match settings(rt.alloc(), &words) {
-        Ok(settings) => Ok(status_of(run_named(rt, &settings)?)),
+        Ok(settings) => Ok(Ending::Ran(run_named(rt, &settings)?)),
         Err(error) => explain(rt, &error),
     }
 }
 
-fn main(rt: HostRuntime) -> ExitCode {
-    match run_program(&rt) {
-        Ok(status) => ExitCode::from(status),
-        Err(why) => match eprintln!(&rt; "mvsjob: {why}") {
-            Ok(()) | Err(_) => ExitCode::from(GAVE_UP),
-        },
+// Says why the program gave up, if it did. A failure to say so changes nothing.
+fn finish(rt: &HostRuntime, ending: Ending) -> ExitCode
+    ensures { exit_status result ≡ status_of ending }
+{
+    if let Some(text) = ending.text() {
+        let _ = eprintln!(rt; "mvsjob: {text}");
     }
+    ExitCode::from(ending.status())
+}
+
+fn main(rt: HostRuntime) -> ExitCode {
+    let ending = match run_program(&rt) {
+        Ok(ending) => ending,
+        Err(why) => Ending::GaveUp(why),
+    };
+    finish(&rt, ending)
 }

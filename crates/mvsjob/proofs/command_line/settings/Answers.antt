@@ -1,7 +1,7 @@
-use Rattle.std.proofs.Common.{◌∙◌, ap, map, string_bytes}
+use Rattle.std.proofs.Common.{◌≡◌, ◌∙◌, ap, sym, map, string_bytes}
 use Rattle.std.proofs.lemmas.Result.{err_from_is_err_and}
-use Rattle.clap.specs.Words.{kind_of, takes}
-use Rattle.mvsjob.proofs.Assigning.{assigned}
+use Rattle.clap.specs.Words.{fault_of, is_simple_and_free, kind_of, takes}
+use Rattle.mvsjob.proofs.Assigning.{assigned, command_is_free, kinds_found}
 use Rattle.mvsjob.proofs.command_line.settings.Goals as goal
 
 pub returns-in_err-matches-clause-refused : goal.returns-in_err-matches-clause-refused
@@ -9,6 +9,20 @@ returns-in_err-matches-clause-refused c =
     let p = err_from_is_err_and c.from_residual-in_err-matches.result c.from_residual-in_err-matches.ensures.1 in
     let made = c.in_ok-command.ensures in
     rw (p.1) (λ taken. ap kind_of p.2 ∙ c.in_err-matches.ensures.passes (ap (λ a. takes a (map string_bytes c.args.words.now)) made.2 ∙ taken made.0 made.1))
+
+pub returns-in_err-matches-clause-kinds : goal.returns-in_err-matches-clause-kinds
+returns-in_err-matches-clause-kinds c =
+    let p = err_from_is_err_and c.from_residual-in_err-matches.result c.from_residual-in_err-matches.ensures.1 in
+    let made = c.in_ok-command.ensures in
+    let words = map string_bytes c.args.words.now in
+    let found = c.in_err-matches.ensures.kinds (ap is_simple_and_free made.2 ∙ command_is_free made.0) in
+    rw (p.1, p.2) (kinds_found words made.0 _ made.1 made.2 _ found)
+
+pub returns-clause-taken : goal.returns-clause-taken
+returns-clause-taken c =
+    let made = c.in_ok-command.ensures in
+    let words = map string_bytes c.args.words.now in
+    (made.0, made.1, ap (λ a. fault_of a words) (sym made.2) ∙ c.in_ok-matches.ensures.kinds (ap is_simple_and_free made.2 ∙ command_is_free made.0))
 
 pub returns-clause-ok : goal.returns-clause-ok
 returns-clause-ok c =
