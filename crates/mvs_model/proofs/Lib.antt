@@ -68,4 +68,5 @@ pub mod ReadingLoops
 pub mod Spelling
 pub mod Allowed
 pub mod ValueTexts
+pub mod Filled
 pub mod Spellings
