@@ -23,14 +23,15 @@ use Rattle.mvs_model.specs.Steps.{IsRequest}
 use Rattle.mvs_model.specs.WellFormed.{PoolsSized}
 use Rattle.mvs_model.specs.Texts.{fault_text, region_text}
 use Rattle.mvs_model.specs.Job.{JobValue, next_job}
-use Rattle.mvs_model.specs.Lines.{card_of, IsStatement, IsLine}
+use Rattle.mvs_model.specs.Lines.{lines_of, card_of, IsStatement, IsLine}
 use Rattle.mvs_model.specs.ReadingLaws.{Reading, Said, Wrong}
 use Rattle.mvs_model.specs.Replies.{is_abend}
 use Rattle.mvs_model.specs.Resolving.{resolved, all_set, names_set, places_in}
 use Rattle.mvs_model.specs.Runs.{Stage, Before, In, is_before, Tells, Asks, Says, Does, Begins, Follows, Serves, ServesLine, Faults, Closes, Prints, Runs, end_text}
 use Rattle.mvs_model.specs.Memory.{TakesMemory, LineTakesMemory, PrintsBefore}
 use Rattle.mvs_model.specs.Reading.{LineOf}
-use Rattle.mvs_model.specs.Laws.{PagesKept, NeverStuck}
+use Rattle.mvs_model.specs.Going.{Holds, Sized, Reaches}
+use Rattle.mvs_model.specs.Laws.{PagesKept, NeverStuck, EachIsPrinted}
 use Rattle.mvs_model.proofs.Requested.{is_request}
 use Rattle.mvs_model.proofs.Kept.{Closed, plan_in_range, step_keeps}
 use Rattle.mvs_model.proofs.Pages.{Pages, pages_closed}
@@ -42,11 +43,6 @@ use Rattle.mvs_model.proofs.ReadingRanges.{line_ranged}
 chosen : {P Q R : Type 0} (b : Bool) → MatchBool b P Q → (P → R) → (Q → R) → R
 chosen true h p q = p h
 chosen false h p q = q h
-
--- of the state of a step, where a job is in one
-abbrev pub Holds : (State → Type 0) → Stage → Type 0
-Holds P Before = Unit {0}
-Holds P (In job) = P job.state
 
 module _ (P : State → Type 0) (closed : Closed P) (at_start : (card : CardValue) → IsCard card → P (start card)) where
   asks_keeps : (number : ℕ) (old : JobValue) (t : Name) (a : Written) (o : Option Request) (text : List ℕ) (new : JobValue) → ((r : Request) → o ≡ Some r → IsRequest r) → Asks number old t a o text new → P old.state → P new.state
@@ -111,10 +107,6 @@ pages_kept job is = runs_keep Pages pages_closed (λ card is. start_pages card) 
 -- In every state of a run each request has a step.
 pub never_stuck : NeverStuck
 never_stuck job is asker request r = step_some job.state asker request (runs_keep PoolsSized sized_closed (λ card is. start_sized card) 1 is.lines Before (In job) is.runs tt) r
-
--- each pool has some cells in a part
-abbrev pub Sized : Stage → Type 0
-Sized stage = Holds PoolsSized stage
 
 line_keeps_sized : (number : ℕ) (old : Stage) (l : List ℕ) (text : List ℕ) (new : Stage) → ServesLine number old l text new → Sized old → Sized new
 line_keeps_sized = line_keeps PoolsSized sized_closed (λ card is. start_sized card)
@@ -181,12 +173,9 @@ prints_some number (l ∷ lines) old all = at (one_reading.some (is_before old) 
       let more = go_on s.1 (line_keeps_sized number old l s.0 s.1 (said, is, s.2) all) in
       (s.0 ++ more.0, more.1, inr (s.1, s.0, more.0, (said, is, s.2), refl, more.2))
 
--- With this text printed, a run of all the lines may stand at this number and stage, with these lines left: however the
--- lines left go on, that is how the whole goes on.
-pub record Reaches (all : List (List ℕ)) (text : List ℕ) (number : ℕ) (stage : Stage) (left : List (List ℕ)) : Type 0 where
-  pub on : (rest : List ℕ) (outcome : Outcome) → Prints number stage left rest outcome → Prints 1 Before all (text ++ rest) outcome
-  pub before : (rest : List ℕ) → PrintsBefore number stage left rest → PrintsBefore 1 Before all (text ++ rest)
-  pub sized : Sized stage
+-- Each script has a printing.
+pub each_is_printed : EachIsPrinted
+each_is_printed script = prints_some 1 (lines_of script) Before tt
 
 module _ (all : List (List ℕ)) where
   pub reaches_start : Reaches all [] 1 Before all

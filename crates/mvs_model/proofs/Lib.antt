@@ -4,6 +4,7 @@ pub mod Decide
 pub mod Elements
 pub mod Falling
 pub mod Going
+pub mod FirstFault
 pub mod Keepers
 pub mod Keyed
 pub mod Kept
@@ -56,9 +57,9 @@ pub mod WithinKept
 pub mod TidySteps
 pub mod OneOwners
 pub mod OneLabels
-pub mod Rows
-pub mod RowBusy
-pub mod RowGiven
+pub mod TidyMoves
+pub mod TidyBusy
+pub mod TidyGiven
 pub mod ReadingExamples
 pub mod Reading
 pub mod ReadingTaken

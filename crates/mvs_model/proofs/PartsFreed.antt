@@ -99,7 +99,7 @@ kept_is test (Some y) x e = at (test y) refl e where
   at true t f = (f, (let s : y ≡ x = cc in ap test (sym s) ∙ t))
   at false t f = absurd (let g : None ≡ Some x = f in cc)
 
-kept_from : {X : Type 0} (test : X → Bool) (o : Option X) (x : X) → o ≡ Some x → test x ≡ true → kept test o ≡ Some x
+pub kept_from : {X : Type 0} (test : X → Bool) (o : Option X) (x : X) → o ≡ Some x → test x ≡ true → kept test o ≡ Some x
 kept_from test o x e t = ap (kept test) e ∙ ap (λ b. cond b (Some x) None) t
 
 -- what some subpools hold goes

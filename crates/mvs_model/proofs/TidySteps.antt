@@ -28,7 +28,8 @@ use Rattle.mvs_model.specs.Runs.{Stage, Before, In, is_before, Tells, Asks, Says
 use Rattle.mvs_model.specs.Labels as labels
 use Rattle.mvs_model.specs.Labels.{Labels, first_labels, bytes_there, IsLabelText}
 use Rattle.mvs_model.specs.Tidy.{Link, AsksInFull, SaysInFull, DoesInFull, FollowsInFull, ServesInFull, PrintsInFull, IsTidy, TidyLine, TidyLines, tidy_statement, TidyStep, TidyText}
-use Rattle.mvs_model.proofs.Going.{Holds, line_keeps, runs_keep}
+use Rattle.mvs_model.specs.Going.{Holds}
+use Rattle.mvs_model.proofs.Going.{line_keeps, runs_keep}
 use Rattle.mvs_model.proofs.WithinKept.{Placed, placed_closed, start_placed}
 use Rattle.mvs_model.proofs.Counting.{Within, plain_same, pool_none}
 use Rattle.mvs_model.proofs.TidyCases.{by_test, taken, passed}

@@ -1,8 +1,8 @@
 //! Laws of the machine, over every run: each function has an empty body, and its contract is the law.
 
-ghost use Rattle.mvs_model.specs.Laws.{PagesKept, NeverStuck, PartsApart};
+ghost use Rattle.mvs_model.specs.Laws.{PagesKept, NeverStuck, PartsApart, EachIsPrinted, SameFault};
 ghost use Rattle.mvs_model.specs.Tidy.{TidyStep, TidyText, OneLabelText, PlacesDoNotMatter};
-ghost use Rattle.mvs_model.specs.Rows.{BusyReturn, GivenEnds, MovesOverlap};
+ghost use Rattle.mvs_model.specs.TidyExamples.{BusyReturn, GivenEnds, MovesOverlap};
 ghost use Rattle.mvs_model.specs.ReadingLaws.{InRanges, OneReading, OnlyWords};
 ghost use Rattle.mvs_model.specs.Spelling.{AllowedIsRead, CutApart, EachIsWritten, InAnyOrder};
 ghost use Rattle.mvs_model.specs.Spellings.{EachIsSaid};
@@ -20,6 +20,16 @@ pub fn never_stuck()
 /// In every state of a run the parts of pools lie apart, and there are bytes just where they may be read.
 pub fn apart()
     ensures { PartsApart }
+{}
+
+/// Each script has a printing.
+pub fn each_is_printed()
+    ensures { EachIsPrinted }
+{}
+
+/// Whether, where and how a script faults is told by its lines alone, whatever its requests are answered.
+pub fn same_fault()
+    ensures { SameFault }
 {}
 
 /// From a state of a run and labels that are linked, a tidy statement that is granted in full prints the same on

@@ -3,7 +3,7 @@
 
 pub mod bounded;
 pub mod card;
-pub mod checks;
+pub mod examples;
 pub mod code;
 pub mod error;
 pub mod gifts;
