@@ -5,6 +5,7 @@ pub mod Elements
 pub mod Falling
 pub mod Going
 pub mod FirstFault
+pub mod Sparing
 pub mod Keepers
 pub mod Keyed
 pub mod Kept

@@ -32,6 +32,7 @@ pub mod Kept
 pub mod WellFormed
 pub mod Going
 pub mod Laws
+pub mod Sparing
 pub mod ReadingLaws
 pub mod Spelling
 pub mod Spellings

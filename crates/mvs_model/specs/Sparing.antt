@@ -36,15 +36,16 @@ Spares st t a _ = Unit {0}
 abbrev pub OwnerStays : State → ℕ → State → Type 0
 OwnerStays old a new = (s : ℕ) (t : Name) → holder old (a / 8) ≡ Some s → get old.owners.owner s ≡ Some t → is_active new.owners t ≡ true
 
--- A statement in a step that is no REGION statement leaves the byte alone, by its request, where it makes one.
+-- A statement in a step leaves the byte alone: it is no REGION statement, and the request that it makes, if its task is active, spares
+-- the byte.
 abbrev pub StatementSpares : ℕ → JobValue → Name → Statement → JobValue → Type 0
 StatementSpares a old t (says.Region below above fill residence) new = ⊥
-StatementSpares a old t (says.Request written) new = (request : Request) → resolved old.names written ≡ Some request → Spares old.state t a request × OwnerStays old.state a new.state
+StatementSpares a old t (says.Request written) new = is_active old.state.owners t ≡ true → (request : Request) → resolved old.names written ≡ Some request → Spares old.state t a request × OwnerStays old.state a new.state
 StatementSpares a old t s new = Unit {0}
 
--- The same of a line, where it says a statement of an active task.
+-- the same of a line
 abbrev pub LineSpares : ℕ → JobValue → List ℕ → JobValue → Type 0
-LineSpares a old bytes new = (t : Name) (s : Statement) → LineOf false bytes (line.Statement t s) → is_active old.state.owners t ≡ true → StatementSpares a old t s new
+LineSpares a old bytes new = (t : Name) (s : Statement) → LineOf false bytes (line.Statement t s) → StatementSpares a old t s new
 
 -- The lines from this number on may lead from one job to another in the same step, and each leaves the byte alone.
 abbrev pub RunsSparing : ℕ → ℕ → JobValue → List (List ℕ) → JobValue → Type 0

@@ -1,6 +1,7 @@
 //! Laws of the machine, over every run: each function has an empty body, and its contract is the law.
 
 ghost use Rattle.mvs_model.specs.Laws.{PagesKept, NeverStuck, PartsApart, EachIsPrinted, SameFault};
+ghost use Rattle.mvs_model.specs.Sparing.{BytesStay};
 ghost use Rattle.mvs_model.specs.Tidy.{TidyStep, TidyText, OneLabelText, PlacesDoNotMatter};
 ghost use Rattle.mvs_model.specs.TidyExamples.{BusyReturn, GivenEnds, MovesOverlap};
 ghost use Rattle.mvs_model.specs.ReadingLaws.{InRanges, OneReading, OnlyWords};
@@ -20,6 +21,12 @@ pub fn never_stuck()
 /// In every state of a run the parts of pools lie apart, and there are bytes just where they may be read.
 pub fn apart()
     ensures { PartsApart }
+{}
+
+/// A byte that may be read stays as it is while no PUT or MOVE writes it, nothing releases it, and the task that owns
+/// what holds it does not end.
+pub fn bytes_stay()
+    ensures { BytesStay }
 {}
 
 /// Each script has a printing.
