@@ -108,7 +108,7 @@ pages_kept job is = runs_keep Pages pages_closed (λ card is. start_pages card) 
 pub never_stuck : NeverStuck
 never_stuck job is asker request r = step_some job.state asker request (runs_keep PoolsSized sized_closed (λ card is. start_sized card) 1 is.lines Before (In job) is.runs tt) r
 
-line_keeps_sized : (number : ℕ) (old : Stage) (l : List ℕ) (text : List ℕ) (new : Stage) → ServesLine number old l text new → Sized old → Sized new
+pub line_keeps_sized : (number : ℕ) (old : Stage) (l : List ℕ) (text : List ℕ) (new : Stage) → ServesLine number old l text new → Sized old → Sized new
 line_keeps_sized = line_keeps PoolsSized sized_closed (λ card is. start_sized card)
 
 -- a line has a text and a stage after it
@@ -123,7 +123,7 @@ abbrev IsOfStep : Statement → Type 0
 IsOfStep (says.Region below above fill residence) = ⊥
 IsOfStep s = Unit {0}
 
-says_some : (number : ℕ) (old : JobValue) (t : Name) (s : Statement) → IsOfStep s → IsStatement false t s → PoolsSized old.state → (text : List ℕ) × (new : JobValue) × Says number old t s text new
+pub says_some : (number : ℕ) (old : JobValue) (t : Name) (s : Statement) → IsOfStep s → IsStatement false t s → PoolsSized old.state → (text : List ℕ) × (new : JobValue) × Says number old t s text new
 says_some number old t (says.Region below above fill residence) i r all = absurd i
 says_some number old t (says.Request a) i r all = asks_some number old t a (resolved old.names a) (λ q e. is_request old.names a q r.1 e) all
 says_some number old t (says.Where name) i r all = (_, old, (refl, refl))
@@ -134,7 +134,7 @@ either_some : {P Q : List ℕ → JobValue → Type 0} (b : Bool) → ((text : L
 either_some true p q = p
 either_some false p q = q
 
-does_some : (number : ℕ) (old : JobValue) (t : Name) (s : Statement) → IsOfStep s → IsStatement false t s → PoolsSized old.state → (text : List ℕ) × (new : JobValue) × Does number old t s text new
+pub does_some : (number : ℕ) (old : JobValue) (t : Name) (s : Statement) → IsOfStep s → IsStatement false t s → PoolsSized old.state → (text : List ℕ) × (new : JobValue) × Does number old t s text new
 does_some number old t s i r all =
     either_some {P = Tells number old t (codes "NOT RUN")} {Q = Says number old t s} (not (is_active old.state.owners t)) (_, old, (refl, refl)) (says_some number old t s i r all)
 
@@ -157,12 +157,12 @@ serves_some number old line.Nothing r all = ([], old, (refl, refl))
 serves_some number Before (line.Statement t s) r all = begins_some number t s r
 serves_some number (In job) (line.Statement t s) r all = follows_some number job t s r all
 
-closes_some : (number : ℕ) (old : Stage) → (text : List ℕ) × (outcome : Outcome) × Closes number old text outcome
+pub closes_some : (number : ℕ) (old : Stage) → (text : List ℕ) × (outcome : Outcome) × Closes number old text outcome
 closes_some number Before = (_, _, (refl, refl))
 closes_some number (In job) = (_, _, (refl, refl))
 
 -- from each stage there is a printing of all the lines
-prints_some : (number : ℕ) (lines : List (List ℕ)) (old : Stage) → Sized old → (text : List ℕ) × (outcome : Outcome) × Prints number old lines text outcome
+pub prints_some : (number : ℕ) (lines : List (List ℕ)) (old : Stage) → Sized old → (text : List ℕ) × (outcome : Outcome) × Prints number old lines text outcome
 prints_some number [] old all = closes_some number old
 prints_some number (l ∷ lines) old all = at (one_reading.some (is_before old) l) (λ mid sized. prints_some (number + 1) lines mid sized) where
   at : Reading (is_before old) l → ((mid : Stage) → Sized mid → (text : List ℕ) × (outcome : Outcome) × Prints (number + 1) mid lines text outcome) →

@@ -59,6 +59,7 @@ pub mod TidySteps
 pub mod OneOwners
 pub mod OneLabels
 pub mod TidyMoves
+pub mod InFull
 pub mod TidyBusy
 pub mod TidyGiven
 pub mod ReadingExamples

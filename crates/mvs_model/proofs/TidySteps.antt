@@ -105,7 +105,7 @@ follows_are number old t s text new h = at s h where
   at says.ReportSubpools h = (h.0, h.1, by says.ReportSubpools h.0 (not (is_active old.state.owners t)) h.2)
   at says.ReportMap h = (h.0, h.1, by says.ReportMap h.0 (not (is_active old.state.owners t)) h.2)
 
-serves_are : (number : ℕ) (old : Stage) (l : Line) (text : List ℕ) (new : Stage) → ServesInFull number old l text new → Serves number old l text new
+pub serves_are : (number : ℕ) (old : Stage) (l : Line) (text : List ℕ) (new : Stage) → ServesInFull number old l text new → Serves number old l text new
 serves_are number Before line.Nothing text new h = h
 serves_are number Before (line.Statement t s) text new h = h
 serves_are number (In job) line.Nothing text new h = h

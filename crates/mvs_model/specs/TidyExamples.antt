@@ -9,13 +9,14 @@ use Rattle.mvs_model.specs.declared.line.Statement.{Statement}
 use Rattle.mvs_model.specs.declared.line.Statement.TheVariants.{Region, Request, ReportSubpools}
 use Rattle.mvs_model.specs.declared.line.Location.TheVariants.{Named}
 use Rattle.mvs_model.specs.declared.line.Written.TheVariants.{Obtain, Attach, Return, Show, Put, Move}
+use Rattle.mvs_model.specs.declared.outcome.Outcome.{Outcome}
 use Rattle.mvs_model.specs.Name.{padded}
 use Rattle.mvs_model.specs.Want.{AskValue}
 use Rattle.mvs_model.specs.Gifts.{GiftsValue}
 use Rattle.mvs_model.specs.Lines.{lines_of}
 use Rattle.mvs_model.specs.Reading.{LineOf}
 use Rattle.mvs_model.specs.Labels.{IsLabelText}
-use Rattle.mvs_model.specs.Tidy.{Tidy}
+use Rattle.mvs_model.specs.Tidy.{Tidy, IsPrintingInFull}
 
 -- The lines are read as these statements.
 abbrev pub ReadsAs : Bool → List (List ℕ) → List (Name × Statement) → Type 0
@@ -27,6 +28,10 @@ ReadsAs first (l ∷ ls) (s ∷ ss) = LineOf first l (line.Statement s.0 s.1) ×
 -- Each script of these statements is tidy, and the label machine prints this text for it.
 abbrev pub ShowsTidy : List (Name × Statement) → List ℕ → Type 0
 ShowsTidy statements text = (script : List ℕ) → ReadsAs true (lines_of script) statements → Tidy script × IsLabelText script text
+
+-- Each script of these statements has a run that is granted in full, and prints this text.
+abbrev pub RunsInFull : List (Name × Statement) → List ℕ → Type 0
+RunsInFull statements text = (script : List ℕ) → ReadsAs true (lines_of script) statements → (outcome : Outcome) × IsPrintingInFull script text outcome
 
 -- the name of a text
 abbrev pub job : Name
@@ -90,15 +95,23 @@ GivenEnds =
     (codes "1 JOB REGION BELOW 1 ABOVE 0\n2 JOB RC 0\n3 JOB ATTACHED\n4 JOB ATTACHED\n5 A SP 0 SHARED PLAIN 0 POOL 0\n5 A SP 5 SHARED PLAIN 8 POOL 0\n6 B ENDED\n7 A SP 0 SHARED PLAIN 0 POOL 0\n8 A RC 0\n9 A SP 0 SHARED PLAIN 0 POOL 0\n9 A SP 5 OWNED PLAIN 4096 POOL 0\nSTEP ENDED RC 0\n")
 
 -- Bytes are moved within an area, also where the two places overlap.
-abbrev pub MovesOverlap : Type 0
-MovesOverlap =
-    ShowsTidy
-    ((job, one_page)
+abbrev pub moves : List (Name × Statement)
+moves =
+    (job, one_page)
     ∷ (job, Request (Obtain form.Ru 0 (fixed 8) false area_x))
     ∷ (job, Request (Put (Named area_x 0) (1 ∷ 2 ∷ 3 ∷ 4 ∷ 5 ∷ 6 ∷ 7 ∷ 8 ∷ [])))
     ∷ (job, Request (Move (Named area_x 1) (Named area_x 0) 7))
     ∷ (job, Request (Show (Named area_x 0) 8))
     ∷ (job, Request (Move (Named area_x 0) (Named area_x 2) 6))
     ∷ (job, Request (Show (Named area_x 0) 8))
-    ∷ [])
-    (codes "1 JOB REGION BELOW 1 ABOVE 0\n2 JOB RC 0\n3 JOB OK\n4 JOB OK\n5 JOB DATA +0000 0101020304050607\n6 JOB OK\n7 JOB DATA +0000 0203040506070607\nSTEP ENDED RC 0\n")
+    ∷ []
+
+abbrev pub moves_text : List ℕ
+moves_text = codes "1 JOB REGION BELOW 1 ABOVE 0\n2 JOB RC 0\n3 JOB OK\n4 JOB OK\n5 JOB DATA +0000 0101020304050607\n6 JOB OK\n7 JOB DATA +0000 0203040506070607\nSTEP ENDED RC 0\n"
+
+abbrev pub MovesOverlap : Type 0
+MovesOverlap = ShowsTidy moves moves_text
+
+-- It has a run that is granted in full, so what is said of such runs is said of some.
+abbrev pub MovesInFull : Type 0
+MovesInFull = RunsInFull moves moves_text

@@ -3,7 +3,7 @@
 ghost use Rattle.mvs_model.specs.Laws.{PagesKept, NeverStuck, PartsApart, EachIsPrinted, SameFault};
 ghost use Rattle.mvs_model.specs.Sparing.{BytesStay};
 ghost use Rattle.mvs_model.specs.Tidy.{TidyStep, TidyText, OneLabelText, PlacesDoNotMatter};
-ghost use Rattle.mvs_model.specs.TidyExamples.{BusyReturn, GivenEnds, MovesOverlap};
+ghost use Rattle.mvs_model.specs.TidyExamples.{BusyReturn, GivenEnds, MovesInFull, MovesOverlap};
 ghost use Rattle.mvs_model.specs.ReadingLaws.{InRanges, OneReading, OnlyWords};
 ghost use Rattle.mvs_model.specs.Spelling.{AllowedIsRead, CutApart, EachIsWritten, InAnyOrder};
 ghost use Rattle.mvs_model.specs.Spellings.{EachIsSaid};
@@ -68,6 +68,11 @@ pub fn busy_return()
 /// A script that moves bytes within an area is tidy.
 pub fn moves_overlap()
     ensures { MovesOverlap }
+{}
+
+/// That script has a run that is granted in full.
+pub fn moves_in_full()
+    ensures { MovesInFull }
 {}
 
 /// A script in which a given subpool ends while a sibling shares it is tidy.
