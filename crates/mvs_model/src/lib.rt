@@ -18,7 +18,5 @@ pub mod request;
 pub mod short_list;
 pub mod subpool;
 pub mod subpool_set;
-#[cfg(test)]
-mod tests;
 pub mod want;
 pub mod watched;

@@ -149,6 +149,6 @@ pub enum Fault {
     Repeated,
     /// JS08: two operands exclude each other.
     Conflicting,
-    /// JS09: a REGION statement is missing or comes too late.
+    /// JS09: the first statement is not REGION, or there is no statement.
     OutOfPlace,
 }
