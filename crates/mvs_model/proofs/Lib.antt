@@ -6,6 +6,7 @@ pub mod Falling
 pub mod Going
 pub mod FirstFault
 pub mod Sparing
+pub mod Owned
 pub mod Keepers
 pub mod Keyed
 pub mod Kept

@@ -10,7 +10,7 @@ use Rattle.mvs_model.specs.declared.request.Reply.{Reply}
 use Rattle.mvs_model.specs.Storage.{PageRule}
 use Rattle.mvs_model.specs.State.{State, holder}
 use Rattle.mvs_model.specs.Steps.{Step, IsRequest}
-use Rattle.mvs_model.specs.WellFormed.{Apart}
+use Rattle.mvs_model.specs.WellFormed.{Apart, WellFormed}
 use Rattle.mvs_model.specs.Job.{JobValue}
 use Rattle.mvs_model.specs.Lines.{lines_of}
 use Rattle.mvs_model.specs.Reading.{checks, first_of, says_nothing}
@@ -33,6 +33,10 @@ NeverStuck = (job : JobValue) → IsRunning job → (asker : Name) (request : Re
 -- In every state of a run the parts of pools keep apart, and there are bytes just where they may be read.
 abbrev pub PartsApart : Type 0
 PartsApart = (job : JobValue) → IsRunning job → Apart job.state
+
+-- In every state of a run all of this holds.
+abbrev pub KeptWellFormed : Type 0
+KeptWellFormed = (job : JobValue) → IsRunning job → WellFormed job.state
 
 -- Each script has a printing.
 abbrev pub EachIsPrinted : Type 0

@@ -1,19 +1,22 @@
 -- What leaves a byte of storage alone, and that it then stays: requests, lines and runs that neither write nor release it.
 use Rattle.std.specs.Prelude.{◌≡◌, ◌≢◌, ℕ, ◌+◌, ◌/◌, true, false, List, [], ◌∷◌, map, length, Some}
 use Rattle.std.specs.FinMap.{get}
+use Rattle.mvs_model.specs.declared.code.Form.{Form}
 use Rattle.mvs_model.specs.declared.name.Name.{Name}
 use Rattle.mvs_model.specs.declared.line.Line.TheVariants as line
 use Rattle.mvs_model.specs.declared.line.Statement.{Statement}
 use Rattle.mvs_model.specs.declared.line.Statement.TheVariants as says
 use Rattle.mvs_model.specs.declared.request.Request.{Request}
-use Rattle.mvs_model.specs.declared.request.Request.TheVariants.{Release, ReleaseList, ReleaseWhole, Free, Delete, Put, Move}
-use Rattle.mvs_model.specs.Place.{place_at}
+use Rattle.mvs_model.specs.declared.request.Request.TheVariants.{Obtain, Release, ReleaseList, ReleaseWhole, Free, Delete, Put, Move}
+use Rattle.mvs_model.specs.declared.request.Reply.TheVariants.{Obtained}
+use Rattle.mvs_model.specs.Place.{PlaceValue, place_at}
+use Rattle.mvs_model.specs.Want.{AskValue}
 use Rattle.mvs_model.specs.Storage.{has_address}
 use Rattle.mvs_model.specs.Owners.{is_active, subpool_meant}
 use Rattle.mvs_model.specs.Pools.{Pool, cell_at, in_taken}
 use Rattle.mvs_model.specs.State.{State, holder}
 use Rattle.mvs_model.specs.Changes.{any_has}
-use Rattle.mvs_model.specs.Steps.{whole}
+use Rattle.mvs_model.specs.Steps.{Step, whole}
 use Rattle.mvs_model.specs.Job.{JobValue}
 use Rattle.mvs_model.specs.Reading.{LineOf}
 use Rattle.mvs_model.specs.Resolving.{resolved}
@@ -57,3 +60,9 @@ RunsSparing a number old (l ∷ lines) new =
 -- what holds it.
 abbrev pub BytesStay : Type 0
 BytesStay = (a b number : ℕ) (lines : List (List ℕ)) (old new : JobValue) → IsRunning old → get old.state.bytes a ≡ Some b → RunsSparing a number old lines new → get new.state.bytes a ≡ Some b
+
+-- An obtain that is granted leaves each byte alone that may be read.
+abbrev pub GrantsSpare : Type 0
+GrantsSpare =
+    (job : JobValue) → IsRunning job → (a : ℕ) (t : Name) (form : Form) (number : ℕ) (ask : AskValue) (p : PlaceValue) (new : State)
+    → Step job.state t (Obtain form number ask) (Obtained p) new → Spares job.state t a (Obtain form number ask) × OwnerStays job.state a new

@@ -1,7 +1,7 @@
 //! Laws of the machine, over every run: each function has an empty body, and its contract is the law.
 
-ghost use Rattle.mvs_model.specs.Laws.{PagesKept, NeverStuck, PartsApart, EachIsPrinted, SameFault};
-ghost use Rattle.mvs_model.specs.Sparing.{BytesStay};
+ghost use Rattle.mvs_model.specs.Laws.{PagesKept, NeverStuck, PartsApart, KeptWellFormed, EachIsPrinted, SameFault};
+ghost use Rattle.mvs_model.specs.Sparing.{BytesStay, GrantsSpare};
 ghost use Rattle.mvs_model.specs.Tidy.{TidyStep, TidyText, OneLabelText, PlacesDoNotMatter};
 ghost use Rattle.mvs_model.specs.TidyExamples.{BusyReturn, GivenEnds, MovesInFull, MovesOverlap};
 ghost use Rattle.mvs_model.specs.ReadingLaws.{InRanges, OneReading, OnlyWords};
@@ -23,10 +23,20 @@ pub fn apart()
     ensures { PartsApart }
 {}
 
+/// In every state of a run each page is of one subpool, the parts of pools lie apart, and what is held has an owner.
+pub fn well_formed()
+    ensures { KeptWellFormed }
+{}
+
 /// A byte that may be read stays as it is while no PUT or MOVE writes it, nothing releases it, and the task that owns
 /// what holds it does not end.
 pub fn bytes_stay()
     ensures { BytesStay }
+{}
+
+/// An obtain that is granted is a request that neither writes nor releases any byte, and ends no owner.
+pub fn grants_spare()
+    ensures { GrantsSpare }
 {}
 
 /// Each script has a printing.
