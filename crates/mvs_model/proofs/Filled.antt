@@ -6,7 +6,7 @@ use Rattle.mvs_model.specs.declared.code.Form.{Form}
 use Rattle.mvs_model.specs.declared.line.Line.TheVariants as line
 use Rattle.mvs_model.specs.declared.line.Statement.{Statement}
 use Rattle.mvs_model.specs.Name.{padded}
-use Rattle.mvs_model.specs.Grammar.{Kind, Row, table}
+use Rattle.mvs_model.specs.Grammar.{Row, table}
 use Rattle.mvs_model.specs.Reading.{LineOf, ByKey, form_of, is_conflict, is_empty, is_half, is_name, is_one_of, is_twice, lacks_keyword, lacks_positional, statement_of}
 use Rattle.mvs_model.specs.ReadingLaws.{keyed}
 use Rattle.mvs_model.specs.Spelling.{all_operands, line_text, Fits, FitPlaces, FitsKey, said_by}

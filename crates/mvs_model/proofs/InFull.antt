@@ -1,10 +1,10 @@
 -- A tidy script has a run that is granted in full.
-use Rattle.std.proofs.Common.{◌≡◌, ◌≢◌, ℕ, ◌+◌, ◌/◌, ◌≤◌, ◌⊎◌, inl, inr, Bool, true, false, List, [], ◌∷◌, ◌++◌, Option, Some, None, refl, sym, ap, ◌∙◌, subst, arith}
+use Rattle.std.proofs.Common.{◌≡◌, ◌≢◌, ℕ, ◌+◌, ◌≤◌, ◌⊎◌, inl, inr, Bool, true, false, List, [], ◌∷◌, ◌++◌, Option, Some, None, refl, sym, ap, ◌∙◌, subst, arith}
 use Rattle.std.specs.Prelude.{◌||◌, not, codes}
 use Rattle.std.specs.Bool.{MatchBool}
 use Rattle.std.specs.Option.{option_map, option_and_then}
 use Rattle.std.specs.Ordering.{nat_cmp}
-use Rattle.std.specs.FinMap.{FinMap, get, get-empty}
+use Rattle.std.specs.FinMap.{FinMap, get-empty}
 use Rattle.mvs_model.specs.declared.name.Name.{Name}
 use Rattle.mvs_model.specs.declared.code.Code.{Code}
 use Rattle.mvs_model.specs.declared.code.Code.TheVariants.{System}
@@ -14,7 +14,6 @@ use Rattle.mvs_model.specs.declared.code.Form.TheVariants as form
 use Rattle.mvs_model.specs.declared.line.Line.TheVariants as line
 use Rattle.mvs_model.specs.declared.line.Statement.{Statement}
 use Rattle.mvs_model.specs.declared.line.Statement.TheVariants as says
-use Rattle.mvs_model.specs.declared.line.Location.TheVariants.{Named}
 use Rattle.mvs_model.specs.declared.line.Written.{Written}
 use Rattle.mvs_model.specs.declared.line.Written.TheVariants as written
 use Rattle.mvs_model.specs.declared.outcome.Outcome.{Outcome}
@@ -25,25 +24,24 @@ use Rattle.mvs_model.specs.declared.request.Reply.TheVariants.{NotRun, Done, Obt
 use Rattle.mvs_model.specs.declared.want.Loc.TheVariants as loc
 use Rattle.mvs_model.specs.declared.want.Residence.TheVariants.{Below}
 use Rattle.mvs_model.specs.Name.{name_cmp}
-use Rattle.mvs_model.specs.Place.{PlaceValue, place_at}
+use Rattle.mvs_model.specs.Place.{PlaceValue}
 use Rattle.mvs_model.specs.Want.{IsAsk, WantValue, want_of}
-use Rattle.mvs_model.specs.Storage.{NoPlace, Places}
+use Rattle.mvs_model.specs.Storage.{Places}
 use Rattle.mvs_model.specs.Owners.{is_active}
 use Rattle.mvs_model.specs.State.{State, holder, subpool_in}
 use Rattle.mvs_model.specs.Start.{start}
 use Rattle.mvs_model.specs.Codes.{no_access, short}
-use Rattle.mvs_model.specs.Changes.{ShortOf, GrantTo}
-use Rattle.mvs_model.specs.Steps.{Acts, Accesses, Fails, IsRequest, ObtainStep, Refuses, Step, side_for}
+use Rattle.mvs_model.specs.Steps.{Acts, Accesses, IsRequest, ObtainStep, Refuses, Step, side_for}
 use Rattle.mvs_model.specs.WellFormed.{PoolsSized}
 use Rattle.mvs_model.specs.Going.{Sized}
 use Rattle.mvs_model.specs.Job.{JobValue, first_job}
 use Rattle.mvs_model.specs.Lines.{lines_of, card_of, IsWritten}
 use Rattle.mvs_model.specs.Reading.{LineOf}
 use Rattle.mvs_model.specs.Resolving.{address_of, resolved, all_set, names_set, places_in}
-use Rattle.mvs_model.specs.Replies.{is_abend, reply_text}
+use Rattle.mvs_model.specs.Replies.{is_abend}
 use Rattle.mvs_model.specs.Texts.{region_text}
-use Rattle.mvs_model.specs.Runs.{Before, In, Asks, Does, Makes, Says, Tells, ServesLine}
-use Rattle.mvs_model.specs.Tidy.{AsksInFull, DoesInFull, InFull, PrintsInFull, SaysInFull, ServesLineInFull}
+use Rattle.mvs_model.specs.Runs.{Before, In, Makes, Tells, ServesLine}
+use Rattle.mvs_model.specs.Tidy.{AsksInFull, DoesInFull, InFull, PrintsInFull, SaysInFull}
 use Rattle.mvs_model.specs.TidyExamples.{ReadsAs, area_x, fixed, job, moves, moves_text, one_page, MovesInFull}
 use Rattle.mvs_model.proofs.Going.{line_keeps_sized, closes_some, start_sized}
 use Rattle.mvs_model.proofs.OneLabels.{one_label_text}
@@ -279,8 +277,14 @@ full_from (l ∷ k ∷ lines) r =
     let more = lines_full lines _ 3 d.1 r.1.1 (tt, tt, (tt, tt, (tt, tt, (tt, tt, (tt, tt, tt))))) (line_keeps_sized 2 (In at_start) k d.0 (In d.1) (serves_too 2 at_start d.1 k job obtain_x d.0 r.1.0 d.2) (start_sized (card_of job 1 0 0 Below))) in (
       region_text 1 (card_of job 1 0 0 Below) ++ (d.0 ++ more.0),
       more.1,
-      inr (In at_start, region_text 1 (card_of job 1 0 0 Below), d.0 ++ more.0, (line.Statement job one_page, r.0, (refl, refl)), refl,
-      inr (In d.1, d.0, more.0, (line.Statement job (says.Request obtain_x), r.1.0, (d.1, refl, d.2)), refl, more.2)),
+      inr (
+        In at_start,
+        region_text 1 (card_of job 1 0 0 Below),
+        d.0 ++ more.0,
+        (line.Statement job one_page, r.0, (refl, refl)),
+        refl,
+        inr (In d.1, d.0, more.0, (line.Statement job (says.Request obtain_x), r.1.0, (d.1, refl, d.2)), refl, more.2),
+      ),
     )
 
 -- what it prints is what the label machine prints

@@ -11,10 +11,10 @@ use Rattle.mvs_model.specs.declared.name.Name.{Name}
 use Rattle.mvs_model.specs.declared.request.Request.TheVariants.{Obtain}
 use Rattle.mvs_model.specs.declared.request.Reply.TheVariants.{Abended, NotRun, Obtained, Rc4}
 use Rattle.mvs_model.specs.Card.{CardValue}
-use Rattle.mvs_model.specs.Finite.{Changes, Keeps, any_below, has, kept}
+use Rattle.mvs_model.specs.Finite.{Changes, any_below, has, kept}
 use Rattle.mvs_model.specs.Gifts.{GiftsValue, gives, has_bit, shares}
 use Rattle.mvs_model.specs.Name.{name_cmp, same_name}
-use Rattle.mvs_model.specs.Owners.{Attach, Binds, Ends, Enters, EntersBelow, IsSpare, Owners, SubpoolOf, Task, attach_refusal, ends_with, entered, entry, entry_cmp, gives_shared, goes, handed, is_active, is_given, keeper, none, passed}
+use Rattle.mvs_model.specs.Owners.{Binds, Ends, Enters, EntersBelow, IsSpare, Owners, SubpoolOf, Task, attach_refusal, ends_with, entered, entry, entry_cmp, gives_shared, goes, handed, is_active, is_given, keeper, none, passed}
 use Rattle.mvs_model.specs.Changes.{Drops, Extends, GrantTo, ShortOf, with_part}
 use Rattle.mvs_model.specs.Codes.{bad_subpool, family, is_conditional, not_owned, short, task_in_use, too_many_tasks}
 use Rattle.mvs_model.specs.Numbers.{most_tasks}
@@ -26,7 +26,7 @@ use Rattle.mvs_model.specs.Want.{want_of}
 use Rattle.mvs_model.specs.Storage.{covers}
 use Rattle.mvs_model.specs.Start.{start}
 use Rattle.mvs_model.specs.State.{State, Holding, plain, pooled}
-use Rattle.mvs_model.specs.Subpool.{is_subpool_number, IsSubpoolNumber}
+use Rattle.mvs_model.specs.Subpool.{is_subpool_number}
 use Rattle.mvs_model.specs.WellFormed.{HasOwners, Owned}
 use Rattle.mvs_model.specs.Laws.{KeptWellFormed}
 use Rattle.mvs_model.specs.Runs.{Before, In}
@@ -222,7 +222,7 @@ module _ (o : Owners) (mother name : Name) (gifts : GiftsValue) (new : Owners) (
         let low = both (nat_lt n 128) (has_bit gifts.given n) k.1 in
         let there : entry ready mother n ≡ Some s = ap (λ x. entry ready x n) (sym (same_name_is t mother k.0)) ∙ e in
         let given : is_given ready mother gifts s ≡ true =
-            some_below (λ n. gives gifts n && has (λ r. r == s) (entry ready mother n)) 128 n (below_is n low.0) ((λ i. k.1 i && has (λ r. r == s) (there i)) ∙ equal_self s) in
+        some_below (λ n. gives gifts n && has (λ r. r == s) (entry ready mother n)) 128 n (below_is n low.0) ((λ i. k.1 i && has (λ r. r == s) (there i)) ∙ equal_self s) in
         absurd (let g : true ≡ false = sym given ∙ out in cc)
 
   attach_still : (s : ℕ) → IsSome (get ready.owner s) → IsSome (get new.owner s)

@@ -1,10 +1,9 @@
 -- A byte stays where nothing writes or releases it.
 use Rattle.std.proofs.Common.{◌≡◌, ◌≢◌, ℕ, ◌+◌, ◌/◌, ◌≤◌, ◌⊎◌, inl, inr, Bool, true, false, cond, List, [], ◌∷◌, map, length, Option, Some, None, refl, sym, ap, ◌∙◌, subst, arith}
 use Rattle.std.proofs.lemmas.Bool.Decides.{nat_tests}
-use Rattle.std.specs.Prelude.{is_some, not, nat_le, ◌&&◌, ◌||◌, ◌==◌}
+use Rattle.std.specs.Prelude.{is_some, not, nat_le, ◌||◌, ◌==◌}
 use Rattle.std.specs.Bool.{MatchBool}
 use Rattle.std.specs.List.{Contains, list_all}
-use Rattle.std.proofs.lemmas.List.Elements.{Contains-append_right}
 use Rattle.std.specs.FinMap.{get, contains_key, len}
 use Rattle.std.specs.FinSet as set
 use Rattle.mvs_model.specs.declared.name.Name.{Name}
@@ -24,9 +23,9 @@ use Rattle.mvs_model.specs.declared.want.Side.TheVariants.{Below}
 use Rattle.mvs_model.specs.Finite.{has, kept}
 use Rattle.mvs_model.specs.Place.{PlaceValue, place_at}
 use Rattle.mvs_model.specs.Want.{WantValue, want_of, fixed_want, side_of}
-use Rattle.mvs_model.specs.Storage.{Chosen, Covers, NoPlace, covers, has_address}
-use Rattle.mvs_model.specs.Owners.{Owners, Task, is_active, keeper, subpool_meant, goes, ends_with, attach_refusal, has_subtask}
-use Rattle.mvs_model.specs.Pools.{Pool, Part, IsCell, IsCellOf, cell_at, in_taken, part_length, part_want}
+use Rattle.mvs_model.specs.Storage.{Chosen, Covers, has_address}
+use Rattle.mvs_model.specs.Owners.{Task, is_active, keeper, subpool_meant, goes, ends_with, attach_refusal, has_subtask}
+use Rattle.mvs_model.specs.Pools.{Pool, Part, IsCell, IsCellOf, cell_at, in_taken, part_length}
 use Rattle.mvs_model.specs.State.{State, Holding, pooled, holder, is_plain, in_cell, granted, subpool_in}
 use Rattle.mvs_model.specs.Changes.{GrantTo, ListGrant, Drops, End, Extends, Frees, TakesCell, Writes, any_has, with_part}
 use Rattle.mvs_model.specs.Steps.{Plan, Abends, Fails, is_invalid, side_for, residence_of, ObtainStep, whole, on_doubleword, MayRelease, ReleaseStep, EmptiesEntry, ReleaseWholeStep, BuildStep, GetStep, FreeStep, DeleteStep, AttachCase, ReturnStep, all_granted, Accesses, Acts}
@@ -34,7 +33,7 @@ use Rattle.mvs_model.specs.WellFormed.{Apart}
 use Rattle.mvs_model.specs.Job.{JobValue}
 use Rattle.mvs_model.specs.Reading.{LineOf}
 use Rattle.mvs_model.specs.Resolving.{resolved}
-use Rattle.mvs_model.specs.Runs.{Before, In, Asks, Says, Does, Follows, Serves, ServesLine}
+use Rattle.mvs_model.specs.Runs.{Before, In, Asks, Says, Does, Follows, Serves}
 use Rattle.mvs_model.specs.Sparing.{Spares, OwnerStays, StatementSpares, LineSpares, RunsSparing, BytesStay}
 use Rattle.mvs_model.proofs.Going.{line_keeps, runs_keep, start_sized}
 use Rattle.mvs_model.proofs.PartsApart.{StaysApart, apart_closed, start_apart}
@@ -159,8 +158,8 @@ module _ (old : State) (apart : Apart old) (a b : ℕ) (is : get old.bytes a ≡
   more_spares name pool p mid c new x cell g =
       elsewhere new (has_address (cell_at pool c) a) _ (g.bytes a ∙ ap (λ m. cond (has_address (cell_at pool c) a) (Some mid.regions.fill) (get m a)) x.bytes)
       (λ e. let long : p.len ≡ part_length pool.cell_size pool.secondary = (let low : part_length pool.cell_size pool.secondary ≤ p.len = x.chosen.length.least in let high : p.len ≤ part_length pool.cell_size pool.secondary = x.chosen.length.most in omega (arith, low, high)) in
-        let covered = out_of_part pool (record { place = p; count = pool.secondary }) c long cell e in
-        not_free (chosen_free old pool.subpool _ p (a / 8) x.chosen (covers_from p (a / 8) covered)))
+      let covered = out_of_part pool (record { place = p; count = pool.secondary }) c long cell e in
+      not_free (chosen_free old pool.subpool _ p (a / 8) x.chosen (covers_from p (a / 8) covered)))
 
   -- ---- each request
 

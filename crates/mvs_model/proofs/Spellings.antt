@@ -1,6 +1,6 @@
 -- How each statement is written: what the table allows, row by row.
 use Rattle.std.proofs.Common.{◌≡◌, refl, ◌||◌, ◌&&◌, not, true, false, ℕ, ◌==◌, List, [], ◌∷◌, ◌++◌, map, length, ap, ◌∙◌}
-use Rattle.std.specs.Prelude.{Option, None, Some, IfSome, is_some, codes, option_map, slice_get, unwrap_or, if◌then◌else◌}
+use Rattle.std.specs.Prelude.{Option, None, Some, IfSome, is_some, codes, slice_get, unwrap_or, if◌then◌else◌}
 use Rattle.std.specs.List.{list_all, list_any}
 use Rattle.std.proofs.lemmas.Bool.{and_right}
 use Rattle.mvs_model.specs.declared.code.Form.{Form}
@@ -10,10 +10,10 @@ use Rattle.mvs_model.specs.declared.line.Line.TheVariants as line
 use Rattle.mvs_model.specs.declared.line.Statement.TheVariants as says
 use Rattle.mvs_model.specs.declared.line.Written.TheVariants as written
 use Rattle.mvs_model.specs.Name.{padded}
-use Rattle.mvs_model.specs.Grammar.{Number, Pair, DistinctNumbers, Word, Row, region, getmain_fixed, getmain_fixed_placed, getmain_variable, getmain_variable_placed, getmain_list, storage_obtain, freemain_or_whole, freemain_place, freemain_area, freemain_list, storage_release, cpool_build, cpool_get, cpool_free, cpool_delete, attach, abend, put, show, move, where_row, report}
+use Rattle.mvs_model.specs.Grammar.{Number, DistinctNumbers, Word, Row, region, getmain_fixed, getmain_fixed_placed, getmain_variable, getmain_variable_placed, getmain_list, storage_obtain, freemain_or_whole, freemain_place, freemain_area, freemain_list, storage_release, cpool_build, cpool_get, cpool_free, cpool_delete, attach, abend, put, show, move, where_row, report}
 use Rattle.mvs_model.specs.Reading.{◌when◌, first_of, form_in, operands_in, operands_of, row_of, rows_of, statement_checks, words, ByKey, form_of, has_key, hex_number, is_conditional, is_digit, is_empty, is_list, is_number, is_one_of, is_text, items, largest, location, number, numbers_in, set_of, smallest}
 use Rattle.mvs_model.specs.Spelling.{line_text, Fits, IsOperand}
-use Rattle.mvs_model.specs.Spellings.{EachIsSaid, Says, SaysFixed, SaysPlaced, SaysVariable, SaysVariablePlaced, SaysList, SaysObtain, SaysRelease, SaysWhole, SaysArea, SaysReleaseList, SaysGet, SaysAttach, AllFit, NotBoth, asked, fill_said, length_kind, lengths_kind, loc_said, number_said, numbers_said, placed_operands, residence_said, sized_operands, start_said}
+use Rattle.mvs_model.specs.Spellings.{EachIsSaid, Says, SaysFixed, SaysPlaced, SaysVariable, SaysVariablePlaced, SaysList, SaysRelease, SaysWhole, SaysArea, SaysReleaseList, SaysGet, SaysAttach, AllFit, NotBoth, asked, fill_said, length_kind, lengths_kind, number_said, numbers_said, placed_operands, residence_said, sized_operands, start_said}
 use Rattle.mvs_model.proofs.Filled.{said, filled_is_read, filled_form_is_read}
 use Rattle.mvs_model.proofs.Reading.{said_with}
 use Rattle.mvs_model.proofs.ReadingTaken.{and_true}

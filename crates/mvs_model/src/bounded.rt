@@ -4,7 +4,7 @@ ghost use Rattle.std.specs.Prelude.{◌≡◌, ◌<◌, ◌≤◌};
 ghost use Rattle.mvs_model.specs.Numbers as numbers;
 
 use crate::numbers::{
-    LAST_ADDRESS, LEAST_CELL_BYTES, LEAST_EXPONENT, MOST_CELLS, MOST_CELL_BYTES, MOST_EXPONENT,
+    LAST_ADDRESS, LEAST_CELL_BYTES, LEAST_EXPONENT, MOST_CELL_BYTES, MOST_CELLS, MOST_EXPONENT,
     MOST_MOVED, MOST_OFFSET, MOST_PAGES_ABOVE, MOST_PAGES_BELOW, MOST_SHOWN, MOST_USER_CODE,
 };
 use std::marker::Model;

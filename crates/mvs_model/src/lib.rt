@@ -3,9 +3,9 @@
 
 pub mod bounded;
 pub mod card;
-pub mod examples;
 pub mod code;
 pub mod error;
+pub mod examples;
 pub mod gifts;
 pub mod laws;
 pub mod line;
