@@ -4,9 +4,9 @@ pub mod Decide
 pub mod Elements
 pub mod Falling
 pub mod Going
-pub mod FirstFault
-pub mod Sparing
-pub mod Owned
+mod FirstFault
+mod Sparing
+mod Owned
 pub mod Keepers
 pub mod Keyed
 pub mod Kept
@@ -60,7 +60,7 @@ pub mod TidySteps
 pub mod OneOwners
 pub mod OneLabels
 pub mod TidyMoves
-pub mod InFull
+mod InFull
 pub mod TidyBusy
 pub mod TidyGiven
 pub mod ReadingExamples
@@ -72,5 +72,5 @@ pub mod ReadingLoops
 pub mod Spelling
 pub mod Allowed
 pub mod ValueTexts
-pub mod Filled
+mod Filled
 pub mod Spellings
