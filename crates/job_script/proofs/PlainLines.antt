@@ -1,6 +1,6 @@
 -- What the statements say that a script repeats most, written plainly.
 use Rattle.std.proofs.Common.{◌≡◌, refl, ◌||◌, not, true, false, Bool, ℕ, ◌==◌, ◌+◌, ◌&&◌, suc, List, [], ◌∷◌, ◌++◌, Option, Some, None, ◌≤◌, arith, length, sym, ap, subst, ◌∙◌, append-nil, append_assoc, length-append}
-use Rattle.std.specs.Prelude.{MatchOption, codes, nat_le, nat_lt, slice_get, slice_index, unwrap_or, if◌then◌else◌}
+use Rattle.std.specs.Prelude.{IfSome, MatchOption, codes, map, nat_le, nat_lt, slice_get, slice_index, unwrap_or, if◌then◌else◌}
 use Rattle.std.specs.List.{list_all}
 use Rattle.std.proofs.lemmas.Bool.Decides.{nat_tests}
 use Rattle.mvs_model.specs.declared.code.Form.{Form}
@@ -19,9 +19,9 @@ use Rattle.mvs_model.specs.Name.{padded}
 use Rattle.mvs_model.specs.Want.{AskValue}
 use Rattle.mvs_model.specs.Grammar as grammar
 use Rattle.mvs_model.specs.Reading.{ByKey, LineOf, form_of, hex_bytes, is_digit, is_empty, is_list, is_name, is_name_byte, is_one_of, items, largest, location, number, quoted, smallest}
-use Rattle.mvs_model.specs.Spelling.{Fits, IsWord, closes, joined, said_by}
-use Rattle.mvs_model.specs.Spellings.{Says}
-use Rattle.mvs_model.proofs.Allowed.{allowed_is_read}
+use Rattle.mvs_model.specs.Spelling.{Fits, IsWord, closes, joined, keyword_text}
+use Rattle.mvs_model.specs.Spellings as spellings
+use Rattle.mvs_model.specs.Spellings.{Says, SaysFixed, SaysPlaced, SaysRelease, filled, length_kind, number_said, placed_operands}
 use Rattle.mvs_model.proofs.ReadingTaken.{and_true, nat_same}
 use Rattle.mvs_model.proofs.Spelling.{not_true, plain, printed}
 use Rattle.mvs_model.proofs.Spellings.{each_is_said}
@@ -31,25 +31,10 @@ use Rattle.job_script.specs.Frequent.{IsAddressFront, IsFront, IsNumberFront, Is
 use Rattle.job_script.specs.Taken.{IsSomeBytes}
 use Rattle.job_script.proofs.Remarks.{begins_word, with_remark, without_blank}
 
--- ---- lengths
-
-abbrev IsLength : List ℕ → Type 0
-IsLength n = Fits (grammar.Number 1 2147483647) n
-
-no_list : (n : List ℕ) → IsLength n → is_list n ≡ false
-no_list n fits = let a = and_true (not (is_empty n)) (list_all is_digit n) fits.of_kind in not_list n a.1 (not_true _ a.0)
-
-largest_is : (n : List ℕ) → IsLength n → largest n ≡ number n
-largest_is n fits = ap (λ t. if t then number (unwrap_or (slice_get (items n) 0) []) else number n) (no_list n fits)
-
-smallest_is : (n : List ℕ) → IsLength n → smallest n ≡ number n
-smallest_is n fits = ap (λ t. if t then number (unwrap_or (slice_get (items n) 1) []) else number n) (no_list n fits)
-
 -- ---- the number of a subpool and the place in storage, where they are written
 
 abbrev FitsSubpool : Option (List ℕ) → Type 0
-FitsSubpool None = Unit {0}
-FitsSubpool (Some sp) = Fits (grammar.Number 0 255) sp
+FitsSubpool sp = IfSome sp (Fits (grammar.Number 0 255))
 
 abbrev subpool_text : Option (List ℕ) → List ℕ
 subpool_text None = []
@@ -65,8 +50,7 @@ loc_operand loc.Below = codes "LOC=BELOW" ∷ []
 loc_operand loc.Res = []
 
 abbrev subpool_number : Option (List ℕ) → ℕ
-subpool_number None = 0
-subpool_number (Some sp) = number sp
+subpool_number sp = number_said 0 sp
 
 fits_subpool : (text : List ℕ) (n : ℕ) (sp : Option (List ℕ)) (rest : List ℕ) → IsSubpoolFront text n sp rest → FitsSubpool sp
 fits_subpool text n None rest e = tt
@@ -96,9 +80,6 @@ joined_end operand text n sp after l behind e placed =
 
 -- ---- obtains
 
-abbrev IsWordOf : grammar.Row → List ℕ → Form → Type 0
-IsWordOf row word f = ((is_empty row.forms || is_one_of row.forms word) ≡ true) × ((os : ByKey) → form_of word os ≡ f)
-
 abbrev asked : List ℕ → Loc → AskValue
 asked n l = record { least = number n; most = number n; start = 3; within = None; loc = l }
 
@@ -107,144 +88,49 @@ obtaining f n area sp l = says.Request (written.Obtain f (subpool_number sp) (as
 
 abbrev Obtains : List ℕ → Form → Loc → Type 0
 Obtains word f l =
-    (n area : List ℕ) (sp : Option (List ℕ)) → IsLength n → Fits grammar.Name area → FitsSubpool sp
+    (n area : List ℕ) (sp : Option (List ℕ)) → Fits length_kind n → Fits grammar.Name area → FitsSubpool sp
     → Says (codes "GETMAIN") (word ∷ (codes "LV=" ++ n) ∷ (codes "A=" ++ area) ∷ (subpool_operand sp ++ loc_operand l)) (obtaining f n area sp l)
+
+-- the word of a location, where one is written
+abbrev loc_word : Loc → Option (List ℕ)
+loc_word loc.Any = Some (codes "ANY")
+loc_word loc.Below = Some (codes "BELOW")
+loc_word loc.Res = None
 
 -- a location of the table
 loc_fits : (word : List ℕ) → is_one_of (codes "BELOW" ∷ codes "24" ∷ codes "ANY" ∷ codes "31" ∷ codes "RES" ∷ []) word ≡ true → IsWord word → closes 0 word ≡ true
     → Fits (grammar.Word (codes "BELOW" ∷ codes "24" ∷ codes "ANY" ∷ codes "31" ∷ codes "RES" ∷ [])) word
 loc_fits word e is closed = record { of_kind = e; within = refl; once = refl; operand = record { word = is; closed = closed } }
 
-fixed : (word : List ℕ) (f : Form) → IsWordOf grammar.getmain_fixed word f → Obtains word f loc.Res
-fixed word f is n area None fits_n fits_area fits_sp task named short =
-    allowed_is_read false task grammar.getmain_fixed word [] ((codes "LV", n) ∷ (codes "A", area) ∷ []) _ named
-    (record {
-      in_table = (1, refl);
-      field = refl;
-      form_is = is.0;
-      places_fit = tt;
-      pairs_fit = ((_, refl, fits_n), ((_, refl, fits_area), tt));
-      keys_once = refl;
-      places_enough = refl;
-      keys_enough = refl;
-      none_half = refl;
-      no_conflict = refl;
-    }) refl short
-    (λ i. Some (says.Request (written.Obtain (is.1 (said_by [] ((codes "LV", n) ∷ (codes "A", area) ∷ [])) i) (0) (record { least = smallest_is n fits_n i; most = largest_is n fits_n i; start = 3; within = None; loc = loc.Res }) (no_list n fits_n i) (padded area))))
-fixed word f is n area (Some sp) fits_n fits_area fits_sp task named short =
-    allowed_is_read false task grammar.getmain_fixed word [] ((codes "LV", n) ∷ (codes "A", area) ∷ (codes "SP", sp) ∷ []) _ named
-    (record {
-      in_table = (1, refl);
-      field = refl;
-      form_is = is.0;
-      places_fit = tt;
-      pairs_fit = ((_, refl, fits_n), ((_, refl, fits_area), ((_, refl, fits_sp), tt)));
-      keys_once = refl;
-      places_enough = refl;
-      keys_enough = refl;
-      none_half = refl;
-      no_conflict = refl;
-    }) refl short
-    (λ i. Some (says.Request (written.Obtain (is.1 (said_by [] ((codes "LV", n) ∷ (codes "A", area) ∷ (codes "SP", sp) ∷ [])) i) (number sp) (record { least = smallest_is n fits_n i; most = largest_is n fits_n i; start = 3; within = None; loc = loc.Res }) (no_list n fits_n i) (padded area))))
+word_fits : (l : Loc) → IfSome (loc_word l) (Fits (grammar.Word (codes "BELOW" ∷ codes "24" ∷ codes "ANY" ∷ codes "31" ∷ codes "RES" ∷ [])))
+word_fits loc.Any = loc_fits (codes "ANY") refl (record { some = refl; printed = refl }) refl
+word_fits loc.Below = loc_fits (codes "BELOW") refl (record { some = refl; printed = refl }) refl
+word_fits loc.Res = tt
 
-placed : (word : List ℕ) (f : Form) (l : Loc) → IsWordOf grammar.getmain_fixed_placed word f → Obtains word f l
-placed word f loc.Res is n area None fits_n fits_area fits_sp task named short =
-    allowed_is_read false task grammar.getmain_fixed_placed word [] ((codes "LV", n) ∷ (codes "A", area) ∷ []) _ named
-    (record {
-      in_table = (2, refl);
-      field = refl;
-      form_is = is.0;
-      places_fit = tt;
-      pairs_fit = ((_, refl, fits_n), ((_, refl, fits_area), tt));
-      keys_once = refl;
-      places_enough = refl;
-      keys_enough = refl;
-      none_half = refl;
-      no_conflict = refl;
-    }) refl short
-    (λ i. Some (says.Request (written.Obtain (is.1 (said_by [] ((codes "LV", n) ∷ (codes "A", area) ∷ [])) i) (0) (record { least = smallest_is n fits_n i; most = largest_is n fits_n i; start = 3; within = None; loc = loc.Res }) (no_list n fits_n i) (padded area))))
-placed word f loc.Res is n area (Some sp) fits_n fits_area fits_sp task named short =
-    allowed_is_read false task grammar.getmain_fixed_placed word [] ((codes "LV", n) ∷ (codes "A", area) ∷ (codes "SP", sp) ∷ []) _ named
-    (record {
-      in_table = (2, refl);
-      field = refl;
-      form_is = is.0;
-      places_fit = tt;
-      pairs_fit = ((_, refl, fits_n), ((_, refl, fits_area), ((_, refl, fits_sp), tt)));
-      keys_once = refl;
-      places_enough = refl;
-      keys_enough = refl;
-      none_half = refl;
-      no_conflict = refl;
-    }) refl short
-    (λ i. Some (says.Request (written.Obtain (is.1 (said_by [] ((codes "LV", n) ∷ (codes "A", area) ∷ (codes "SP", sp) ∷ [])) i) (number sp) (record { least = smallest_is n fits_n i; most = largest_is n fits_n i; start = 3; within = None; loc = loc.Res }) (no_list n fits_n i) (padded area))))
-placed word f loc.Any is n area None fits_n fits_area fits_sp task named short =
-    allowed_is_read false task grammar.getmain_fixed_placed word [] ((codes "LV", n) ∷ (codes "A", area) ∷ (codes "LOC", codes "ANY") ∷ []) _ named
-    (record {
-      in_table = (2, refl);
-      field = refl;
-      form_is = is.0;
-      places_fit = tt;
-      pairs_fit = ((_, refl, fits_n), ((_, refl, fits_area), ((_, refl, loc_fits (codes "ANY") refl (record { some = refl; printed = refl }) refl), tt)));
-      keys_once = refl;
-      places_enough = refl;
-      keys_enough = refl;
-      none_half = refl;
-      no_conflict = refl;
-    }) refl short
-    (λ i. Some (says.Request (written.Obtain (is.1 (said_by [] ((codes "LV", n) ∷ (codes "A", area) ∷ (codes "LOC", codes "ANY") ∷ [])) i) (0) (record { least = smallest_is n fits_n i; most = largest_is n fits_n i; start = 3; within = None; loc = loc.Any }) (no_list n fits_n i) (padded area))))
-placed word f loc.Any is n area (Some sp) fits_n fits_area fits_sp task named short =
-    allowed_is_read false task grammar.getmain_fixed_placed word [] ((codes "LV", n) ∷ (codes "A", area) ∷ (codes "SP", sp) ∷ (codes "LOC", codes "ANY") ∷ []) _ named
-    (record {
-      in_table = (2, refl);
-      field = refl;
-      form_is = is.0;
-      places_fit = tt;
-      pairs_fit = ((_, refl, fits_n), ((_, refl, fits_area), ((_, refl, fits_sp), ((_, refl, loc_fits (codes "ANY") refl (record { some = refl; printed = refl }) refl), tt))));
-      keys_once = refl;
-      places_enough = refl;
-      keys_enough = refl;
-      none_half = refl;
-      no_conflict = refl;
-    }) refl short
-    (λ i. Some (says.Request (written.Obtain (is.1 (said_by [] ((codes "LV", n) ∷ (codes "A", area) ∷ (codes "SP", sp) ∷ (codes "LOC", codes "ANY") ∷ [])) i) (number sp) (record { least = smallest_is n fits_n i; most = largest_is n fits_n i; start = 3; within = None; loc = loc.Any }) (no_list n fits_n i) (padded area))))
-placed word f loc.Below is n area None fits_n fits_area fits_sp task named short =
-    allowed_is_read false task grammar.getmain_fixed_placed word [] ((codes "LV", n) ∷ (codes "A", area) ∷ (codes "LOC", codes "BELOW") ∷ []) _ named
-    (record {
-      in_table = (2, refl);
-      field = refl;
-      form_is = is.0;
-      places_fit = tt;
-      pairs_fit = ((_, refl, fits_n), ((_, refl, fits_area), ((_, refl, loc_fits (codes "BELOW") refl (record { some = refl; printed = refl }) refl), tt)));
-      keys_once = refl;
-      places_enough = refl;
-      keys_enough = refl;
-      none_half = refl;
-      no_conflict = refl;
-    }) refl short
-    (λ i. Some (says.Request (written.Obtain (is.1 (said_by [] ((codes "LV", n) ∷ (codes "A", area) ∷ (codes "LOC", codes "BELOW") ∷ [])) i) (0) (record { least = smallest_is n fits_n i; most = largest_is n fits_n i; start = 3; within = None; loc = loc.Below }) (no_list n fits_n i) (padded area))))
-placed word f loc.Below is n area (Some sp) fits_n fits_area fits_sp task named short =
-    allowed_is_read false task grammar.getmain_fixed_placed word [] ((codes "LV", n) ∷ (codes "A", area) ∷ (codes "SP", sp) ∷ (codes "LOC", codes "BELOW") ∷ []) _ named
-    (record {
-      in_table = (2, refl);
-      field = refl;
-      form_is = is.0;
-      places_fit = tt;
-      pairs_fit = ((_, refl, fits_n), ((_, refl, fits_area), ((_, refl, fits_sp), ((_, refl, loc_fits (codes "BELOW") refl (record { some = refl; printed = refl }) refl), tt))));
-      keys_once = refl;
-      places_enough = refl;
-      keys_enough = refl;
-      none_half = refl;
-      no_conflict = refl;
-    }) refl short
-    (λ i. Some (says.Request (written.Obtain (is.1 (said_by [] ((codes "LV", n) ∷ (codes "A", area) ∷ (codes "SP", sp) ∷ (codes "LOC", codes "BELOW") ∷ [])) i) (number sp) (record { least = smallest_is n fits_n i; most = largest_is n fits_n i; start = 3; within = None; loc = loc.Below }) (no_list n fits_n i) (padded area))))
+fixed : (word : List ℕ) (f : Form) → SaysFixed word f → Obtains word f loc.Res
+fixed word f said n area None fits_n fits_area fits_sp = said n area None None (record { each = (fits_n, (fits_area, (tt, (tt, tt)))) })
+fixed word f said n area (Some sp) fits_n fits_area fits_sp = said n area (Some sp) None (record { each = (fits_n, (fits_area, (fits_sp, (tt, tt)))) })
+
+placed : (word : List ℕ) (f : Form) (l : Loc) → SaysPlaced word f → Obtains word f l
+placed word f l said n area sp fits_n fits_area fits_sp =
+    at sp l (said n area sp None (loc_word l) None None refl refl (record { each = (fits_n, (fits_area, (fits_sp, (tt, (word_fits l, (tt, (tt, tt))))))) })) where
+  at : (sp : Option (List ℕ)) (l : Loc)
+      → Says (codes "GETMAIN") (word ∷ map keyword_text (filled (placed_operands length_kind n area sp None (loc_word l) None None)))
+      (says.Request (written.Obtain f (number_said 0 sp) (spellings.asked (number n) (number n) None (loc_word l) None None) false (padded area)))
+      → Says (codes "GETMAIN") (word ∷ (codes "LV=" ++ n) ∷ (codes "A=" ++ area) ∷ (subpool_operand sp ++ loc_operand l)) (obtaining f n area sp l)
+  at None loc.Res said = said
+  at None loc.Any said = said
+  at None loc.Below said = said
+  at (Some sp) loc.Res said = said
+  at (Some sp) loc.Any said = said
+  at (Some sp) loc.Below said = said
 
 obtains : (f : Form) (l : Loc) → is_single f ≡ true → may_place f l ≡ true → Obtains (form_word f) f l
-obtains form.R loc.Res e m = fixed (codes "R") form.R (refl, λ os. refl)
+obtains form.R loc.Res e m = fixed (codes "R") form.R each_is_said.getmain_r
 obtains form.R loc.Any e m = absurd (let g : false ≡ true = m in cc)
 obtains form.R loc.Below e m = absurd (let g : false ≡ true = m in cc)
-obtains form.Rc l e m = placed (codes "RC") form.Rc l (refl, λ os. refl)
-obtains form.Ru l e m = placed (codes "RU") form.Ru l (refl, λ os. refl)
+obtains form.Rc l e m = placed (codes "RC") form.Rc l each_is_said.getmain_rc
+obtains form.Ru l e m = placed (codes "RU") form.Ru l each_is_said.getmain_ru
 obtains form.Vrc l e m = absurd (let g : false ≡ true = e in cc)
 obtains form.Vru l e m = absurd (let g : false ≡ true = e in cc)
 obtains form.Ec l e m = absurd (let g : false ≡ true = e in cc)
@@ -263,45 +149,17 @@ releasing f n address sp = says.Request (written.Release f (subpool_number sp) (
 
 abbrev Releases : List ℕ → Form → Type 0
 Releases word f =
-    (n address : List ℕ) (sp : Option (List ℕ)) → IsLength n → Fits grammar.Address address → FitsSubpool sp
+    (n address : List ℕ) (sp : Option (List ℕ)) → Fits length_kind n → Fits grammar.Address address → FitsSubpool sp
     → Says (codes "FREEMAIN") (word ∷ (codes "LV=" ++ n) ∷ (codes "A=" ++ address) ∷ (subpool_operand sp ++ loc_operand loc.Res)) (releasing f n address sp)
 
-place : (word : List ℕ) (f : Form) → IsWordOf grammar.freemain_or_whole word f → Releases word f
-place word f is n address None fits_n fits_address fits_sp task named short =
-    allowed_is_read false task grammar.freemain_or_whole word [] ((codes "LV", n) ∷ (codes "A", address) ∷ []) _ named
-    (record {
-      in_table = (7, refl);
-      field = refl;
-      form_is = is.0;
-      places_fit = tt;
-      pairs_fit = ((_, refl, fits_n), ((_, refl, fits_address), tt));
-      keys_once = refl;
-      places_enough = refl;
-      keys_enough = refl;
-      none_half = refl;
-      no_conflict = refl;
-    }) refl short
-    (λ i. Some (says.Request (written.Release (is.1 (said_by [] ((codes "LV", n) ∷ (codes "A", address) ∷ [])) i) 0 (location address) (number n))))
-place word f is n address (Some sp) fits_n fits_address fits_sp task named short =
-    allowed_is_read false task grammar.freemain_or_whole word [] ((codes "LV", n) ∷ (codes "A", address) ∷ (codes "SP", sp) ∷ []) _ named
-    (record {
-      in_table = (7, refl);
-      field = refl;
-      form_is = is.0;
-      places_fit = tt;
-      pairs_fit = ((_, refl, fits_n), ((_, refl, fits_address), ((_, refl, fits_sp), tt)));
-      keys_once = refl;
-      places_enough = refl;
-      keys_enough = refl;
-      none_half = refl;
-      no_conflict = refl;
-    }) refl short
-    (λ i. Some (says.Request (written.Release (is.1 (said_by [] ((codes "LV", n) ∷ (codes "A", address) ∷ (codes "SP", sp) ∷ [])) i) (number sp) (location address) (number n))))
+place : (word : List ℕ) (f : Form) → SaysRelease word f → Releases word f
+place word f said n address None fits_n fits_address fits_sp = said n address None (record { each = (fits_n, (fits_address, (tt, tt))) })
+place word f said n address (Some sp) fits_n fits_address fits_sp = said n address (Some sp) (record { each = (fits_n, (fits_address, (fits_sp, tt))) })
 
 releases : (f : Form) → is_single f ≡ true → Releases (form_word f) f
-releases form.R e = place (codes "R") form.R (refl, λ os. refl)
-releases form.Rc e = place (codes "RC") form.Rc (refl, λ os. refl)
-releases form.Ru e = place (codes "RU") form.Ru (refl, λ os. refl)
+releases form.R e = place (codes "R") form.R each_is_said.freemain_r
+releases form.Rc e = place (codes "RC") form.Rc each_is_said.freemain_rc
+releases form.Ru e = place (codes "RU") form.Ru each_is_said.freemain_ru
 releases form.Vrc e = absurd (let g : false ≡ true = e in cc)
 releases form.Vru e = absurd (let g : false ≡ true = e in cc)
 releases form.Ec e = absurd (let g : false ≡ true = e in cc)
@@ -417,12 +275,12 @@ pub get_line : (conditional : Bool) (field : List ℕ) (task pool cell : Name) (
     → SaysBehind (get_text conditional) field task (line.Statement task (says.Request (written.Get pool conditional cell)))
 get_line true field task pool cell name rest text behind pooled pool_is front is remark =
     to_line (codes "CPOOL") (codes "GET,C," ++ field) (codes "GET") (codes "C" ∷ (codes "CPID=" ++ name) ∷ (codes "CELL=" ++ text) ∷ []) behind task _ _
-    (each_is_said.get_c name text pooled.fits front.alone.fits) (word (codes "CPOOL") refl refl) (word (codes "GET") refl refl)
+    (each_is_said.get_c name text (record { each = (pooled.fits, (front.alone.fits, tt)) })) (word (codes "CPOOL") refl refl) (word (codes "GET") refl refl)
     (ap (λ t. codes "GET,C," ++ t) (pooled_field field name rest text behind pooled front.whole)) remark
     (λ i. says.Request (written.Get (pool_is i) true (is i)))
 get_line false field task pool cell name rest text behind pooled pool_is front is remark =
     to_line (codes "CPOOL") (codes "GET," ++ field) (codes "GET") ((codes "CPID=" ++ name) ∷ (codes "CELL=" ++ text) ∷ []) behind task _ _
-    (each_is_said.get name text pooled.fits front.alone.fits) (word (codes "CPOOL") refl refl) (word (codes "GET") refl refl)
+    (each_is_said.get name text (record { each = (pooled.fits, (front.alone.fits, tt)) })) (word (codes "CPOOL") refl refl) (word (codes "GET") refl refl)
     (ap (λ t. codes "GET," ++ t) (pooled_field field name rest text behind pooled front.whole)) remark
     (λ i. says.Request (written.Get (pool_is i) false (is i)))
 
@@ -430,7 +288,7 @@ pub free_line : (field : List ℕ) (task pool : Name) (cell : Location) (name re
     → SaysBehind (codes " CPOOL FREE,") field task (line.Statement task (says.Request (written.Free pool cell)))
 free_line field task pool cell name rest area text behind offset pooled pool_is place is remark =
     to_line (codes "CPOOL") (codes "FREE," ++ field) (codes "FREE") ((codes "CPID=" ++ name) ∷ (codes "CELL=" ++ text) ∷ []) behind task _ _
-    (each_is_said.free name text pooled.fits place.front.alone.fits) (word (codes "CPOOL") refl refl) (word (codes "FREE") refl refl)
+    (each_is_said.free name text (record { each = (pooled.fits, (place.front.alone.fits, tt)) })) (word (codes "CPOOL") refl refl) (word (codes "FREE") refl refl)
     (ap (λ t. codes "FREE," ++ t) (pooled_field field name rest text behind pooled place.front.whole)) remark
     (λ i. says.Request (written.Free (pool_is i) ((is ∙ place.location_is) i)))
 

@@ -7,7 +7,7 @@ use Rattle.mvs_model.specs.declared.outcome.Outcome.TheVariants.{ScriptFault}
 use Rattle.mvs_model.specs.Lines.{lines_of}
 use Rattle.mvs_model.specs.Runs.{Stage, IsPrinting, IsPrintingFront}
 use Rattle.mvs_model.specs.Memory.{IsPrintingBefore}
-use Rattle.mvs_model.proofs.Going.{Reaches}
+use Rattle.mvs_model.specs.Going.{Reaches}
 use Rattle.mvs_job.specs.declared.job.Stop.{Stop}
 use Rattle.mvs_job.specs.declared.job.Stop.TheVariants as stop
 use Rattle.mvs_job.specs.declared.run.RunFault.{RunFault}

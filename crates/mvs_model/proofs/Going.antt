@@ -23,14 +23,15 @@ use Rattle.mvs_model.specs.Steps.{IsRequest}
 use Rattle.mvs_model.specs.WellFormed.{PoolsSized}
 use Rattle.mvs_model.specs.Texts.{fault_text, region_text}
 use Rattle.mvs_model.specs.Job.{JobValue, next_job}
-use Rattle.mvs_model.specs.Lines.{card_of, IsStatement, IsLine}
+use Rattle.mvs_model.specs.Lines.{lines_of, card_of, IsStatement, IsLine}
 use Rattle.mvs_model.specs.ReadingLaws.{Reading, Said, Wrong}
 use Rattle.mvs_model.specs.Replies.{is_abend}
 use Rattle.mvs_model.specs.Resolving.{resolved, all_set, names_set, places_in}
 use Rattle.mvs_model.specs.Runs.{Stage, Before, In, is_before, Tells, Asks, Says, Does, Begins, Follows, Serves, ServesLine, Faults, Closes, Prints, Runs, end_text}
 use Rattle.mvs_model.specs.Memory.{TakesMemory, LineTakesMemory, PrintsBefore}
 use Rattle.mvs_model.specs.Reading.{LineOf}
-use Rattle.mvs_model.specs.Laws.{PagesKept, NeverStuck}
+use Rattle.mvs_model.specs.Going.{Holds, Sized, Reaches}
+use Rattle.mvs_model.specs.Laws.{PagesKept, NeverStuck, EachIsPrinted}
 use Rattle.mvs_model.proofs.Requested.{is_request}
 use Rattle.mvs_model.proofs.Kept.{Closed, plan_in_range, step_keeps}
 use Rattle.mvs_model.proofs.Pages.{Pages, pages_closed}
@@ -42,11 +43,6 @@ use Rattle.mvs_model.proofs.ReadingRanges.{line_ranged}
 chosen : {P Q R : Type 0} (b : Bool) → MatchBool b P Q → (P → R) → (Q → R) → R
 chosen true h p q = p h
 chosen false h p q = q h
-
--- of the state of a step, where a job is in one
-abbrev pub Holds : (State → Type 0) → Stage → Type 0
-Holds P Before = Unit {0}
-Holds P (In job) = P job.state
 
 module _ (P : State → Type 0) (closed : Closed P) (at_start : (card : CardValue) → IsCard card → P (start card)) where
   asks_keeps : (number : ℕ) (old : JobValue) (t : Name) (a : Written) (o : Option Request) (text : List ℕ) (new : JobValue) → ((r : Request) → o ≡ Some r → IsRequest r) → Asks number old t a o text new → P old.state → P new.state
@@ -112,11 +108,7 @@ pages_kept job is = runs_keep Pages pages_closed (λ card is. start_pages card) 
 pub never_stuck : NeverStuck
 never_stuck job is asker request r = step_some job.state asker request (runs_keep PoolsSized sized_closed (λ card is. start_sized card) 1 is.lines Before (In job) is.runs tt) r
 
--- each pool has some cells in a part
-abbrev pub Sized : Stage → Type 0
-Sized stage = Holds PoolsSized stage
-
-line_keeps_sized : (number : ℕ) (old : Stage) (l : List ℕ) (text : List ℕ) (new : Stage) → ServesLine number old l text new → Sized old → Sized new
+pub line_keeps_sized : (number : ℕ) (old : Stage) (l : List ℕ) (text : List ℕ) (new : Stage) → ServesLine number old l text new → Sized old → Sized new
 line_keeps_sized = line_keeps PoolsSized sized_closed (λ card is. start_sized card)
 
 -- a line has a text and a stage after it
@@ -131,7 +123,7 @@ abbrev IsOfStep : Statement → Type 0
 IsOfStep (says.Region below above fill residence) = ⊥
 IsOfStep s = Unit {0}
 
-says_some : (number : ℕ) (old : JobValue) (t : Name) (s : Statement) → IsOfStep s → IsStatement false t s → PoolsSized old.state → (text : List ℕ) × (new : JobValue) × Says number old t s text new
+pub says_some : (number : ℕ) (old : JobValue) (t : Name) (s : Statement) → IsOfStep s → IsStatement false t s → PoolsSized old.state → (text : List ℕ) × (new : JobValue) × Says number old t s text new
 says_some number old t (says.Region below above fill residence) i r all = absurd i
 says_some number old t (says.Request a) i r all = asks_some number old t a (resolved old.names a) (λ q e. is_request old.names a q r.1 e) all
 says_some number old t (says.Where name) i r all = (_, old, (refl, refl))
@@ -142,7 +134,7 @@ either_some : {P Q : List ℕ → JobValue → Type 0} (b : Bool) → ((text : L
 either_some true p q = p
 either_some false p q = q
 
-does_some : (number : ℕ) (old : JobValue) (t : Name) (s : Statement) → IsOfStep s → IsStatement false t s → PoolsSized old.state → (text : List ℕ) × (new : JobValue) × Does number old t s text new
+pub does_some : (number : ℕ) (old : JobValue) (t : Name) (s : Statement) → IsOfStep s → IsStatement false t s → PoolsSized old.state → (text : List ℕ) × (new : JobValue) × Does number old t s text new
 does_some number old t s i r all =
     either_some {P = Tells number old t (codes "NOT RUN")} {Q = Says number old t s} (not (is_active old.state.owners t)) (_, old, (refl, refl)) (says_some number old t s i r all)
 
@@ -165,12 +157,12 @@ serves_some number old line.Nothing r all = ([], old, (refl, refl))
 serves_some number Before (line.Statement t s) r all = begins_some number t s r
 serves_some number (In job) (line.Statement t s) r all = follows_some number job t s r all
 
-closes_some : (number : ℕ) (old : Stage) → (text : List ℕ) × (outcome : Outcome) × Closes number old text outcome
+pub closes_some : (number : ℕ) (old : Stage) → (text : List ℕ) × (outcome : Outcome) × Closes number old text outcome
 closes_some number Before = (_, _, (refl, refl))
 closes_some number (In job) = (_, _, (refl, refl))
 
 -- from each stage there is a printing of all the lines
-prints_some : (number : ℕ) (lines : List (List ℕ)) (old : Stage) → Sized old → (text : List ℕ) × (outcome : Outcome) × Prints number old lines text outcome
+pub prints_some : (number : ℕ) (lines : List (List ℕ)) (old : Stage) → Sized old → (text : List ℕ) × (outcome : Outcome) × Prints number old lines text outcome
 prints_some number [] old all = closes_some number old
 prints_some number (l ∷ lines) old all = at (one_reading.some (is_before old) l) (λ mid sized. prints_some (number + 1) lines mid sized) where
   at : Reading (is_before old) l → ((mid : Stage) → Sized mid → (text : List ℕ) × (outcome : Outcome) × Prints (number + 1) mid lines text outcome) →
@@ -181,12 +173,9 @@ prints_some number (l ∷ lines) old all = at (one_reading.some (is_before old) 
       let more = go_on s.1 (line_keeps_sized number old l s.0 s.1 (said, is, s.2) all) in
       (s.0 ++ more.0, more.1, inr (s.1, s.0, more.0, (said, is, s.2), refl, more.2))
 
--- With this text printed, a run of all the lines may stand at this number and stage, with these lines left: however the
--- lines left go on, that is how the whole goes on.
-pub record Reaches (all : List (List ℕ)) (text : List ℕ) (number : ℕ) (stage : Stage) (left : List (List ℕ)) : Type 0 where
-  pub on : (rest : List ℕ) (outcome : Outcome) → Prints number stage left rest outcome → Prints 1 Before all (text ++ rest) outcome
-  pub before : (rest : List ℕ) → PrintsBefore number stage left rest → PrintsBefore 1 Before all (text ++ rest)
-  pub sized : Sized stage
+-- Each script has a printing.
+pub each_is_printed : EachIsPrinted
+each_is_printed script = prints_some 1 (lines_of script) Before tt
 
 module _ (all : List (List ℕ)) where
   pub reaches_start : Reaches all [] 1 Before all

@@ -4,6 +4,9 @@ pub mod Decide
 pub mod Elements
 pub mod Falling
 pub mod Going
+mod FirstFault
+mod Sparing
+mod Owned
 pub mod Keepers
 pub mod Keyed
 pub mod Kept
@@ -56,9 +59,10 @@ pub mod WithinKept
 pub mod TidySteps
 pub mod OneOwners
 pub mod OneLabels
-pub mod Rows
-pub mod RowBusy
-pub mod RowGiven
+pub mod TidyMoves
+mod InFull
+pub mod TidyBusy
+pub mod TidyGiven
 pub mod ReadingExamples
 pub mod Reading
 pub mod ReadingTaken
@@ -68,4 +72,5 @@ pub mod ReadingLoops
 pub mod Spelling
 pub mod Allowed
 pub mod ValueTexts
+mod Filled
 pub mod Spellings

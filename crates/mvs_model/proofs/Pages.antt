@@ -45,15 +45,15 @@ Pages st = PageRule (holder st)
 
 pub pages_closed : Closed Pages
 pages_closed = record {
-  granted = λ old t number want p new g rule. pages_chosen old new g.subpool _ want p g.chosen refl g.held rule;
+  granted = λ old t number want p new asks g rule. pages_chosen old new g.subpool _ want p g.chosen refl g.held rule;
   freed = λ old s ps new w r f rule. pages_less old new _ f.held rule;
   emptied = λ old s new e rule. pages_drops old new _ e.drops rule;
   ended = λ old t new e rule. pages_drops old new _ e.drops rule;
-  built = λ old t name number s plan p o new fresh r is enters x rule. pages_chosen old new s _ _ p x.chosen refl x.held rule;
+  built = λ old t name number s plan p o new fresh r asks is enters x rule. pages_chosen old new s _ _ p x.chosen refl x.held rule;
   grown = λ old name pool p mid c new e x is k rule. pages_same mid new k.held (pages_chosen old mid pool.subpool _ _ p x.chosen refl x.held rule);
   taken = λ old name pool c new e is k rule. pages_same old new k.held rule;
   given = λ old name pool c new e is k rule. pages_same old new k.held rule;
   dropped = λ old name pool new e k rule. pages_less old new _ k.held rule;
-  attached = λ old t name gifts residence new e k rule. pages_same old new k.held rule;
+  attached = λ old t name gifts residence new active e k rule. pages_same old new k.held rule;
   written = λ old p value new e has k rule. pages_same old new k.held rule;
 }

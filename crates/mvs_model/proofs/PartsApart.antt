@@ -56,13 +56,13 @@ stands_new st name s plan fresh = record {
 
 pub apart_closed : Closed StaysApart
 apart_closed = record {
-  granted = λ old t number want p new g k. (grant_apart old new t number want p g k.0, sized_closed.granted old t number want p new g k.1);
+  granted = λ old t number want p new asks g k. (grant_apart old new t number want p g k.0, sized_closed.granted old t number want p new asks g k.1);
   freed = λ old s ps new w r f k. (freed_apart old new s ps w r f k.0, sized_closed.freed old s ps new w r f k.1);
   emptied = λ old s new e k. (drops_apart old new _ e.drops k.0, sized_closed.emptied old s new e k.1);
   ended = λ old t new e k. (drops_apart old new _ e.drops k.0, sized_closed.ended old t new e k.1);
-  built = λ old t name number s plan p o new fresh r is enters x k. (
+  built = λ old t name number s plan p o new fresh r asks is enters x k. (
     grown_apart old new name (new_pool s plan) plan.primary p o r.1 (stands_new old name s plan fresh) x k.0,
-    sized_closed.built old t name number s plan p o new fresh r is enters x k.1,
+    sized_closed.built old t name number s plan p o new fresh r asks is enters x k.1,
   );
   grown = λ old name pool p mid c new e x is g k. (
     taken_apart mid new name (with_part pool pool.secondary p) c (put_here old mid name (Some (with_part pool pool.secondary p)) x.pools)
@@ -73,9 +73,9 @@ apart_closed = record {
   taken = λ old name pool c new e is g k. (taken_apart old new name pool c e is.0 g k.0, sized_closed.taken old name pool c new e is g k.1);
   given = λ old name pool c new e is g k. (given_apart old new name pool c e is g k.0, sized_closed.given old name pool c new e is g k.1);
   dropped = λ old name pool new e g k. (deleted_apart old new name pool e g k.0, sized_closed.dropped old name pool new e g k.1);
-  attached = λ old t name gifts residence new e g k. (
+  attached = λ old t name gifts residence new active e g k. (
     same_apart old new g.held g.pools (λ a. ap (λ m. is_some (get m a)) g.bytes ∙ k.0.bytes a ∙ sym (same_granted old new a g.held g.pools)) k.0,
-    sized_closed.attached old t name gifts residence new e g k.1,
+    sized_closed.attached old t name gifts residence new active e g k.1,
   );
   written = λ old p value new e has g k. (written_apart old new p value e has g k.0, sized_closed.written old p value new e has g k.1);
 }

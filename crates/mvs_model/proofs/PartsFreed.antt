@@ -92,14 +92,14 @@ module _ (old new : State) (p : PlaceValue) (value : ℕ → Option ℕ) (all : 
   written_apart = same_apart old new w.held w.pools written_bytes a
 
 -- what a change keeps
-kept_is : {X : Type 0} (test : X → Bool) (o : Option X) (x : X) → kept test o ≡ Some x → (o ≡ Some x) × (test x ≡ true)
+pub kept_is : {X : Type 0} (test : X → Bool) (o : Option X) (x : X) → kept test o ≡ Some x → (o ≡ Some x) × (test x ≡ true)
 kept_is test None x e = absurd (let f : None ≡ Some x = e in cc)
 kept_is test (Some y) x e = at (test y) refl e where
   at : (b : Bool) → test y ≡ b → cond b (Some y) None ≡ Some x → (Some y ≡ Some x) × (test x ≡ true)
   at true t f = (f, (let s : y ≡ x = cc in ap test (sym s) ∙ t))
   at false t f = absurd (let g : None ≡ Some x = f in cc)
 
-kept_from : {X : Type 0} (test : X → Bool) (o : Option X) (x : X) → o ≡ Some x → test x ≡ true → kept test o ≡ Some x
+pub kept_from : {X : Type 0} (test : X → Bool) (o : Option X) (x : X) → o ≡ Some x → test x ≡ true → kept test o ≡ Some x
 kept_from test o x e t = ap (kept test) e ∙ ap (λ b. cond b (Some x) None) t
 
 -- what some subpools hold goes

@@ -14,16 +14,16 @@ use Rattle.mvs_model.proofs.Kept.{Closed, HasPlan, step_keeps}
 
 regions_closed : (r : Regions) → Closed (λ st. st.regions ≡ r)
 regions_closed r = record {
-  granted = λ old t number want p new g e. g.regions ∙ e;
+  granted = λ old t number want p new asks g e. g.regions ∙ e;
   freed = λ old s ps new w k f e. f.regions ∙ e;
   emptied = λ old s new k e. k.drops.regions ∙ e;
   ended = λ old t new k e. k.drops.regions ∙ e;
-  built = λ old t name number s plan p o new fresh k is enters x e. x.regions ∙ e;
+  built = λ old t name number s plan p o new fresh k asks is enters x e. x.regions ∙ e;
   grown = λ old name pool p mid c new is x k taken e. taken.regions ∙ x.regions ∙ e;
   taken = λ old name pool c new is f k e. k.regions ∙ e;
   given = λ old name pool c new is f k e. k.regions ∙ e;
   dropped = λ old name pool new is k e. k.regions ∙ e;
-  attached = λ old t name gifts residence new is k e. k.regions ∙ e;
+  attached = λ old t name gifts residence new active is k e. k.regions ∙ e;
   written = λ old p value new is has k e. k.regions ∙ e;
 }
 

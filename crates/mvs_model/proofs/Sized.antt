@@ -35,17 +35,17 @@ sized_same old new e all name q h = all name q (sym (ap (λ m. get m name) e) �
 
 pub sized_closed : Closed PoolsSized
 sized_closed = record {
-  granted = λ old t number want p new g all. sized_same old new g.pools all;
+  granted = λ old t number want p new asks g all. sized_same old new g.pools all;
   freed = λ old s ps new w r f all. sized_same old new f.pools all;
   emptied = λ old s new e all. sized_kept old new _ e.drops.pools all;
   ended = λ old t new e all. sized_kept old new _ e.drops.pools all;
-  built = λ old t name number s plan p o new fresh r is enters x all. sized_put old new _ _ x.pools (record { size = (let l : 4 ≤ plan.cell_size = r.0 in omega arith); primary = r.1; secondary = r.2 }) all;
+  built = λ old t name number s plan p o new fresh r asks is enters x all. sized_put old new _ _ x.pools (record { size = (let l : 4 ≤ plan.cell_size = r.0 in omega arith); primary = r.1; secondary = r.2 }) all;
   grown = λ old name pool p mid c new e x is k all. let s = all name pool e in
       sized_put mid new _ _ k.pools (record { size = s.size; primary = s.primary; secondary = s.secondary })
       (sized_put old mid _ _ x.pools (record { size = s.size; primary = s.primary; secondary = s.secondary }) all);
   taken = λ old name pool c new e is k all. let s = all name pool e in sized_put old new _ _ k.pools (record { size = s.size; primary = s.primary; secondary = s.secondary }) all;
   given = λ old name pool c new e is k all. let s = all name pool e in sized_put old new _ _ k.pools (record { size = s.size; primary = s.primary; secondary = s.secondary }) all;
   dropped = λ old name pool new e k all. sized_gone old new _ k.pools all;
-  attached = λ old t name gifts residence new e k all. sized_same old new k.pools all;
+  attached = λ old t name gifts residence new active e k all. sized_same old new k.pools all;
   written = λ old p value new e has k all. sized_same old new k.pools all;
 }

@@ -15,7 +15,7 @@ use Rattle.mvs_model.specs.Finite.{kept, has, any_below}
 use Rattle.mvs_model.specs.Storage.{Regions, Open, Places, Chosen, holder, covers, Covers, has_address}
 use Rattle.mvs_model.specs.Owners.{Owners, entry, Binds, EntersBelow, none, passed, entered, is_given, goes, ends_with}
 use Rattle.mvs_model.specs.Pools.{IsCellOf}
-use Rattle.mvs_model.specs.Checks.{AcrossPages, BoundaryEdges, AboveOnATie, ReleasesJoin, PartsReleased, GivesAndShares, SharersKeep, SmallPart, two_pages, one_held, two_held, nothing_held, pages, most_want}
+use Rattle.mvs_model.specs.Examples.{AcrossPages, BoundaryEdges, AboveOnATie, ReleasesJoin, PartsReleased, GivesAndShares, SharersKeep, SmallPart, two_pages, one_held, two_held, nothing_held, pages, most_want}
 use Rattle.mvs_model.proofs.Decide.{decided_eq}
 use Rattle.mvs_model.proofs.Orders.{same_name_is, same_name_self}
 use Rattle.mvs_model.proofs.Made.{made_without}

@@ -1,6 +1,6 @@
 -- How each statement is written: what the table allows, row by row.
-use Rattle.std.proofs.Common.{◌≡◌, refl, ◌||◌, ◌&&◌, not, true, false, ℕ, ◌==◌, List, [], ◌∷◌, map, length, ap, ◌∙◌}
-use Rattle.std.specs.Prelude.{None, Some, bytes_eq, codes, slice_get, unwrap_or, if◌then◌else◌}
+use Rattle.std.proofs.Common.{◌≡◌, refl, ◌||◌, ◌&&◌, not, true, false, ℕ, ◌==◌, List, [], ◌∷◌, ◌++◌, map, length, ap, ◌∙◌}
+use Rattle.std.specs.Prelude.{Option, None, Some, IfSome, is_some, codes, slice_get, unwrap_or, if◌then◌else◌}
 use Rattle.std.specs.List.{list_all, list_any}
 use Rattle.std.proofs.lemmas.Bool.{and_right}
 use Rattle.mvs_model.specs.declared.code.Form.{Form}
@@ -9,440 +9,128 @@ use Rattle.mvs_model.specs.declared.line.Fault.TheVariants.{TooLong, InvalidByte
 use Rattle.mvs_model.specs.declared.line.Line.TheVariants as line
 use Rattle.mvs_model.specs.declared.line.Statement.TheVariants as says
 use Rattle.mvs_model.specs.declared.line.Written.TheVariants as written
-use Rattle.mvs_model.specs.declared.want.Loc.TheVariants as loc
 use Rattle.mvs_model.specs.Name.{padded}
-use Rattle.mvs_model.specs.Grammar.{Pair, Word, Row, region, getmain_fixed, getmain_fixed_placed, getmain_variable, getmain_variable_placed, getmain_list, storage_obtain, freemain_or_whole, freemain_place, freemain_area, freemain_list, storage_release, cpool_build, cpool_get, cpool_free, cpool_delete, attach, abend, put, show, move, where_row, report}
-use Rattle.mvs_model.specs.Reading.{◌when◌, first_of, form_in, operands_in, operands_of, row_of, rows_of, statement_checks, words, ByKey, form_of, is_digit, is_empty, is_list, is_number, is_one_of, items, largest, location, number, set_of, smallest}
-use Rattle.mvs_model.specs.Spelling.{line_text, Fits, IsOperand, said_by}
-use Rattle.mvs_model.specs.Spellings.{EachIsSaid, IsLength, Says, SaysFixed, SaysPlaced, SaysVariable, SaysVariablePlaced, SaysList, SaysObtain, SaysRelease, SaysWhole, SaysArea, SaysReleaseList, SaysStorageRelease, SaysStorageWhole, SaysBuild, SaysGet, SaysFree, SaysDelete, SaysAttach, SaysBareAttach, boundary_said, loc_said, residence_said}
-use Rattle.mvs_model.proofs.Allowed.{allowed_is_read}
+use Rattle.mvs_model.specs.Grammar.{Number, DistinctNumbers, Word, Row, region, getmain_fixed, getmain_fixed_placed, getmain_variable, getmain_variable_placed, getmain_list, storage_obtain, freemain_or_whole, freemain_place, freemain_area, freemain_list, storage_release, cpool_build, cpool_get, cpool_free, cpool_delete, attach, abend, put, show, move, where_row, report}
+use Rattle.mvs_model.specs.Reading.{◌when◌, first_of, form_in, operands_in, operands_of, row_of, rows_of, statement_checks, words, ByKey, form_of, has_key, hex_number, is_conditional, is_digit, is_empty, is_list, is_number, is_one_of, is_text, items, largest, location, number, numbers_in, set_of, smallest}
+use Rattle.mvs_model.specs.Spelling.{line_text, Fits, IsOperand}
+use Rattle.mvs_model.specs.Spellings.{EachIsSaid, Says, SaysFixed, SaysPlaced, SaysVariable, SaysVariablePlaced, SaysList, SaysRelease, SaysWhole, SaysArea, SaysReleaseList, SaysGet, SaysAttach, AllFit, NotBoth, asked, fill_said, length_kind, lengths_kind, number_said, numbers_said, placed_operands, residence_said, sized_operands, start_said}
+use Rattle.mvs_model.proofs.Filled.{said, filled_is_read, filled_form_is_read}
 use Rattle.mvs_model.proofs.Reading.{said_with}
 use Rattle.mvs_model.proofs.ReadingTaken.{and_true}
 use Rattle.mvs_model.proofs.Spelling.{cut_apart, not_true}
 use Rattle.mvs_model.proofs.ValueTexts.{not_list}
 
+-- no keyword operands
+nothing_keyed : AllFit []
+nothing_keyed = record { each = tt }
+
 -- ---- lengths
 
--- one length is no list
-no_list : (n : List ℕ) → IsLength n → is_list n ≡ false
-no_list n fits = let a = and_true (not (is_empty n)) (list_all is_digit n) fits.of_kind in not_list n a.1 (not_true _ a.0)
+-- one number is no list
+no_list : (least most : ℕ) (n : List ℕ) → Fits (Number least most) n → is_list n ≡ false
+no_list least most n fits = let a = and_true (not (is_empty n)) (list_all is_digit n) fits.of_kind in not_list n a.1 (not_true _ a.0)
 
-largest_is : (n : List ℕ) → IsLength n → largest n ≡ number n
-largest_is n fits = ap (λ t. if t then number (unwrap_or (slice_get (items n) 0) []) else number n) (no_list n fits)
+largest_is : (n : List ℕ) → Fits length_kind n → largest n ≡ number n
+largest_is n fits = ap (λ t. if t then number (unwrap_or (slice_get (items n) 0) []) else number n) (no_list _ _ n fits)
 
-smallest_is : (n : List ℕ) → IsLength n → smallest n ≡ number n
-smallest_is n fits = ap (λ t. if t then number (unwrap_or (slice_get (items n) 1) []) else number n) (no_list n fits)
+smallest_is : (n : List ℕ) → Fits length_kind n → smallest n ≡ number n
+smallest_is n fits = ap (λ t. if t then number (unwrap_or (slice_get (items n) 1) []) else number n) (no_list _ _ n fits)
 
 -- a largest and a smallest length are a list
-a_pair : (n : List ℕ) → Fits (Pair 1 2147483647) n → is_list n ≡ true
+a_pair : (n : List ℕ) → Fits lengths_kind n → is_list n ≡ true
 a_pair n fits = (and_true (is_list n) _ (and_true (is_list n && (length (items n) == 2)) (list_all is_number (items n)) fits.of_kind).0).0
 
--- ---- GETMAIN and STORAGE OBTAIN
+-- ---- GETMAIN
 
 -- a word is one of a row's forms, and this form
 abbrev IsWordOf : Row → List ℕ → Form → Type 0
 IsWordOf row word f = ((is_empty row.forms || is_one_of row.forms word) ≡ true) × ((os : ByKey) → form_of word os ≡ f)
 
 fixed : (word : List ℕ) (f : Form) → IsWordOf getmain_fixed word f → SaysFixed word f
-fixed word f is n area sp bndry fits_n fits_area fits_sp fits_bndry task named short =
-    allowed_is_read false task getmain_fixed word [] ((codes "LV", n) ∷ (codes "A", area) ∷ (codes "SP", sp) ∷ (codes "BNDRY", bndry) ∷ []) _ named
-    (record {
-      in_table = (1, refl);
-      field = refl;
-      form_is = is.0;
-      places_fit = tt;
-      pairs_fit = ((_, refl, fits_n), ((_, refl, fits_area), ((_, refl, fits_sp), ((_, refl, fits_bndry), tt))));
-      keys_once = refl;
-      places_enough = refl;
-      keys_enough = refl;
-      none_half = refl;
-      no_conflict = refl;
-    }) refl short
-    (λ i. Some (says.Request (written.Obtain (is.1 (said_by [] ((codes "LV", n) ∷ (codes "A", area) ∷ (codes "SP", sp) ∷ (codes "BNDRY", bndry) ∷ [])) i) (number sp) (record { least = smallest_is n fits_n i; most = largest_is n fits_n i; start = boundary_said bndry; within = None; loc = loc.Res }) (no_list n fits_n i) (padded area))))
-
-placed : (word : List ℕ) (f : Form) → IsWordOf getmain_fixed_placed word f → SaysPlaced word f
-placed word f is n area sp place start within fits_n fits_area fits_sp fits_place fits_start fits_within task named short =
-    allowed_is_read false task getmain_fixed_placed word [] ((codes "LV", n) ∷ (codes "A", area) ∷ (codes "SP", sp) ∷ (codes "LOC", place) ∷ (codes "STARTBDY", start) ∷ (codes "CONTBDY", within) ∷ []) _ named
-    (record {
-      in_table = (2, refl);
-      field = refl;
-      form_is = is.0;
-      places_fit = tt;
-      pairs_fit = ((_, refl, fits_n), ((_, refl, fits_area), ((_, refl, fits_sp), ((_, refl, fits_place), ((_, refl, fits_start), ((_, refl, fits_within), tt))))));
-      keys_once = refl;
-      places_enough = refl;
-      keys_enough = refl;
-      none_half = refl;
-      no_conflict = refl;
-    }) refl short
-    (λ i. Some (says.Request (written.Obtain (is.1 (said_by [] ((codes "LV", n) ∷ (codes "A", area) ∷ (codes "SP", sp) ∷ (codes "LOC", place) ∷ (codes "STARTBDY", start) ∷ (codes "CONTBDY", within) ∷ [])) i) (number sp) (record { least = smallest_is n fits_n i; most = largest_is n fits_n i; start = number start; within = Some (number within); loc = loc_said place }) (no_list n fits_n i) (padded area))))
+fixed word f is n area sub boundary fit =
+    let os = sized_operands length_kind n area sub boundary in
+    let fits : Fits length_kind n = fit.each.0 in
+    filled_is_read false 1 getmain_fixed word [] os _ refl is.0 refl refl tt refl refl
+    (λ i. Some (says.Request (written.Obtain (is.1 (said [] os) i) (number_said 0 sub) (asked (smallest_is n fits i) (largest_is n fits i) boundary None None None) (no_list _ _ n fits i) (padded area)))) fit
 
 variable : (word : List ℕ) (f : Form) → IsWordOf getmain_variable word f → SaysVariable word f
-variable word f is n area sp bndry fits_n fits_area fits_sp fits_bndry task named short =
-    allowed_is_read false task getmain_variable word [] ((codes "LV", n) ∷ (codes "A", area) ∷ (codes "SP", sp) ∷ (codes "BNDRY", bndry) ∷ []) _ named
-    (record {
-      in_table = (3, refl);
-      field = refl;
-      form_is = is.0;
-      places_fit = tt;
-      pairs_fit = ((_, refl, fits_n), ((_, refl, fits_area), ((_, refl, fits_sp), ((_, refl, fits_bndry), tt))));
-      keys_once = refl;
-      places_enough = refl;
-      keys_enough = refl;
-      none_half = refl;
-      no_conflict = refl;
-    }) refl short
-    (λ i. Some (says.Request (written.Obtain (is.1 (said_by [] ((codes "LV", n) ∷ (codes "A", area) ∷ (codes "SP", sp) ∷ (codes "BNDRY", bndry) ∷ [])) i) (number sp) (record { least = smallest n; most = largest n; start = boundary_said bndry; within = None; loc = loc.Res }) (a_pair n fits_n i) (padded area))))
+variable word f is n area sub boundary fit =
+    let os = sized_operands lengths_kind n area sub boundary in
+    filled_is_read false 3 getmain_variable word [] os _ refl is.0 refl refl tt refl refl
+    (λ i. Some (says.Request (written.Obtain (is.1 (said [] os) i) (number_said 0 sub) (asked (smallest n) (largest n) boundary None None None) (a_pair n fit.each.0 i) (padded area)))) fit
+
+-- BNDRY with neither STARTBDY nor CONTBDY
+no_conflict : (boundary start within : Option (List ℕ)) → NotBoth boundary start → NotBoth boundary within → ((is_some boundary && is_some start) || ((is_some boundary && is_some within) || false)) ≡ false
+no_conflict boundary start within one other = λ i. one i || (other i || false)
+
+placed : (word : List ℕ) (f : Form) → IsWordOf getmain_fixed_placed word f → SaysPlaced word f
+placed word f is n area sub boundary place start within one other fit =
+    let os = placed_operands length_kind n area sub boundary place start within in
+    let fits : Fits length_kind n = fit.each.0 in
+    filled_is_read false 2 getmain_fixed_placed word [] os _ refl is.0 refl refl tt (no_conflict boundary start within one other) refl
+    (λ i. Some (says.Request (written.Obtain (is.1 (said [] os) i) (number_said 0 sub) (asked (smallest_is n fits i) (largest_is n fits i) boundary place start within) (no_list _ _ n fits i) (padded area)))) fit
 
 variable_placed : (word : List ℕ) (f : Form) → IsWordOf getmain_variable_placed word f → SaysVariablePlaced word f
-variable_placed word f is n area sp place start within fits_n fits_area fits_sp fits_place fits_start fits_within task named short =
-    allowed_is_read false task getmain_variable_placed word [] ((codes "LV", n) ∷ (codes "A", area) ∷ (codes "SP", sp) ∷ (codes "LOC", place) ∷ (codes "STARTBDY", start) ∷ (codes "CONTBDY", within) ∷ []) _ named
-    (record {
-      in_table = (4, refl);
-      field = refl;
-      form_is = is.0;
-      places_fit = tt;
-      pairs_fit = ((_, refl, fits_n), ((_, refl, fits_area), ((_, refl, fits_sp), ((_, refl, fits_place), ((_, refl, fits_start), ((_, refl, fits_within), tt))))));
-      keys_once = refl;
-      places_enough = refl;
-      keys_enough = refl;
-      none_half = refl;
-      no_conflict = refl;
-    }) refl short
-    (λ i. Some (says.Request (written.Obtain (is.1 (said_by [] ((codes "LV", n) ∷ (codes "A", area) ∷ (codes "SP", sp) ∷ (codes "LOC", place) ∷ (codes "STARTBDY", start) ∷ (codes "CONTBDY", within) ∷ [])) i) (number sp) (record { least = smallest n; most = largest n; start = number start; within = Some (number within); loc = loc_said place }) (a_pair n fits_n i) (padded area))))
+variable_placed word f is n area sub boundary place start within one other fit =
+    let os = placed_operands lengths_kind n area sub boundary place start within in
+    filled_is_read false 4 getmain_variable_placed word [] os _ refl is.0 refl refl tt (no_conflict boundary start within one other) refl
+    (λ i. Some (says.Request (written.Obtain (is.1 (said [] os) i) (number_said 0 sub) (asked (smallest n) (largest n) boundary place start within) (a_pair n fit.each.0 i) (padded area)))) fit
+
+-- as many items under each of two keys
+as_many : (one other : List ℕ) → (length (items one) == length (items other)) ≡ true → (not (length (items one) == length (items other)) || false) ≡ false
+as_many one other same = ap (λ t. not t || false) same
 
 list : (word : List ℕ) (f : Form) → IsWordOf getmain_list word f → SaysList word f
-list word f is n areas sp bndry fits_n fits_areas same fits_sp fits_bndry task named short =
-    allowed_is_read false task getmain_list word [] ((codes "LA", n) ∷ (codes "A", areas) ∷ (codes "SP", sp) ∷ (codes "BNDRY", bndry) ∷ []) _ named
-    (record {
-      in_table = (5, refl);
-      field = refl;
-      form_is = is.0;
-      places_fit = tt;
-      pairs_fit = ((_, refl, fits_n), ((_, refl, fits_areas), ((_, refl, fits_sp), ((_, refl, fits_bndry), tt))));
-      keys_once = refl;
-      places_enough = refl;
-      keys_enough = refl;
-      none_half = refl;
-      no_conflict = ap (λ t. not t || false) same;
-    }) refl short
-    (λ i. Some (says.Request (written.ObtainList (is.1 (said_by [] ((codes "LA", n) ∷ (codes "A", areas) ∷ (codes "SP", sp) ∷ (codes "BNDRY", bndry) ∷ [])) i) (number sp) (map number (items n)) (boundary_said bndry) (map padded (items areas)))))
+list word f is n areas sub boundary same =
+    filled_form_is_read 5 getmain_list word _ f (λ t. says.Request (written.ObtainList t (number_said 0 sub) (map number (items n)) (start_said boundary None) (map padded (items areas))))
+    refl is.0 is.1 refl refl (as_many n areas same) refl
 
-obtain : SaysObtain
-obtain n area sp place start within cond fits_n fits_area fits_sp fits_place fits_start fits_within fits_cond task named short =
-    allowed_is_read false task storage_obtain (codes "OBTAIN") [] ((codes "LENGTH", n) ∷ (codes "ADDR", area) ∷ (codes "SP", sp) ∷ (codes "LOC", place) ∷ (codes "STARTBDY", start) ∷ (codes "CONTBDY", within) ∷ (codes "COND", cond) ∷ []) _ named
-    (record {
-      in_table = (6, refl);
-      field = refl;
-      form_is = refl;
-      places_fit = tt;
-      pairs_fit = ((_, refl, fits_n), ((_, refl, fits_area), ((_, refl, fits_sp), ((_, refl, fits_place), ((_, refl, fits_start), ((_, refl, fits_within), ((_, refl, fits_cond), tt)))))));
-      keys_once = refl;
-      places_enough = refl;
-      keys_enough = refl;
-      none_half = refl;
-      no_conflict = refl;
-    }) refl short
-    refl
-
--- ---- FREEMAIN and STORAGE RELEASE
+-- ---- FREEMAIN
 
 release : (word : List ℕ) (f : Form) → IsWordOf freemain_or_whole word f → SaysRelease word f
-release word f is n address sp fits_n fits_address fits_sp task named short =
-    allowed_is_read false task freemain_or_whole word [] ((codes "LV", n) ∷ (codes "A", address) ∷ (codes "SP", sp) ∷ []) _ named
-    (record {
-      in_table = (7, refl);
-      field = refl;
-      form_is = is.0;
-      places_fit = tt;
-      pairs_fit = ((_, refl, fits_n), ((_, refl, fits_address), ((_, refl, fits_sp), tt)));
-      keys_once = refl;
-      places_enough = refl;
-      keys_enough = refl;
-      none_half = refl;
-      no_conflict = refl;
-    }) refl short
-    (λ i. Some (says.Request (written.Release (is.1 (said_by [] ((codes "LV", n) ∷ (codes "A", address) ∷ (codes "SP", sp) ∷ [])) i) (number sp) (location address) (number n))))
+release word f is n address sub = filled_form_is_read 7 freemain_or_whole word _ f (λ t. says.Request (written.Release t (number_said 0 sub) (location address) (number n))) refl is.0 is.1 refl refl refl refl
 
 whole : (word : List ℕ) (f : Form) → IsWordOf freemain_or_whole word f → SaysWhole word f
-whole word f is sp fits_sp task named short =
-    allowed_is_read false task freemain_or_whole word [] ((codes "SP", sp) ∷ []) _ named
-    (record {
-      in_table = (7, refl);
-      field = refl;
-      form_is = is.0;
-      places_fit = tt;
-      pairs_fit = ((_, refl, fits_sp), tt);
-      keys_once = refl;
-      places_enough = refl;
-      keys_enough = refl;
-      none_half = refl;
-      no_conflict = refl;
-    }) refl short
-    (λ i. Some (says.Request (written.ReleaseWhole (is.1 (said_by [] ((codes "SP", sp) ∷ [])) i) (number sp))))
+whole word f is sub = filled_form_is_read 7 freemain_or_whole word _ f (λ t. says.Request (written.ReleaseWhole t (number_said 0 sub))) refl is.0 is.1 refl refl refl refl
 
 release_place : (word : List ℕ) (f : Form) → IsWordOf freemain_place word f → SaysRelease word f
-release_place word f is n address sp fits_n fits_address fits_sp task named short =
-    allowed_is_read false task freemain_place word [] ((codes "LV", n) ∷ (codes "A", address) ∷ (codes "SP", sp) ∷ []) _ named
-    (record {
-      in_table = (8, refl);
-      field = refl;
-      form_is = is.0;
-      places_fit = tt;
-      pairs_fit = ((_, refl, fits_n), ((_, refl, fits_address), ((_, refl, fits_sp), tt)));
-      keys_once = refl;
-      places_enough = refl;
-      keys_enough = refl;
-      none_half = refl;
-      no_conflict = refl;
-    }) refl short
-    (λ i. Some (says.Request (written.Release (is.1 (said_by [] ((codes "LV", n) ∷ (codes "A", address) ∷ (codes "SP", sp) ∷ [])) i) (number sp) (location address) (number n))))
+release_place word f is n address sub = filled_form_is_read 8 freemain_place word _ f (λ t. says.Request (written.Release t (number_said 0 sub) (location address) (number n))) refl is.0 is.1 refl refl refl refl
 
 release_area : (word : List ℕ) (f : Form) → IsWordOf freemain_area word f → SaysArea word f
-release_area word f is area sp fits_area fits_sp task named short =
-    allowed_is_read false task freemain_area word [] ((codes "A", area) ∷ (codes "SP", sp) ∷ []) _ named
-    (record {
-      in_table = (9, refl);
-      field = refl;
-      form_is = is.0;
-      places_fit = tt;
-      pairs_fit = ((_, refl, fits_area), ((_, refl, fits_sp), tt));
-      keys_once = refl;
-      places_enough = refl;
-      keys_enough = refl;
-      none_half = refl;
-      no_conflict = refl;
-    }) refl short
-    (λ i. Some (says.Request (written.ReleaseArea (is.1 (said_by [] ((codes "A", area) ∷ (codes "SP", sp) ∷ [])) i) (number sp) (padded area))))
+release_area word f is area sub = filled_form_is_read 9 freemain_area word _ f (λ t. says.Request (written.ReleaseArea t (number_said 0 sub) (padded area))) refl is.0 is.1 refl refl refl refl
 
 release_list : (word : List ℕ) (f : Form) → IsWordOf freemain_list word f → SaysReleaseList word f
-release_list word f is n addresses sp fits_n fits_addresses same fits_sp task named short =
-    allowed_is_read false task freemain_list word [] ((codes "LA", n) ∷ (codes "A", addresses) ∷ (codes "SP", sp) ∷ []) _ named
-    (record {
-      in_table = (10, refl);
-      field = refl;
-      form_is = is.0;
-      places_fit = tt;
-      pairs_fit = ((_, refl, fits_n), ((_, refl, fits_addresses), ((_, refl, fits_sp), tt)));
-      keys_once = refl;
-      places_enough = refl;
-      keys_enough = refl;
-      none_half = refl;
-      no_conflict = ap (λ t. not t || false) same;
-    }) refl short
-    (λ i. Some (says.Request (written.ReleaseList (is.1 (said_by [] ((codes "LA", n) ∷ (codes "A", addresses) ∷ (codes "SP", sp) ∷ [])) i) (number sp) (map location (items addresses)) (map number (items n)))))
+release_list word f is n addresses sub same =
+    filled_form_is_read 10 freemain_list word _ f (λ t. says.Request (written.ReleaseList t (number_said 0 sub) (map location (items addresses)) (map number (items n))))
+    refl is.0 is.1 refl refl (as_many n addresses same) refl
 
-storage_place : SaysStorageRelease
-storage_place n address sp cond fits_n fits_address fits_sp fits_cond task named short =
-    allowed_is_read false task storage_release (codes "RELEASE") [] ((codes "LENGTH", n) ∷ (codes "ADDR", address) ∷ (codes "SP", sp) ∷ (codes "COND", cond) ∷ []) _ named
-    (record {
-      in_table = (11, refl);
-      field = refl;
-      form_is = refl;
-      places_fit = tt;
-      pairs_fit = ((_, refl, fits_n), ((_, refl, fits_address), ((_, refl, fits_sp), ((_, refl, fits_cond), tt))));
-      keys_once = refl;
-      places_enough = refl;
-      keys_enough = refl;
-      none_half = refl;
-      no_conflict = refl;
-    }) refl short
-    refl
-
-storage_rest : SaysStorageWhole
-storage_rest sp cond fits_sp fits_cond task named short =
-    allowed_is_read false task storage_release (codes "RELEASE") [] ((codes "SP", sp) ∷ (codes "COND", cond) ∷ []) _ named
-    (record {
-      in_table = (11, refl);
-      field = refl;
-      form_is = refl;
-      places_fit = tt;
-      pairs_fit = ((_, refl, fits_sp), ((_, refl, fits_cond), tt));
-      keys_once = refl;
-      places_enough = refl;
-      keys_enough = refl;
-      none_half = refl;
-      no_conflict = refl;
-    }) refl short
-    refl
-
--- ---- CPOOL
-
-build : SaysBuild
-build pool size primary secondary sp place fits_pool fits_size fits_primary fits_secondary fits_sp fits_place task named short =
-    allowed_is_read false task cpool_build (codes "BUILD") [] ((codes "CPID", pool) ∷ (codes "CSIZE", size) ∷ (codes "PCELLCT", primary) ∷ (codes "SCELLCT", secondary) ∷ (codes "SP", sp) ∷ (codes "LOC", place) ∷ []) _ named
-    (record {
-      in_table = (12, refl);
-      field = refl;
-      form_is = refl;
-      places_fit = tt;
-      pairs_fit = ((_, refl, fits_pool), ((_, refl, fits_size), ((_, refl, fits_primary), ((_, refl, fits_secondary), ((_, refl, fits_sp), ((_, refl, fits_place), tt))))));
-      keys_once = refl;
-      places_enough = refl;
-      keys_enough = refl;
-      none_half = refl;
-      no_conflict = refl;
-    }) refl short
-    refl
-
-get_bare : SaysGet [] false
-get_bare pool cell fits_pool fits_cell task named short =
-    allowed_is_read false task cpool_get (codes "GET") [] ((codes "CPID", pool) ∷ (codes "CELL", cell) ∷ []) _ named
-    (record {
-      in_table = (13, refl);
-      field = refl;
-      form_is = refl;
-      places_fit = tt;
-      pairs_fit = ((_, refl, fits_pool), ((_, refl, fits_cell), tt));
-      keys_once = refl;
-      places_enough = refl;
-      keys_enough = refl;
-      none_half = refl;
-      no_conflict = refl;
-    }) refl short
-    refl
+-- ---- CPOOL GET
 
 -- a word of a row
 a_word : (word : List ℕ) (words : List (List ℕ)) → is_one_of words word ≡ true → IsOperand word → Fits (Word words) word
 a_word word words one is = record { of_kind = one; within = refl; once = refl; operand = is }
 
-get_cond : SaysGet (codes "COND" ∷ []) true
-get_cond pool cell fits_pool fits_cell task named short =
-    allowed_is_read false task cpool_get (codes "GET") (codes "COND" ∷ []) ((codes "CPID", pool) ∷ (codes "CELL", cell) ∷ []) _ named
-    (record {
-      in_table = (13, refl);
-      field = refl;
-      form_is = refl;
-      places_fit = (a_word (codes "COND") _ refl (record { word = record { some = refl; printed = refl }; closed = refl }), refl, tt);
-      pairs_fit = ((_, refl, fits_pool), ((_, refl, fits_cell), tt));
-      keys_once = refl;
-      places_enough = refl;
-      keys_enough = refl;
-      none_half = refl;
-      no_conflict = refl;
-    }) refl short
-    refl
+got : (word : List ℕ) → is_one_of (codes "COND" ∷ codes "C" ∷ codes "UNCOND" ∷ codes "U" ∷ []) word ≡ true → IsOperand word → has_key word ≡ false → SaysGet (word ∷ []) (is_conditional (Some word))
+got word one is no_key pool cell = filled_is_read false 13 cpool_get (codes "GET") (word ∷ []) _ _ refl refl refl refl (a_word word _ one is, no_key, tt) refl refl refl
 
-get_c : SaysGet (codes "C" ∷ []) true
-get_c pool cell fits_pool fits_cell task named short =
-    allowed_is_read false task cpool_get (codes "GET") (codes "C" ∷ []) ((codes "CPID", pool) ∷ (codes "CELL", cell) ∷ []) _ named
-    (record {
-      in_table = (13, refl);
-      field = refl;
-      form_is = refl;
-      places_fit = (a_word (codes "C") _ refl (record { word = record { some = refl; printed = refl }; closed = refl }), refl, tt);
-      pairs_fit = ((_, refl, fits_pool), ((_, refl, fits_cell), tt));
-      keys_once = refl;
-      places_enough = refl;
-      keys_enough = refl;
-      none_half = refl;
-      no_conflict = refl;
-    }) refl short
-    refl
+-- ---- ATTACH
 
-get_uncond : SaysGet (codes "UNCOND" ∷ []) false
-get_uncond pool cell fits_pool fits_cell task named short =
-    allowed_is_read false task cpool_get (codes "GET") (codes "UNCOND" ∷ []) ((codes "CPID", pool) ∷ (codes "CELL", cell) ∷ []) _ named
-    (record {
-      in_table = (13, refl);
-      field = refl;
-      form_is = refl;
-      places_fit = (a_word (codes "UNCOND") _ refl (record { word = record { some = refl; printed = refl }; closed = refl }), refl, tt);
-      pairs_fit = ((_, refl, fits_pool), ((_, refl, fits_cell), tt));
-      keys_once = refl;
-      places_enough = refl;
-      keys_enough = refl;
-      none_half = refl;
-      no_conflict = refl;
-    }) refl short
-    refl
+-- a number, or the numbers of a list
+numbers_are : (one all : Option (List ℕ)) → NotBoth one all → IfSome one (Fits (Number 1 127)) → IfSome all (Fits (DistinctNumbers 1 127)) → numbers_in one ++ numbers_in all ≡ numbers_said one all
+numbers_are None None not_both fits_one fits_all = refl
+numbers_are None (Some text) not_both fits_one fits_all =
+    let a = and_true (is_list text) (list_all is_number (items text)) fits_all.of_kind in
+    ap (λ t. if t then map number (items text) else number text ∷ []) a.0
+numbers_are (Some text) None not_both fits_one fits_all = ap (λ t. (if t then map number (items text) else number text ∷ []) ++ []) (no_list _ _ text fits_one)
+numbers_are (Some text) (Some other) not_both fits_one fits_all = absurd (let f : true ≡ false = not_both in cc)
 
-get_u : SaysGet (codes "U" ∷ []) false
-get_u pool cell fits_pool fits_cell task named short =
-    allowed_is_read false task cpool_get (codes "GET") (codes "U" ∷ []) ((codes "CPID", pool) ∷ (codes "CELL", cell) ∷ []) _ named
-    (record {
-      in_table = (13, refl);
-      field = refl;
-      form_is = refl;
-      places_fit = (a_word (codes "U") _ refl (record { word = record { some = refl; printed = refl }; closed = refl }), refl, tt);
-      pairs_fit = ((_, refl, fits_pool), ((_, refl, fits_cell), tt));
-      keys_once = refl;
-      places_enough = refl;
-      keys_enough = refl;
-      none_half = refl;
-      no_conflict = refl;
-    }) refl short
-    refl
-
-free : SaysFree
-free pool cell fits_pool fits_cell task named short =
-    allowed_is_read false task cpool_free (codes "FREE") [] ((codes "CPID", pool) ∷ (codes "CELL", cell) ∷ []) _ named
-    (record {
-      in_table = (14, refl);
-      field = refl;
-      form_is = refl;
-      places_fit = tt;
-      pairs_fit = ((_, refl, fits_pool), ((_, refl, fits_cell), tt));
-      keys_once = refl;
-      places_enough = refl;
-      keys_enough = refl;
-      none_half = refl;
-      no_conflict = refl;
-    }) refl short
-    refl
-
-delete : SaysDelete
-delete pool fits_pool task named short =
-    allowed_is_read false task cpool_delete (codes "DELETE") [] ((codes "CPID", pool) ∷ []) _ named
-    (record {
-      in_table = (15, refl);
-      field = refl;
-      form_is = refl;
-      places_fit = tt;
-      pairs_fit = ((_, refl, fits_pool), tt);
-      keys_once = refl;
-      places_enough = refl;
-      keys_enough = refl;
-      none_half = refl;
-      no_conflict = refl;
-    }) refl short
-    refl
-
--- ---- tasks
-
-attach_numbers : SaysAttach
-attach_numbers name given shared zero home fits_name fits_given is_given fits_shared is_shared fits_zero fits_home apart task named short =
-    allowed_is_read false task attach [] [] ((codes "TASK", name) ∷ (codes "GSPL", given) ∷ (codes "SHSPL", shared) ∷ (codes "SZERO", zero) ∷ (codes "RES", home) ∷ []) _ named
-    (record {
-      in_table = (16, refl);
-      field = refl;
-      form_is = refl;
-      places_fit = tt;
-      pairs_fit = ((_, refl, fits_name), ((_, refl, fits_given), ((_, refl, fits_shared), ((_, refl, fits_zero), ((_, refl, fits_home), tt)))));
-      keys_once = refl;
-      places_enough = refl;
-      keys_enough = refl;
-      none_half = refl;
-      no_conflict = (λ i. list_any (λ n. list_any (◌==◌ n) (if is_shared i then map number (items shared) else number shared ∷ [])) (if is_given i then map number (items given) else number given ∷ []) || false) ∙ ap (λ t. t || false) apart;
-    }) refl short
-    (λ i. Some (says.Request (written.Attach (padded name) (record { given = set_of (if is_given i then map number (items given) else number given ∷ []); shared = set_of (if is_shared i then map number (items shared) else number shared ∷ []); zero = not (bytes_eq zero (codes "NO")) }) (residence_said home))))
-
-attach_bare : SaysBareAttach
-attach_bare name zero home fits_name fits_zero fits_home task named short =
-    allowed_is_read false task attach [] [] ((codes "TASK", name) ∷ (codes "SZERO", zero) ∷ (codes "RES", home) ∷ []) _ named
-    (record {
-      in_table = (16, refl);
-      field = refl;
-      form_is = refl;
-      places_fit = tt;
-      pairs_fit = ((_, refl, fits_name), ((_, refl, fits_zero), ((_, refl, fits_home), tt)));
-      keys_once = refl;
-      places_enough = refl;
-      keys_enough = refl;
-      none_half = refl;
-      no_conflict = refl;
-    }) refl short
-    refl
+attached : SaysAttach
+attached name gives gives_all shares shares_all zero home one other apart fit =
+    let given = numbers_are gives gives_all one fit.each.1.0 fit.each.1.1.0 in
+    let shared = numbers_are shares shares_all other fit.each.1.1.1.0 fit.each.1.1.1.1.0 in
+    filled_is_read false 16 attach [] [] _ _ refl refl refl refl tt
+    ((λ i. one i || (other i || (list_any (λ n. list_any (◌==◌ n) (shared i)) (given i) || false))) ∙ ap (λ t. t || false) apart) refl
+    (λ i. Some (says.Request (written.Attach (padded name) (record { given = set_of (given i); shared = set_of (shared i); zero = not (is_text (codes "NO") zero) }) (residence_said home)))) fit
 
 return_read : Says (codes "RETURN") [] (says.Request written.Return)
 return_read task named short =
@@ -457,24 +145,17 @@ return_read task named short =
           (λ i. if cut.says i then Some line.Nothing else said_with (cut.task_is i) (form_in (unwrap_or (cut.operation_is i) []) (none i)) (none i) (row_of (unwrap_or (cut.operation_is i) []) (none i)));
     }
 
+-- the fill byte, or 00
+fill_is : (fill : Option (List ℕ)) → hex_number (unwrap_or fill []) ≡ fill_said fill
+fill_is None = refl
+fill_is (Some text) = refl
+
 -- ---- each statement
 
 pub each_is_said : EachIsSaid
 each_is_said = record {
-  region = λ first below above fill home fits_below fits_above fits_fill fits_home task named short. allowed_is_read first task region [] [] ((codes "BELOW", below) ∷ (codes "ABOVE", above) ∷ (codes "FILL", fill) ∷ (codes "RES", home) ∷ []) _ named
-      (record {
-        in_table = (0, refl);
-        field = refl;
-        form_is = refl;
-        places_fit = tt;
-        pairs_fit = ((_, refl, fits_below), ((_, refl, fits_above), ((_, refl, fits_fill), ((_, refl, fits_home), tt))));
-        keys_once = refl;
-        places_enough = refl;
-        keys_enough = refl;
-        none_half = refl;
-        no_conflict = refl;
-      }) (and_right first false refl) short
-      refl;
+  region = λ first below above fill home. filled_is_read first 0 region [] [] _ _ refl refl refl refl tt refl (and_right first false refl)
+      (λ i. Some (says.Region (number below) (number_said 0 above) (fill_is fill i) (residence_said home)));
   getmain_r = fixed (codes "R") form.R (refl, λ os. refl);
   getmain_ec = fixed (codes "EC") form.Ec (refl, λ os. refl);
   getmain_eu = fixed (codes "EU") form.Eu (refl, λ os. refl);
@@ -486,7 +167,8 @@ each_is_said = record {
   getmain_vru = variable_placed (codes "VRU") form.Vru (refl, λ os. refl);
   getmain_lc = list (codes "LC") form.Lc (refl, λ os. refl);
   getmain_lu = list (codes "LU") form.Lu (refl, λ os. refl);
-  storage_obtain = obtain;
+  storage_obtain = λ n area sub boundary place start within cond one other.
+      filled_is_read false 6 storage_obtain (codes "OBTAIN") [] _ _ refl refl refl refl tt (no_conflict boundary start within one other) refl refl;
   freemain_r = release (codes "R") form.R (refl, λ os. refl);
   freemain_rc = release (codes "RC") form.Rc (refl, λ os. refl);
   freemain_ru = release (codes "RU") form.Ru (refl, λ os. refl);
@@ -499,115 +181,24 @@ each_is_said = record {
   freemain_vu = release_area (codes "VU") form.Vu (refl, λ os. refl);
   freemain_lc = release_list (codes "LC") form.Lc (refl, λ os. refl);
   freemain_lu = release_list (codes "LU") form.Lu (refl, λ os. refl);
-  storage_release = storage_place;
-  storage_whole = storage_rest;
-  build = build;
-  get = get_bare;
-  get_cond = get_cond;
-  get_c = get_c;
-  get_uncond = get_uncond;
-  get_u = get_u;
-  free = free;
-  delete = delete;
-  attach = attach_numbers;
-  attach_bare = attach_bare;
+  storage_release = λ n address sub cond. filled_is_read false 11 storage_release (codes "RELEASE") [] _ _ refl refl refl refl tt refl refl refl;
+  storage_whole = λ sub cond. filled_is_read false 11 storage_release (codes "RELEASE") [] _ _ refl refl refl refl tt refl refl refl;
+  build = λ pool size primary secondary sub place. filled_is_read false 12 cpool_build (codes "BUILD") [] _ _ refl refl refl refl tt refl refl refl;
+  get = λ pool cell. filled_is_read false 13 cpool_get (codes "GET") [] _ _ refl refl refl refl tt refl refl refl;
+  get_cond = got (codes "COND") refl (record { word = record { some = refl; printed = refl }; closed = refl }) refl;
+  get_c = got (codes "C") refl (record { word = record { some = refl; printed = refl }; closed = refl }) refl;
+  get_uncond = got (codes "UNCOND") refl (record { word = record { some = refl; printed = refl }; closed = refl }) refl;
+  get_u = got (codes "U") refl (record { word = record { some = refl; printed = refl }; closed = refl }) refl;
+  free = λ pool cell. filled_is_read false 14 cpool_free (codes "FREE") [] _ _ refl refl refl refl tt refl refl refl;
+  delete = λ pool. filled_is_read false 15 cpool_delete (codes "DELETE") [] _ _ refl refl refl refl tt refl refl refl;
+  attach = attached;
   return = return_read;
-  abend = λ code fits task named short. allowed_is_read false task abend [] (code ∷ []) [] _ named
-      (record {
-        in_table = (18, refl);
-        field = refl;
-        form_is = refl;
-        places_fit = (fits.fits, fits.no_key, tt);
-        pairs_fit = tt;
-        keys_once = refl;
-        places_enough = refl;
-        keys_enough = refl;
-        none_half = refl;
-        no_conflict = refl;
-      }) refl short
-      refl;
-  put = λ to bytes fits_to fits_bytes task named short. allowed_is_read false task put [] (to ∷ bytes ∷ []) [] _ named
-      (record {
-        in_table = (19, refl);
-        field = refl;
-        form_is = refl;
-        places_fit = (fits_to.fits, fits_to.no_key, (fits_bytes.fits, fits_bytes.no_key, tt));
-        pairs_fit = tt;
-        keys_once = refl;
-        places_enough = refl;
-        keys_enough = refl;
-        none_half = refl;
-        no_conflict = refl;
-      }) refl short
-      refl;
-  show = λ from n fits_from fits_n task named short. allowed_is_read false task show [] (from ∷ n ∷ []) [] _ named
-      (record {
-        in_table = (20, refl);
-        field = refl;
-        form_is = refl;
-        places_fit = (fits_from.fits, fits_from.no_key, (fits_n.fits, fits_n.no_key, tt));
-        pairs_fit = tt;
-        keys_once = refl;
-        places_enough = refl;
-        keys_enough = refl;
-        none_half = refl;
-        no_conflict = refl;
-      }) refl short
-      refl;
-  move = λ to from n fits_to fits_from fits_n task named short. allowed_is_read false task move [] (to ∷ from ∷ n ∷ []) [] _ named
-      (record {
-        in_table = (21, refl);
-        field = refl;
-        form_is = refl;
-        places_fit = (fits_to.fits, fits_to.no_key, (fits_from.fits, fits_from.no_key, (fits_n.fits, fits_n.no_key, tt)));
-        pairs_fit = tt;
-        keys_once = refl;
-        places_enough = refl;
-        keys_enough = refl;
-        none_half = refl;
-        no_conflict = refl;
-      }) refl short
-      refl;
-  where_is = λ area fits task named short. allowed_is_read false task where_row [] (area ∷ []) [] _ named
-      (record {
-        in_table = (22, refl);
-        field = refl;
-        form_is = refl;
-        places_fit = (fits.fits, fits.no_key, tt);
-        pairs_fit = tt;
-        keys_once = refl;
-        places_enough = refl;
-        keys_enough = refl;
-        none_half = refl;
-        no_conflict = refl;
-      }) refl short
-      refl;
-  report_sp = λ task named short. allowed_is_read false task report (codes "SP") [] [] _ named
-      (record {
-        in_table = (23, refl);
-        field = refl;
-        form_is = refl;
-        places_fit = tt;
-        pairs_fit = tt;
-        keys_once = refl;
-        places_enough = refl;
-        keys_enough = refl;
-        none_half = refl;
-        no_conflict = refl;
-      }) refl short
-      refl;
-  report_map = λ task named short. allowed_is_read false task report (codes "MAP") [] [] _ named
-      (record {
-        in_table = (23, refl);
-        field = refl;
-        form_is = refl;
-        places_fit = tt;
-        pairs_fit = tt;
-        keys_once = refl;
-        places_enough = refl;
-        keys_enough = refl;
-        none_half = refl;
-        no_conflict = refl;
-      }) refl short
-      refl;
+  abend = λ code fits. filled_is_read false 18 abend [] (code ∷ []) [] _ refl refl refl refl (fits.fits, fits.no_key, tt) refl refl refl nothing_keyed;
+  put = λ to bytes fits_to fits_bytes. filled_is_read false 19 put [] (to ∷ bytes ∷ []) [] _ refl refl refl refl (fits_to.fits, fits_to.no_key, (fits_bytes.fits, fits_bytes.no_key, tt)) refl refl refl nothing_keyed;
+  show = λ from n fits_from fits_n. filled_is_read false 20 show [] (from ∷ n ∷ []) [] _ refl refl refl refl (fits_from.fits, fits_from.no_key, (fits_n.fits, fits_n.no_key, tt)) refl refl refl nothing_keyed;
+  move = λ to from n fits_to fits_from fits_n.
+      filled_is_read false 21 move [] (to ∷ from ∷ n ∷ []) [] _ refl refl refl refl (fits_to.fits, fits_to.no_key, (fits_from.fits, fits_from.no_key, (fits_n.fits, fits_n.no_key, tt))) refl refl refl nothing_keyed;
+  where_is = λ area fits. filled_is_read false 22 where_row [] (area ∷ []) [] _ refl refl refl refl (fits.fits, fits.no_key, tt) refl refl refl nothing_keyed;
+  report_sp = filled_is_read false 23 report (codes "SP") [] [] _ refl refl refl refl tt refl refl refl nothing_keyed;
+  report_map = filled_is_read false 23 report (codes "MAP") [] [] _ refl refl refl refl tt refl refl refl nothing_keyed;
 }

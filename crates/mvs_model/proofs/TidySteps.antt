@@ -28,7 +28,8 @@ use Rattle.mvs_model.specs.Runs.{Stage, Before, In, is_before, Tells, Asks, Says
 use Rattle.mvs_model.specs.Labels as labels
 use Rattle.mvs_model.specs.Labels.{Labels, first_labels, bytes_there, IsLabelText}
 use Rattle.mvs_model.specs.Tidy.{Link, AsksInFull, SaysInFull, DoesInFull, FollowsInFull, ServesInFull, PrintsInFull, IsTidy, TidyLine, TidyLines, tidy_statement, TidyStep, TidyText}
-use Rattle.mvs_model.proofs.Going.{Holds, line_keeps, runs_keep}
+use Rattle.mvs_model.specs.Going.{Holds}
+use Rattle.mvs_model.proofs.Going.{line_keeps, runs_keep}
 use Rattle.mvs_model.proofs.WithinKept.{Placed, placed_closed, start_placed}
 use Rattle.mvs_model.proofs.Counting.{Within, plain_same, pool_none}
 use Rattle.mvs_model.proofs.TidyCases.{by_test, taken, passed}
@@ -104,7 +105,7 @@ follows_are number old t s text new h = at s h where
   at says.ReportSubpools h = (h.0, h.1, by says.ReportSubpools h.0 (not (is_active old.state.owners t)) h.2)
   at says.ReportMap h = (h.0, h.1, by says.ReportMap h.0 (not (is_active old.state.owners t)) h.2)
 
-serves_are : (number : ℕ) (old : Stage) (l : Line) (text : List ℕ) (new : Stage) → ServesInFull number old l text new → Serves number old l text new
+pub serves_are : (number : ℕ) (old : Stage) (l : Line) (text : List ℕ) (new : Stage) → ServesInFull number old l text new → Serves number old l text new
 serves_are number Before line.Nothing text new h = h
 serves_are number Before (line.Statement t s) text new h = h
 serves_are number (In job) line.Nothing text new h = h

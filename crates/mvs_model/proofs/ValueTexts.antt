@@ -1,5 +1,5 @@
 -- Each value in range has a text that fits its kind and says the value.
-use Rattle.std.proofs.Common.{◌≡◌, refl, ◌||◌, ◌&&◌, not, true, false, Bool, ℕ, zero, suc, ◌+◌, ◌-◌, ◌*◌, ◌/◌, ◌%◌, ◌^◌, ◌<◌, ◌≤◌, ◌==◌, List, [], ◌∷◌, ◌++◌, map, length, take, drop, sym, ap, ◌∙◌, inl, inr, arith, append_assoc, length-append, pow-suc, decimal}
+use Rattle.std.proofs.Common.{◌≡◌, refl, ◌||◌, ◌&&◌, not, true, false, Bool, ℕ, zero, suc, ◌+◌, ◌-◌, ◌*◌, ◌/◌, ◌%◌, ◌^◌, ◌<◌, ◌≤◌, ◌==◌, List, [], ◌∷◌, ◌++◌, map, length, take, drop, sym, ap, subst, ◌∙◌, inl, inr, arith, append_assoc, length-append, pow-suc, decimal}
 use Rattle.std.specs.Prelude.{nat_le, nat_lt, bytes_eq, codes, flat_map, slice_get, unwrap_or, if◌then◌else◌}
 use Rattle.std.specs.List.{list_all, list_any, after_first, before_first, onto_first, position_or_len, slice_split, AllByRecursion}
 use Rattle.std.proofs.lemmas.Bool.{and_from, and_right, cases_lt}
@@ -11,7 +11,7 @@ use Rattle.mvs_model.specs.Name.{padded}
 use Rattle.mvs_model.specs.Texts.{glyph, hex, last_digits}
 use Rattle.mvs_model.specs.Grammar.{Number, HexByte, Name, Address, Bytes, Pair, NumberOrPair, Numbers, DistinctNumbers, DistinctNames, Addresses}
 use Rattle.mvs_model.specs.Reading.{has_key, hex_bytes, is_absolute, is_address, is_address_in_range, is_in_range, is_named, is_pair, is_pair_in_range, is_twice, largest, location, smallest, hex_digit, hex_number, is_digit, is_empty, is_equals, is_hex_digit, is_list, is_name, is_name_byte, is_number, is_plus, is_quoted, items, number, quoted}
-use Rattle.mvs_model.specs.Spelling.{EachIsWritten, Fits, FitsAlone, AreBetween, IsOperand, absolute_text, bytes_text, closes, joined, list_text, named_text, quoted_text}
+use Rattle.mvs_model.specs.Spelling.{EachIsWritten, IsAddressText, absolute, area, within, Fits, FitsAlone, AreBetween, IsOperand, absolute_text, bytes_text, closes, joined, list_text, named_text, quoted_text}
 use Rattle.mvs_model.proofs.ReadingTaken.{and_true}
 use Rattle.mvs_model.proofs.ReadingLoops.{counted, counted_all, hex_counted, hex_counted_all}
 use Rattle.mvs_model.proofs.Spelling.{all_append, all_weaker, name_bytes, not_true, printed}
@@ -360,6 +360,9 @@ no_quote (b ∷ c ∷ name) text some e = no_quote_at b c name e
 not_quoted : (a b c : Bool) → b ≡ false → (a && b && c) ≡ false
 not_quoted a b c e = ap (λ t. a && t && c) e ∙ (elim a as (λ a. (a && false && c) ≡ false) [ true ↦ refl | false ↦ refl ])
 
+distance_simple : (name digits : List ℕ) → is_name name ≡ true → list_all is_digit digits ≡ true → AllSimple (name ++ (43 ∷ digits))
+distance_simple name digits e all = all_append simple name (43 ∷ digits) (name_all name e) (all_weaker is_digit simple digit_simple digits all)
+
 -- a name with a distance in digits
 pub name_with : (name digits : List ℕ) → is_name name ≡ true → is_number digits ≡ true → is_in_range 0 33554431 digits ≡ true
     → FitsAlone Address (name ++ (43 ∷ digits)) × (location (name ++ (43 ∷ digits)) ≡ Named (padded name) (number digits))
@@ -371,7 +374,7 @@ name_with name digits e figures range =
     let before : before_first is_plus text ≡ name = ap (λ k. take k text) (plus_at name digits bytes.1) ∙ front_of name (43 ∷ digits) in
     let one : length name + 1 ≡ suc (length name) = omega arith in
     let after : after_first is_plus text ≡ digits = ap (λ k. drop (k + 1) text) (plus_at name digits bytes.1) ∙ ap (λ k. drop k text) one ∙ behind_plus name digits in
-    let s : AllSimple text = all_append simple name (43 ∷ digits) (name_all name e) (all_weaker is_digit simple digit_simple digits d.1) in
+    let s : AllSimple text = distance_simple name digits e d.1 in
     let some : is_empty text ≡ false = append_some name (43 ∷ digits) bytes.0 in (
       record {
         fits = record {
@@ -611,41 +614,46 @@ names_are count (text ∷ texts) some room are once =
       is.items_are,
     )
 
--- the texts of some addresses
-record Absolutes (addresses : List ℕ) : Type 0 where
-  each_simple : EachSimple (map absolute_text addresses)
-  each_address : list_all is_address (map absolute_text addresses) ≡ true
-  each_within : list_all is_address_in_range (map absolute_text addresses) ≡ true
-  values : map location (map absolute_text addresses) ≡ map (λ a. Absolute a) addresses
-  many : length (map absolute_text addresses) ≡ length addresses
+-- the text of an address
+record AddressText (text : List ℕ) : Type 0 where
+  all_simple : AllSimple text
+  fits : FitsAlone Address text
 
-absolutes : (addresses : List ℕ) → AllByRecursion (λ a. a < 2 ^ 31) addresses → Absolutes addresses
-absolutes [] small = record { each_simple = tt; each_address = refl; each_within = refl; values = refl; many = refl }
-absolutes (a ∷ addresses) small =
-    let s = absolutes addresses small.1 in
-    let is = absolute_is a small.0 in
+address_text : (text : List ℕ) → IsAddressText text → AddressText text
+address_text text (absolute a small e) = subst AddressText (sym e) (record { all_simple = absolute_simple a small; fits = (absolute_is a small).0 })
+address_text text (area e) = record { all_simple = name_all text e; fits = (name_alone text e).0 }
+address_text text (within name n named small e) = subst AddressText (sym e) (record { all_simple = distance_simple name (decimal n) named (decimal_writes n (omega arith)).digits; fits = (named_is name n named small).0 })
+
+-- the texts of some addresses
+record AddressTexts (texts : List (List ℕ)) : Type 0 where
+  each_simple : EachSimple texts
+  each_address : list_all is_address texts ≡ true
+  each_within : list_all is_address_in_range texts ≡ true
+
+address_texts : (texts : List (List ℕ)) → AllByRecursion IsAddressText texts → AddressTexts texts
+address_texts [] are = record { each_simple = tt; each_address = refl; each_within = refl }
+address_texts (text ∷ texts) are =
+    let later = address_texts texts are.1 in
+    let is = address_text text are.0 in
     record {
-      each_simple = (absolute_simple a small.0, s.each_simple);
-      each_address = and_from (is_address (absolute_text a)) _ is.0.fits.of_kind s.each_address;
-      each_within = and_from (is_address_in_range (absolute_text a)) _ is.0.fits.within s.each_within;
-      values = (λ i. is.1 i ∷ s.values i);
-      many = ap suc s.many;
+      each_simple = (is.all_simple, later.each_simple);
+      each_address = and_from (is_address text) _ is.fits.fits.of_kind later.each_address;
+      each_within = and_from (is_address_in_range text) _ is.fits.fits.within later.each_within;
     }
 
-absolutes_are : (count : ℕ) (addresses : List ℕ) → is_empty addresses ≡ false → length addresses ≤ count → AllByRecursion (λ a. a < 2 ^ 31) addresses
-    → Fits (Addresses count) (list_text (map absolute_text addresses)) × (map location (items (list_text (map absolute_text addresses))) ≡ map (λ a. Absolute a) addresses)
-absolutes_are count [] some room small = absurd (let f : true ≡ false = some in cc)
-absolutes_are count (a ∷ addresses) some room small =
-    let s = absolutes (a ∷ addresses) small in
-    let is = lists (absolute_text a) (map absolute_text addresses) s.each_simple in
-    let fits : nat_le (length (map absolute_text (a ∷ addresses))) count ≡ true = ap (λ k. nat_le k count) s.many ∙ le_true _ count room in (
+addresses_are : (count : ℕ) (texts : List (List ℕ)) → is_empty texts ≡ false → length texts ≤ count → AllByRecursion IsAddressText texts
+    → Fits (Addresses count) (list_text texts) × (items (list_text texts) ≡ texts)
+addresses_are count [] some room are = absurd (let f : true ≡ false = some in cc)
+addresses_are count (text ∷ texts) some room are =
+    let each = address_texts (text ∷ texts) are in
+    let is = lists text texts each.each_simple in (
       record {
-        of_kind = (λ i. is.list i && list_all is_address (is.items_are i)) ∙ s.each_address;
-        within = (λ i. nat_le (length (is.items_are i)) count && list_all is_address_in_range (is.items_are i)) ∙ and_from (nat_le (length (map absolute_text (a ∷ addresses))) count) _ fits s.each_within;
+        of_kind = (λ i. is.list i && list_all is_address (is.items_are i)) ∙ each.each_address;
+        within = (λ i. nat_le (length (is.items_are i)) count && list_all is_address_in_range (is.items_are i)) ∙ and_from (nat_le (length (text ∷ texts)) count) _ (le_true _ count room) each.each_within;
         once = refl;
         operand = is.operand;
       },
-      ap (map location) is.items_are ∙ s.values,
+      is.items_are,
     )
 
 pub each_is_written : EachIsWritten
@@ -655,11 +663,12 @@ each_is_written = record {
   name_is = name_is;
   absolute_is = absolute_is;
   named_is = named_is;
+  area_is = name_alone;
   bytes_are = bytes_are;
   pair_is = pair_is;
   one_length = one_length;
   numbers_are = numbers_are;
   distinct_are = distinct_are;
   names_are = names_are;
-  absolutes_are = absolutes_are;
+  addresses_are = addresses_are;
 }

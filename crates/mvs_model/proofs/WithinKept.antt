@@ -47,16 +47,16 @@ stays old new same held h = ((λ d y e. subst (λ r. d < end_of r) (sym same) (h
 
 pub placed_closed : Closed Placed
 placed_closed = record {
-  granted = λ old t number want p new g h. put old new p _ g.regions g.chosen.placed.0.inside g.held h;
+  granted = λ old t number want p new asks g h. put old new p _ g.regions g.chosen.placed.0.inside g.held h;
   freed = λ old s ps new w r f h. gone old new _ f.regions f.held h;
   emptied = λ old s new e h. keeps old new _ e.drops.regions e.drops.held h;
   ended = λ old t new e h. keeps old new _ e.drops.regions e.drops.held h;
-  built = λ old t name number s plan p o new fresh r is enters x h. put old new p _ x.regions x.chosen.placed.0.inside x.held h;
+  built = λ old t name number s plan p o new fresh r asks is enters x h. put old new p _ x.regions x.chosen.placed.0.inside x.held h;
   grown = λ old name pool p mid c new e x is k h. stays mid new k.regions k.held (put old mid p _ x.regions x.chosen.placed.0.inside x.held h);
   taken = λ old name pool c new e is k h. stays old new k.regions k.held h;
   given = λ old name pool c new e is k h. stays old new k.regions k.held h;
   dropped = λ old name pool new e k h. gone old new _ k.regions k.held h;
-  attached = λ old t name gifts residence new e k h. stays old new k.regions k.held h;
+  attached = λ old t name gifts residence new active e k h. stays old new k.regions k.held h;
   written = λ old p value new e has k h. stays old new k.regions k.held h;
 }
 

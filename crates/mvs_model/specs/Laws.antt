@@ -1,14 +1,21 @@
 -- Laws over whole runs.
-use Rattle.std.specs.Prelude.{ℕ, List}
+use Rattle.std.specs.Prelude.{◌≡◌, ◌≢◌, ℕ, ◌+◌, ◌&&◌, Bool, true, List, [], ◌∷◌, ◌++◌, Option, Some, None, if◌then◌else◌}
 use Rattle.mvs_model.specs.declared.name.Name.{Name}
+use Rattle.mvs_model.specs.declared.line.Fault.{Fault}
+use Rattle.mvs_model.specs.declared.line.Fault.TheVariants.{OutOfPlace}
+use Rattle.mvs_model.specs.declared.outcome.Outcome.{Outcome}
+use Rattle.mvs_model.specs.declared.outcome.Outcome.TheVariants.{ScriptFault}
 use Rattle.mvs_model.specs.declared.request.Request.{Request}
 use Rattle.mvs_model.specs.declared.request.Reply.{Reply}
 use Rattle.mvs_model.specs.Storage.{PageRule}
 use Rattle.mvs_model.specs.State.{State, holder}
 use Rattle.mvs_model.specs.Steps.{Step, IsRequest}
-use Rattle.mvs_model.specs.WellFormed.{Apart}
+use Rattle.mvs_model.specs.WellFormed.{Apart, WellFormed}
 use Rattle.mvs_model.specs.Job.{JobValue}
-use Rattle.mvs_model.specs.Runs.{Before, In, Runs}
+use Rattle.mvs_model.specs.Lines.{lines_of}
+use Rattle.mvs_model.specs.Reading.{checks, first_of, says_nothing}
+use Rattle.mvs_model.specs.Texts.{fault_text}
+use Rattle.mvs_model.specs.Runs.{Before, In, IsPrinting, Runs}
 
 -- The job is in a step of a run of some lines.
 pub record IsRunning (job : JobValue) : Type 0 where
@@ -26,3 +33,31 @@ NeverStuck = (job : JobValue) → IsRunning job → (asker : Name) (request : Re
 -- In every state of a run the parts of pools keep apart, and there are bytes just where they may be read.
 abbrev pub PartsApart : Type 0
 PartsApart = (job : JobValue) → IsRunning job → Apart job.state
+
+-- In every state of a run all of this holds.
+abbrev pub KeptWellFormed : Type 0
+KeptWellFormed = (job : JobValue) → IsRunning job → WellFormed job.state
+
+-- Each script has a printing.
+abbrev pub EachIsPrinted : Type 0
+EachIsPrinted = (script : List ℕ) → (text : List ℕ) × (outcome : Outcome) × IsPrinting script text outcome
+
+-- the fault of a line with its number, or what comes later
+abbrev pub fault_at : ℕ → Option Fault → Option (ℕ × Fault) → Option (ℕ × Fault)
+fault_at number None later = later
+fault_at number (Some fault) later = Some (number, fault)
+
+-- The first fault of the lines from this number on, with its line. `first` says whether no statement came before; want of a first one
+-- is a fault behind the last line.
+abbrev pub first_fault : ℕ → Bool → List (List ℕ) → Option (ℕ × Fault)
+first_fault number first [] = if first then Some (number, OutOfPlace) else None
+first_fault number first (l ∷ lines) = fault_at number (first_of (checks first l)) (first_fault (number + 1) (first && says_nothing l) lines)
+
+-- A printing ends in the text of the fault, where there is one, and in no fault where there is none.
+abbrev pub EndsIn : Option (ℕ × Fault) → List ℕ → Outcome → Type 0
+EndsIn None text outcome = outcome ≢ ScriptFault
+EndsIn (Some (number, fault)) text outcome = (outcome ≡ ScriptFault) × ((front : List ℕ) × (text ≡ front ++ fault_text number fault))
+
+-- Whether, where and how a script faults is told by its lines alone, whatever its requests are answered.
+abbrev pub SameFault : Type 0
+SameFault = (script text : List ℕ) (outcome : Outcome) → IsPrinting script text outcome → EndsIn (first_fault 1 true (lines_of script)) text outcome

@@ -30,12 +30,14 @@ pub mod Tidy
 -- What every state of a run keeps, and the laws.
 pub mod Kept
 pub mod WellFormed
+pub mod Going
 pub mod Laws
+pub mod Sparing
 pub mod ReadingLaws
 pub mod Spelling
 pub mod Spellings
-pub mod Rows
-pub mod Checks
+pub mod TidyExamples
+pub mod Examples
 -- Helpers: changes of finite maps, and how the crates' values are seen as one state.
 pub mod Finite
 pub mod Table

@@ -1,5 +1,5 @@
 -- The numbers of the machine, each of which stands here alone.
-use Rattle.std.specs.Prelude.{ℕ}
+use Rattle.std.specs.Prelude.{ℕ, List, [], ◌∷◌}
 
 -- the bytes of a page, and its doublewords. (Assembler Services Guide, virtual storage management)
 abbrev pub page_bytes : ℕ
@@ -71,6 +71,61 @@ most_shown = 4096
 
 abbrev pub line_bytes : ℕ
 line_bytes = 32
+
+-- the last address of 31 bits, which is also the greatest length that may be asked for. (Assembler Services Guide, 31-bit addressing;
+-- Assembler Services Reference, GETMAIN)
+abbrev pub last_address : ℕ
+last_address = 0x7FFFFFFF
+
+-- the least and the greatest power of two of a boundary. (Assembler Services Reference, GETMAIN)
+abbrev pub least_exponent : ℕ
+least_exponent = 3
+
+abbrev pub most_exponent : ℕ
+most_exponent = 31
+
+-- the least and the most bytes of a cell, the most cells of a part, and the most bytes that PUT stores and that MOVE copies. (this project's choice)
+abbrev pub least_cell_bytes : ℕ
+least_cell_bytes = 4
+
+abbrev pub most_cell_bytes : ℕ
+most_cell_bytes = 65536
+
+abbrev pub most_cells : ℕ
+most_cells = 65536
+
+abbrev pub most_put : ℕ
+most_put = 100
+
+abbrev pub most_moved : ℕ
+most_moved = 65536
+
+-- the greatest user completion code. (Assembler Services Reference, ABEND)
+abbrev pub most_user_code : ℕ
+most_user_code = 4095
+
+-- the greatest distance from the address of an area, and the most items of a list. (this project's choice)
+abbrev pub most_offset : ℕ
+most_offset = 33554431
+
+abbrev pub most_items : ℕ
+most_items = 16
+
+-- The ranges of operands: a length, the power of two of a boundary, the bytes of a cell, the cells of a part, a user completion code, the
+-- bytes that SHOW prints and that MOVE copies, the distance from an area's address, the pages of the two regions.
+abbrev pub ranges : List (ℕ × ℕ)
+ranges =
+    (1, last_address)
+    ∷ (least_exponent, most_exponent)
+    ∷ (least_cell_bytes, most_cell_bytes)
+    ∷ (1, most_cells)
+    ∷ (0, most_user_code)
+    ∷ (1, most_shown)
+    ∷ (1, most_moved)
+    ∷ (0, most_offset)
+    ∷ (1, most_pages_below)
+    ∷ (0, most_pages_above)
+    ∷ []
 
 -- the most bytes of a script. (this project's choice)
 abbrev pub most_script_bytes : ℕ

@@ -407,6 +407,6 @@ pub record SameWords (a b : List ℕ) : Type 0 where
 abbrev pub OnlyWords : Type 0
 OnlyWords = (first : Bool) (a b : List ℕ) → SameWords a b → ((l : Line) → LineOf first a l → LineOf first b l) × ((fault : Fault) → FaultOf first a fault → FaultOf first b fault)
 
--- What a line that is read says is in its ranges; REGION is the first statement, and only there.
+-- What a line that is read says is in its ranges, and the first statement is REGION.
 abbrev pub InRanges : Type 0
 InRanges = (first : Bool) (bytes : List ℕ) (l : Line) → LineOf first bytes l → IsLine first (Ok l)

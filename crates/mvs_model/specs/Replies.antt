@@ -23,7 +23,7 @@ abbrev pub grant_text : Written → PlaceValue → List ℕ
 grant_text (written.Obtain form number ask true area) p = rc_0_length p.len
 grant_text _ p = rc_0
 
--- the bytes of a place
+-- the bytes of a place, 00 for one that may not be read (SHOW is then not done)
 unfoldable pub bytes_at : State → ℕ → ℕ → List ℕ
 bytes_at st a zero = []
 bytes_at st a (suc n) = unwrap_or (get st.bytes a) 0 ∷ bytes_at st (a + 1) n

@@ -79,12 +79,12 @@ page_runs st page (suc n) = with_page (page_subpool st page) (page_runs st (page
 abbrev pub number_of : Owners → Name → ℕ → Option ℕ
 number_of o t s = first_from 0 subpool_numbers (λ n. if has (λ r. r == s) (entry o t n) then Some n else None)
 
--- a number, where there is one
+-- a number, where there is one (in every state of a run an owner has its subpool under a number)
 abbrev pub decimal_of : Option ℕ → List ℕ
 decimal_of None = []
 decimal_of (Some n) = decimal n
 
--- what is said of a subpool with this owner
+-- what is said of a subpool with this owner (in every state of a run what is held has one)
 abbrev pub owner_text : Owners → ℕ → Option Name → List ℕ
 owner_text o s None = free
 owner_text o s (Some t) = codes "SP " ++ decimal_of (number_of o t s) ++ codes " OWNER " ++ trimmed t

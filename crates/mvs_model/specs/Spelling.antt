@@ -136,6 +136,12 @@ pub record FitsAlone (kind : Kind) (text : List ℕ) : Type 0 where
 abbrev pub AreBetween : ℕ → ℕ → List ℕ → Type 0
 AreBetween least most numbers = AllByRecursion (λ n. (least ≤ n) × (n ≤ most)) numbers
 
+-- The text is one of an address: eight digits, a name, or a name and a distance.
+pub data IsAddressText (text : List ℕ) : Type 0 where
+  absolute : (a : ℕ) → a < 2 ^ 31 → text ≡ absolute_text a → IsAddressText text
+  area : is_name text ≡ true → IsAddressText text
+  within : (name : List ℕ) (n : ℕ) → is_name name ≡ true → n < 2 ^ 25 → text ≡ named_text name n → IsAddressText text
+
 -- Each value in range has a text that fits its kind and says the value. (ten digits are enough for each number of the table)
 pub record EachIsWritten : Type 0 where
   pub number_is : (least most n : ℕ) → least ≤ n → n ≤ most → most < 10 ^ 10 → FitsAlone (Number least most) (decimal n) × (number (decimal n) ≡ n)
@@ -143,6 +149,7 @@ pub record EachIsWritten : Type 0 where
   pub name_is : (text : List ℕ) → is_name text ≡ true → FitsAlone Name text
   pub absolute_is : (a : ℕ) → a < 2 ^ 31 → FitsAlone Address (absolute_text a) × (location (absolute_text a) ≡ Absolute a)
   pub named_is : (name : List ℕ) (n : ℕ) → is_name name ≡ true → n < 2 ^ 25 → FitsAlone Address (named_text name n) × (location (named_text name n) ≡ Named (padded name) n)
+  pub area_is : (name : List ℕ) → is_name name ≡ true → FitsAlone Address name × (location name ≡ Named (padded name) 0)
   pub bytes_are : (most : ℕ) (bytes : List ℕ) → is_empty bytes ≡ false → length bytes ≤ most → AllByRecursion (λ b. b < 256) bytes
       → FitsAlone (Bytes most) (bytes_text bytes) × (hex_bytes (quoted (bytes_text bytes)) ≡ bytes)
   pub pair_is : (least most large small : ℕ) → least ≤ small → small ≤ large → large ≤ most → most < 10 ^ 10
@@ -155,8 +162,8 @@ pub record EachIsWritten : Type 0 where
       → Fits (DistinctNumbers least most) (list_text (map decimal numbers)) × (map number (items (list_text (map decimal numbers))) ≡ numbers)
   pub names_are : (count : ℕ) (texts : List (List ℕ)) → is_empty texts ≡ false → length texts ≤ count → AllByRecursion (λ text. is_name text ≡ true) texts → is_twice bytes_eq texts ≡ false
       → Fits (DistinctNames count) (list_text texts) × (items (list_text texts) ≡ texts)
-  pub absolutes_are : (count : ℕ) (addresses : List ℕ) → is_empty addresses ≡ false → length addresses ≤ count → AllByRecursion (λ a. a < 2 ^ 31) addresses
-      → Fits (Addresses count) (list_text (map absolute_text addresses)) × (map location (items (list_text (map absolute_text addresses))) ≡ map (λ a. Absolute a) addresses)
+  pub addresses_are : (count : ℕ) (texts : List (List ℕ)) → is_empty texts ≡ false → length texts ≤ count → AllByRecursion IsAddressText texts
+      → Fits (Addresses count) (list_text texts) × (items (list_text texts) ≡ texts)
 
 -- Two keywords that stand side by side may be exchanged: the line says the same. (so any order of them says the same)
 abbrev pub InAnyOrder : Type 0

@@ -1,7 +1,8 @@
--- How each statement is written, in full: its operation, its form and its operands, in literals, as docs/SCRIPT.md has them. Each operand
--- is a text that fits its kind (Spelling says which texts the values have), and the line is read as the statement.
-use Rattle.std.specs.Prelude.{◌≡◌, ◌==◌, ◌||◌, not, ℕ, Bool, false, true, List, [], ◌∷◌, ◌++◌, map, length, None, Some, nat_lt, bytes_eq, codes, if◌then◌else◌}
-use Rattle.std.specs.List.{list_any}
+-- How each statement is written: its operation, its form and its operands, in literals, as docs/SCRIPT.md has them. Each operand is a
+-- text that fits its kind (Spelling says which texts the values have), or is left out where it may be, and the line is read as the
+-- statement.
+use Rattle.std.specs.Prelude.{◌≡◌, ◌==◌, ◌&&◌, ◌||◌, not, ℕ, Bool, false, true, List, [], ◌∷◌, ◌++◌, map, length, Option, None, Some, IfSome, is_some, option_map, unwrap_or, nat_lt, codes, if◌then◌else◌}
+use Rattle.std.specs.List.{list_any, AllByRecursion}
 use Rattle.mvs_model.specs.declared.code.Form.{Form}
 use Rattle.mvs_model.specs.declared.code.Form.TheVariants as form
 use Rattle.mvs_model.specs.declared.line.Line.TheVariants as line
@@ -13,9 +14,10 @@ use Rattle.mvs_model.specs.declared.want.Loc.TheVariants as loc
 use Rattle.mvs_model.specs.declared.want.Residence.{Residence}
 use Rattle.mvs_model.specs.declared.want.Residence.TheVariants as residence
 use Rattle.mvs_model.specs.Name.{padded}
-use Rattle.mvs_model.specs.Grammar.{Number, HexByte, Word, Name, Address, Bytes, Pair, NumberOrPair, Numbers, DistinctNumbers, DistinctNames, Addresses}
-use Rattle.mvs_model.specs.Reading.{LineOf, hex_bytes, hex_number, is_list, is_name, items, largest, location, number, quoted, set_of, smallest}
-use Rattle.mvs_model.specs.Spelling.{Fits, FitsAlone, line_text}
+use Rattle.mvs_model.specs.Want.{AskValue}
+use Rattle.mvs_model.specs.Grammar.{Kind, Number, HexByte, Word, Name, Address, Bytes, Pair, NumberOrPair, Numbers, DistinctNumbers, DistinctNames, Addresses}
+use Rattle.mvs_model.specs.Reading.{LineOf, hex_bytes, hex_number, is_list, is_name, is_text, items, largest, location, number, quoted, set_of, smallest}
+use Rattle.mvs_model.specs.Spelling.{Fits, FitsAlone, keyword_text, line_text}
 
 -- The line that a task makes of an operation and operands is read as the statement, where it has at most 255 bytes. `first` says whether
 -- no statement came before.
@@ -27,168 +29,249 @@ SaysAs first operation operands statement =
 abbrev pub Says : List ℕ → List (List ℕ) → Statement → Type 0
 Says operation operands statement = SaysAs false operation operands statement
 
--- what words say: a boundary, a location, a residence
-abbrev pub boundary_said : List ℕ → ℕ
-boundary_said word = if bytes_eq word (codes "PAGE") then 12 else 3
+-- ---- keyword operands
 
-abbrev pub loc_said : List ℕ → Loc
-loc_said word =
-    if bytes_eq word (codes "BELOW") || bytes_eq word (codes "24") then loc.Below
-    else (if bytes_eq word (codes "ANY") || bytes_eq word (codes "31") then loc.Any else loc.Res)
+-- a keyword operand: its key, what it may be, and its text, where it is written
+pub record Operand : Type 0 where
+  pub key : List ℕ
+  pub kind : Kind
+  pub text : Option (List ℕ)
 
-abbrev pub residence_said : List ℕ → Residence
-residence_said word = if bytes_eq word (codes "ABOVE") then residence.Above else residence.Below
+-- one that must be written, and one that may be left out
+abbrev pub must : List ℕ → Kind → List ℕ → Operand
+must key kind text = record { key = key; kind = kind; text = Some text }
 
--- the texts that operands may have
-abbrev pub IsLength : List ℕ → Type 0
-IsLength text = Fits (Number 1 2147483647) text
+abbrev pub may : List ℕ → Kind → Option (List ℕ) → Operand
+may key kind text = record { key = key; kind = kind; text = text }
 
-abbrev pub IsSubpool : List ℕ → Type 0
-IsSubpool text = Fits (Number 0 255) text
+-- Of some operands each text that is written fits its kind.
+pub record AllFit (operands : List Operand) : Type 0 where
+  pub each : AllByRecursion (λ o. IfSome o.text (Fits o.kind)) operands
 
-abbrev pub IsBoundary : List ℕ → Type 0
-IsBoundary text = Fits (Word (codes "DBLWD" ∷ codes "PAGE" ∷ [])) text
+-- the key and the text of an operand that is written, in front of others
+abbrev pub in_front : List ℕ → Option (List ℕ) → List (List ℕ × List ℕ) → List (List ℕ × List ℕ)
+in_front key None pairs = pairs
+in_front key (Some text) pairs = (key, text) ∷ pairs
 
-abbrev pub IsLoc : List ℕ → Type 0
-IsLoc text = Fits (Word (codes "BELOW" ∷ codes "24" ∷ codes "ANY" ∷ codes "31" ∷ codes "RES" ∷ [])) text
+-- those that are written
+abbrev pub filled : List Operand → List (List ℕ × List ℕ)
+filled [] = []
+filled (o ∷ os) = in_front o.key o.text (filled os)
 
-abbrev pub IsPower : List ℕ → Type 0
-IsPower text = Fits (Number 3 31) text
+-- Operands without keys, and those keyword operands behind them that are written, say the statement where they fit their kinds.
+abbrev pub SaysFilled : Bool → List ℕ → List (List ℕ) → List Operand → Statement → Type 0
+SaysFilled first operation places operands statement = AllFit operands → SaysAs first operation (places ++ map keyword_text (filled operands)) statement
 
-abbrev pub IsResidence : List ℕ → Type 0
-IsResidence text = Fits (Word (codes "BELOW" ∷ codes "ABOVE" ∷ [])) text
+-- at most one of two is written
+abbrev pub NotBoth : Option (List ℕ) → Option (List ℕ) → Type 0
+NotBoth one other = (is_some one && is_some other) ≡ false
 
-abbrev pub IsYesNo : List ℕ → Type 0
-IsYesNo text = Fits (Word (codes "YES" ∷ codes "NO" ∷ [])) text
+-- ---- what operands say, with what stands for those that are left out
+
+-- the number that is written, or another
+abbrev pub number_said : ℕ → Option (List ℕ) → ℕ
+number_said other text = unwrap_or (option_map number text) other
+
+-- the boundary that an area begins on: that of STARTBDY, or a page or a doubleword as BNDRY says, or a doubleword
+abbrev pub start_said : Option (List ℕ) → Option (List ℕ) → ℕ
+start_said bndry start = number_said (if is_text (codes "PAGE") bndry then 12 else 3) start
+
+-- BELOW or 24, ANY or 31, or the residence of the task
+abbrev pub loc_said : Option (List ℕ) → Loc
+loc_said place =
+    if is_text (codes "BELOW") place || is_text (codes "24") place then loc.Below
+    else (if is_text (codes "ANY") place || is_text (codes "31") place then loc.Any else loc.Res)
+
+-- below, where it does not say above
+abbrev pub residence_said : Option (List ℕ) → Residence
+residence_said home = if is_text (codes "ABOVE") home then residence.Above else residence.Below
+
+-- the byte 00, where none is written
+abbrev pub fill_said : Option (List ℕ) → ℕ
+fill_said fill = unwrap_or (option_map hex_number fill) 0
+
+-- STORAGE with COND=YES, or without
+abbrev pub storage_said : Option (List ℕ) → Form
+storage_said cond = if is_text (codes "YES") cond then form.StorageConditional else form.Storage
+
+-- the number under one key, the numbers of the list under another, or none
+abbrev pub numbers_said : Option (List ℕ) → Option (List ℕ) → List ℕ
+numbers_said (Some text) list = number text ∷ []
+numbers_said None (Some text) = map number (items text)
+numbers_said None None = []
+
+-- what is asked for: the least and the greatest length, BNDRY, LOC, STARTBDY and CONTBDY
+abbrev pub asked : ℕ → ℕ → Option (List ℕ) → Option (List ℕ) → Option (List ℕ) → Option (List ℕ) → AskValue
+asked least most bndry place start within = record { least = least; most = most; start = start_said bndry start; within = option_map number within; loc = loc_said place }
+
+-- ---- operands of several statements
+
+abbrev pub length_kind : Kind
+length_kind = Number 1 2147483647
+
+abbrev pub lengths_kind : Kind
+lengths_kind = Pair 1 2147483647
+
+abbrev pub length_list_kind : Kind
+length_list_kind = Numbers 16 1 2147483647
+
+abbrev pub sp : Option (List ℕ) → Operand
+sp text = may (codes "SP") (Number 0 255) text
+
+abbrev pub bndry : Option (List ℕ) → Operand
+bndry text = may (codes "BNDRY") (Word (codes "DBLWD" ∷ codes "PAGE" ∷ [])) text
+
+abbrev pub loc_word : Option (List ℕ) → Operand
+loc_word text = may (codes "LOC") (Word (codes "BELOW" ∷ codes "24" ∷ codes "ANY" ∷ codes "31" ∷ codes "RES" ∷ [])) text
+
+abbrev pub startbdy : Option (List ℕ) → Operand
+startbdy text = may (codes "STARTBDY") (Number 3 31) text
+
+abbrev pub contbdy : Option (List ℕ) → Operand
+contbdy text = may (codes "CONTBDY") (Number 3 31) text
+
+abbrev pub cond_word : Option (List ℕ) → Operand
+cond_word text = may (codes "COND") (Word (codes "YES" ∷ codes "NO" ∷ [])) text
+
+abbrev pub res : Option (List ℕ) → Operand
+res text = may (codes "RES") (Word (codes "BELOW" ∷ codes "ABOVE" ∷ [])) text
+
+abbrev pub cpid : List ℕ → Operand
+cpid text = must (codes "CPID") Name text
 
 -- ---- GETMAIN and STORAGE OBTAIN
+
+-- lengths, an area's name, a subpool, a boundary
+abbrev pub sized_operands : Kind → List ℕ → List ℕ → Option (List ℕ) → Option (List ℕ) → List Operand
+sized_operands lengths n area sub boundary = must (codes "LV") lengths n ∷ must (codes "A") Name area ∷ sp sub ∷ bndry boundary ∷ []
+
+-- the same, a location, and a boundary by its word or by powers of two
+abbrev pub placed_operands : Kind → List ℕ → List ℕ → Option (List ℕ) → Option (List ℕ) → Option (List ℕ) → Option (List ℕ) → Option (List ℕ) → List Operand
+placed_operands lengths n area sub boundary place start within =
+    must (codes "LV") lengths n ∷ must (codes "A") Name area ∷ sp sub ∷ bndry boundary ∷ loc_word place ∷ startbdy start ∷ contbdy within ∷ []
 
 -- one length, a boundary
 abbrev pub SaysFixed : List ℕ → Form → Type 0
 SaysFixed word f =
-    (n area sp bndry : List ℕ) → IsLength n → Fits Name area → IsSubpool sp → IsBoundary bndry
-    → Says (codes "GETMAIN") (word ∷ (codes "LV=" ++ n) ∷ (codes "A=" ++ area) ∷ (codes "SP=" ++ sp) ∷ (codes "BNDRY=" ++ bndry) ∷ [])
-    (says.Request (written.Obtain f (number sp) (record { least = number n; most = number n; start = boundary_said bndry; within = None; loc = loc.Res }) false (padded area)))
-
--- one length, a location and the powers of two of boundaries
-abbrev pub SaysPlaced : List ℕ → Form → Type 0
-SaysPlaced word f =
-    (n area sp place start within : List ℕ) → IsLength n → Fits Name area → IsSubpool sp → IsLoc place → IsPower start → IsPower within
-    → Says (codes "GETMAIN") (word ∷ (codes "LV=" ++ n) ∷ (codes "A=" ++ area) ∷ (codes "SP=" ++ sp) ∷ (codes "LOC=" ++ place) ∷ (codes "STARTBDY=" ++ start) ∷ (codes "CONTBDY=" ++ within) ∷ [])
-    (says.Request (written.Obtain f (number sp) (record { least = number n; most = number n; start = number start; within = Some (number within); loc = loc_said place }) false (padded area)))
+    (n area : List ℕ) (sub boundary : Option (List ℕ))
+    → SaysFilled false (codes "GETMAIN") (word ∷ []) (sized_operands length_kind n area sub boundary)
+    (says.Request (written.Obtain f (number_said 0 sub) (asked (number n) (number n) boundary None None None) false (padded area)))
 
 -- a largest and a smallest length, a boundary
 abbrev pub SaysVariable : List ℕ → Form → Type 0
 SaysVariable word f =
-    (n area sp bndry : List ℕ) → Fits (Pair 1 2147483647) n → Fits Name area → IsSubpool sp → IsBoundary bndry
-    → Says (codes "GETMAIN") (word ∷ (codes "LV=" ++ n) ∷ (codes "A=" ++ area) ∷ (codes "SP=" ++ sp) ∷ (codes "BNDRY=" ++ bndry) ∷ [])
-    (says.Request (written.Obtain f (number sp) (record { least = smallest n; most = largest n; start = boundary_said bndry; within = None; loc = loc.Res }) true (padded area)))
+    (n area : List ℕ) (sub boundary : Option (List ℕ))
+    → SaysFilled false (codes "GETMAIN") (word ∷ []) (sized_operands lengths_kind n area sub boundary)
+    (says.Request (written.Obtain f (number_said 0 sub) (asked (smallest n) (largest n) boundary None None None) true (padded area)))
 
+-- one length, a location, and a boundary by its word or by powers of two
+abbrev pub SaysPlaced : List ℕ → Form → Type 0
+SaysPlaced word f =
+    (n area : List ℕ) (sub boundary place start within : Option (List ℕ)) → NotBoth boundary start → NotBoth boundary within
+    → SaysFilled false (codes "GETMAIN") (word ∷ []) (placed_operands length_kind n area sub boundary place start within)
+    (says.Request (written.Obtain f (number_said 0 sub) (asked (number n) (number n) boundary place start within) false (padded area)))
+
+-- the same with a largest and a smallest length
 abbrev pub SaysVariablePlaced : List ℕ → Form → Type 0
 SaysVariablePlaced word f =
-    (n area sp place start within : List ℕ) → Fits (Pair 1 2147483647) n → Fits Name area → IsSubpool sp → IsLoc place → IsPower start → IsPower within
-    → Says (codes "GETMAIN") (word ∷ (codes "LV=" ++ n) ∷ (codes "A=" ++ area) ∷ (codes "SP=" ++ sp) ∷ (codes "LOC=" ++ place) ∷ (codes "STARTBDY=" ++ start) ∷ (codes "CONTBDY=" ++ within) ∷ [])
-    (says.Request (written.Obtain f (number sp) (record { least = smallest n; most = largest n; start = number start; within = Some (number within); loc = loc_said place }) true (padded area)))
+    (n area : List ℕ) (sub boundary place start within : Option (List ℕ)) → NotBoth boundary start → NotBoth boundary within
+    → SaysFilled false (codes "GETMAIN") (word ∷ []) (placed_operands lengths_kind n area sub boundary place start within)
+    (says.Request (written.Obtain f (number_said 0 sub) (asked (smallest n) (largest n) boundary place start within) true (padded area)))
 
 -- lists of lengths and of names, as many of each
 abbrev pub SaysList : List ℕ → Form → Type 0
 SaysList word f =
-    (n areas sp bndry : List ℕ) → Fits (Numbers 16 1 2147483647) n → Fits (DistinctNames 16) areas → (length (items n) == length (items areas)) ≡ true → IsSubpool sp → IsBoundary bndry
-    → Says (codes "GETMAIN") (word ∷ (codes "LA=" ++ n) ∷ (codes "A=" ++ areas) ∷ (codes "SP=" ++ sp) ∷ (codes "BNDRY=" ++ bndry) ∷ [])
-    (says.Request (written.ObtainList f (number sp) (map number (items n)) (boundary_said bndry) (map padded (items areas))))
+    (n areas : List ℕ) (sub boundary : Option (List ℕ)) → (length (items n) == length (items areas)) ≡ true
+    → SaysFilled false (codes "GETMAIN") (word ∷ []) (must (codes "LA") length_list_kind n ∷ must (codes "A") (DistinctNames 16) areas ∷ sp sub ∷ bndry boundary ∷ [])
+    (says.Request (written.ObtainList f (number_said 0 sub) (map number (items n)) (start_said boundary None) (map padded (items areas))))
 
--- STORAGE OBTAIN, by whether COND=YES is written: one length, or a largest and a smallest one
+-- STORAGE OBTAIN: one length, or a largest and a smallest one
 abbrev pub SaysObtain : Type 0
 SaysObtain =
-    (n area sp place start within cond : List ℕ) → Fits (NumberOrPair 1 2147483647) n → Fits Name area → IsSubpool sp → IsLoc place → IsPower start → IsPower within → IsYesNo cond
-    → Says (codes "STORAGE")
-    (codes "OBTAIN" ∷ (codes "LENGTH=" ++ n) ∷ (codes "ADDR=" ++ area) ∷ (codes "SP=" ++ sp) ∷ (codes "LOC=" ++ place) ∷ (codes "STARTBDY=" ++ start) ∷ (codes "CONTBDY=" ++ within) ∷ (codes "COND=" ++ cond) ∷ [])
-    (says.Request (written.Obtain (if bytes_eq cond (codes "YES") then form.StorageConditional else form.Storage) (number sp)
-    (record { least = smallest n; most = largest n; start = number start; within = Some (number within); loc = loc_said place }) (is_list n) (padded area)))
+    (n area : List ℕ) (sub boundary place start within cond : Option (List ℕ)) → NotBoth boundary start → NotBoth boundary within
+    → SaysFilled false (codes "STORAGE") (codes "OBTAIN" ∷ [])
+    (must (codes "LENGTH") (NumberOrPair 1 2147483647) n ∷ must (codes "ADDR") Name area ∷ sp sub ∷ bndry boundary ∷ loc_word place ∷ startbdy start ∷ contbdy within ∷ cond_word cond ∷ [])
+    (says.Request (written.Obtain (storage_said cond) (number_said 0 sub) (asked (smallest n) (largest n) boundary place start within) (is_list n) (padded area)))
 
 -- ---- FREEMAIN and STORAGE RELEASE
 
 -- a place
 abbrev pub SaysRelease : List ℕ → Form → Type 0
 SaysRelease word f =
-    (n address sp : List ℕ) → IsLength n → Fits Address address → IsSubpool sp
-    → Says (codes "FREEMAIN") (word ∷ (codes "LV=" ++ n) ∷ (codes "A=" ++ address) ∷ (codes "SP=" ++ sp) ∷ []) (says.Request (written.Release f (number sp) (location address) (number n)))
+    (n address : List ℕ) (sub : Option (List ℕ))
+    → SaysFilled false (codes "FREEMAIN") (word ∷ []) (must (codes "LV") length_kind n ∷ must (codes "A") Address address ∷ sp sub ∷ [])
+    (says.Request (written.Release f (number_said 0 sub) (location address) (number n)))
 
 -- the whole subpool
 abbrev pub SaysWhole : List ℕ → Form → Type 0
-SaysWhole word f = (sp : List ℕ) → IsSubpool sp → Says (codes "FREEMAIN") (word ∷ (codes "SP=" ++ sp) ∷ []) (says.Request (written.ReleaseWhole f (number sp)))
+SaysWhole word f = (sub : Option (List ℕ)) → SaysFilled false (codes "FREEMAIN") (word ∷ []) (sp sub ∷ []) (says.Request (written.ReleaseWhole f (number_said 0 sub)))
 
 -- an area by its name
 abbrev pub SaysArea : List ℕ → Form → Type 0
 SaysArea word f =
-    (area sp : List ℕ) → Fits Name area → IsSubpool sp → Says (codes "FREEMAIN") (word ∷ (codes "A=" ++ area) ∷ (codes "SP=" ++ sp) ∷ []) (says.Request (written.ReleaseArea f (number sp) (padded area)))
+    (area : List ℕ) (sub : Option (List ℕ))
+    → SaysFilled false (codes "FREEMAIN") (word ∷ []) (must (codes "A") Name area ∷ sp sub ∷ []) (says.Request (written.ReleaseArea f (number_said 0 sub) (padded area)))
 
 -- lists of lengths and of addresses, as many of each
 abbrev pub SaysReleaseList : List ℕ → Form → Type 0
 SaysReleaseList word f =
-    (n addresses sp : List ℕ) → Fits (Numbers 16 1 2147483647) n → Fits (Addresses 16) addresses → (length (items n) == length (items addresses)) ≡ true → IsSubpool sp
-    → Says (codes "FREEMAIN") (word ∷ (codes "LA=" ++ n) ∷ (codes "A=" ++ addresses) ∷ (codes "SP=" ++ sp) ∷ [])
-    (says.Request (written.ReleaseList f (number sp) (map location (items addresses)) (map number (items n))))
+    (n addresses : List ℕ) (sub : Option (List ℕ)) → (length (items n) == length (items addresses)) ≡ true
+    → SaysFilled false (codes "FREEMAIN") (word ∷ []) (must (codes "LA") length_list_kind n ∷ must (codes "A") (Addresses 16) addresses ∷ sp sub ∷ [])
+    (says.Request (written.ReleaseList f (number_said 0 sub) (map location (items addresses)) (map number (items n))))
 
 -- STORAGE RELEASE, of a place and of a whole subpool
 abbrev pub SaysStorageRelease : Type 0
 SaysStorageRelease =
-    (n address sp cond : List ℕ) → IsLength n → Fits Address address → IsSubpool sp → IsYesNo cond
-    → Says (codes "STORAGE") (codes "RELEASE" ∷ (codes "LENGTH=" ++ n) ∷ (codes "ADDR=" ++ address) ∷ (codes "SP=" ++ sp) ∷ (codes "COND=" ++ cond) ∷ [])
-    (says.Request (written.Release (if bytes_eq cond (codes "YES") then form.StorageConditional else form.Storage) (number sp) (location address) (number n)))
+    (n address : List ℕ) (sub cond : Option (List ℕ))
+    → SaysFilled false (codes "STORAGE") (codes "RELEASE" ∷ []) (must (codes "LENGTH") length_kind n ∷ must (codes "ADDR") Address address ∷ sp sub ∷ cond_word cond ∷ [])
+    (says.Request (written.Release (storage_said cond) (number_said 0 sub) (location address) (number n)))
 
 abbrev pub SaysStorageWhole : Type 0
 SaysStorageWhole =
-    (sp cond : List ℕ) → IsSubpool sp → IsYesNo cond
-    → Says (codes "STORAGE") (codes "RELEASE" ∷ (codes "SP=" ++ sp) ∷ (codes "COND=" ++ cond) ∷ [])
-    (says.Request (written.ReleaseWhole (if bytes_eq cond (codes "YES") then form.StorageConditional else form.Storage) (number sp)))
+    (sub cond : Option (List ℕ))
+    → SaysFilled false (codes "STORAGE") (codes "RELEASE" ∷ []) (sp sub ∷ cond_word cond ∷ []) (says.Request (written.ReleaseWhole (storage_said cond) (number_said 0 sub)))
 
 -- ---- CPOOL
 
 abbrev pub SaysBuild : Type 0
 SaysBuild =
-    (pool size primary secondary sp place : List ℕ) → Fits Name pool → Fits (Number 4 65536) size → Fits (Number 1 65536) primary → Fits (Number 1 65536) secondary → IsSubpool sp → IsLoc place
-    → Says (codes "CPOOL") (codes "BUILD" ∷ (codes "CPID=" ++ pool) ∷ (codes "CSIZE=" ++ size) ∷ (codes "PCELLCT=" ++ primary) ∷ (codes "SCELLCT=" ++ secondary) ∷ (codes "SP=" ++ sp) ∷ (codes "LOC=" ++ place) ∷ [])
-    (says.Request (written.Build (padded pool) (number sp) (number size) (number primary) (number secondary) (loc_said place)))
+    (pool size primary : List ℕ) (secondary sub place : Option (List ℕ))
+    → SaysFilled false (codes "CPOOL") (codes "BUILD" ∷ [])
+    (cpid pool ∷ must (codes "CSIZE") (Number 4 65536) size ∷ must (codes "PCELLCT") (Number 1 65536) primary ∷ may (codes "SCELLCT") (Number 1 65536) secondary ∷ sp sub ∷ loc_word place ∷ [])
+    (says.Request (written.Build (padded pool) (number_said 0 sub) (number size) (number primary) (number_said (number primary) secondary) (loc_said place)))
 
 -- by the word behind GET, or without one
 abbrev pub SaysGet : List (List ℕ) → Bool → Type 0
 SaysGet word conditional =
-    (pool cell : List ℕ) → Fits Name pool → Fits Name cell
-    → Says (codes "CPOOL") (codes "GET" ∷ (word ++ (codes "CPID=" ++ pool) ∷ (codes "CELL=" ++ cell) ∷ [])) (says.Request (written.Get (padded pool) conditional (padded cell)))
+    (pool cell : List ℕ)
+    → SaysFilled false (codes "CPOOL") (codes "GET" ∷ word) (cpid pool ∷ must (codes "CELL") Name cell ∷ []) (says.Request (written.Get (padded pool) conditional (padded cell)))
 
 abbrev pub SaysFree : Type 0
 SaysFree =
-    (pool cell : List ℕ) → Fits Name pool → Fits Address cell
-    → Says (codes "CPOOL") (codes "FREE" ∷ (codes "CPID=" ++ pool) ∷ (codes "CELL=" ++ cell) ∷ []) (says.Request (written.Free (padded pool) (location cell)))
+    (pool cell : List ℕ) → SaysFilled false (codes "CPOOL") (codes "FREE" ∷ []) (cpid pool ∷ must (codes "CELL") Address cell ∷ []) (says.Request (written.Free (padded pool) (location cell)))
 
 abbrev pub SaysDelete : Type 0
-SaysDelete = (pool : List ℕ) → Fits Name pool → Says (codes "CPOOL") (codes "DELETE" ∷ (codes "CPID=" ++ pool) ∷ []) (says.Request (written.Delete (padded pool)))
+SaysDelete = (pool : List ℕ) → SaysFilled false (codes "CPOOL") (codes "DELETE" ∷ []) (cpid pool ∷ []) (says.Request (written.Delete (padded pool)))
 
 -- ---- tasks
 
--- lists of numbers that are given and shared, none of them both
+-- a number or a list of numbers that are given, a number or a list of those that are shared, none of them both
 abbrev pub SaysAttach : Type 0
 SaysAttach =
-    (name given shared zero home : List ℕ) → Fits Name name → Fits (DistinctNumbers 1 127) given → is_list given ≡ true → Fits (DistinctNumbers 1 127) shared → is_list shared ≡ true → IsYesNo zero → IsResidence home
-    → list_any (λ n. list_any (◌==◌ n) (map number (items shared))) (map number (items given)) ≡ false
-    → Says (codes "ATTACH") ((codes "TASK=" ++ name) ∷ (codes "GSPL=" ++ given) ∷ (codes "SHSPL=" ++ shared) ∷ (codes "SZERO=" ++ zero) ∷ (codes "RES=" ++ home) ∷ [])
+    (name : List ℕ) (gives gives_all shares shares_all zero home : Option (List ℕ)) → NotBoth gives gives_all → NotBoth shares shares_all
+    → list_any (λ n. list_any (◌==◌ n) (numbers_said shares shares_all)) (numbers_said gives gives_all) ≡ false
+    → SaysFilled false (codes "ATTACH") []
+    (must (codes "TASK") Name name ∷ may (codes "GSPV") (Number 1 127) gives ∷ may (codes "GSPL") (DistinctNumbers 1 127) gives_all ∷ may (codes "SHSPV") (Number 1 127) shares
+    ∷ may (codes "SHSPL") (DistinctNumbers 1 127) shares_all ∷ may (codes "SZERO") (Word (codes "YES" ∷ codes "NO" ∷ [])) zero ∷ res home ∷ [])
     (says.Request (written.Attach (padded name)
-    (record { given = set_of (map number (items given)); shared = set_of (map number (items shared)); zero = not (bytes_eq zero (codes "NO")) }) (residence_said home)))
-
--- without numbers
-abbrev pub SaysBareAttach : Type 0
-SaysBareAttach =
-    (name zero home : List ℕ) → Fits Name name → IsYesNo zero → IsResidence home
-    → Says (codes "ATTACH") ((codes "TASK=" ++ name) ∷ (codes "SZERO=" ++ zero) ∷ (codes "RES=" ++ home) ∷ [])
-    (says.Request (written.Attach (padded name) (record { given = 0; shared = 0; zero = not (bytes_eq zero (codes "NO")) }) (residence_said home)))
+    (record { given = set_of (numbers_said gives gives_all); shared = set_of (numbers_said shares shares_all); zero = not (is_text (codes "NO") zero) }) (residence_said home)))
 
 -- ---- each statement
 
 pub record EachIsSaid : Type 0 where
-  pub region : (first : Bool) (below above fill home : List ℕ) → Fits (Number 1 2048) below → Fits (Number 0 8192) above → Fits HexByte fill → IsResidence home
-      → SaysAs first (codes "REGION") ((codes "BELOW=" ++ below) ∷ (codes "ABOVE=" ++ above) ∷ (codes "FILL=" ++ fill) ∷ (codes "RES=" ++ home) ∷ [])
-      (says.Region (number below) (number above) (hex_number fill) (residence_said home))
+  pub region : (first : Bool) (below : List ℕ) (above fill home : Option (List ℕ))
+      → SaysFilled first (codes "REGION") [] (must (codes "BELOW") (Number 1 2048) below ∷ may (codes "ABOVE") (Number 0 8192) above ∷ may (codes "FILL") HexByte fill ∷ res home ∷ [])
+      (says.Region (number below) (number_said 0 above) (fill_said fill) (residence_said home))
   pub getmain_r : SaysFixed (codes "R") form.R
   pub getmain_ec : SaysFixed (codes "EC") form.Ec
   pub getmain_eu : SaysFixed (codes "EU") form.Eu
@@ -224,7 +307,6 @@ pub record EachIsSaid : Type 0 where
   pub free : SaysFree
   pub delete : SaysDelete
   pub attach : SaysAttach
-  pub attach_bare : SaysBareAttach
   pub return : Says (codes "RETURN") [] (says.Request written.Return)
   pub abend : (code : List ℕ) → FitsAlone (Number 0 4095) code → Says (codes "ABEND") (code ∷ []) (says.Request (written.Abend (number code)))
   pub put : (to bytes : List ℕ) → FitsAlone Address to → FitsAlone (Bytes 100) bytes → Says (codes "PUT") (to ∷ bytes ∷ []) (says.Request (written.Put (location to) (hex_bytes (quoted bytes))))

@@ -168,7 +168,8 @@ pub record Link (job : JobValue) (m : Labels) : Type 0 where
   pub labels : IsLabels m
 
 -- From what is linked, a tidy statement of a run that is granted in full prints on both machines the same, and leaves what is
--- linked.
+-- linked. (In a state of a run what is held lies before the end of the regions: REPORT SP counts to there, and would miss what
+-- a state that is only linked holds behind it.)
 abbrev pub TidyStep : Type 0
 TidyStep =
     (number : ℕ) (job : JobValue) (m : Labels) (t : Name) (s : Statement) (text : List ℕ) (new : JobValue)

@@ -1,8 +1,9 @@
 //! Laws of the machine, over every run: each function has an empty body, and its contract is the law.
 
-ghost use Rattle.mvs_model.specs.Laws.{PagesKept, NeverStuck, PartsApart};
+ghost use Rattle.mvs_model.specs.Laws.{PagesKept, NeverStuck, PartsApart, KeptWellFormed, EachIsPrinted, SameFault};
+ghost use Rattle.mvs_model.specs.Sparing.{BytesStay, GrantsSpare};
 ghost use Rattle.mvs_model.specs.Tidy.{TidyStep, TidyText, OneLabelText, PlacesDoNotMatter};
-ghost use Rattle.mvs_model.specs.Rows.{BusyReturn, GivenEnds, MovesOverlap};
+ghost use Rattle.mvs_model.specs.TidyExamples.{BusyReturn, GivenEnds, MovesInFull, MovesOverlap};
 ghost use Rattle.mvs_model.specs.ReadingLaws.{InRanges, OneReading, OnlyWords};
 ghost use Rattle.mvs_model.specs.Spelling.{AllowedIsRead, CutApart, EachIsWritten, InAnyOrder};
 ghost use Rattle.mvs_model.specs.Spellings.{EachIsSaid};
@@ -20,6 +21,32 @@ pub fn never_stuck()
 /// In every state of a run the parts of pools lie apart, and there are bytes just where they may be read.
 pub fn apart()
     ensures { PartsApart }
+{}
+
+/// In every state of a run each page is of one subpool, the parts of pools lie apart, and what is held has an owner.
+pub fn well_formed()
+    ensures { KeptWellFormed }
+{}
+
+/// A byte that may be read stays as it is while no PUT or MOVE writes it, nothing releases it, and the task that owns
+/// what holds it does not end.
+pub fn bytes_stay()
+    ensures { BytesStay }
+{}
+
+/// An obtain that is granted is a request that neither writes nor releases any byte, and ends no owner.
+pub fn grants_spare()
+    ensures { GrantsSpare }
+{}
+
+/// Each script has a printing.
+pub fn each_is_printed()
+    ensures { EachIsPrinted }
+{}
+
+/// Whether, where and how a script faults is told by its lines alone, whatever its requests are answered.
+pub fn same_fault()
+    ensures { SameFault }
 {}
 
 /// From a state of a run and labels that are linked, a tidy statement that is granted in full prints the same on
@@ -51,6 +78,11 @@ pub fn busy_return()
 /// A script that moves bytes within an area is tidy.
 pub fn moves_overlap()
     ensures { MovesOverlap }
+{}
+
+/// That script has a run that is granted in full.
+pub fn moves_in_full()
+    ensures { MovesInFull }
 {}
 
 /// A script in which a given subpool ends while a sibling shares it is tidy.

@@ -3,9 +3,9 @@
 
 pub mod bounded;
 pub mod card;
-pub mod checks;
 pub mod code;
 pub mod error;
+pub mod examples;
 pub mod gifts;
 pub mod laws;
 pub mod line;
@@ -18,7 +18,5 @@ pub mod request;
 pub mod short_list;
 pub mod subpool;
 pub mod subpool_set;
-#[cfg(test)]
-mod tests;
 pub mod want;
 pub mod watched;

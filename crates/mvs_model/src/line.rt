@@ -7,6 +7,7 @@ use crate::bounded::{
 use crate::code::Form;
 use crate::gifts::Gifts;
 use crate::name::Name;
+use crate::numbers::MOST_ITEMS;
 use crate::place::Addr;
 use crate::request::{Bytes, Lengths};
 use crate::short_list::ShortList;
@@ -20,10 +21,10 @@ pub enum Location {
 }
 
 /// The names that a list request sets.
-pub type Names = ShortList<Name, 1, 16>;
+pub type Names = ShortList<Name, 1, MOST_ITEMS>;
 
 /// The addresses of a list request.
-pub type Locations = ShortList<Location, 1, 16>;
+pub type Locations = ShortList<Location, 1, MOST_ITEMS>;
 
 /// A request as written, with the names that it looks up and sets.
 #[derive(Drop)]
@@ -148,6 +149,6 @@ pub enum Fault {
     Repeated,
     /// JS08: two operands exclude each other.
     Conflicting,
-    /// JS09: a REGION statement is missing or comes too late.
+    /// JS09: the first statement is not REGION, or there is no statement.
     OutOfPlace,
 }

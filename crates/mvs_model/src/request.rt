@@ -7,22 +7,23 @@ use crate::bounded::{CellCount, CellSize, Exponent, Length, MoveLength, ShowLeng
 use crate::code::{Code, Form};
 use crate::gifts::Gifts;
 use crate::name::Name;
+use crate::numbers::{MOST_FALLEN, MOST_ITEMS, MOST_PUT};
 use crate::place::{Addr, Place};
 use crate::short_list::ShortList;
 use crate::want::{Ask, Loc, Residence};
 use std::marker::Model;
 
 /// The lengths of a list request, in bytes.
-pub type Lengths = ShortList<Length, 1, 16>;
+pub type Lengths = ShortList<Length, 1, MOST_ITEMS>;
 
 /// The places of a list request or its reply.
-pub type Places = ShortList<Place, 1, 16>;
+pub type Places = ShortList<Place, 1, MOST_ITEMS>;
 
 /// The bytes of PUT.
-pub type Bytes = ShortList<u8, 1, 100>;
+pub type Bytes = ShortList<u8, 1, MOST_PUT>;
 
 /// Names of tasks, as many as can end with one.
-pub type TaskNames = ShortList<Name, 0, 31>;
+pub type TaskNames = ShortList<Name, 0, MOST_FALLEN>;
 
 /// The descendants of a task that end with it, in byte order of their names.
 #[derive(Drop)]

@@ -1,4 +1,4 @@
-use Rattle.mvs_model.proofs.RowBusy as lemmas
+use Rattle.mvs_model.proofs.TidyBusy as lemmas
 use Rattle.mvs_model.proofs.laws.busy_return.Goals as goal
 
 pub returns : goal.returns

@@ -1,4 +1,4 @@
-use Rattle.mvs_model.proofs.Rows as lemmas
+use Rattle.mvs_model.proofs.TidyMoves as lemmas
 use Rattle.mvs_model.proofs.laws.moves_overlap.Goals as goal
 
 pub returns : goal.returns
