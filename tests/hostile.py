@@ -1,18 +1,24 @@
-"""Want of memory, failing reads and writes, few bytes a call, cut and damaged scripts."""
+"""Want of memory, failing reads and writes, few bytes a call, cut and damaged scripts.
 
+What a program that gives up has printed is asked for to its end: all that the lines print that had ended before.
+"""
+
+import functools
 import os
 import random
 import subprocess
 import tempfile
-from concurrent.futures import ProcessPoolExecutor
 from functools import partial
 from pathlib import Path
 
 import random_scripts
+import session
 
-TOP = Path(__file__).resolve().parent.parent
 CASES = 20_000
-CUT = ("example first.job", "example contents.job", "example pools.job", "script storage_a_run_is_joined_across_pages.job")
+MOST_BYTES = 16_777_215
+CUT = [f"example {name}.job" for name in ("first", "contents", "pools", "steps")]
+CUT += ["script storage_a_run_is_joined_across_pages.job"]
+FED = ("lists.job", "pool_parts.job", "report_given_and_shared.job", "job_two_steps.job")
 END = {0: "STEP ENDED RC 0", 8: "STEP ENDED RC 8", 12: "JOB FAULT RC 12"}
 SAYS = {
     "alloc": "mvsjob: out of memory\n",
@@ -22,36 +28,94 @@ SAYS = {
 }
 
 
+@functools.cache
+def folder():
+    return tempfile.TemporaryDirectory()
+
+
+@functools.cache
+def library():
+    """Lets a call fail, once it is preloaded."""
+    made = f"{folder().name}/failing.so"
+    source = Path(__file__).with_name("failing.c")
+    subprocess.run(["cc", "-shared", "-fPIC", "-O1", "-o", made, source, "-ldl"], check=True)
+    return made
+
+
 class Failing:
     """Runs the program with one call of the operating system failing, or all moving few bytes."""
 
-    def __init__(self, program, folder):
-        self.program, self.folder, self.library = program, folder, f"{folder}/failing.so"
-        source = Path(__file__).with_name("failing.c")
-        subprocess.run(["cc", "-shared", "-fPIC", "-O1", "-o", self.library, source, "-ldl"], check=True)
+    def __init__(self, program):
+        self.program, self.library, self.folder = program, library(), folder().name
 
     def run(self, script, *words, **names):
         env = os.environ | {"LD_PRELOAD": self.library} | names
-        ran = subprocess.run([self.program, *words], input=script, env=env, capture_output=True, timeout=60)
+        with tempfile.TemporaryFile() as stdin:  # of which a read gets all that it asks for
+            stdin.write(script)
+            stdin.seek(0)
+            ran = subprocess.run([self.program, *words], stdin=stdin, env=env, capture_output=True, timeout=60)
         return ran.returncode, ran.stdout, ran.stderr.decode()
 
-    def count(self, script, *words):
+    def counted(self, run):
+        """How many calls of each kind a run makes."""
         calls = f"{self.folder}/calls{os.getpid()}"
-        self.run(script, *words, CALLS=calls)
+        run(CALLS=calls)
         return dict(zip(("alloc", "read", "write"), map(int, Path(calls).read_text().split())))
 
 
+def front(whole, lines):
+    """What the first lines of a script print, of all that it prints. The end of a step goes with the line behind it."""
+    printed, ends = [], []
+    for line in whole.decode().splitlines(True):
+        if line.startswith(("STEP ENDED", "JOB FAULT")):
+            ends.append(line)
+        elif int(line.split()[0]) > lines:
+            break
+        else:
+            printed, ends = printed + ends + [line], []
+    return "".join(printed).encode()
+
+
 def each_failing(failing, script):
-    """Each allocation, read and write refused in turn: the program gives up and says so, and has printed a front."""
-    well = failing.run(script)
-    counts = failing.count(script)
+    """Each allocation, read and write refused in turn: the program gives up and says so, and has printed a front. For want
+    of memory it is all that comes before a reply; at a read that fails it is what the lines printed."""
+    well, lines = failing.run(script), script.count(b"\n")
+    counts = failing.counted(partial(failing.run, script))
+    ends = (b"", b"STEP ENDED RC 0\n", b"STEP ENDED RC 8\n")
+    befores = {front(well[1], line) + end for line in range(lines + 1) for end in ends}
     for kind, count in (counts | {"none": counts["write"]}).items():
         for k in range(1, count + 1):
             status, out, err = failing.run(script, FAIL=f"{kind}:{k}")
             gave_up = status == 16 and err == SAYS[kind] and well[1].startswith(out)
+            if kind == "alloc":
+                gave_up &= out in befores
+            elif kind == "read":
+                gave_up &= out == (b"" if k == 1 else front(well[1], lines))
             if not gave_up and (kind != "alloc" or (status, out, err) != well):
                 return False
     return counts["alloc"] > 0 and counts["read"] > 0 and counts["write"] > 0
+
+
+def reads_failing(failing, script):
+    """It reads byte by byte, and one read fails: it has printed what the lines print that had ended before."""
+    whole = failing.run(script)[1]
+    wells = (
+        failing.run(script, PIECES="1", FAIL=f"read:{at + 1}") == (16, front(whole, script[:at].count(b"\n")), SAYS["read"])
+        for at in range(len(script) + 1)
+    )
+    return all(wells)
+
+
+def writes_failing(failing, case):
+    """It is told line by line, and one write fails: what the lines before print had come."""
+    names = {"LD_PRELOAD": failing.library}
+    whole = "".join(f"{line}\n" for line in case.printed()).encode()
+    count = failing.counted(lambda **more: session.line_by_line(failing.program, case, **names, **more))["write"]
+    for k in range(1, count + 1):
+        heard, (status, out, err) = session.line_by_line(failing.program, case, **names, FAIL=f"write:{k}")
+        if heard < k - 1 or (status, err) != (16, SAYS["write"]) or not whole.startswith(out):
+            return False
+    return count > 1
 
 
 def in_pieces(failing, script):
@@ -60,23 +124,17 @@ def in_pieces(failing, script):
     return all(failing.run(script, PIECES=str(pieces)) == well for pieces in (1, 7))
 
 
-def script_of(path):
-    """A script of tests/scripts without the texts behind its `=>`."""
-    return b"".join(line.partition(b" => ")[0] + b"\n" for line in path.read_bytes().splitlines())
-
-
 def cut(failing, script):
-    """Cut after a line it prints the lines up to there and the end; cut inside a line the lines before it."""
-    whole = failing.run(script)[1].splitlines()
+    """Cut after a line it prints what the lines up to there print, and the end; cut inside a line the same, and what that
+    line prints as it is."""
+    whole = failing.run(script)[1]
     for at in range(len(script)):
         status, out, err = failing.run(script[:at])
-        lines = script[:at].count(b"\n")
-        before = [line for line in whole[:-1] if int(line.split()[0]) <= lines]
-        printed = out.decode().splitlines()
-        is_whole = script[:at].endswith(b"\n")
-        if err or printed[-1] != END[status] or [line.encode() for line in printed[: len(before)]] != before:
+        before = front(whole, script[:at].count(b"\n"))
+        last = out.decode().splitlines()[-1]
+        if err or last != END[status] and not (status == 8 and last == END[0]) or not out.startswith(before):
             return False
-        if is_whole and before and len(printed) != len(before) + 1:
+        if before and script[:at].endswith(b"\n") and out != before + f"{last}\n".encode():
             return False
     return True
 
@@ -92,7 +150,7 @@ def is_sound(failing, script, seed):
 def damaged(seed):
     """A random script with one byte changed, put in or left out."""
     rng = random.Random(seed)
-    script = bytearray(random_scripts.Script(seed, is_prone=True).grow(random_scripts.STORAGE | dict(pool=4), 15).text().encode())
+    script = bytearray(random_scripts.Script(seed).grow(random_scripts.STORAGE | dict(pool=4), 15).text().encode())
     at = rng.randrange(len(script))
     script[at : at + rng.randrange(2)] = bytes([rng.choice([rng.randrange(256), *b"\n, ()=+'X0A9"])])[: rng.randrange(4)]
     return bytes(script)
@@ -112,25 +170,46 @@ def bytes_are_sound(failing, seed):
     return is_sound(failing, random_bytes(seed), seed)
 
 
-def long_scripts(failing):
-    """The longest script, one a byte longer, and comments without end in little memory."""
-    yield "a script of newlines", failing.run(b"\n" * 16777215) == (12, b"16777216 JS09\nJOB FAULT RC 12\n", "")
-    yield "one newline more", failing.run(b"\n" * 16777216) == (16, b"", "mvsjob: script too long\n")
+def at_the_limit(program):
+    """The longest script, one a byte longer, and the same at a pipe: what its last line prints comes before that byte is read."""
+    begin, last = b"JOB REGION BELOW=1\nJOB GETMAIN R,LV=8,A=X\n", b"JOB WHERE X\n"
+    lines = MOST_BYTES - len(begin) - len(last)
+    script = begin + b"\n" * lines + last
+    printed = f"1 JOB REGION BELOW 1 ABOVE 0\n2 JOB RC 0\n{lines + 3} JOB AT 00006000\n".encode()
+    plain = lambda text: subprocess.run([program], input=text, capture_output=True, timeout=60)
+    said = lambda ran: (ran.returncode, ran.stdout, ran.stderr.decode())
+    yield "a script of newlines", said(plain(b"\n" * MOST_BYTES)) == (12, b"16777216 JS09\nJOB FAULT RC 12\n", "")
+    yield "one newline more", said(plain(b"\n" * (MOST_BYTES + 1))) == (16, b"", "mvsjob: script too long\n")
+    yield "the longest script", said(plain(script)) == (0, printed + b"STEP ENDED RC 0\n", "")
+    yield "one byte more", said(plain(script + b"\n")) == (16, printed, "mvsjob: script too long\n")
+    pipe = session.Session(program)
+    pipe.tell(script)
+    heard = pipe.hear(printed)
+    pipe.tell(b"\n")
+    yield "one byte more, at a pipe", heard and pipe.end() == (16, printed, "mvsjob: script too long\n")
 
 
-def results(program, cases=CASES):
-    scripts = {f"example {path.name}": path.read_bytes() for path in sorted((TOP / "examples").glob("*.job"))}
-    scripts |= {f"script {path.name}": script_of(path) for path in sorted((TOP / "tests/scripts").glob("*.job"))}
-    with tempfile.TemporaryDirectory() as folder, ProcessPoolExecutor() as pool:
-        failing = Failing(program, folder)
-        found = []
-        for kind, holds in ("each call failing", each_failing), ("in pieces", in_pieces):
-            wells = pool.map(partial(holds, failing), scripts.values())
-            found.extend((f"{name}, {kind}", well) for name, well in zip(scripts, wells))
-        for name in CUT:
-            found.append((f"{name} cut", cut(failing, scripts[name])))
-        found.extend(long_scripts(failing))
-        for kind, holds in ("damaged script", damaged_is_sound), ("random bytes", bytes_are_sound):
-            wells = pool.map(partial(holds, failing), range(cases), chunksize=50)
-            found.extend((f"{kind} {seed}", well) for seed, well in enumerate(wells))
-        return found
+def groups(program, cases, examples, each):
+    """The groups of cases. The library is made when the first of them runs, so that each fails where it cannot be made."""
+    scripts = {f"example {path.name}": path.read_bytes() for path in examples}
+    scripts |= {f"script {case.name}": case.script().encode() for case in cases}
+    fed = [case for case in cases if case.name in FED]
+    cuts = {name: scripts[name] for name in CUT}
+
+    def run(holds, cases, name, **how):
+        return each(partial(holds, Failing(program)), cases, name, **how)()
+
+    def over(holds, texts):
+        return lambda: [(name, well) for name, (_, well) in zip(texts, run(holds, texts.values(), len))]
+
+    def seeded(holds):
+        return lambda: run(holds, range(CASES), str, chunksize=50)
+
+    yield "each call failing", over(each_failing, scripts)
+    yield "each read failing, byte by byte", over(reads_failing, cuts)
+    yield "each write failing, line by line", lambda: run(writes_failing, fed, lambda case: case.name)
+    yield "in pieces", over(in_pieces, scripts)
+    yield "cut", over(cut, cuts)
+    yield "at the limit", lambda: list(at_the_limit(program))
+    yield "damaged scripts", seeded(damaged_is_sound)
+    yield "random bytes", seeded(bytes_are_sound)

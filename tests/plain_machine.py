@@ -417,8 +417,9 @@ class Machine:
         name, offset = operand
         return self.names[name][0] + offset if name in self.names else None
 
-    def says(self, task, looked_up, act):
-        """What a statement prints: `act` makes the request, and `looked_up` are the names that have to be set."""
+    def says(self, task, looked_up, act, is_spared=False):
+        """What a statement prints: `act` makes the request, and `looked_up` are the names that have to be set. None, and
+        nothing is changed, where a task that is to be spared would abend."""
         if task not in self.tasks:
             return [f"{task} NOT RUN"]
         if any(name not in self.names for name in looked_up):
@@ -426,6 +427,8 @@ class Machine:
         try:
             return [f"{task} {line}" for line in act().split("\n")]
         except Abend as abend:
+            if is_spared:
+                return None
             fallen = self.descendants(task)
             self.end(task)
             self.some_abend = True

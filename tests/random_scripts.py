@@ -8,6 +8,7 @@ TASKS = ["JOB", "T1", "T2", "T3"]
 AREAS = ["A", "B", "C", "D", "E", "F"]
 POOLS = ["P", "Q", "R"]
 NUMBERS = [0, 0, 1, 2, 5, 131, 132]
+INVALID_NUMBERS = [128, 130, 133, 255]
 LENGTHS = [1, 8, 12, 40, 100, 512, 2000, 4096, 5000, 9000]
 LOCS = ["BELOW", "24", "ANY", "31", "RES"]
 
@@ -26,9 +27,8 @@ class Label:
 class Script:
     """A script as it grows, beside what it prints."""
 
-    def __init__(self, seed, high=False, below=6, above=5, tidy=False, is_prone=False, lengths=LENGTHS):
+    def __init__(self, seed, high=False, below=6, above=5, tidy=False, lengths=LENGTHS):
         self.rng, self.lengths = random.Random(seed), lengths
-        self.is_prone = is_prone  # whether the job step task may well abend
         self.tidy, self.in_full = tidy, True
         self.high, self.lines, self.printed = high, [], []
         self.begin("JOB", below, above)
@@ -37,6 +37,7 @@ class Script:
         """The REGION statement of a step: nothing is left of a step before it."""
         fill, above_resident = self.rng.randrange(256), self.rng.random() < 0.3
         self.machine = Machine(task, below, above, fill, above_resident, self.high)
+        self.spares = True  # whether statements by which the job step task would end are left out
         self.labels = {}
         self.lines.append(f"{task} REGION BELOW={below},ABOVE={above},FILL={fill:02X},RES={'ABOVE' if above_resident else 'BELOW'}")
         self.printed.append(f"{len(self.lines)} {task} REGION BELOW {below} ABOVE {above}")
@@ -49,9 +50,15 @@ class Script:
     def end_line(self):
         return f"STEP ENDED RC {8 if self.machine.some_abend else 0}"
 
+    def is_spared(self, task):
+        return self.spares and task == self.machine.job
+
     def say(self, task, words, looked_up, act):
+        """Adds a statement and what it prints; nothing where a spared task would abend by it."""
         before = dict(self.machine.names)
-        said = self.machine.says(task, looked_up, act)
+        said = self.machine.says(task, looked_up, act, self.is_spared(task))
+        if said is None:
+            return None
         self.lines.append(f"{task} {words}")
         self.printed += [f"{len(self.lines)} {line}" for line in said]
         for name, place in self.machine.names.items():
@@ -61,6 +68,11 @@ class Script:
             for label in self.labels.values():
                 label.look()
         return said
+
+    def say_in_full(self, task, words, wanted, act):
+        """Adds an obtain, which prints this where it is granted in full."""
+        said = self.say(task, words, [], act)
+        self.in_full &= said is None or said[0] in (f"{task} {wanted}", f"{task} NOT RUN")
 
     def text(self):
         return "\n".join(self.lines) + "\n"
@@ -77,13 +89,13 @@ class Script:
         return self.rng.choice(names)
 
     def number(self):
-        return self.rng.choice(NUMBERS)
+        return self.rng.choice(NUMBERS if self.tidy or self.rng.random() < 0.97 else INVALID_NUMBERS)
 
     def length(self):
         return max(1, self.rng.choice(self.lengths) - self.rng.randrange(9))
 
-    def is_conditional(self, task):
-        return task == "JOB" and not self.is_prone or self.rng.random() < 0.6
+    def is_conditional(self):
+        return self.rng.random() < 0.6
 
     def area(self, length=None):
         """An operand that names a place: its text, its address or name with offset, and the bytes there are from it on."""
@@ -96,7 +108,8 @@ class Script:
             there = self.labels[name].there
             behind = next((j for j in range(k, len(there)) if not there[j]), len(there))
             return f"{name}+{8 * k}" if k else name, (name, 8 * k), 8 * (behind - k)
-        name = rng.choice(AREAS)
+        set_names = [name for name in AREAS if name in machine.names]
+        name = rng.choice(set_names if set_names and rng.random() < 0.8 else AREAS)
         length = machine.names[name][1] if name in machine.names else 64
         offset = rng.choice([0, 0, 0, 8, 16, rng.randrange(length + 9)])
         if rng.random() < 0.2 and name in machine.names:
@@ -123,7 +136,7 @@ class Script:
 
     def obtain(self):
         rng, task = self.rng, self.active()
-        conditional, number, name, most = self.is_conditional(task), self.number(), rng.choice(AREAS), self.length()
+        conditional, number, name, most = self.is_conditional(), self.number(), rng.choice(AREAS), self.length()
         c = "C" if conditional else "U"
         located, least, shape = rng.random() < 0.6, None, rng.choice(["fixed", "fixed", "variable", "storage"])
         if shape == "variable" or shape == "storage" and rng.random() < 0.3:
@@ -142,23 +155,21 @@ class Script:
             text = f"GETMAIN {form},LV={lv},A={name}{sp}{words}" + (f",LOC={loc}" if located else "")
         machine = self.machine
         act = lambda: machine.obtain(task, form, name, most, least, number, start, within, loc, conditional)
-        said = self.say(task, text, [], act)[0]
         wanted = f" LENGTH {round8(most):08X}" if least is not None else ""
-        self.in_full &= said in (f"{task} RC 0{wanted}", f"{task} NOT RUN")
+        self.say_in_full(task, text, f"RC 0{wanted}", act)
 
     def obtain_list(self):
         rng, task = self.rng, self.active()
-        conditional, number = self.is_conditional(task), self.number()
+        conditional, number = self.is_conditional(), self.number()
         names = rng.sample(AREAS, rng.randint(1, 4))
         lengths = [self.length() for _ in names]
         text = f"GETMAIN L{'C' if conditional else 'U'},LA=({','.join(map(str, lengths))}),A=({','.join(names)}),SP={number}"
         act = lambda: self.machine.obtain_list(task, names, lengths, number, 3, conditional)
-        said = self.say(task, text, [], act)[0]
-        self.in_full &= said in (f"{task} RC 0", f"{task} NOT RUN")
+        self.say_in_full(task, text, "RC 0", act)
 
     def release(self):
         rng, task = self.rng, self.active()
-        conditional, number = self.is_conditional(task), self.number()
+        conditional, number = self.is_conditional(), self.number()
         operand = self.area()
         if operand is None:
             return
@@ -179,7 +190,7 @@ class Script:
     def release_area(self):
         """FREEMAIN V, and FREEMAIN L of several areas."""
         rng, task = self.rng, self.active()
-        conditional, number, machine = self.is_conditional(task), self.number(), self.machine
+        conditional, number, machine = self.is_conditional(), self.number(), self.machine
         c = "C" if conditional else "U"
         names = AREAS
         if self.tidy:
@@ -201,18 +212,15 @@ class Script:
 
     def release_whole(self):
         task, form = self.active(), self.rng.choice(["R", "RC", "RU", "STORAGE"])
-        number = self.rng.choice([n for n in NUMBERS if n] if not self.is_prone else NUMBERS)
+        number = self.number()
         words = f"STORAGE RELEASE,SP={number}" if form == "STORAGE" else f"FREEMAIN {form},SP={number}"
         self.say(task, words, [], lambda: self.machine.release_whole(task, form, number))
 
     def attach(self):
         rng, task = self.rng, self.active()
-        others = [t for t in TASKS[1:] if t not in self.machine.tasks] or TASKS[1:]
-        name = rng.choice(others if not self.is_prone else TASKS)
+        others = [name for name in TASKS if name not in self.machine.tasks]
+        name = rng.choice(others if others and rng.random() < 0.9 else TASKS)
         numbers = rng.sample([n for n in set(NUMBERS) if 0 < n < 128], 3)
-        if not self.is_prone:  # a task that may not give would abend
-            table, owner = self.machine.tasks.get(task), self.machine.owner
-            numbers.sort(key=lambda n: table is not None and n in table.table and owner[table.table[n]] != task)
         given, shared = numbers[: rng.randint(0, 1)], numbers[1 : 1 + rng.randint(0, 2)]
         zero, above = rng.random() < 0.7, rng.random() < 0.4
         words = f"ATTACH TASK={name}" + (f",GSPV={given[0]}" if given else "")
@@ -222,25 +230,19 @@ class Script:
 
     def finish(self):
         task = self.active()
-        if task == "JOB" and not self.is_prone:
+        if self.is_spared(task):
             return
         self.say(task, "RETURN", [], lambda: self.machine.finish(task))
 
     def put(self):
         rng, task = self.rng, self.active()
         operand = self.area()
-        if operand is None or task == "JOB" and not self.is_prone and not self.is_granted(operand, 1):
+        if operand is None:
             return
         text, place, there = operand
         values = [rng.randrange(256) for _ in range(min(there, rng.randint(1, 20)))]
-        if task == "JOB" and not self.is_prone and not self.is_granted(operand, len(values)):
-            return
         act = lambda: self.machine.put(self.machine.place(place), values)
         self.say(task, f"PUT {text},X'{bytes(values).hex().upper()}'", self.looked_up(place), act)
-
-    def is_granted(self, operand, length):
-        address = self.machine.place(operand[1])
-        return address is not None and self.machine.bytes_at(address, length) is not None
 
     def show(self):
         task, operand = self.active(), self.area()
@@ -248,8 +250,6 @@ class Script:
             return
         text, place, there = operand
         length = self.rng.randint(1, min(there, 70))
-        if task == "JOB" and not self.is_prone and not self.is_granted(operand, length):
-            return
         act = lambda: self.machine.show(self.machine.place(place), length)
         self.say(task, f"SHOW {text},{length}", self.looked_up(place), act)
 
@@ -260,8 +260,6 @@ class Script:
         if self.rng.random() < 0.4:
             other = one  # most overlap
         length = self.rng.randint(1, min(one[2], other[2], 3000))
-        if task == "JOB" and not self.is_prone and not (self.is_granted(one, length) and self.is_granted(other, length)):
-            return
         machine = self.machine
         act = lambda: machine.move(machine.place(one[1]), machine.place(other[1]), length)
         self.say(task, f"MOVE {one[0]},{other[0]},{length}", self.looked_up(one[1], other[1]), act)
@@ -279,7 +277,7 @@ class Script:
 
     def pool(self):
         rng, task, name, machine = self.rng, self.active(), self.rng.choice(POOLS), self.machine
-        if name not in machine.pools and (task == "JOB" and not self.is_prone or rng.random() < 0.9):
+        if name not in machine.pools and rng.random() < 0.9:
             size, number, loc = rng.choice([4, 5, 8, 12, 40, 100, 600]), self.number(), rng.choice(LOCS)
             primary, secondary = rng.choice([1, 2, 3, 63, 64, 65]), rng.choice([None, 1, 2, 70])
             if size * primary > 8000:
@@ -291,20 +289,18 @@ class Script:
         pick, area = rng.random(), rng.choice(AREAS)
         pool = machine.pools.get(name)
         if pick < 0.55:
-            conditional = task == "JOB" and not self.is_prone or rng.random() < 0.5
+            conditional = rng.random() < 0.5
             word = rng.choice([",COND", ",C"] if conditional else ["", ",UNCOND", ",U"])
             self.say(task, f"CPOOL GET{word},CPID={name},CELL={area}", [], lambda: machine.get(name, area, conditional))
         elif pick < 0.93:
             if pool is not None and pool.taken and rng.random() < 0.9:
                 address = rng.choice(sorted(pool.taken))
                 text, place = f"X'{address:08X}'", address
-            elif task == "JOB" and not self.is_prone:
-                return
             else:
                 text, place, _ = self.area()
             act = lambda: machine.free_cell(name, machine.place(place))
             self.say(task, f"CPOOL FREE,CPID={name},CELL={text}", self.looked_up(place), act)
-        elif pool is not None or task != "JOB" or self.is_prone:
+        else:
             self.say(task, f"CPOOL DELETE,CPID={name}", [], lambda: machine.delete(name))
 
     def grow(self, weights, count):
@@ -312,6 +308,11 @@ class Script:
         while len(self.lines) < count:
             getattr(self, self.rng.choices(acts, weight)[0])()
         return self
+
+    def go_on(self, weights, count):
+        """So many statements more, by which the job step task may well end."""
+        self.spares = False
+        return self.grow(weights, len(self.lines) + count)
 
     def show_all(self):
         """Every byte that may be read, and both reports."""
@@ -339,23 +340,26 @@ TIDY = dict(obtain=8, obtain_list=2, release=4, release_area=2, release_whole=0.
 
 
 def storage(seed, high):
-    return Script(seed, high).grow(STORAGE | OWNERS | dict(report_map=0.5), 120).show_all()
+    weights = STORAGE | OWNERS | dict(report_map=0.5)
+    return Script(seed, high).grow(weights, 120).show_all().go_on(weights, 8)
 
 
 def pools(seed, high):
-    return Script(seed, high).grow(POOLING | dict(attach=0.6, finish=0.4), 300).show_all()
+    weights = POOLING | dict(attach=0.6, finish=0.4)
+    return Script(seed, high).grow(weights, 300).show_all().go_on(weights, 12)
 
 
 def anything(seed, high):
-    script = Script(seed, high, below=3, above=2, is_prone=True)
-    return script.grow(STORAGE | OWNERS | dict(pool=8, report_map=0.5), 60).show_all()
+    weights = STORAGE | OWNERS | dict(pool=8, report_map=0.5)
+    return Script(seed, high, below=3, above=2).grow(weights, 60).show_all().go_on(weights, 6)
 
 
 def steps(seed, high):
-    script = Script(seed, high, below=2, above=1, is_prone=True)
-    for count in (15, 30, 45):
-        script.grow(STORAGE | OWNERS | dict(pool=8), count).next_step(3, 1)
-    return script.grow(STORAGE | OWNERS | dict(pool=8), 60).show_all()
+    weights = STORAGE | OWNERS | dict(pool=8)
+    script = Script(seed, high, below=2, above=1)
+    for count in (12, 27, 42):
+        script.grow(weights, count).go_on(weights, 3).next_step(3, 1)
+    return script.grow(weights, 60).show_all()
 
 
 def tidy(seed, high):

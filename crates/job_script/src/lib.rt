@@ -219,6 +219,3 @@ pub fn read_line_into(line: &[u8], first: bool, read: &mut Line) -> Result<(), F
 {
     read_into(line, first, read)
 }
-
-#[cfg(test)]
-mod tests;

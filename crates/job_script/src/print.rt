@@ -201,6 +201,3 @@ pub fn print_fault<W: Write>(
     text.push_all(b"\nJOB FAULT RC 12\n");
     write_all(writer, text.as_slice())
 }
-
-#[cfg(test)]
-mod tests;

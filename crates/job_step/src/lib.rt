@@ -2,7 +2,5 @@
 #![tactic(auto)]
 
 mod step;
-#[cfg(test)]
-mod tests;
 
 pub use step::Step;

@@ -10,5 +10,3 @@ mod obtain_list;
 mod release;
 mod report;
 mod subtasking;
-#[cfg(test)]
-mod tests;

@@ -7,7 +7,5 @@ mod freed;
 mod handing;
 mod seat;
 mod tasks;
-#[cfg(test)]
-mod tests;
 
 pub use tasks::{Gone, TaskId, Tasks};
