@@ -75,10 +75,10 @@ impl Model for Pools {
 
 // The taken cell of one of the subpool's pools that has the address.
 fn cell_in(entries: &Slab<Entry>, store: &Store, subpool: SubpoolId, addr: u32) -> Option<Place>
-    requires { (k : ℕ) (x : TheEntry) → slab_get entries.now k ≡ Some x → IsChain store.now x.root }
+    requires { (k : ℕ) (x : TheEntry) → slab_get entries.now k ≡ Some x → IsChain store.now.storage x.root }
     ensures { MatchOption result
-        ((k : ℕ) (x : TheEntry) → slab_get entries.now k ≡ Some x → x.root.subpool ≡ subpool → in_taken (pool_of (byte_of store.now) x.root) addr ≡ false)
-        (λ p. (k : ℕ) × (x : TheEntry) × (slab_get entries.now k ≡ Some x) × (set.contains (taken_of (byte_of store.now) x.root) p.addr ≡ true) × (p.len ≡ x.root.cell_size) × (has_address p addr ≡ true)) }
+        ((k : ℕ) (x : TheEntry) → slab_get entries.now k ≡ Some x → x.root.subpool ≡ subpool → in_taken (pool_of (byte_of store.now.storage) x.root) addr ≡ false)
+        (λ p. (k : ℕ) × (x : TheEntry) × (slab_get entries.now k ≡ Some x) × (set.contains (taken_of (byte_of store.now.storage) x.root) p.addr ≡ true) × (p.len ≡ x.root.cell_size) × (has_address p addr ≡ true)) }
 {
     if has_none(entries) {
         return None;
@@ -100,10 +100,10 @@ fn cell_of(
     subpool: SubpoolId,
     addr: u32,
 ) -> Option<Place>
-    requires { (k : ℕ) (x : TheEntry) → slab_get entries.now k ≡ Some x → IsChain store.now x.root }
+    requires { (k : ℕ) (x : TheEntry) → slab_get entries.now k ≡ Some x → IsChain store.now.storage x.root }
     ensures { MatchOption result
-        ((x : TheEntry) → slab_get entries.now key ≡ Some x → x.root.subpool ≡ subpool → in_taken (pool_of (byte_of store.now) x.root) addr ≡ false)
-        (λ p. (x : TheEntry) × (slab_get entries.now key ≡ Some x) × (set.contains (taken_of (byte_of store.now) x.root) p.addr ≡ true) × (p.len ≡ x.root.cell_size) × (has_address p addr ≡ true)) }
+        ((x : TheEntry) → slab_get entries.now key ≡ Some x → x.root.subpool ≡ subpool → in_taken (pool_of (byte_of store.now.storage) x.root) addr ≡ false)
+        (λ p. (x : TheEntry) × (slab_get entries.now key ≡ Some x) × (set.contains (taken_of (byte_of store.now.storage) x.root) p.addr ≡ true) × (p.len ≡ x.root.cell_size) × (has_address p addr ≡ true)) }
 {
     let Some(entry) = entries.get(key) else {
         return None;
@@ -122,10 +122,10 @@ fn entry_meets(
     subpool: SubpoolId,
     place: Place,
 ) -> bool
-    requires { (k : ℕ) (x : TheEntry) → slab_get entries.now k ≡ Some x → IsChain store.now x.root }
+    requires { (k : ℕ) (x : TheEntry) → slab_get entries.now k ≡ Some x → IsChain store.now.storage x.root }
     ensures { MatchBool result
-        ((x : TheEntry) × (slab_get entries.now key ≡ Some x) × (x.root.subpool ≡ subpool) × Meets store.now x.root place)
-        ((x : TheEntry) → slab_get entries.now key ≡ Some x → x.root.subpool ≡ subpool → Meets store.now x.root place → ⊥) }
+        ((x : TheEntry) × (slab_get entries.now key ≡ Some x) × (x.root.subpool ≡ subpool) × Meets store.now.storage x.root place)
+        ((x : TheEntry) → slab_get entries.now key ≡ Some x → x.root.subpool ≡ subpool → Meets store.now.storage x.root place → ⊥) }
 {
     let Some(entry) = entries.get(key) else {
         return false;
@@ -138,10 +138,10 @@ fn entry_meets(
 
 // Whether a part of one of the subpool's pools has a doubleword of the place.
 fn any_meets(entries: &Slab<Entry>, store: &Store, subpool: SubpoolId, place: Place) -> bool
-    requires { (k : ℕ) (x : TheEntry) → slab_get entries.now k ≡ Some x → IsChain store.now x.root }
+    requires { (k : ℕ) (x : TheEntry) → slab_get entries.now k ≡ Some x → IsChain store.now.storage x.root }
     ensures { MatchBool result
-        ((k : ℕ) × (x : TheEntry) × (slab_get entries.now k ≡ Some x) × (x.root.subpool ≡ subpool) × Meets store.now x.root place)
-        ((k : ℕ) (x : TheEntry) → slab_get entries.now k ≡ Some x → x.root.subpool ≡ subpool → Meets store.now x.root place → ⊥) }
+        ((k : ℕ) × (x : TheEntry) × (slab_get entries.now k ≡ Some x) × (x.root.subpool ≡ subpool) × Meets store.now.storage x.root place)
+        ((k : ℕ) (x : TheEntry) → slab_get entries.now k ≡ Some x → x.root.subpool ≡ subpool → Meets store.now.storage x.root place → ⊥) }
 {
     if has_none(entries) {
         return false;
@@ -188,11 +188,11 @@ impl Pools {
     /// are a name that no pool has (user 4002) and an address at which no taken cell of the pool begins (user 4001); the codes
     /// are this project's choice.
     pub fn free(&mut self, store: &mut Store, name: &Name, cell: Addr) -> Result<(), Code>
-        requires { Agree self.old store.old }
-        ensures answer { (o : Owners) (t : TheName) → let old = state_of store.old o (pools_of self.old store.old) in
-            Answered (λ _. Rc0) (λ reply new. FreeStep old t name.now cell (get old.pools name.now) reply new) old t result (state_of store.new o (pools_of self.new store.new)) }
-        ensures agree { Agree self.new store.new }
-        ensures unchanged { OnErr result (store.new ≡ store.old) }
+        requires { Agree self.old store.old.storage }
+        ensures answer { (o : Owners) (t : TheName) → let old = state_of store.old.storage o (pools_of self.old store.old.storage) in
+            Answered (λ _. Rc0) (λ reply new. FreeStep old t name.now cell (get old.pools name.now) reply new) old t result (state_of store.new.storage o (pools_of self.new store.new.storage)) }
+        ensures agree { Agree self.new store.new.storage }
+        ensures unchanged { OnErr result (store.new.storage ≡ store.old.storage) }
         ensures pools_unchanged { OnErr result (self.new ≡ self.old) }
     {
         let Some(root) = self.find(name) else {
@@ -207,12 +207,12 @@ impl Pools {
 
     // Gives back a taken cell of the pool.
     fn give_cell(&mut self, store: &mut Store, name: &Name, root: &Root, spot: Taken)
-        requires agree { Agree self.old store.old }
+        requires agree { Agree self.old store.old.storage }
         requires root { get self.old name.now ≡ Some root.now }
-        requires taken { (c : ℕ) × IsTakenAt store.old root.now spot.part spot.cell spot.taken spot.past c }
-        ensures marked { Marks store.old spot.part spot.cell false (spot.taken - 1) store.new }
-        ensures pools { pools_of self.new store.new ≡ pools_of self.old store.new }
-        ensures agree { Agree self.new store.new }
+        requires taken { (c : ℕ) × IsTakenAt store.old.storage root.now spot.part spot.cell spot.taken spot.past c }
+        ensures marked { Marks store.old.storage spot.part spot.cell false (spot.taken - 1) store.new.storage }
+        ensures pools { pools_of self.new store.new.storage ≡ pools_of self.old store.new.storage }
+        ensures agree { Agree self.new store.new.storage }
     {
         mark(store, spot.part, spot.cell, false, spot.taken - 1);
         let open = open_after(root, &spot);
@@ -232,11 +232,11 @@ impl Pools {
         secondary: CellCount,
         side: Side,
     ) -> Result<(), Code>
-        requires { Agree self.old store.old }
-        ensures built { OnOk result (Builds self.old store.old name.now subpool (record { cell_size = cell_size; primary = primary; secondary = secondary; side = side }) self.new store.new) }
-        ensures refused { IfErr result (IsRefusal self.old store.old name.now subpool (record { cell_size = cell_size; primary = primary; secondary = secondary; side = side })) }
-        ensures agree { Agree self.new store.new }
-        ensures unchanged { OnErr result (store.new ≡ store.old) }
+        requires { Agree self.old store.old.storage }
+        ensures built { OnOk result (Builds self.old store.old.storage name.now subpool (record { cell_size = cell_size; primary = primary; secondary = secondary; side = side }) self.new store.new.storage) }
+        ensures refused { IfErr result (IsRefusal self.old store.old.storage name.now subpool (record { cell_size = cell_size; primary = primary; secondary = secondary; side = side })) }
+        ensures agree { Agree self.new store.new.storage }
+        ensures unchanged { OnErr result (store.new.storage ≡ store.old.storage) }
         ensures pools_unchanged { OnErr result (self.new ≡ self.old) }
     {
         if self.find(name).is_some() {
@@ -288,13 +288,13 @@ impl Pools {
 
     // Puts a further part to the pool, whose parts are full, where there is a place for it.
     fn extend(&mut self, store: &mut Store, name: &Name, root: &Root) -> Option<Root>
-        requires agree { Agree self.old store.old }
+        requires agree { Agree self.old store.old.storage }
         requires root { get self.old name.now ≡ Some root.now }
         requires full { root.now.free ≡ 0 }
         ensures extended { MatchOption result
-            (NoRoom store.old root.now × (store.new ≡ store.old) × (self.new ≡ self.old))
-            (λ r. (a : ℕ) × (r ≡ extended root.now a) × Extended self.old store.old name.now root.now a self.new store.new) }
-        ensures agree { Agree self.new store.new }
+            (NoRoom store.old.storage root.now × (store.new.storage ≡ store.old.storage) × (self.new ≡ self.old))
+            (λ r. (a : ℕ) × (r ≡ extended root.now a) × Extended self.old store.old.storage name.now root.now a self.new store.new.storage) }
+        ensures agree { Agree self.new store.new.storage }
     {
         let Some(place) = obtain_part(
             store,
@@ -327,11 +327,11 @@ impl Pools {
     /// Gives up the pool with all its parts (Assembler Services Reference, CPOOL DELETE). Refused is a name that no pool has
     /// (user 4002; the code is this project's choice).
     pub fn delete(&mut self, store: &mut Store, name: &Name) -> Result<(), Code>
-        requires { Agree self.old store.old }
-        ensures answer { (o : Owners) (t : TheName) → let old = state_of store.old o (pools_of self.old store.old) in
-            Answered (λ _. Rc0) (λ reply new. DeleteStep old t name.now (get old.pools name.now) reply new) old t result (state_of store.new o (pools_of self.new store.new)) }
-        ensures agree { Agree self.new store.new }
-        ensures unchanged { OnErr result (store.new ≡ store.old) }
+        requires { Agree self.old store.old.storage }
+        ensures answer { (o : Owners) (t : TheName) → let old = state_of store.old.storage o (pools_of self.old store.old.storage) in
+            Answered (λ _. Rc0) (λ reply new. DeleteStep old t name.now (get old.pools name.now) reply new) old t result (state_of store.new.storage o (pools_of self.new store.new.storage)) }
+        ensures agree { Agree self.new store.new.storage }
+        ensures unchanged { OnErr result (store.new.storage ≡ store.old.storage) }
         ensures pools_unchanged { OnErr result (self.new ≡ self.old) }
     {
         let Some(root) = self.find(name) else {
@@ -379,11 +379,11 @@ impl Pools {
         name: &Name,
         conditional: bool,
     ) -> Result<Option<Place>, Code>
-        requires { Agree self.old store.old }
-        ensures answer { (o : Owners) (t : TheName) → let old = state_of store.old o (pools_of self.old store.old) in
-            Answered cell_reply (λ reply new. GetStep old t name.now conditional (get old.pools name.now) reply new) old t result (state_of store.new o (pools_of self.new store.new)) }
-        ensures agree { Agree self.new store.new }
-        ensures unchanged { OnErr result (store.new ≡ store.old) }
+        requires { Agree self.old store.old.storage }
+        ensures answer { (o : Owners) (t : TheName) → let old = state_of store.old.storage o (pools_of self.old store.old.storage) in
+            Answered cell_reply (λ reply new. GetStep old t name.now conditional (get old.pools name.now) reply new) old t result (state_of store.new.storage o (pools_of self.new store.new.storage)) }
+        ensures agree { Agree self.new store.new.storage }
+        ensures unchanged { OnErr result (store.new.storage ≡ store.old.storage) }
         ensures pools_unchanged { OnErr result (self.new ≡ self.old) }
     {
         let Some(root) = self.find(name) else {
@@ -409,13 +409,13 @@ impl Pools {
 
     // Takes a free cell of the pool.
     fn take_cell(&mut self, store: &mut Store, name: &Name, root: &Root, spot: Spot) -> Place
-        requires agree { Agree self.old store.old }
+        requires agree { Agree self.old store.old.storage }
         requires root { get self.old name.now ≡ Some root.now }
-        requires free { IsFreeAt store.old root.now spot.part spot.cell spot.taken }
-        ensures place { result ≡ place_at (spot.part + head_length (count_at (byte_of store.old) spot.part) + spot.cell * root.now.cell_size) root.now.cell_size }
-        ensures taken { (mid : Storage) × Marks store.old spot.part spot.cell true (spot.taken + 1) mid × Fills mid result root.now.fill store.new }
-        ensures pools { pools_of self.new store.new ≡ pools_of self.old store.new }
-        ensures agree { Agree self.new store.new }
+        requires free { IsFreeAt store.old.storage root.now spot.part spot.cell spot.taken }
+        ensures place { result ≡ place_at (spot.part + head_length (count_at (byte_of store.old.storage) spot.part) + spot.cell * root.now.cell_size) root.now.cell_size }
+        ensures taken { (mid : Storage) × Marks store.old.storage spot.part spot.cell true (spot.taken + 1) mid × Fills mid result root.now.fill store.new.storage }
+        ensures pools { pools_of self.new store.new.storage ≡ pools_of self.old store.new.storage }
+        ensures agree { Agree self.new store.new.storage }
     {
         let place = take(store, root, spot);
         self.replace(name, root.with_taken(Addr::new(spot.part)));
@@ -424,10 +424,10 @@ impl Pools {
 
     /// The taken cell that the byte at an address lies in, of whichever pool.
     pub fn cell_at(&self, store: &Store, addr: Addr) -> Option<Place>
-        requires { Agree self.now store.now }
+        requires { Agree self.now store.now.storage }
         ensures { MatchOption result
-            ((o : Owners) → in_cell (state_of store.now o (pools_of self.now store.now)) addr ≡ false)
-            (λ p. IsTakenCell (pools_of self.now store.now) p × (has_address p addr ≡ true)) }
+            ((o : Owners) → in_cell (state_of store.now.storage o (pools_of self.now store.now.storage)) addr ≡ false)
+            (λ p. IsTakenCell (pools_of self.now store.now.storage) p × (has_address p addr ≡ true)) }
     {
         let Some(subpool) = store.held(addr) else {
             return None;
@@ -437,8 +437,8 @@ impl Pools {
 
     /// Whether the byte at an address lies in a taken cell of some pool.
     pub fn taken_cell(&self, store: &Store, addr: Addr) -> bool
-        requires { Agree self.now store.now }
-        ensures { (o : Owners) → result ≡ in_cell (state_of store.now o (pools_of self.now store.now)) addr }
+        requires { Agree self.now store.now.storage }
+        ensures { (o : Owners) → result ≡ in_cell (state_of store.now.storage o (pools_of self.now store.now.storage)) addr }
     {
         self.cell_at(store, addr).is_some()
     }
@@ -446,18 +446,18 @@ impl Pools {
     /// Whether the subpool holds some doubleword of a place as a part of a pool. Parts in other subpools do not count, so this
     /// is asked of a place that the subpool holds.
     pub fn touches(&self, store: &Store, subpool: SubpoolId, place: Place) -> bool
-        requires { Agree self.now store.now }
+        requires { Agree self.now store.now.storage }
         ensures { MatchBool result
-            (Touches store.now (pools_of self.now store.now) subpool place)
-            (TouchesNone store.now (pools_of self.now store.now) subpool place) }
+            (Touches store.now.storage (pools_of self.now store.now.storage) subpool place)
+            (TouchesNone store.now.storage (pools_of self.now store.now.storage) subpool place) }
     {
         any_meets(&self.entries, store, subpool, place)
     }
 
     /// How many bytes the subpool holds in parts of pools.
     pub fn pool_bytes(&self, store: &Store, subpool: SubpoolId) -> u32
-        requires { Agree self.now store.now }
-        ensures { (o : Owners) → result ≡ bytes_held (state_of store.now o (pools_of self.now store.now)) subpool true }
+        requires { Agree self.now store.now.storage }
+        ensures { (o : Owners) → result ≡ bytes_held (state_of store.now.storage o (pools_of self.now store.now.storage)) subpool true }
     {
         bytes_in(&self.entries, store, subpool)
     }

@@ -30,8 +30,8 @@ fn start(alloc: Global, pages: u32, fill: u8) -> Result<(Store, Pools), OutOfMem
 
 // Forgets the pools of a subpool.
 fn drop_pools(pools: &mut Pools, store: &Store, number: u8)
-    requires { Agree pools.old store.now }
-    ensures { Agree pools.new store.now }
+    requires { Agree pools.old store.now.storage }
+    ensures { Agree pools.new store.now.storage }
 {
     pools.drop_subpool(SubpoolId::new(u16::from(number)));
 }
@@ -50,12 +50,12 @@ fn build(
     size: u32,
     count: u32,
 ) -> Option<Code>
-    requires agree { Agree pools.old store.old }
+    requires agree { Agree pools.old store.old.storage }
     requires size { 4 ≤ size }
     requires small { size ≤ 65536 }
     requires some { 1 ≤ count }
     requires few { count ≤ 65536 }
-    ensures { Agree pools.new store.new }
+    ensures { Agree pools.new store.new.storage }
 {
     let built = pools.build(
         store,
@@ -77,8 +77,8 @@ fn next_cell(
     number: u8,
     conditional: bool,
 ) -> u32
-    requires { Agree pools.old store.old }
-    ensures { Agree pools.new store.new }
+    requires { Agree pools.old store.old.storage }
+    ensures { Agree pools.new store.new.storage }
 {
     match pools.get(store, &name(rt, number), conditional) {
         Ok(Some(place)) => place.addr().get(),
@@ -226,8 +226,8 @@ fn cell_across_pages(rt: HostRuntime) -> Result<(), Fail> {
 
 // Builds pools of one cell of four bytes, each in a subpool of its own, with the numbers below one; how many are made.
 fn build_each(rt: &impl Abort, pools: &mut Pools, store: &mut Store, end: u8) -> u8
-    requires { Agree pools.old store.old }
-    ensures { Agree pools.new store.new }
+    requires { Agree pools.old store.old.storage }
+    ensures { Agree pools.new store.new.storage }
 {
     let mut made = 0u8;
     for number in 0..end {

@@ -24,6 +24,7 @@ pub mod Choice
 pub mod Opened
 pub mod Parts
 pub mod LentRegion
+pub mod Value
 pub mod Counts
 pub mod PagesDropped
 pub mod FewRuns

@@ -3,7 +3,6 @@
 
 mod dropping;
 mod free_runs;
-pub mod laws;
 mod memory;
 mod region_store;
 mod run;

@@ -8,5 +8,5 @@ use Rattle.cell_pool.proofs.tests.start.Goals as goal
 pub returns : goal.returns
 returns c =
     let few = c.requires.few in
-    subst (λ m. Agree m c.in_ok-store.store) (sym c.in_ok-pools.ensures)
-    (none_agree c.in_ok-store.store c.in_ok-store.ensures.storage (subst (λ (s : Storage). IsBounded s.regions) (sym c.in_ok-store.ensures.empty) (record { below = omega arith; above = omega arith })))
+    subst (λ m. Agree m c.in_ok-store.store.storage) (sym c.in_ok-pools.ensures)
+    (none_agree c.in_ok-store.store.storage c.in_ok-store.ensures.storage (subst (λ (s : Storage). IsBounded s.regions) (sym c.in_ok-store.ensures.empty) (record { below = omega arith; above = omega arith })))
