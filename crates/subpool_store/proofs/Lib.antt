@@ -9,6 +9,7 @@ pub mod Marked
 pub mod Filled
 pub mod Cursors
 pub mod Begun
+pub mod Entries
 pub mod RegionCount
 pub mod StoreCount
 pub mod Scan

@@ -7,8 +7,9 @@ use Rattle.page_map.specs.Owners.{is_of, owner_of}
 use Rattle.subpool_store.specs.Bound.{begins_free_run, holds_in_page}
 use Rattle.subpool_store.specs.Region.{RegionState, IsRegion, cell, region_of, held_of}
 use Rattle.subpool_store.specs.Memory.{MemoryState}
-use Rattle.subpool_store.specs.Walk.{begins_run, looked_at}
+use Rattle.subpool_store.specs.Walk.{begins_run, entries_to, looked_at}
 use Rattle.subpool_store.proofs.Begun.{count_grows, count_once}
+use Rattle.subpool_store.proofs.Entries.{none_there}
 use Rattle.subpool_store.proofs.Counts.{count_none, count_same}
 use Rattle.subpool_store.proofs.Exact.{holder_index}
 
@@ -102,10 +103,12 @@ module _ (first : ℕ) (bits : List Bool) (pages : List (Option ℕ)) (region : 
 
 -- what there is to look at in a region
 pub counted_region : (first : ℕ) (m : MemoryState) (pages : List (Option ℕ)) (bytes : ℕ → ℕ) (h : RegionState) → IsRegion first m.held pages → region_of first m.held pages bytes ≡ h → (s : ℕ) →
-    looked_at m pages s (length m.held) false ≡ h.pages + count_below (512 * h.pages) (λ i. begins_free_run (get h.held) s (h.first + i))
+    looked_at m pages s (length m.held) ≡ h.pages + count_below (512 * h.pages) (λ i. begins_free_run (get h.held) s (h.first + i))
 counted_region first m pages bytes h region is s =
     let sizes : length m.held ≡ 512 * length pages = region.exact.sizes in
-    let pages_is : length m.held / 512 + 0 ≡ length pages = omega (arith, sizes) in
+    let page : length m.held / 512 ≡ length pages = omega (arith, sizes) in
+    let past = none_there (length pages) (length pages) (omega arith) in
+    let pages_is : entries_to pages (length m.held / 512) ≡ length pages = ap (entries_to pages) page ∙ (let all : entries_to pages (length pages) ≡ length pages = omega (arith, past) in all) in
     (λ k. pages_is k + count_below (sizes k) (begins_run m.held pages s))
     ∙ ap (λ n. length pages + n) (count_same (512 * length pages) (begins_run m.held pages s) (λ i. begins_free_run (get (held_of first m.held pages)) s (first + i)) (λ i _. begins_by first m.held pages region s i (owner_of pages (i / 512)) refl))
     ∙ ap (λ g. g.pages + count_below (512 * g.pages) (λ i. begins_free_run (get g.held) s (g.first + i))) is

@@ -1,6 +1,7 @@
 //! Storage of both regions: obtain and release.
 #![tactic(auto)]
 
+mod counted;
 mod dropping;
 mod free_runs;
 mod memory;
