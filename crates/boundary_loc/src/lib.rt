@@ -245,5 +245,3 @@ pub fn side(loc: Loc, residence: Residence) -> Side
     }
 }
 
-#[cfg(test)]
-mod tests;

@@ -10,6 +10,7 @@ ghost use Rattle.cell_pool.specs.Walk.{Fills, IsChain, IsFreeAt, IsTakenAt, Meet
 ghost use Rattle.cell_pool.specs.declared.entry.Entry.{Entry as TheEntry};
 ghost use Rattle.std.specs.FinMap.{get, empty, len};
 ghost use Rattle.mvs_model.specs.Name.{same_name};
+ghost use Rattle.mvs_model.specs.Numbers.{most_pools};
 ghost use Rattle.mvs_model.specs.Finite.{Keeps};
 ghost use Rattle.cell_pool.specs.Roots.{Root as TheRoot};
 ghost use Rattle.cell_pool.specs.Building.{Builds, IsRefusal};
@@ -41,6 +42,7 @@ use mvs_model::bounded::{CellCount, CellSize};
 use mvs_model::code::Code;
 use mvs_model::error::OutOfMemory;
 use mvs_model::name::Name;
+use mvs_model::numbers::MOST_POOLS;
 use mvs_model::place::{Addr, Place};
 use mvs_model::subpool::SubpoolId;
 use mvs_model::subpool_set::SubpoolSet;
@@ -61,6 +63,7 @@ impl Model for Pools {
     ghost use Rattle.std.specs.FinMap.{FinMap, code};
     ghost use Rattle.slab.specs.Slab.{slab_len};
     ghost use Rattle.mvs_model.specs.Name.{name_cmp, name_code};
+    ghost use Rattle.mvs_model.specs.Numbers.{most_pools};
     ghost use Rattle.cell_pool.specs.Roots.{Root, root_code};
     ghost use Rattle.cell_pool.specs.Entries.{roots_of, IsDistinct};
 
@@ -70,7 +73,7 @@ impl Model for Pools {
 
     ghost view = { λ p. roots_of p.entries.slots };
 
-    ghost invariant = { λ p. IsDistinct p.entries.slots × (slab_len p.entries ≤ 64) × (64 ≤ p.entries.capacity) };
+    ghost invariant = { λ p. IsDistinct p.entries.slots × (slab_len p.entries ≤ most_pools) × (most_pools ≤ p.entries.capacity) };
 }
 
 // The taken cell of one of the subpool's pools that has the address.
@@ -171,7 +174,7 @@ impl Pools {
     pub fn new(alloc: Global) -> Result<Pools, OutOfMemory>
         ensures { IfOk result (λ p. p ≡ empty) }
     {
-        match Slab::with_capacity(alloc, 64) {
+        match Slab::with_capacity(alloc, MOST_POOLS) {
             Ok(entries) => Ok(Pools { entries }),
             Err(_) => Err(OutOfMemory),
         }
@@ -196,10 +199,10 @@ impl Pools {
         ensures pools_unchanged { OnErr result (self.new ≡ self.old) }
     {
         let Some(root) = self.find(name) else {
-            return Err(Code::User(4002));
+            return Err(Code::NO_SUCH_POOL);
         };
         let Some(spot) = find_taken(store, &root, cell.get()) else {
-            return Err(Code::User(4001));
+            return Err(Code::NO_SUCH_CELL);
         };
         self.give_cell(store, name, &root, spot);
         Ok(())
@@ -240,13 +243,13 @@ impl Pools {
         ensures pools_unchanged { OnErr result (self.new ≡ self.old) }
     {
         if self.find(name).is_some() {
-            return Err(Code::User(4008));
+            return Err(Code::POOL_IN_USE);
         }
-        if self.len() >= 64 {
-            return Err(Code::User(4007));
+        if self.len() >= MOST_POOLS {
+            return Err(Code::TOO_MANY_POOLS);
         }
         let Some(place) = obtain_part(store, subpool, cell_size, primary, side) else {
-            return Err(Code::System(0x878));
+            return Err(Code::SHORTAGE);
         };
         let first = place.addr();
         let fill = byte(store, first.get());
@@ -273,7 +276,7 @@ impl Pools {
     // Enters what is kept of a new pool.
     fn insert(&mut self, name: &Name, root: Root)
         requires fresh { get self.old name.now ≡ None }
-        requires room { len self.old < 64 }
+        requires room { len self.old < most_pools }
         ensures { (n : TheName) → get self.new n ≡ (if same_name n name.now then Some root else get self.old n) }
     {
         self.entries.insert_reserved(Entry { name: *name, root });
@@ -335,7 +338,7 @@ impl Pools {
         ensures pools_unchanged { OnErr result (self.new ≡ self.old) }
     {
         let Some(root) = self.find(name) else {
-            return Err(Code::User(4002));
+            return Err(Code::NO_SUCH_POOL);
         };
         release_parts(store, &root);
         self.forget(name);
@@ -387,7 +390,7 @@ impl Pools {
         ensures pools_unchanged { OnErr result (self.new ≡ self.old) }
     {
         let Some(root) = self.find(name) else {
-            return Err(Code::User(4002));
+            return Err(Code::NO_SUCH_POOL);
         };
         if root.has_free() {
             let spot = find_free(store, &root);
@@ -397,7 +400,7 @@ impl Pools {
             return Ok(None);
         }
         let Some(extended) = self.extend(store, name, &root) else {
-            return Err(Code::System(0x878));
+            return Err(Code::SHORTAGE);
         };
         let spot = Spot {
             part: extended.last(),

@@ -15,8 +15,6 @@ use std::alloc::Global;
 use std::marker::Model;
 
 mod codes;
-#[cfg(test)]
-mod tests;
 
 /// The subpool of each page of a region of at most 8,192 pages, by the page's index in the region.
 #[derive(Drop)]

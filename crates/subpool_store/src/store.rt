@@ -39,8 +39,6 @@ use std::marker::Model;
 use thiserror::Error;
 
 #[cfg(test)]
-mod random;
-#[cfg(test)]
 mod tests;
 
 /// The subpool does not hold each doubleword of the place.
