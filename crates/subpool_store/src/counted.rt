@@ -74,7 +74,13 @@ impl Counted {
     }
 
     // Counts the entry of a page that was found to be of this owner, if there is such a page.
-    fn stop(&mut self, pages: &PageMap, subpool: SubpoolId, page: usize, owner: Option<SubpoolId>) -> Entry
+    fn stop(
+        &mut self,
+        pages: &PageMap,
+        subpool: SubpoolId,
+        page: usize,
+        owner: Option<SubpoolId>,
+    ) -> Entry
         requires few { self.old.steps ≤ 8 * most_doublewords + most_pages_above }
         requires owner { owner ≡ owner_of pages.now page }
         ensures entry { result ≡ entry_of pages.now subpool page }
@@ -104,7 +110,12 @@ impl Counted {
     }
 
     // Looks at the entries from a page on, up to the first one that is free or the subpool's own.
-    pub fn pass_others(&mut self, pages: &PageMap, subpool: SubpoolId, from: usize) -> (usize, Entry)
+    pub fn pass_others(
+        &mut self,
+        pages: &PageMap,
+        subpool: SubpoolId,
+        from: usize,
+    ) -> (usize, Entry)
         requires few { self.old.steps ≤ 8 * most_doublewords }
         requires most { length pages.now ≤ most_pages_above }
         requires from { from ≤ length pages.now }

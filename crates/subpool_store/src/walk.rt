@@ -56,7 +56,13 @@ fn queue_of(memory: &Memory, pages: &PageMap, subpool: SubpoolId, entry: Entry, 
 }
 
 // Joins a free page with those behind it, up to the first one that is assigned.
-fn join_pages(counted: Counted, memory: &Memory, pages: &PageMap, subpool: SubpoolId, from: usize) -> Part
+fn join_pages(
+    counted: Counted,
+    memory: &Memory,
+    pages: &PageMap,
+    subpool: SubpoolId,
+    from: usize,
+) -> Part
     requires few { counted.steps ≤ 8 * most_doublewords }
     requires exact { IsExact memory.now.held pages.now }
     requires opened { IsOpened pages.now memory.now.bytes }
@@ -77,7 +83,13 @@ fn join_pages(counted: Counted, memory: &Memory, pages: &PageMap, subpool: Subpo
 }
 
 // Passes a page of another subpool, and those behind it, up to the first one that is free or the subpool's own.
-fn pass_pages(counted: Counted, memory: &Memory, pages: &PageMap, subpool: SubpoolId, from: usize) -> Part
+fn pass_pages(
+    counted: Counted,
+    memory: &Memory,
+    pages: &PageMap,
+    subpool: SubpoolId,
+    from: usize,
+) -> Part
     requires few { counted.steps ≤ 8 * most_doublewords }
     requires exact { IsExact memory.now.held pages.now }
     requires opened { IsOpened pages.now memory.now.bytes }
@@ -100,7 +112,13 @@ fn pass_pages(counted: Counted, memory: &Memory, pages: &PageMap, subpool: Subpo
 
 // Leaves a page of the subpool's own of which nothing is free from an index on, and passes those behind it of which
 // nothing is free.
-fn leave_page(counted: Counted, memory: &Memory, pages: &PageMap, subpool: SubpoolId, from: usize) -> Part
+fn leave_page(
+    counted: Counted,
+    memory: &Memory,
+    pages: &PageMap,
+    subpool: SubpoolId,
+    from: usize,
+) -> Part
     requires few { counted.steps ≤ 8 * most_doublewords }
     requires exact { IsExact memory.now.held pages.now }
     requires opened { IsOpened pages.now memory.now.bytes }
@@ -235,7 +253,9 @@ impl Walk {
         let page = self.end / PAGE_DOUBLEWORDS;
         let end = PAGE_DOUBLEWORDS * page + PAGE_DOUBLEWORDS;
         let mut counted = self.counted;
-        'runs: while let Some((run, behind)) = counted.free_run(memory, page, self.end, self.queue) {
+        'runs: while let Some((run, behind)) = counted.free_run(
+            memory, page, self.end, self.queue,
+        ) {
             if least <= run.end - run.start || run.end == end {
                 return take_run(counted, memory, pages, subpool, self.end, (run, behind));
             }

@@ -14,17 +14,17 @@ plan_of size primary secondary side = record { cell_size = size; primary = prima
 pub returns-then-is_some-clause-refused : goal.returns-then-is_some-clause-refused
 returns-then-is_some-clause-refused c = in_use c.args.self.now c.args.store.now.storage c.args.name.now c.args.subpool (plan_of c.args.cell_size c.args.primary c.args.secondary c.args.side) c.is_some.result (c.is_some.ensures ∙ ap is_some c.find.ensures) c.if-is_some.true
 
-pub returns-then-len-ge64-clause-refused : goal.returns-then-len-ge64-clause-refused
-returns-then-len-ge64-clause-refused c =
+pub returns-then-len-ge-MOST_POOLS-clause-refused : goal.returns-then-len-ge-MOST_POOLS-clause-refused
+returns-then-len-ge-MOST_POOLS-clause-refused c =
     let plan = plan_of c.args.cell_size c.args.primary c.args.secondary c.args.side in
     let now = is_fresh c.args.self.now c.args.store.now.storage c.args.name.now c.args.subpool plan c.is_some.result (c.is_some.ensures ∙ ap is_some c.find.ensures) c.if-is_some.false in
-    too_many c.args.self.now c.args.store.now.storage c.args.name.now c.args.subpool plan now (let l = c.if-len-ge64.true in let e = c.len.ensures in omega arith)
+    too_many c.args.self.now c.args.store.now.storage c.args.name.now c.args.subpool plan now (let l = c.if-len-ge-MOST_POOLS.true in let e = c.len.ensures in omega arith)
 
 pub returns-in_default-clause-refused : goal.returns-in_default-clause-refused
 returns-in_default-clause-refused c =
     let plan = plan_of c.args.cell_size c.args.primary c.args.secondary c.args.side in
     let now = is_fresh c.args.self.now c.args.store.now.storage c.args.name.now c.args.subpool plan c.is_some.result (c.is_some.ensures ∙ ap is_some c.find.ensures) c.if-is_some.false in
-    no_room c.args.self.now c.args.store.now.storage c.args.name.now c.args.subpool plan now (let l = c.if-len-ge64.false in let e = c.len.ensures in omega arith) c.in_default.ensures.obtained.0
+    no_room c.args.self.now c.args.store.now.storage c.args.name.now c.args.subpool plan now (let l = c.if-len-ge-MOST_POOLS.false in let e = c.len.ensures in omega arith) c.in_default.ensures.obtained.0
 
 pub returns-clause-built : goal.returns-clause-built
 returns-clause-built c =
@@ -34,7 +34,7 @@ returns-clause-built c =
     let now = is_fresh c.args.self.now c.args.store.now.storage c.args.name.now c.args.subpool plan c.is_some.result (c.is_some.ensures ∙ ap is_some c.find.ensures) c.if-is_some.false in
     record {
       fresh = now;
-      room = has_room c.args.self.now c.args.store.now.storage c.args.name.now c.args.subpool plan now (let l = c.if-len-ge64.false in let e = c.len.ensures in omega arith);
+      room = has_room c.args.self.now c.args.store.now.storage c.args.name.now c.args.subpool plan now (let l = c.if-len-ge-MOST_POOLS.false in let e = c.len.ensures in omega arith);
       place = c.in-Some.place;
       extends = built c.args.self.now c.args.store.now.storage c.obtain_part.new.store.storage c.lay_out.new.store.storage c.requires.parts g.1 c.args.name.now fresh c.args.subpool plan _ c.in-Some.place g.0 refl
           (lays_is c.obtain_part.new.store.storage c.lay_out.new.store.storage _ _ _ _ _ _ (c.get-2.ensures.value ∙ c.addr-first.ensures) c.get-3.ensures.value c.get-4.ensures.value c.lay_out.ensures)
