@@ -1,6 +1,6 @@
 //! The subpools of pages as bare numbers, of which several are looked at at once.
 
-ghost use Rattle.std.specs.Prelude.{◌≡◌, ◌<◌, ◌≤◌, ◌+◌, ◌⊎◌, ◌↔◌, ℕ, length, false, true, IsTrue, is_some, slice_index_or, if◌then◌else◌};
+ghost use Rattle.std.specs.Prelude.{◌≡◌, ◌<◌, ◌≤◌, ◌+◌, ◌⊎◌, ◌↔◌, ℕ, length, false, true, IsTrue, is_some, slice_index_or};
 ghost use Rattle.mvs_model.specs.Finite.{has};
 ghost use Rattle.mvs_model.specs.Numbers.{most_subpools};
 ghost use Rattle.mvs_model.specs.Storage.{is_one_of};
@@ -14,10 +14,10 @@ use mvs_model::subpool_set::SubpoolSet;
 pub(crate) const FREE: u16 = u16::MAX;
 
 // How many pages of other subpools are looked at at once.
-const SEVERAL: u16 = 8;
+const SEVERAL: usize = 8;
 
 // How many free pages are looked at at once.
-const SEVERAL_FREE: u16 = 16;
+const SEVERAL_FREE: usize = 16;
 
 // The subpool of a number.
 pub(crate) fn subpool_of(code: u16) -> Option<SubpoolId>
@@ -40,31 +40,20 @@ fn is_usable(code: u16, own: u16) -> bool
     (code == FREE) | (code == own)
 }
 
-// Where a pass over several pages may stop at one of them: there if it is hit, else behind all of them.
-fn lane_of(hit: bool, lane: u16, several: u16) -> u16
-    ensures { result ≡ (if hit then lane else several) }
-{
-    if hit { lane } else { several }
-}
-
-// Which of several pages is the first one that is free or the subpool's, or their number. Each is compared once.
-fn usable_among(codes: &[u16], own: u16) -> u16
+// Whether one of some pages is free or the subpool's.
+fn is_one_usable(codes: &[u16], own: u16) -> bool
     requires codes { AreCodes codes.now }
     requires own { own < most_subpools }
-    requires several { length codes.now ≡ 8 }
-    ensures first { IsFirst (is_usable own) (page_owners codes.now) 0 result }
-    ensures few { result ≤ 8 }
+    ensures { result ≡ false → (p : ℕ) → p < length codes.now → is_usable own (decoded (slice_index_or codes.now p free_code)) ≡ false }
 {
-    let mut first = SEVERAL;
-    for lane in 0..SEVERAL {
-        let hit = is_usable(codes[usize::from(lane)], own);
-        first = first.min(lane_of(hit, lane, SEVERAL));
+    let mut found = false;
+    for code in codes {
+        found |= is_usable(*code, own);
     }
-    first
+    found
 }
 
-// Passes several pages at once, from one on, up to the first one that is free or the subpool's; fewer than several are left
-// where it finds none.
+// Passes several pages at once of which none is free or the subpool's, from one on.
 fn pass_several(codes: &[u16], own: u16, from: usize) -> usize
     requires codes { AreCodes codes.now }
     requires own { own < most_subpools }
@@ -73,19 +62,18 @@ fn pass_several(codes: &[u16], own: u16, from: usize) -> usize
     ensures within { result ≤ length codes.now }
     ensures passed { (p : ℕ) → from ≤ p → p < result → is_usable own (owner_of (page_owners codes.now) p) ≡ false }
 {
-    let several = usize::from(SEVERAL);
     let mut page = from;
-    'several: while several <= codes.len() - page {
-        let lane = usable_among(&codes[page..page + several], own);
-        page += usize::from(lane);
-        if lane < SEVERAL {
+    'several: while SEVERAL <= codes.len() - page {
+        if is_one_usable(&codes[page..page + SEVERAL], own) {
             return page;
         }
+        page += SEVERAL;
     }
     page
 }
 
-// The first page from one on that is free or the subpool's, and its subpool.
+// The first page from one on that is free or the subpool's, and its subpool. Several pages are compared at once; those among
+// which it is are then compared one by one, which is the same look at them.
 pub(crate) fn first_usable(codes: &[u16], own: u16, from: usize) -> (usize, Option<SubpoolId>)
     requires codes { AreCodes codes.now }
     requires own { own < most_subpools }
@@ -104,31 +92,19 @@ pub(crate) fn first_usable(codes: &[u16], own: u16, from: usize) -> (usize, Opti
     (page, None)
 }
 
-// Whether a page is assigned.
-fn is_assigned(code: u16) -> bool
-    requires { (code < most_subpools) ⊎ (code ≡ free_code) }
-    ensures { result ≡ is_some (decoded code) }
+// Whether one of some pages is assigned.
+fn is_one_assigned(codes: &[u16]) -> bool
+    requires { AreCodes codes.now }
+    ensures { result ≡ false → (p : ℕ) → p < length codes.now → is_some (decoded (slice_index_or codes.now p free_code)) ≡ false }
 {
-    code != FREE
-}
-
-// Which of several pages is the first one that is assigned, or their number. Each of them is compared once.
-fn assigned_among(codes: &[u16]) -> u16
-    requires codes { AreCodes codes.now }
-    requires several { length codes.now ≡ 16 }
-    ensures first { IsFirst is_some (page_owners codes.now) 0 result }
-    ensures few { result ≤ 16 }
-{
-    let mut first = SEVERAL_FREE;
-    for lane in 0..SEVERAL_FREE {
-        let hit = is_assigned(codes[usize::from(lane)]);
-        first = first.min(lane_of(hit, lane, SEVERAL_FREE));
+    let mut found = false;
+    for code in codes {
+        found |= *code != FREE;
     }
-    first
+    found
 }
 
-// Passes several free pages at once, from one on, up to the first one that is assigned; fewer than several are left where it
-// finds none.
+// Passes several free pages at once, from one on.
 fn pass_free(codes: &[u16], from: usize) -> usize
     requires codes { AreCodes codes.now }
     requires from { from ≤ length codes.now }
@@ -136,19 +112,17 @@ fn pass_free(codes: &[u16], from: usize) -> usize
     ensures within { result ≤ length codes.now }
     ensures passed { (p : ℕ) → from ≤ p → p < result → is_some (owner_of (page_owners codes.now) p) ≡ false }
 {
-    let several = usize::from(SEVERAL_FREE);
     let mut page = from;
-    'several: while several <= codes.len() - page {
-        let lane = assigned_among(&codes[page..page + several]);
-        page += usize::from(lane);
-        if lane < SEVERAL_FREE {
+    'several: while SEVERAL_FREE <= codes.len() - page {
+        if is_one_assigned(&codes[page..page + SEVERAL_FREE]) {
             return page;
         }
+        page += SEVERAL_FREE;
     }
     page
 }
 
-// The first page from one on that a subpool has, and the subpool.
+// The first page from one on that a subpool has, and the subpool; looked for in the same way.
 pub(crate) fn first_assigned(codes: &[u16], from: usize) -> (usize, Option<SubpoolId>)
     requires codes { AreCodes codes.now }
     requires from { from ≤ length codes.now }
@@ -158,7 +132,7 @@ pub(crate) fn first_assigned(codes: &[u16], from: usize) -> (usize, Option<Subpo
     let mut page = pass_free(codes, from);
     'pages: while page < codes.len() {
         let code = codes[page];
-        if is_assigned(code) {
+        if code != FREE {
             return (page, subpool_of(code));
         }
         page += 1;

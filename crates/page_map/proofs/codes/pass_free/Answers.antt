@@ -1,17 +1,13 @@
-use Rattle.std.proofs.Common.{◌≡◌, ◌≤◌, ◌<◌, ◌+◌, subst, ℕ, false, arith, is_some}
-use Rattle.page_map.specs.Codes.{page_owners}
-use Rattle.page_map.specs.Owners.{owner_of}
-use Rattle.page_map.proofs.Lanes.{several_more}
+use Rattle.std.proofs.Common.{is_some, ◌≤◌, ◌+◌, ◌-◌, take, drop, ◌∙◌, arith}
+use Rattle.std.proofs.lemmas.List.{get_or-take, get_or-drop}
+use Rattle.page_map.proofs.Decoding.{refused_several, part_length}
 use Rattle.page_map.proofs.codes.pass_free.Goals as goal
 
 pub several-preserved : goal.several-preserved
-several-preserved c = let e = c.assigned_among-lane.ensures in let n = c.from-several.ensures in let lane = c.from-page.ensures in let now = c.several.invariant in record {
-  after = omega (arith, now.after);
-  within = omega (arith, now.within, n, lane, e.few);
-  passed = λ p low high. several_more (is_some) c.args.codes.now c.args.from c.several.page c.from-several.result c.assigned_among-lane.result now.passed e.first (omega (arith, e.few, n)) p low (omega (arith, high, lane));
+several-preserved c = record {
+  after = let low : c.args.from ≤ c.several.page = c.several.invariant.after in omega arith;
+  within = omega arith;
+  passed = refused_several is_some c.args.codes.now (take (c.several.page + 16 - c.several.page) (drop c.several.page c.args.codes.now)) c.args.from c.several.page 16 c.several.invariant.passed
+      (λ p low. get_or-take (c.several.page + 16 - c.several.page) (drop c.several.page c.args.codes.now) p 65535 (omega (arith, low)) ∙ get_or-drop c.several.page c.args.codes.now p 65535)
+      (λ p low. c.is_one_assigned.ensures c.if-is_one_assigned.false p (part_length c.args.codes.now c.several.page (c.several.page + 16) p (omega arith) (omega (arith, low))));
 }
-
-pub returns-then-lane-lt-SEVERAL_FREE-clause-passed : goal.returns-then-lane-lt-SEVERAL_FREE-clause-passed
-returns-then-lane-lt-SEVERAL_FREE-clause-passed c p low high =
-    let e = c.assigned_among-lane.ensures in let n = c.from-several.ensures in let lane = c.from-page.ensures in
-    several_more (is_some) c.args.codes.now c.args.from c.several.page c.from-several.result c.assigned_among-lane.result c.several.invariant.passed e.first (omega (arith, e.few, n)) p low (omega (arith, high, lane))
