@@ -8,6 +8,7 @@ use Rattle.subpool_store.specs.Memory.{IsCursor, MemoryState}
 use Rattle.subpool_store.specs.Search.{IsExact, NoneFits, may_take}
 use Rattle.subpool_store.specs.Walk.{IsInside, IsWalk, entry_of, looked_at}
 use Rattle.subpool_store.specs.declared.counted.Counted.{Counted}
+use Rattle.subpool_store.specs.declared.counted.Entry.{Entry}
 use Rattle.subpool_store.specs.declared.counted.Entry.TheVariants.{Own}
 use Rattle.subpool_store.specs.declared.walk.Walk.{Walk}
 use Rattle.subpool_store.proofs.Begun.{counted_few, inside_counted}
@@ -20,6 +21,10 @@ held_fails m pages s i set = elim (cases_lt i (length m.held)) [
   | inl low ↦ ap (λ b. not b && is_usable s (owner_of pages (i / 512))) (get_or_default m.held i true false low ∙ set)
   | inr past ↦ absurd (both_ways _ (get_or_past m.held i false past) set)
 ]
+
+-- a pass that has joined nothing
+abbrev pub walk_at : ℕ → Entry → ℕ → Counted → Walk
+walk_at at entry queue counted = record { start = at; end = at; entry = entry; queue = queue; counted = counted }
 
 -- a pass has not counted much
 pub walk_few : (m : MemoryState) (pages : List (Option ℕ)) (s : ℕ) (w : Walk) → IsExact m.held pages → IsWalk m pages s w → w.counted.steps < 33554432

@@ -1,7 +1,7 @@
 -- Where a pass over a region stands.
 use Rattle.std.specs.Prelude.{◌≡◌, ℕ, ◌+◌, ◌-◌, ◌*◌, ◌/◌, ◌%◌, ◌<◌, ◌≤◌, ◌⊎◌, ◌==◌, ◌&&◌, ◌||◌, not, Bool, true, false, Option, Some, None, List, length, nat_lt, slice_index_or, if◌then◌else◌}
 use Rattle.mvs_model.specs.Finite.{count_below}
-use Rattle.mvs_model.specs.Numbers.{page_doublewords}
+use Rattle.mvs_model.specs.Numbers.{page_bytes, page_doublewords}
 use Rattle.page_map.specs.Owners.{is_of, owner_of}
 use Rattle.subpool_store.specs.Bits.{digit}
 use Rattle.subpool_store.specs.Edits.{IsFreeRun}
@@ -67,6 +67,13 @@ pub record IsWalk (m : MemoryState) (pages : List (Option ℕ)) (s : ℕ) (w : W
   pub passes : (i : ℕ) → w.start ≤ i → i < w.end → may_take m.held pages s i ≡ true
   pub stands : Stands m pages s w.end w.entry w.queue
   pub counted : w.counted.steps ≡ looked_at m pages s w.end
+
+-- The first free run of a page from an index on lies from one byte of the page up to another, and then the queue goes on.
+pub record IsFoundRun (m : MemoryState) (page from at end queue : ℕ) : Type 0 where
+  pub run : IsFreeRun m.held from (page_doublewords * page + page_doublewords) (page_doublewords * page + at / 8) (page_doublewords * page + end / 8)
+  pub whole : at % 8 ≡ 0
+  pub inside : end ≤ page_bytes
+  pub cursor : IsCursor m page (page_doublewords * page + end / 8) queue
 
 -- The pass stands inside a page of s.
 abbrev pub IsInside : List (Option ℕ) → ℕ → Walk → Type 0

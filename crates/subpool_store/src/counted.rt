@@ -6,14 +6,12 @@ ghost use Rattle.mvs_model.specs.Numbers.{most_pages_above, page_doublewords};
 ghost use Rattle.page_map.specs.Owners.{is_usable, owner_of};
 ghost use Rattle.region_raw.specs.Pages.{is_open};
 ghost use Rattle.subpool_store.specs.Bits.{digit};
-ghost use Rattle.subpool_store.specs.Edits.{IsFreeRun};
 ghost use Rattle.subpool_store.specs.Memory.{IsCursor};
 ghost use Rattle.subpool_store.specs.Region.{IsOpened};
 ghost use Rattle.subpool_store.specs.Sizes.{most_doublewords};
-ghost use Rattle.subpool_store.specs.Walk.{IsFull, IsOwn, entries_to, entry_by, entry_of};
+ghost use Rattle.subpool_store.specs.Walk.{IsFoundRun, IsFull, IsOwn, entries_to, entry_by, entry_of};
 
 use crate::memory::Memory;
-use crate::run::Run;
 use free_queue::queue::Head;
 use mvs_model::subpool::SubpoolId;
 use page_map::PageMap;
@@ -42,7 +40,7 @@ fn entry_by(owner: Option<SubpoolId>, subpool: SubpoolId) -> Entry
     }
 }
 
-// Whether the page of an entry is the subpool's own and nothing of it is free.
+// Whether the page of an entry is the subpool's own and nothing of it is free: its queue is empty.
 fn is_full(memory: &Memory, page: usize, entry: Entry) -> bool
     requires { IsOwn entry → is_open memory.now.bytes page ≡ true }
     ensures full { result ≡ true → IsOwn entry × ((i : ℕ) → i / page_doublewords ≡ page → slice_index_or memory.now.held i false ≡ true) }
@@ -158,24 +156,25 @@ impl Counted {
         (page, entry)
     }
 
-    // Looks at the first free run of a page from a doubleword of the page on; gives it and the queue behind it.
+    // Looks at the first free run of a page from a doubleword of the page on: the first of its bytes, counted from the page's
+    // start, the byte behind it, and the queue behind it.
     pub fn free_run(
         &mut self,
         memory: &Memory,
         page: usize,
         from: usize,
         queue: Head,
-    ) -> Option<(Run, Head)>
+    ) -> Option<(u32, u32, Head)>
         requires few { self.old.steps ≤ 8 * most_doublewords }
         requires there { is_open memory.now.bytes page ≡ true }
         requires from { page_doublewords * page ≤ from }
         requires queue { IsCursor memory.now page from queue }
         ensures run { MatchOption result
             ((i : ℕ) → from ≤ i → i < page_doublewords * page + page_doublewords → slice_index_or memory.now.held i false ≡ true)
-            (λ found. IsFreeRun memory.now.held from (page_doublewords * page + page_doublewords) found.0.start found.0.end × IsCursor memory.now page found.0.end found.1) }
+            (λ found. IsFoundRun memory.now page from found.0 found.1 found.2) }
         ensures counted { MatchOption result (self.new.steps ≡ self.old.steps) (λ _. self.new.steps ≡ self.old.steps + 1) }
     {
-        let found = memory.next_free(page, from, queue)?;
+        let found = memory.free_run(page, from, queue)?;
         self.steps += 1;
         Some(found)
     }

@@ -8,6 +8,7 @@ ghost use Rattle.region_raw.specs.Rows.{IsApart};
 ghost use Rattle.subpool_store.specs.Edits.{IsClear, IsMarked, IsFreeRun, HasNoBit, HasBit};
 ghost use Rattle.subpool_store.specs.Memory.{IsCursor, IsFilled, IsHeldPart, KeepsHeld, Stays, Turns};
 ghost use Rattle.subpool_store.specs.Sizes.{most_doublewords};
+ghost use Rattle.subpool_store.specs.Walk.{IsFoundRun};
 
 use crate::run::Run;
 use free_queue::queue::{self, Head};
@@ -188,6 +189,21 @@ impl Memory {
             end: start + (len / 8) as usize,
         };
         Some((run, queue::behind(&self.region, page, queue)))
+    }
+
+    // The same run in bytes from the page's start: the first one, and the one behind it; and the queue behind the run.
+    pub fn free_run(&self, page: usize, from: usize, queue: Head) -> Option<(u32, u32, Head)>
+        requires there { is_open self.now.bytes page ≡ true }
+        requires from { page_doublewords * page ≤ from }
+        requires queue { IsCursor self.now page from queue }
+        ensures { MatchOption result
+            ((i : ℕ) → from ≤ i → i < page_doublewords * page + page_doublewords → slice_index_or self.now.held i false ≡ true)
+            (λ found. IsFoundRun self.now page from found.0 found.1 found.2) }
+    {
+        let Some((at, len)) = queue::next_free(&self.region, page, queue, 0) else {
+            return None;
+        };
+        Some((at, at + len, queue::behind(&self.region, page, queue)))
     }
 
     // Gives each of some bytes that are held the value.

@@ -1,7 +1,7 @@
 //! One pass in rising order over the pages of a region and the free runs of the subpool's own pages.
 
 ghost use Rattle.std.specs.Prelude.{◌≡◌, ◌<◌, ◌≤◌, ◌+◌, ◌-◌, ◌*◌, ◌/◌, ◌%◌, ◌⊎◌, ◌↔◌, ℕ, IsTrue, MatchOption, Some, None, false, true, length, slice_index_or};
-ghost use Rattle.mvs_model.specs.Numbers.{page_doublewords};
+ghost use Rattle.mvs_model.specs.Numbers.{most_pages_above, page_doublewords};
 ghost use Rattle.page_map.specs.Owners.{owner_of, is_usable};
 ghost use Rattle.subpool_store.specs.Edits.{IsFreeRun};
 ghost use Rattle.subpool_store.specs.Region.{IsOpened};
@@ -14,7 +14,7 @@ use crate::counted::{Counted, Entry};
 use crate::memory::Memory;
 use crate::run::Run;
 use free_queue::queue::Head;
-use mvs_model::numbers::PAGE_DOUBLEWORDS;
+use mvs_model::numbers::{PAGE_BYTES, PAGE_DOUBLEWORDS};
 use mvs_model::subpool::SubpoolId;
 use page_map::PageMap;
 
@@ -180,6 +180,19 @@ fn take_run(
     }
 }
 
+// The doublewords of a run that lies from one byte of a page up to another.
+fn run_at(page: usize, at: u32, end: u32) -> Run
+    requires few { page < most_pages_above }
+    ensures start { result.start ≡ page_doublewords * page + at / 8 }
+    ensures end { result.end ≡ page_doublewords * page + end / 8 }
+{
+    let first = PAGE_DOUBLEWORDS * page;
+    Run {
+        start: first + (at / 8) as usize,
+        end: first + (end / 8) as usize,
+    }
+}
+
 // Looks at the next free run of a page of the subpool's own, and leaves the page where there is none.
 fn examine_run(
     counted: Counted,
@@ -199,9 +212,13 @@ fn examine_run(
     ensures { IsNextPart memory.now pages.now subpool from counted.steps result }
 {
     let mut counted = counted;
-    match counted.free_run(memory, from / PAGE_DOUBLEWORDS, from, queue) {
+    let page = from / PAGE_DOUBLEWORDS;
+    match counted.free_run(memory, page, from, queue) {
         None => leave_page(counted, memory, pages, subpool, from),
-        Some(found) => take_run(counted, memory, pages, subpool, from, found),
+        Some((at, end, behind)) => {
+            let run = run_at(page, at, end);
+            take_run(counted, memory, pages, subpool, from, (run, behind))
+        }
     }
 }
 
@@ -230,6 +247,14 @@ impl Walk {
         }
     }
 
+    // Has the pass stand at an index, with nothing joined.
+    fn stand(&mut self, at: usize)
+        ensures { self.new ≡ record { start = at; end = at; entry = self.old.entry; queue = self.old.queue; counted = self.old.counted } }
+    {
+        self.start = at;
+        self.end = at;
+    }
+
     // Passes free runs of a page of the subpool's own that are shorter than the least length and end before the page does;
     // gives what comes behind them.
     fn pass_short(
@@ -251,19 +276,25 @@ impl Walk {
         ensures part { IsNextPart memory.now pages.now subpool self.new.end self.new.counted.steps result }
     {
         let page = self.end / PAGE_DOUBLEWORDS;
-        let end = PAGE_DOUBLEWORDS * page + PAGE_DOUBLEWORDS;
+        let first = PAGE_DOUBLEWORDS * page;
+        let mut passed = 8 * (self.end - first) as u32;
         let mut counted = self.counted;
-        'runs: while let Some((run, behind)) = counted.free_run(
-            memory, page, self.end, self.queue,
+        'runs: while let Some((at, end, behind)) = counted.free_run(
+            memory,
+            page,
+            first + (passed / 8) as usize,
+            self.queue,
         ) {
-            if least <= run.end - run.start || run.end == end {
+            if least <= ((end - at) / 8) as usize || end == PAGE_BYTES {
+                self.stand(first + (passed / 8) as usize);
+                let run = run_at(page, at, end);
                 return take_run(counted, memory, pages, subpool, self.end, (run, behind));
             }
-            self.start = run.end;
-            self.end = run.end;
+            passed = end;
             self.queue = behind;
             self.counted = counted;
         }
+        self.stand(first + (passed / 8) as usize);
         leave_page(counted, memory, pages, subpool, self.end)
     }
 
