@@ -244,6 +244,3 @@ pub fn side(loc: Loc, residence: Residence) -> Side
         (Loc::Below, _) | (Loc::Res, Residence::Below) => Side::Below,
     }
 }
-
-#[cfg(test)]
-mod tests;

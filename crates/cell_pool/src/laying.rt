@@ -33,10 +33,10 @@ pub(crate) fn obtain_part(
     count: CellCount,
     side: Side,
 ) -> Option<Place>
-    requires { IsBounded store.old.regions }
+    requires { IsBounded store.old.storage.regions }
     ensures obtained { MatchOption result
-        (NoPlace store.old.regions (holder store.old) subpool (part_want size count side) × (store.new ≡ store.old))
-        (λ p. Grant store.old subpool (part_want size count side) p store.new × IsStorage store.new) }
+        (NoPlace store.old.storage.regions (holder store.old.storage) subpool (part_want size count side) × (store.new.storage ≡ store.old.storage))
+        (λ p. Grant store.old.storage subpool (part_want size count side) p store.new.storage × IsStorage store.new.storage) }
 {
     let bytes = part_bytes(size.get(), count.get());
     if bytes > 0x7FFF_FFFF {
@@ -49,8 +49,8 @@ pub(crate) fn obtain_part(
 // Writes a word.
 pub(crate) fn put_word(store: &mut Store, addr: u32, word: u32)
     requires low { addr < 2 ^ 31 }
-    requires held { AllHeld store.old (place_at addr 4) }
-    ensures { PutsWord store.old addr word store.new }
+    requires held { AllHeld store.old.storage (place_at addr 4) }
+    ensures { PutsWord store.old.storage addr word store.new.storage }
 {
     put(store, addr, &word.to_be_bytes());
 }
@@ -60,8 +60,8 @@ pub(crate) fn lay_out(store: &mut Store, part: u32, count: u32, size: u32)
     requires low { part + head_length count ≤ 2 ^ 31 }
     requires few { count ≤ 65536 }
     requires some { 1 ≤ count }
-    requires held { AllHeld store.old (place_at part (head_length count)) }
-    ensures { LaysOut store.old part count size store.new }
+    requires held { AllHeld store.old.storage (place_at part (head_length count)) }
+    ensures { LaysOut store.old.storage part count size store.new.storage }
 {
     put_word(store, part, 0);
     put_word(store, part + 4, count);

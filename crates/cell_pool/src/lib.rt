@@ -10,8 +10,6 @@ mod release;
 mod report;
 mod root;
 mod take;
-#[cfg(test)]
-mod tests;
 mod walk;
 mod words;
 

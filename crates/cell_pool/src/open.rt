@@ -94,13 +94,13 @@ fn first_clear(bytes: &[u8]) -> Option<u32>
 // The first free cell of a part of which not all cells are taken.
 fn first_free(store: &Store, part: u32, count: u32) -> u32
     requires low { part + 16 < 2 ^ 31 }
-    requires count { count ≡ count_at (byte_of store.now) part }
+    requires count { count ≡ count_at (byte_of store.now.storage) part }
     requires few { count ≤ 65536 }
     requires some { 1 ≤ count }
-    requires held { AllHeld store.now (place_at (part + 16) (8 * ((count + 63) / 64))) }
-    requires free { count_below count (flag (byte_of store.now) part) < count }
+    requires held { AllHeld store.now.storage (place_at (part + 16) (8 * ((count + 63) / 64))) }
+    requires free { count_below count (flag (byte_of store.now.storage) part) < count }
     ensures within { result < count }
-    ensures clear { flag (byte_of store.now) part result ≡ false }
+    ensures clear { flag (byte_of store.now.storage) part result ≡ false }
 {
     let flags = store.bytes(Place::new(Addr::new(part + 16), 8 * ((count + 63) / 64)));
     match first_clear(flags) {
@@ -111,10 +111,10 @@ fn first_free(store: &Store, part: u32, count: u32) -> u32
 
 // The first free cell of the earliest part that has one, where some cell is free.
 pub(crate) fn find_free(store: &Store, root: &Root) -> Spot
-    requires chain { IsChain store.now root.now }
-    requires counted { IsCounted (byte_of store.now) root.now }
+    requires chain { IsChain store.now.storage root.now }
+    requires counted { IsCounted (byte_of store.now.storage) root.now }
     requires free { 1 ≤ root.now.free }
-    ensures { IsFreeAt store.now root.now result.part result.cell result.taken }
+    ensures { IsFreeAt store.now.storage root.now result.part result.cell result.taken }
 {
     let mut part = root.open_part();
     'walk: for step in 0..root.count() {

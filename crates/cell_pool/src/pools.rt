@@ -10,6 +10,7 @@ ghost use Rattle.cell_pool.specs.Walk.{Fills, IsChain, IsFreeAt, IsTakenAt, Meet
 ghost use Rattle.cell_pool.specs.declared.entry.Entry.{Entry as TheEntry};
 ghost use Rattle.std.specs.FinMap.{get, empty, len};
 ghost use Rattle.mvs_model.specs.Name.{same_name};
+ghost use Rattle.mvs_model.specs.Numbers.{most_pools};
 ghost use Rattle.mvs_model.specs.Finite.{Keeps};
 ghost use Rattle.cell_pool.specs.Roots.{Root as TheRoot};
 ghost use Rattle.cell_pool.specs.Building.{Builds, IsRefusal};
@@ -41,6 +42,7 @@ use mvs_model::bounded::{CellCount, CellSize};
 use mvs_model::code::Code;
 use mvs_model::error::OutOfMemory;
 use mvs_model::name::Name;
+use mvs_model::numbers::MOST_POOLS;
 use mvs_model::place::{Addr, Place};
 use mvs_model::subpool::SubpoolId;
 use mvs_model::subpool_set::SubpoolSet;
@@ -61,6 +63,7 @@ impl Model for Pools {
     ghost use Rattle.std.specs.FinMap.{FinMap, code};
     ghost use Rattle.slab.specs.Slab.{slab_len};
     ghost use Rattle.mvs_model.specs.Name.{name_cmp, name_code};
+    ghost use Rattle.mvs_model.specs.Numbers.{most_pools};
     ghost use Rattle.cell_pool.specs.Roots.{Root, root_code};
     ghost use Rattle.cell_pool.specs.Entries.{roots_of, IsDistinct};
 
@@ -70,15 +73,15 @@ impl Model for Pools {
 
     ghost view = { λ p. roots_of p.entries.slots };
 
-    ghost invariant = { λ p. IsDistinct p.entries.slots × (slab_len p.entries ≤ 64) × (64 ≤ p.entries.capacity) };
+    ghost invariant = { λ p. IsDistinct p.entries.slots × (slab_len p.entries ≤ most_pools) × (most_pools ≤ p.entries.capacity) };
 }
 
 // The taken cell of one of the subpool's pools that has the address.
 fn cell_in(entries: &Slab<Entry>, store: &Store, subpool: SubpoolId, addr: u32) -> Option<Place>
-    requires { (k : ℕ) (x : TheEntry) → slab_get entries.now k ≡ Some x → IsChain store.now x.root }
+    requires { (k : ℕ) (x : TheEntry) → slab_get entries.now k ≡ Some x → IsChain store.now.storage x.root }
     ensures { MatchOption result
-        ((k : ℕ) (x : TheEntry) → slab_get entries.now k ≡ Some x → x.root.subpool ≡ subpool → in_taken (pool_of (byte_of store.now) x.root) addr ≡ false)
-        (λ p. (k : ℕ) × (x : TheEntry) × (slab_get entries.now k ≡ Some x) × (set.contains (taken_of (byte_of store.now) x.root) p.addr ≡ true) × (p.len ≡ x.root.cell_size) × (has_address p addr ≡ true)) }
+        ((k : ℕ) (x : TheEntry) → slab_get entries.now k ≡ Some x → x.root.subpool ≡ subpool → in_taken (pool_of (byte_of store.now.storage) x.root) addr ≡ false)
+        (λ p. (k : ℕ) × (x : TheEntry) × (slab_get entries.now k ≡ Some x) × (set.contains (taken_of (byte_of store.now.storage) x.root) p.addr ≡ true) × (p.len ≡ x.root.cell_size) × (has_address p addr ≡ true)) }
 {
     if has_none(entries) {
         return None;
@@ -100,10 +103,10 @@ fn cell_of(
     subpool: SubpoolId,
     addr: u32,
 ) -> Option<Place>
-    requires { (k : ℕ) (x : TheEntry) → slab_get entries.now k ≡ Some x → IsChain store.now x.root }
+    requires { (k : ℕ) (x : TheEntry) → slab_get entries.now k ≡ Some x → IsChain store.now.storage x.root }
     ensures { MatchOption result
-        ((x : TheEntry) → slab_get entries.now key ≡ Some x → x.root.subpool ≡ subpool → in_taken (pool_of (byte_of store.now) x.root) addr ≡ false)
-        (λ p. (x : TheEntry) × (slab_get entries.now key ≡ Some x) × (set.contains (taken_of (byte_of store.now) x.root) p.addr ≡ true) × (p.len ≡ x.root.cell_size) × (has_address p addr ≡ true)) }
+        ((x : TheEntry) → slab_get entries.now key ≡ Some x → x.root.subpool ≡ subpool → in_taken (pool_of (byte_of store.now.storage) x.root) addr ≡ false)
+        (λ p. (x : TheEntry) × (slab_get entries.now key ≡ Some x) × (set.contains (taken_of (byte_of store.now.storage) x.root) p.addr ≡ true) × (p.len ≡ x.root.cell_size) × (has_address p addr ≡ true)) }
 {
     let Some(entry) = entries.get(key) else {
         return None;
@@ -122,10 +125,10 @@ fn entry_meets(
     subpool: SubpoolId,
     place: Place,
 ) -> bool
-    requires { (k : ℕ) (x : TheEntry) → slab_get entries.now k ≡ Some x → IsChain store.now x.root }
+    requires { (k : ℕ) (x : TheEntry) → slab_get entries.now k ≡ Some x → IsChain store.now.storage x.root }
     ensures { MatchBool result
-        ((x : TheEntry) × (slab_get entries.now key ≡ Some x) × (x.root.subpool ≡ subpool) × Meets store.now x.root place)
-        ((x : TheEntry) → slab_get entries.now key ≡ Some x → x.root.subpool ≡ subpool → Meets store.now x.root place → ⊥) }
+        ((x : TheEntry) × (slab_get entries.now key ≡ Some x) × (x.root.subpool ≡ subpool) × Meets store.now.storage x.root place)
+        ((x : TheEntry) → slab_get entries.now key ≡ Some x → x.root.subpool ≡ subpool → Meets store.now.storage x.root place → ⊥) }
 {
     let Some(entry) = entries.get(key) else {
         return false;
@@ -138,10 +141,10 @@ fn entry_meets(
 
 // Whether a part of one of the subpool's pools has a doubleword of the place.
 fn any_meets(entries: &Slab<Entry>, store: &Store, subpool: SubpoolId, place: Place) -> bool
-    requires { (k : ℕ) (x : TheEntry) → slab_get entries.now k ≡ Some x → IsChain store.now x.root }
+    requires { (k : ℕ) (x : TheEntry) → slab_get entries.now k ≡ Some x → IsChain store.now.storage x.root }
     ensures { MatchBool result
-        ((k : ℕ) × (x : TheEntry) × (slab_get entries.now k ≡ Some x) × (x.root.subpool ≡ subpool) × Meets store.now x.root place)
-        ((k : ℕ) (x : TheEntry) → slab_get entries.now k ≡ Some x → x.root.subpool ≡ subpool → Meets store.now x.root place → ⊥) }
+        ((k : ℕ) × (x : TheEntry) × (slab_get entries.now k ≡ Some x) × (x.root.subpool ≡ subpool) × Meets store.now.storage x.root place)
+        ((k : ℕ) (x : TheEntry) → slab_get entries.now k ≡ Some x → x.root.subpool ≡ subpool → Meets store.now.storage x.root place → ⊥) }
 {
     if has_none(entries) {
         return false;
@@ -171,7 +174,7 @@ impl Pools {
     pub fn new(alloc: Global) -> Result<Pools, OutOfMemory>
         ensures { IfOk result (λ p. p ≡ empty) }
     {
-        match Slab::with_capacity(alloc, 64) {
+        match Slab::with_capacity(alloc, MOST_POOLS) {
             Ok(entries) => Ok(Pools { entries }),
             Err(_) => Err(OutOfMemory),
         }
@@ -188,18 +191,18 @@ impl Pools {
     /// are a name that no pool has (user 4002) and an address at which no taken cell of the pool begins (user 4001); the codes
     /// are this project's choice.
     pub fn free(&mut self, store: &mut Store, name: &Name, cell: Addr) -> Result<(), Code>
-        requires { Agree self.old store.old }
-        ensures answer { (o : Owners) (t : TheName) → let old = state_of store.old o (pools_of self.old store.old) in
-            Answered (λ _. Rc0) (λ reply new. FreeStep old t name.now cell (get old.pools name.now) reply new) old t result (state_of store.new o (pools_of self.new store.new)) }
-        ensures agree { Agree self.new store.new }
-        ensures unchanged { OnErr result (store.new ≡ store.old) }
+        requires { Agree self.old store.old.storage }
+        ensures answer { (o : Owners) (t : TheName) → let old = state_of store.old.storage o (pools_of self.old store.old.storage) in
+            Answered (λ _. Rc0) (λ reply new. FreeStep old t name.now cell (get old.pools name.now) reply new) old t result (state_of store.new.storage o (pools_of self.new store.new.storage)) }
+        ensures agree { Agree self.new store.new.storage }
+        ensures unchanged { OnErr result (store.new.storage ≡ store.old.storage) }
         ensures pools_unchanged { OnErr result (self.new ≡ self.old) }
     {
         let Some(root) = self.find(name) else {
-            return Err(Code::User(4002));
+            return Err(Code::NO_SUCH_POOL);
         };
         let Some(spot) = find_taken(store, &root, cell.get()) else {
-            return Err(Code::User(4001));
+            return Err(Code::NO_SUCH_CELL);
         };
         self.give_cell(store, name, &root, spot);
         Ok(())
@@ -207,12 +210,12 @@ impl Pools {
 
     // Gives back a taken cell of the pool.
     fn give_cell(&mut self, store: &mut Store, name: &Name, root: &Root, spot: Taken)
-        requires agree { Agree self.old store.old }
+        requires agree { Agree self.old store.old.storage }
         requires root { get self.old name.now ≡ Some root.now }
-        requires taken { (c : ℕ) × IsTakenAt store.old root.now spot.part spot.cell spot.taken spot.past c }
-        ensures marked { Marks store.old spot.part spot.cell false (spot.taken - 1) store.new }
-        ensures pools { pools_of self.new store.new ≡ pools_of self.old store.new }
-        ensures agree { Agree self.new store.new }
+        requires taken { (c : ℕ) × IsTakenAt store.old.storage root.now spot.part spot.cell spot.taken spot.past c }
+        ensures marked { Marks store.old.storage spot.part spot.cell false (spot.taken - 1) store.new.storage }
+        ensures pools { pools_of self.new store.new.storage ≡ pools_of self.old store.new.storage }
+        ensures agree { Agree self.new store.new.storage }
     {
         mark(store, spot.part, spot.cell, false, spot.taken - 1);
         let open = open_after(root, &spot);
@@ -232,21 +235,21 @@ impl Pools {
         secondary: CellCount,
         side: Side,
     ) -> Result<(), Code>
-        requires { Agree self.old store.old }
-        ensures built { OnOk result (Builds self.old store.old name.now subpool (record { cell_size = cell_size; primary = primary; secondary = secondary; side = side }) self.new store.new) }
-        ensures refused { IfErr result (IsRefusal self.old store.old name.now subpool (record { cell_size = cell_size; primary = primary; secondary = secondary; side = side })) }
-        ensures agree { Agree self.new store.new }
-        ensures unchanged { OnErr result (store.new ≡ store.old) }
+        requires { Agree self.old store.old.storage }
+        ensures built { OnOk result (Builds self.old store.old.storage name.now subpool (record { cell_size = cell_size; primary = primary; secondary = secondary; side = side }) self.new store.new.storage) }
+        ensures refused { IfErr result (IsRefusal self.old store.old.storage name.now subpool (record { cell_size = cell_size; primary = primary; secondary = secondary; side = side })) }
+        ensures agree { Agree self.new store.new.storage }
+        ensures unchanged { OnErr result (store.new.storage ≡ store.old.storage) }
         ensures pools_unchanged { OnErr result (self.new ≡ self.old) }
     {
         if self.find(name).is_some() {
-            return Err(Code::User(4008));
+            return Err(Code::POOL_IN_USE);
         }
-        if self.len() >= 64 {
-            return Err(Code::User(4007));
+        if self.len() >= MOST_POOLS {
+            return Err(Code::TOO_MANY_POOLS);
         }
         let Some(place) = obtain_part(store, subpool, cell_size, primary, side) else {
-            return Err(Code::System(0x878));
+            return Err(Code::SHORTAGE);
         };
         let first = place.addr();
         let fill = byte(store, first.get());
@@ -273,7 +276,7 @@ impl Pools {
     // Enters what is kept of a new pool.
     fn insert(&mut self, name: &Name, root: Root)
         requires fresh { get self.old name.now ≡ None }
-        requires room { len self.old < 64 }
+        requires room { len self.old < most_pools }
         ensures { (n : TheName) → get self.new n ≡ (if same_name n name.now then Some root else get self.old n) }
     {
         self.entries.insert_reserved(Entry { name: *name, root });
@@ -288,13 +291,13 @@ impl Pools {
 
     // Puts a further part to the pool, whose parts are full, where there is a place for it.
     fn extend(&mut self, store: &mut Store, name: &Name, root: &Root) -> Option<Root>
-        requires agree { Agree self.old store.old }
+        requires agree { Agree self.old store.old.storage }
         requires root { get self.old name.now ≡ Some root.now }
         requires full { root.now.free ≡ 0 }
         ensures extended { MatchOption result
-            (NoRoom store.old root.now × (store.new ≡ store.old) × (self.new ≡ self.old))
-            (λ r. (a : ℕ) × (r ≡ extended root.now a) × Extended self.old store.old name.now root.now a self.new store.new) }
-        ensures agree { Agree self.new store.new }
+            (NoRoom store.old.storage root.now × (store.new.storage ≡ store.old.storage) × (self.new ≡ self.old))
+            (λ r. (a : ℕ) × (r ≡ extended root.now a) × Extended self.old store.old.storage name.now root.now a self.new store.new.storage) }
+        ensures agree { Agree self.new store.new.storage }
     {
         let Some(place) = obtain_part(
             store,
@@ -327,15 +330,15 @@ impl Pools {
     /// Gives up the pool with all its parts (Assembler Services Reference, CPOOL DELETE). Refused is a name that no pool has
     /// (user 4002; the code is this project's choice).
     pub fn delete(&mut self, store: &mut Store, name: &Name) -> Result<(), Code>
-        requires { Agree self.old store.old }
-        ensures answer { (o : Owners) (t : TheName) → let old = state_of store.old o (pools_of self.old store.old) in
-            Answered (λ _. Rc0) (λ reply new. DeleteStep old t name.now (get old.pools name.now) reply new) old t result (state_of store.new o (pools_of self.new store.new)) }
-        ensures agree { Agree self.new store.new }
-        ensures unchanged { OnErr result (store.new ≡ store.old) }
+        requires { Agree self.old store.old.storage }
+        ensures answer { (o : Owners) (t : TheName) → let old = state_of store.old.storage o (pools_of self.old store.old.storage) in
+            Answered (λ _. Rc0) (λ reply new. DeleteStep old t name.now (get old.pools name.now) reply new) old t result (state_of store.new.storage o (pools_of self.new store.new.storage)) }
+        ensures agree { Agree self.new store.new.storage }
+        ensures unchanged { OnErr result (store.new.storage ≡ store.old.storage) }
         ensures pools_unchanged { OnErr result (self.new ≡ self.old) }
     {
         let Some(root) = self.find(name) else {
-            return Err(Code::User(4002));
+            return Err(Code::NO_SUCH_POOL);
         };
         release_parts(store, &root);
         self.forget(name);
@@ -379,15 +382,15 @@ impl Pools {
         name: &Name,
         conditional: bool,
     ) -> Result<Option<Place>, Code>
-        requires { Agree self.old store.old }
-        ensures answer { (o : Owners) (t : TheName) → let old = state_of store.old o (pools_of self.old store.old) in
-            Answered cell_reply (λ reply new. GetStep old t name.now conditional (get old.pools name.now) reply new) old t result (state_of store.new o (pools_of self.new store.new)) }
-        ensures agree { Agree self.new store.new }
-        ensures unchanged { OnErr result (store.new ≡ store.old) }
+        requires { Agree self.old store.old.storage }
+        ensures answer { (o : Owners) (t : TheName) → let old = state_of store.old.storage o (pools_of self.old store.old.storage) in
+            Answered cell_reply (λ reply new. GetStep old t name.now conditional (get old.pools name.now) reply new) old t result (state_of store.new.storage o (pools_of self.new store.new.storage)) }
+        ensures agree { Agree self.new store.new.storage }
+        ensures unchanged { OnErr result (store.new.storage ≡ store.old.storage) }
         ensures pools_unchanged { OnErr result (self.new ≡ self.old) }
     {
         let Some(root) = self.find(name) else {
-            return Err(Code::User(4002));
+            return Err(Code::NO_SUCH_POOL);
         };
         if root.has_free() {
             let spot = find_free(store, &root);
@@ -397,7 +400,7 @@ impl Pools {
             return Ok(None);
         }
         let Some(extended) = self.extend(store, name, &root) else {
-            return Err(Code::System(0x878));
+            return Err(Code::SHORTAGE);
         };
         let spot = Spot {
             part: extended.last(),
@@ -409,13 +412,13 @@ impl Pools {
 
     // Takes a free cell of the pool.
     fn take_cell(&mut self, store: &mut Store, name: &Name, root: &Root, spot: Spot) -> Place
-        requires agree { Agree self.old store.old }
+        requires agree { Agree self.old store.old.storage }
         requires root { get self.old name.now ≡ Some root.now }
-        requires free { IsFreeAt store.old root.now spot.part spot.cell spot.taken }
-        ensures place { result ≡ place_at (spot.part + head_length (count_at (byte_of store.old) spot.part) + spot.cell * root.now.cell_size) root.now.cell_size }
-        ensures taken { (mid : Storage) × Marks store.old spot.part spot.cell true (spot.taken + 1) mid × Fills mid result root.now.fill store.new }
-        ensures pools { pools_of self.new store.new ≡ pools_of self.old store.new }
-        ensures agree { Agree self.new store.new }
+        requires free { IsFreeAt store.old.storage root.now spot.part spot.cell spot.taken }
+        ensures place { result ≡ place_at (spot.part + head_length (count_at (byte_of store.old.storage) spot.part) + spot.cell * root.now.cell_size) root.now.cell_size }
+        ensures taken { (mid : Storage) × Marks store.old.storage spot.part spot.cell true (spot.taken + 1) mid × Fills mid result root.now.fill store.new.storage }
+        ensures pools { pools_of self.new store.new.storage ≡ pools_of self.old store.new.storage }
+        ensures agree { Agree self.new store.new.storage }
     {
         let place = take(store, root, spot);
         self.replace(name, root.with_taken(Addr::new(spot.part)));
@@ -424,10 +427,10 @@ impl Pools {
 
     /// The taken cell that the byte at an address lies in, of whichever pool.
     pub fn cell_at(&self, store: &Store, addr: Addr) -> Option<Place>
-        requires { Agree self.now store.now }
+        requires { Agree self.now store.now.storage }
         ensures { MatchOption result
-            ((o : Owners) → in_cell (state_of store.now o (pools_of self.now store.now)) addr ≡ false)
-            (λ p. IsTakenCell (pools_of self.now store.now) p × (has_address p addr ≡ true)) }
+            ((o : Owners) → in_cell (state_of store.now.storage o (pools_of self.now store.now.storage)) addr ≡ false)
+            (λ p. IsTakenCell (pools_of self.now store.now.storage) p × (has_address p addr ≡ true)) }
     {
         let Some(subpool) = store.held(addr) else {
             return None;
@@ -437,8 +440,8 @@ impl Pools {
 
     /// Whether the byte at an address lies in a taken cell of some pool.
     pub fn taken_cell(&self, store: &Store, addr: Addr) -> bool
-        requires { Agree self.now store.now }
-        ensures { (o : Owners) → result ≡ in_cell (state_of store.now o (pools_of self.now store.now)) addr }
+        requires { Agree self.now store.now.storage }
+        ensures { (o : Owners) → result ≡ in_cell (state_of store.now.storage o (pools_of self.now store.now.storage)) addr }
     {
         self.cell_at(store, addr).is_some()
     }
@@ -446,18 +449,18 @@ impl Pools {
     /// Whether the subpool holds some doubleword of a place as a part of a pool. Parts in other subpools do not count, so this
     /// is asked of a place that the subpool holds.
     pub fn touches(&self, store: &Store, subpool: SubpoolId, place: Place) -> bool
-        requires { Agree self.now store.now }
+        requires { Agree self.now store.now.storage }
         ensures { MatchBool result
-            (Touches store.now (pools_of self.now store.now) subpool place)
-            (TouchesNone store.now (pools_of self.now store.now) subpool place) }
+            (Touches store.now.storage (pools_of self.now store.now.storage) subpool place)
+            (TouchesNone store.now.storage (pools_of self.now store.now.storage) subpool place) }
     {
         any_meets(&self.entries, store, subpool, place)
     }
 
     /// How many bytes the subpool holds in parts of pools.
     pub fn pool_bytes(&self, store: &Store, subpool: SubpoolId) -> u32
-        requires { Agree self.now store.now }
-        ensures { (o : Owners) → result ≡ bytes_held (state_of store.now o (pools_of self.now store.now)) subpool true }
+        requires { Agree self.now store.now.storage }
+        ensures { (o : Owners) → result ≡ bytes_held (state_of store.now.storage o (pools_of self.now store.now.storage)) subpool true }
     {
         bytes_in(&self.entries, store, subpool)
     }

@@ -15,10 +15,10 @@ use subpool_store::Store;
 
 // Gives back the part at an address, and says where the next one is.
 fn release_part(store: &mut Store, root: &Root, part: u32) -> u32
-    requires { StandsAt store.old root.now part }
-    ensures released { Release store.old root.now.subpool (part_at (byte_of store.old) root.now.cell_size part).place store.new }
-    ensures storage { IsStorage store.new }
-    ensures next { result ≡ next_at (byte_of store.old) part }
+    requires { StandsAt store.old.storage root.now part }
+    ensures released { Release store.old.storage root.now.subpool (part_at (byte_of store.old.storage) root.now.cell_size part).place store.new.storage }
+    ensures storage { IsStorage store.new.storage }
+    ensures next { result ≡ next_at (byte_of store.old.storage) part }
 {
     let header = read_header(store, part);
     let length = length_of(root.cell_size(), header.count);
@@ -31,9 +31,9 @@ fn release_part(store: &mut Store, root: &Root, part: u32) -> u32
 
 // Gives back all parts of a pool.
 pub(crate) fn release_parts(store: &mut Store, root: &Root)
-    requires storage { IsStorage store.old }
-    requires chain { IsChain store.old root.now }
-    ensures { DropsParts store.old root.now root.now.count store.new }
+    requires storage { IsStorage store.old.storage }
+    requires chain { IsChain store.old.storage root.now }
+    ensures { DropsParts store.old.storage root.now root.now.count store.new.storage }
 {
     let mut part = root.first();
     'walk: for number in 0..root.count() {

@@ -15,10 +15,10 @@ use subpool_store::Store;
 
 // Takes a free cell of the pool, and gives each of its bytes the fill byte.
 pub(crate) fn take(store: &mut Store, root: &Root, spot: Spot) -> Place
-    requires chain { IsChain store.old root.now }
-    requires free { IsFreeAt store.old root.now spot.part spot.cell spot.taken }
-    ensures place { result ≡ place_at (spot.part + head_length (count_at (byte_of store.old) spot.part) + spot.cell * root.now.cell_size) root.now.cell_size }
-    ensures taken { (mid : Storage) × Marks store.old spot.part spot.cell true (spot.taken + 1) mid × Fills mid result root.now.fill store.new }
+    requires chain { IsChain store.old.storage root.now }
+    requires free { IsFreeAt store.old.storage root.now spot.part spot.cell spot.taken }
+    ensures place { result ≡ place_at (spot.part + head_length (count_at (byte_of store.old.storage) spot.part) + spot.cell * root.now.cell_size) root.now.cell_size }
+    ensures taken { (mid : Storage) × Marks store.old.storage spot.part spot.cell true (spot.taken + 1) mid × Fills mid result root.now.fill store.new.storage }
 {
     let first = spot.part + bytes_before(read_header(store, spot.part).count);
     mark(store, spot.part, spot.cell, true, spot.taken + 1);

@@ -75,10 +75,10 @@ fn is_past(past: bool, part: u32, root: &Root) -> bool
 
 // The part of the pool that has the address.
 fn find_part(store: &Store, root: &Root, addr: u32) -> Option<Found>
-    requires { IsChain store.now root.now }
+    requires { IsChain store.now.storage root.now }
     ensures { MatchOption result
-        ((j : ℕ) → j < root.now.count → has_address (part_of (byte_of store.now) root.now j).place addr ≡ false)
-        (λ f. IsPartAt store.now root.now f.part f.count f.taken f.past × (has_address (place_at f.part (part_length root.now.cell_size f.count)) addr ≡ true)) }
+        ((j : ℕ) → j < root.now.count → has_address (part_of (byte_of store.now.storage) root.now j).place addr ≡ false)
+        (λ f. IsPartAt store.now.storage root.now f.part f.count f.taken f.past × (has_address (place_at f.part (part_length root.now.cell_size f.count)) addr ≡ true)) }
 {
     let mut part = root.first();
     let mut past = false;
@@ -120,10 +120,10 @@ fn cell_number(first: u32, size: u32, count: u32, addr: u32) -> Option<u32>
 
 // The taken cell of the pool that begins at the address.
 pub(crate) fn find_taken(store: &Store, root: &Root, addr: u32) -> Option<Taken>
-    requires { IsChain store.now root.now }
+    requires { IsChain store.now.storage root.now }
     ensures { MatchOption result
-        (is_taken (byte_of store.now) root.now addr ≡ false)
-        (λ s. IsTakenAt store.now root.now s.part s.cell s.taken s.past addr) }
+        (is_taken (byte_of store.now.storage) root.now addr ≡ false)
+        (λ s. IsTakenAt store.now.storage root.now s.part s.cell s.taken s.past addr) }
 {
     let Some(found) = find_part(store, root, addr) else {
         return None;
@@ -162,10 +162,10 @@ fn cell_with(first: u32, size: u32, count: u32, addr: u32) -> Option<u32>
 
 // The taken cell of the pool that has the address.
 pub(crate) fn cell_round(store: &Store, root: &Root, addr: u32) -> Option<Place>
-    requires { IsChain store.now root.now }
+    requires { IsChain store.now.storage root.now }
     ensures { MatchOption result
-        (in_taken (pool_of (byte_of store.now) root.now) addr ≡ false)
-        (λ p. (set.contains (taken_of (byte_of store.now) root.now) p.addr ≡ true) × (p.len ≡ root.now.cell_size) × (has_address p addr ≡ true)) }
+        (in_taken (pool_of (byte_of store.now.storage) root.now) addr ≡ false)
+        (λ p. (set.contains (taken_of (byte_of store.now.storage) root.now) p.addr ≡ true) × (p.len ≡ root.now.cell_size) × (has_address p addr ≡ true)) }
 {
     let Some(found) = find_part(store, root, addr) else {
         return None;
@@ -194,8 +194,8 @@ fn overlaps(from: u32, len: u32, other: u32, other_len: u32) -> bool
 
 // Whether a part of the pool has a doubleword of the place.
 pub(crate) fn meets(store: &Store, root: &Root, place: Place) -> bool
-    requires { IsChain store.now root.now }
-    ensures { MatchBool result (Meets store.now root.now place) (Meets store.now root.now place → ⊥) }
+    requires { IsChain store.now.storage root.now }
+    ensures { MatchBool result (Meets store.now.storage root.now place) (Meets store.now.storage root.now place → ⊥) }
 {
     let mut part = root.first();
     'walk: for number in 0..root.count() {

@@ -31,10 +31,10 @@ fn word_in(bytes: &[u8], at: usize) -> u32
 // The words of the part at an address.
 pub fn read_header(store: &Store, part: u32) -> Header
     requires low { part < 2 ^ 31 }
-    requires held { AllHeld store.now (place_at part 16) }
-    ensures next { result.next ≡ next_at (byte_of store.now) part }
-    ensures count { result.count ≡ count_at (byte_of store.now) part }
-    ensures taken { result.taken ≡ taken_at (byte_of store.now) part }
+    requires held { AllHeld store.now.storage (place_at part 16) }
+    ensures next { result.next ≡ next_at (byte_of store.now.storage) part }
+    ensures count { result.count ≡ count_at (byte_of store.now.storage) part }
+    ensures taken { result.taken ≡ taken_at (byte_of store.now.storage) part }
 {
     let bytes = store.bytes(Place::new(Addr::new(part), 16));
     Header {
@@ -47,8 +47,8 @@ pub fn read_header(store: &Store, part: u32) -> Header
 // The byte at an address.
 pub(crate) fn byte(store: &Store, addr: u32) -> u8
     requires low { addr < 2 ^ 31 }
-    requires held { AllHeld store.now (place_at addr 1) }
-    ensures { result ≡ byte_of store.now addr }
+    requires held { AllHeld store.now.storage (place_at addr 1) }
+    ensures { result ≡ byte_of store.now.storage addr }
 {
     store.bytes(Place::new(Addr::new(addr), 1))[0]
 }
@@ -73,8 +73,8 @@ fn with_bit(byte: u8, bit: u32, value: bool) -> u8
 // Whether the flag of a cell of the part at an address is set.
 pub fn flag(store: &Store, part: u32, cell: u32) -> bool
     requires low { part + 16 + cell / 8 < 2 ^ 31 }
-    requires held { AllHeld store.now (place_at (part + 16 + cell / 8) 1) }
-    ensures { result ≡ flag (byte_of store.now) part cell }
+    requires held { AllHeld store.now.storage (place_at (part + 16 + cell / 8) 1) }
+    ensures { result ≡ flag (byte_of store.now.storage) part cell }
 {
     is_set(byte(store, part + 16 + cell / 8), cell % 8)
 }
@@ -84,8 +84,8 @@ pub(crate) fn put(store: &mut Store, addr: u32, bytes: &[u8])
     requires low { addr < 2 ^ 31 }
     requires some { 1 ≤ length bytes.now }
     requires few { length bytes.now ≤ 8 }
-    requires held { AllHeld store.old (place_at addr (length bytes.now)) }
-    ensures { Puts store.old (place_at addr (length bytes.now)) bytes.now store.new }
+    requires held { AllHeld store.old.storage (place_at addr (length bytes.now)) }
+    ensures { Puts store.old.storage (place_at addr (length bytes.now)) bytes.now store.new.storage }
 {
     let part = store.bytes_mut(Place::new(Addr::new(addr), bytes.len() as u32));
     part.copy_from_slice(bytes);
@@ -94,8 +94,8 @@ pub(crate) fn put(store: &mut Store, addr: u32, bytes: &[u8])
 // Gives the flag of a cell of the part at an address the value, with so many taken cells then.
 pub fn mark(store: &mut Store, part: u32, cell: u32, value: bool, taken: u32)
     requires low { part + 16 + cell / 8 < 2 ^ 31 }
-    requires held { AllHeld store.old (place_at part (16 + cell / 8 + 1)) }
-    ensures { Marks store.old part cell value taken store.new }
+    requires held { AllHeld store.old.storage (place_at part (16 + cell / 8 + 1)) }
+    ensures { Marks store.old.storage part cell value taken store.new.storage }
 {
     put(store, part + 8, &taken.to_be_bytes());
     let addr = part + 16 + cell / 8;
@@ -105,8 +105,8 @@ pub fn mark(store: &mut Store, part: u32, cell: u32, value: bool, taken: u32)
 
 // Gives each byte of a place that is held the value.
 pub fn fill(store: &mut Store, place: Place, value: u8)
-    requires { AllHeld store.old place }
-    ensures { Fills store.old place value store.new }
+    requires { AllHeld store.old.storage place }
+    ensures { Fills store.old.storage place value store.new.storage }
 {
     let part = store.bytes_mut(place);
     part.fill(value);

@@ -31,8 +31,6 @@ use mvs_model::numbers::PAGE_BYTES;
 use region_raw::region::Region;
 
 pub mod queue;
-#[cfg(test)]
-mod tests;
 
 // The word that ends the chain of runs.
 const END: u32 = 0xFFFF_FFFF;

@@ -3,6 +3,7 @@
 ghost use Rattle.std.specs.Prelude.{◌≡◌};
 ghost use Rattle.mvs_model.specs.Codes as codes;
 ghost use Rattle.mvs_model.specs.Numbers as numbers;
+ghost use Rattle.mvs_model.specs.declared.code.Family.TheVariants.{Located};
 
 use crate::code::Code;
 
@@ -107,6 +108,9 @@ impl Code {
     /// Bytes are read or written that may not be (System Codes, 0C4).
     pub const NO_ACCESS: Code = Code::System(0x0C4);
 
+    /// No place for a request with a location or for a part of a cell pool (System Codes, 878).
+    pub const SHORTAGE: Code = Code::System(0x878);
+
     /// A task returns that has an active subtask (System Codes, A03).
     pub const ACTIVE_SUBTASK: Code = Code::System(0xA03);
 
@@ -155,7 +159,7 @@ pub fn numbers_agree()
 
 /// Each code of a refusal that the code uses is the one of the definitions.
 pub fn codes_agree()
-    ensures system { (Code.NO_ACCESS ≡ codes.no_access) × (Code.ACTIVE_SUBTASK ≡ codes.active_subtask) }
+    ensures system { (Code.NO_ACCESS ≡ codes.no_access) × (Code.SHORTAGE ≡ codes.short Located) × (Code.ACTIVE_SUBTASK ≡ codes.active_subtask) }
     ensures pools { (Code.NO_SUCH_CELL ≡ codes.no_such_cell) × (Code.NO_SUCH_POOL ≡ codes.no_such_pool) × (Code.TOO_MANY_POOLS ≡ codes.too_many_pools) × (Code.POOL_IN_USE ≡ codes.pool_in_use) }
     ensures tasks { (Code.NOT_OWNED ≡ codes.not_owned) × (Code.TOO_MANY_TASKS ≡ codes.too_many_tasks) × (Code.TASK_IN_USE ≡ codes.task_in_use) }
     ensures whole { Code.WHOLE_OF_ZERO ≡ codes.whole_of_zero }

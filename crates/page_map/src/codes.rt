@@ -72,21 +72,24 @@ fn pass_several(codes: &[u16], own: u16, from: usize) -> usize
     page
 }
 
-// The first page from one on that is free or the subpool's.
-pub(crate) fn first_usable(codes: &[u16], own: u16, from: usize) -> usize
+// The first page from one on that is free or the subpool's, and its subpool. Several pages are compared at once; those among
+// which it is are then compared one by one, which is the same look at them.
+pub(crate) fn first_usable(codes: &[u16], own: u16, from: usize) -> (usize, Option<SubpoolId>)
     requires codes { AreCodes codes.now }
     requires own { own < most_subpools }
     requires from { from ≤ length codes.now }
-    ensures { IsFirst (is_usable own) (page_owners codes.now) from result }
+    ensures first { IsFirst (is_usable own) (page_owners codes.now) from result.0 }
+    ensures owner { result.1 ≡ owner_of (page_owners codes.now) result.0 }
 {
     let mut page = pass_several(codes, own, from);
     'pages: while page < codes.len() {
-        if is_usable(codes[page], own) {
-            return page;
+        let code = codes[page];
+        if is_usable(code, own) {
+            return (page, subpool_of(code));
         }
         page += 1;
     }
-    page
+    (page, None)
 }
 
 // Whether one of some pages is assigned.
@@ -119,19 +122,22 @@ fn pass_free(codes: &[u16], from: usize) -> usize
     page
 }
 
-// The first page from one on that a subpool has.
-pub(crate) fn first_assigned(codes: &[u16], from: usize) -> usize
+// The first page from one on that a subpool has, and the subpool; looked for in the same way.
+pub(crate) fn first_assigned(codes: &[u16], from: usize) -> (usize, Option<SubpoolId>)
     requires codes { AreCodes codes.now }
     requires from { from ≤ length codes.now }
-    ensures { IsFirst is_some (page_owners codes.now) from result }
+    ensures first { IsFirst is_some (page_owners codes.now) from result.0 }
+    ensures owner { result.1 ≡ owner_of (page_owners codes.now) result.0 }
 {
-    let start = pass_free(codes, from);
-    for page in start..codes.len() {
-        if codes[page] != FREE {
-            return page;
+    let mut page = pass_free(codes, from);
+    'pages: while page < codes.len() {
+        let code = codes[page];
+        if code != FREE {
+            return (page, subpool_of(code));
         }
+        page += 1;
     }
-    codes.len()
+    (page, None)
 }
 
 // Whether the page's subpool is one of the set.
@@ -151,12 +157,12 @@ pub(crate) fn first_of(codes: &[u16], subpools: &SubpoolSet, from: usize) -> usi
     requires from { from ≤ length codes.now }
     ensures { IsFirst (has (is_one_of subpools.now)) (page_owners codes.now) from result }
 {
-    let mut page = first_assigned(codes, from);
+    let mut page = first_assigned(codes, from).0;
     'pages: while page < codes.len() {
         if is_in(codes[page], subpools) {
             return page;
         }
-        page = first_assigned(codes, page + 1);
+        page = first_assigned(codes, page + 1).0;
     }
     codes.len()
 }

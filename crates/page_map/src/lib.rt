@@ -1,7 +1,7 @@
 //! Which subpool each page of a region is assigned to.
 #![tactic(auto)]
 
-ghost use Rattle.std.specs.Prelude.{◌≡◌, ◌<◌, ◌≤◌, ◌↔◌, IsTrue, Some, None, IfOk, length, is_some, slice_set, count_by, replicate};
+ghost use Rattle.std.specs.Prelude.{◌≡◌, ◌<◌, ◌≤◌, ◌↔◌, IsTrue, Some, None, IfOk, IsOk, length, is_some, slice_set, count_by, replicate};
 ghost use Rattle.mvs_model.specs.Numbers.{most_pages_above};
 ghost use Rattle.mvs_model.specs.Finite.{has};
 ghost use Rattle.mvs_model.specs.Storage.{is_one_of};
@@ -15,8 +15,6 @@ use std::alloc::Global;
 use std::marker::Model;
 
 mod codes;
-#[cfg(test)]
-mod tests;
 
 /// The subpool of each page of a region of at most 8,192 pages, by the page's index in the region.
 #[derive(Drop)]
@@ -39,8 +37,14 @@ impl PageMap {
     /// So many pages, none of them assigned. With no pages it takes no memory.
     pub fn new(alloc: Global, pages: usize) -> Result<PageMap, OutOfMemory>
         requires { pages ≤ most_pages_above }
-        ensures { IfOk result (λ m. m ≡ replicate pages None) }
+        ensures free { IfOk result (λ m. m ≡ replicate pages None) }
+        ensures none { pages ≡ 0 → IsOk result }
     {
+        if pages == 0 {
+            return Ok(PageMap {
+                owners: Vec::new(alloc),
+            });
+        }
         match vec![in alloc; FREE; pages] {
             Ok(owners) => Ok(PageMap { owners }),
             Err(_) => Err(OutOfMemory),
@@ -112,18 +116,21 @@ impl PageMap {
         count
     }
 
-    /// The first page from one on that the subpool may use, or the number of pages.
-    pub fn first_usable(&self, subpool: SubpoolId, from: usize) -> usize
+    /// The first page from one on that the subpool may use, or the number of pages; and the subpool that the page is
+    /// assigned to.
+    pub fn first_usable(&self, subpool: SubpoolId, from: usize) -> (usize, Option<SubpoolId>)
         requires { from ≤ length self.now }
-        ensures { IsFirst (is_usable subpool) self.now from result }
+        ensures first { IsFirst (is_usable subpool) self.now from result.0 }
+        ensures owner { result.1 ≡ owner_of self.now result.0 }
     {
         first_usable(&self.owners, subpool.get(), from)
     }
 
-    /// The first page from one on that is assigned, or the number of pages.
-    pub fn first_assigned(&self, from: usize) -> usize
+    /// The first page from one on that is assigned, or the number of pages; and the subpool that the page is assigned to.
+    pub fn first_assigned(&self, from: usize) -> (usize, Option<SubpoolId>)
         requires { from ≤ length self.now }
-        ensures { IsFirst is_some self.now from result }
+        ensures first { IsFirst is_some self.now from result.0 }
+        ensures owner { result.1 ≡ owner_of self.now result.0 }
     {
         first_assigned(&self.owners, from)
     }

@@ -4,5 +4,3 @@
 mod block;
 mod raw;
 pub mod region;
-#[cfg(test)]
-mod tests;

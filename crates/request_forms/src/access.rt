@@ -29,10 +29,10 @@ use subpool_store::Store;
 // Up to where bytes from an address on may be read and written, for one cause: up to the end of the taken cell round the
 // address, or of its doubleword, where that is held outside of cell pools. None where the byte at the address may not be.
 fn readable_end(store: &Store, pools: &Pools, addr: Addr) -> Option<u32>
-    requires { Agree pools.now store.now }
+    requires { Agree pools.now store.now.storage }
     ensures { (o : Owners) → MatchOption result
-        (granted (machine_state pools.now store.now o) addr ≡ false)
-        (λ end. (addr < end) × ((a : ℕ) → addr ≤ a → a < end → granted (machine_state pools.now store.now o) a ≡ true)) }
+        (granted (machine_state pools.now store.now.storage o) addr ≡ false)
+        (λ end. (addr < end) × ((a : ℕ) → addr ≤ a → a < end → granted (machine_state pools.now store.now.storage o) a ≡ true)) }
 {
     if let Some(cell) = pools.cell_at(store, addr) {
         return Some(cell.addr().get() + cell.len());
@@ -49,8 +49,8 @@ fn readable_end(store: &Store, pools: &Pools, addr: Addr) -> Option<u32>
 
 // Whether the subpool that holds the first byte of a place holds all of it outside of cell pools.
 fn is_plain(store: &Store, pools: &Pools, place: Place) -> bool
-    requires { Agree pools.now store.now }
-    ensures { (o : Owners) → IsTrue result → Granted (machine_state pools.now store.now o) place }
+    requires { Agree pools.now store.now.storage }
+    ensures { (o : Owners) → IsTrue result → Granted (machine_state pools.now store.now.storage o) place }
 {
     let Some(subpool) = store.held(place.addr()) else {
         return false;
@@ -69,8 +69,8 @@ fn is_plain(store: &Store, pools: &Pools, place: Place) -> bool
 
 // Whether each byte of a place may be read and written.
 fn may_access(store: &Store, pools: &Pools, place: Place) -> bool
-    requires { Agree pools.now store.now }
-    ensures granted { (o : Owners) → IsTrue result ↔ Granted (machine_state pools.now store.now o) place }
+    requires { Agree pools.now store.now.storage }
+    ensures granted { (o : Owners) → IsTrue result ↔ Granted (machine_state pools.now store.now.storage o) place }
     ensures some { 1 ≤ place.len }
 {
     if is_plain(store, pools, place) {
@@ -92,9 +92,9 @@ fn may_access(store: &Store, pools: &Pools, place: Place) -> bool
 
 // Writes bytes over those of a place that is held.
 fn write(store: &mut Store, place: Place, bytes: &[u8])
-    requires held { AllHeld store.old place }
+    requires held { AllHeld store.old.storage place }
     requires len { length bytes.now ≡ place.len }
-    ensures { Puts store.old place bytes.now store.new }
+    ensures { Puts store.old.storage place bytes.now store.new.storage }
 {
     let part = store.bytes_mut(place);
     part.copy_from_slice(bytes);
@@ -102,12 +102,12 @@ fn write(store: &mut Store, place: Place, bytes: &[u8])
 
 // Writes bytes over those of a place where each of them may be written, and answers whether it did.
 fn write_where_granted(store: &mut Store, pools: &Pools, place: Place, bytes: &[u8]) -> bool
-    requires agree { Agree pools.now store.old }
+    requires agree { Agree pools.now store.old.storage }
     requires len { length bytes.now ≡ place.len }
     ensures written { (o : Owners) → MatchBool result
-        (Granted (machine_state pools.now store.old o) place × Puts store.old place bytes.now store.new)
-        ((Granted (machine_state pools.now store.old o) place → ⊥) × (store.new ≡ store.old)) }
-    ensures agree { Agree pools.now store.new }
+        (Granted (machine_state pools.now store.old.storage o) place × Puts store.old.storage place bytes.now store.new.storage)
+        ((Granted (machine_state pools.now store.old.storage o) place → ⊥) × (store.new.storage ≡ store.old.storage)) }
+    ensures agree { Agree pools.now store.new.storage }
 {
     if !may_access(store, pools, place) {
         return false;
@@ -127,10 +127,10 @@ fn behind(addr: Addr, distance: u32) -> Addr
 // Copies bytes to a place that has none of them.
 fn copy_apart(store: &mut Store, to: Addr, from: Addr, len: u32)
     requires some { 1 ≤ len }
-    requires target { AllHeld store.old (place_at to len) }
-    requires source { AllHeld store.old (place_at from len) }
+    requires target { AllHeld store.old.storage (place_at to len) }
+    requires source { AllHeld store.old.storage (place_at from len) }
     requires apart { (from + len ≤ to) ⊎ (to + len ≤ from) }
-    ensures { Copied store.old to from len store.new }
+    ensures { Copied store.old.storage to from len store.new.storage }
 {
     let (source, target) = store.two(Place::new(from, len), Place::new(to, len));
     target.copy_from_slice(source);
@@ -138,11 +138,11 @@ fn copy_apart(store: &mut Store, to: Addr, from: Addr, len: u32)
 
 // Copies bytes to lower addresses, the first ones first: as many at a time as the two places lie apart.
 fn copy_down(store: &mut Store, to: Addr, from: Addr, len: u32)
-    requires storage { IsStepStorage store.old }
-    requires target { AllHeld store.old (place_at to len) }
-    requires source { AllHeld store.old (place_at from len) }
+    requires storage { IsStepStorage store.old.storage }
+    requires target { AllHeld store.old.storage (place_at to len) }
+    requires source { AllHeld store.old.storage (place_at from len) }
     requires lower { to < from }
-    ensures { Copied store.old to from len store.new }
+    ensures { Copied store.old.storage to from len store.new.storage }
 {
     let distance = from.get() - to.get();
     let mut done = 0;
@@ -155,11 +155,11 @@ fn copy_down(store: &mut Store, to: Addr, from: Addr, len: u32)
 
 // Copies bytes to higher addresses, the last ones first: as many at a time as the two places lie apart.
 fn copy_up(store: &mut Store, to: Addr, from: Addr, len: u32)
-    requires storage { IsStepStorage store.old }
-    requires target { AllHeld store.old (place_at to len) }
-    requires source { AllHeld store.old (place_at from len) }
+    requires storage { IsStepStorage store.old.storage }
+    requires target { AllHeld store.old.storage (place_at to len) }
+    requires source { AllHeld store.old.storage (place_at from len) }
     requires higher { from < to }
-    ensures { Copied store.old to from len store.new }
+    ensures { Copied store.old.storage to from len store.new.storage }
 {
     let distance = to.get() - from.get();
     let mut left = len;
@@ -172,10 +172,10 @@ fn copy_up(store: &mut Store, to: Addr, from: Addr, len: u32)
 
 // Copies bytes that are held: what is stored is what the source held before, also where the two places overlap.
 fn copy(store: &mut Store, to: Addr, from: Addr, len: u32)
-    requires storage { IsStepStorage store.old }
-    requires target { AllHeld store.old (place_at to len) }
-    requires source { AllHeld store.old (place_at from len) }
-    ensures { Copied store.old to from len store.new }
+    requires storage { IsStepStorage store.old.storage }
+    requires target { AllHeld store.old.storage (place_at to len) }
+    requires source { AllHeld store.old.storage (place_at from len) }
+    ensures { Copied store.old.storage to from len store.new.storage }
 {
     if to.get() < from.get() {
         copy_down(store, to, from, len);

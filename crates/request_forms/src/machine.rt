@@ -34,9 +34,9 @@ impl Model for Machine {
 
     ghost coded = { state_code };
 
-    ghost view = { λ m. machine_state m.pools m.store m.tasks.owners };
+    ghost view = { λ m. machine_state m.pools m.store.storage m.tasks.owners };
 
-    ghost invariant = { λ m. Agree m.pools m.store };
+    ghost invariant = { λ m. Agree m.pools m.store.storage };
 }
 
 // The answer as a value: the reply that was written, or the code.

@@ -48,12 +48,12 @@ fn grant_each(
 ) -> Option<Places>
     requires room { length (so_far granted) + length lengths.now ≤ 16 }
     requires some { granted ≡ None → 1 ≤ length lengths.now }
-    requires storage { IsStorage store.old }
+    requires storage { IsStorage store.old.storage }
     ensures places { MatchOption result
-        (ShortEach store.old subpool (list_wants lengths.now start) × (store.new ≡ store.old))
-        (λ ps. (more : List PlaceValue) × (ps ≡ so_far granted ++ more) × GrantsEach store.old subpool (list_wants lengths.now start) more store.new) }
-    ensures storage { IsStorage store.new }
-    ensures regions { store.new.regions ≡ store.old.regions }
+        (ShortEach store.old.storage subpool (list_wants lengths.now start) × (store.new.storage ≡ store.old.storage))
+        (λ ps. (more : List PlaceValue) × (ps ≡ so_far granted ++ more) × GrantsEach store.old.storage subpool (list_wants lengths.now start) more store.new.storage) }
+    ensures storage { IsStorage store.new.storage }
+    ensures regions { store.new.storage.regions ≡ store.old.storage.regions }
 {
     let [length, rest @ ..] = lengths else {
         return granted;

@@ -46,10 +46,10 @@ fn is_on_doubleword(place: Place) -> bool
 
 // Takes back a place that the subpool holds.
 pub(crate) fn take_back(store: &mut Store, subpool: SubpoolId, place: Place)
-    requires held { HeldBy store.old subpool place }
+    requires held { HeldBy store.old.storage subpool place }
     requires whole { IsWhole place }
-    ensures released { Release store.old subpool place store.new }
-    ensures storage { IsStorage store.new }
+    ensures released { Release store.old.storage subpool place store.new.storage }
+    ensures storage { IsStorage store.new.storage }
 {
     let Ok(()) = store.release(subpool, place) else {
         unreachable!();
@@ -70,19 +70,19 @@ pub(crate) fn is_outside_pools(
     subpool: SubpoolId,
     place: Place,
 ) -> bool
-    requires { Agree pools.now store.now }
+    requires { Agree pools.now store.now.storage }
     ensures { MatchBool result
-        (TouchesNone store.now (pools_of pools.now store.now) subpool place)
-        (Touches store.now (pools_of pools.now store.now) subpool place) }
+        (TouchesNone store.now.storage (pools_of pools.now store.now.storage) subpool place)
+        (Touches store.now.storage (pools_of pools.now store.now.storage) subpool place) }
 {
     !pools.touches(store, subpool, place)
 }
 
 // Whether the subpool holds a place outside of cell pools.
 fn holds_plain(store: &Store, pools: &Pools, subpool: SubpoolId, place: Place) -> bool
-    requires agree { Agree pools.now store.now }
+    requires agree { Agree pools.now store.now.storage }
     requires whole { IsWhole place }
-    ensures { (o : Owners) → IsTrue result ↔ HeldPlain (machine_state pools.now store.now o) subpool place }
+    ensures { (o : Owners) → IsTrue result ↔ HeldPlain (machine_state pools.now store.now.storage o) subpool place }
 {
     if !store.holds(subpool, place) {
         return false;
@@ -92,9 +92,9 @@ fn holds_plain(store: &Store, pools: &Pools, subpool: SubpoolId, place: Place) -
 
 // Whether the subpool holds each place outside of cell pools, its length rounded up to doublewords.
 fn holds_each(store: &Store, pools: &Pools, subpool: SubpoolId, places: &[Place]) -> bool
-    requires agree { Agree pools.now store.now }
+    requires agree { Agree pools.now store.now.storage }
     requires on_doublewords { list_all step.on_doubleword places.now ≡ true }
-    ensures { (o : Owners) → IsTrue result ↔ AllByRecursion (HeldPlain (machine_state pools.now store.now o) subpool) (map step.whole places.now) }
+    ensures { (o : Owners) → IsTrue result ↔ AllByRecursion (HeldPlain (machine_state pools.now store.now.storage o) subpool) (map step.whole places.now) }
 {
     let [place, rest @ ..] = places else {
         return true;
@@ -153,10 +153,10 @@ fn are_disjoint(places: &[Place]) -> bool
 // Takes back places that the subpool holds and that do not overlap.
 fn take_back_each(store: &mut Store, subpool: SubpoolId, places: &[Place])
     requires placed { list_all step.on_doubleword places.now ≡ true }
-    requires held { HoldsApart store.old subpool (map step.whole places.now) }
-    requires storage { IsStorage store.old }
-    ensures released { ReleasesEach store.old subpool (map step.whole places.now) store.new }
-    ensures storage { IsStorage store.new }
+    requires held { HoldsApart store.old.storage subpool (map step.whole places.now) }
+    requires storage { IsStorage store.old.storage }
+    ensures released { ReleasesEach store.old.storage subpool (map step.whole places.now) store.new.storage }
+    ensures storage { IsStorage store.new.storage }
 {
     let [place, rest @ ..] = places else {
         return;

@@ -63,9 +63,9 @@ fn first_entry(tasks: &Tasks, t: TaskId, from: u8) -> Option<(SubNo, SubpoolId)>
 
 // The subpool that a page is assigned to.
 fn page_owner(store: &Store, page: u32) -> Option<SubpoolId>
-    requires storage { IsStorage store.now }
+    requires storage { IsStorage store.now.storage }
     requires low { page < first_page_above + most_pages_above }
-    ensures { result ≡ page_holder store.now page }
+    ensures { result ≡ page_holder store.now.storage page }
 {
     store.page_owner(Addr::new(PAGE_BYTES * page))
 }
@@ -73,10 +73,10 @@ fn page_owner(store: &Store, page: u32) -> Option<SubpoolId>
 // Whether a run begins at a page of a region: it is the region's first page, or is assigned otherwise than the one
 // before it.
 fn begins(store: &Store, first: u32, page: u32) -> bool
-    requires storage { IsStorage store.now }
+    requires storage { IsStorage store.now.storage }
     requires within { first ≤ page }
     requires low { page < first_page_above + most_pages_above }
-    ensures { MatchBool result (Begins (page_holder store.now) first page) (GoesOn (page_holder store.now) first page) }
+    ensures { MatchBool result (Begins (page_holder store.now.storage) first page) (GoesOn (page_holder store.now.storage) first page) }
 {
     if page == first {
         return true;
@@ -86,13 +86,13 @@ fn begins(store: &Store, first: u32, page: u32) -> bool
 
 // The first page of a region at which a run begins, from a page on and before the end.
 fn first_start(store: &Store, first: u32, from: u32, end: u32) -> Option<u32>
-    requires storage { IsStorage store.now }
+    requires storage { IsStorage store.now.storage }
     requires within { first ≤ from }
     requires ordered { from ≤ end }
     requires low { end ≤ first_page_above + most_pages_above }
     ensures { MatchOption result
-        (NoneBegins (page_holder store.now) first (page_bytes * from) end)
-        (λ page. (from ≤ page) × (page < end) × Begins (page_holder store.now) first page × NoneBegins (page_holder store.now) first (page_bytes * from) page) }
+        (NoneBegins (page_holder store.now.storage) first (page_bytes * from) end)
+        (λ page. (from ≤ page) × (page < end) × Begins (page_holder store.now.storage) first page × NoneBegins (page_holder store.now.storage) first (page_bytes * from) page) }
 {
     for page in from..end {
         if begins(store, first, page) {
@@ -104,10 +104,10 @@ fn first_start(store: &Store, first: u32, from: u32, end: u32) -> Option<u32>
 
 // Before which page the run ends that begins at a page.
 fn run_end(store: &Store, page: u32, end: u32) -> u32
-    requires storage { IsStorage store.now }
+    requires storage { IsStorage store.now.storage }
     requires within { page < end }
     requires low { end ≤ first_page_above + most_pages_above }
-    ensures { EndsAt (page_holder store.now) page end result }
+    ensures { EndsAt (page_holder store.now.storage) page end result }
 {
     let owner = page_owner(store, page);
     for next in page + 1..end {
@@ -127,12 +127,12 @@ struct Pages {
 
 // The first run of a region that begins at or after a page.
 fn first_run(store: &Store, first: u32, end: u32, from: u32) -> Option<Pages>
-    requires storage { IsStorage store.now }
+    requires storage { IsStorage store.now.storage }
     requires ordered { first ≤ end }
     requires low { end ≤ first_page_above + most_pages_above }
     ensures { MatchOption result
-        (NoneBegins (page_holder store.now) first (page_bytes * from) end)
-        (λ r. IsPages (page_holder store.now) first end r.page r.count × (from ≤ r.page) × NoneBegins (page_holder store.now) first (page_bytes * from) r.page) }
+        (NoneBegins (page_holder store.now.storage) first (page_bytes * from) end)
+        (λ r. IsPages (page_holder store.now.storage) first end r.page r.count × (from ≤ r.page) × NoneBegins (page_holder store.now.storage) first (page_bytes * from) r.page) }
 {
     let Some(page) = first_start(store, first, from.max(first).min(end), end) else {
         return None;
@@ -155,12 +155,12 @@ fn holder(tasks: &Tasks, owner: Option<SubpoolId>) -> Option<(SubNo, Name)>
 
 // A line of the map.
 fn map_line(store: &Store, tasks: &Tasks, pages: Pages) -> MapRun
-    requires storage { IsStorage store.now }
+    requires storage { IsStorage store.now.storage }
     requires low { pages.page + pages.count ≤ first_page_above + most_pages_above }
     requires some { 1 ≤ pages.count }
     ensures addr { result.addr ≡ page_bytes * pages.page }
     ensures len { result.len ≡ page_bytes * pages.count }
-    ensures holder { IsHolder tasks.now.owners (page_holder store.now pages.page) result.holder }
+    ensures holder { IsHolder tasks.now.owners (page_holder store.now.storage pages.page) result.holder }
 {
     MapRun {
         addr: Addr::new(PAGE_BYTES * pages.page),

@@ -24,10 +24,10 @@ use subpool_store::Store;
 
 // Releases all that some subpools hold, and gives up their cell pools.
 fn release_each(store: &mut Store, pools: &mut Pools, subpools: &SubpoolSet)
-    requires { Agree pools.old store.old }
-    ensures released { ReleaseEach store.old subpools.now store.new }
-    ensures gone { Keeps (get (pools_of pools.old store.old)) (λ _ p. not (is_one_of subpools.now p.subpool)) (get (pools_of pools.new store.new)) }
-    ensures agree { Agree pools.new store.new }
+    requires { Agree pools.old store.old.storage }
+    ensures released { ReleaseEach store.old.storage subpools.now store.new.storage }
+    ensures gone { Keeps (get (pools_of pools.old store.old.storage)) (λ _ p. not (is_one_of subpools.now p.subpool)) (get (pools_of pools.new store.new.storage)) }
+    ensures agree { Agree pools.new store.new.storage }
 {
     if subpools.is_empty() {
         return;

@@ -1,6 +1,6 @@
 -- The free runs that a pass has come by.
-use Rattle.std.proofs.Common.{◌≡◌, ◌∙◌, ℕ, ◌+◌, ◌-◌, ◌*◌, ◌/◌, ◌%◌, ◌<◌, ◌≤◌, ◌⊎◌, ◌&&◌, ◌||◌, not, Bool, true, false, List, Option, Some, None, is_some, length, get_or, eqb, refl, sym, ap, inl, inr, arith}
-use Rattle.std.proofs.lemmas.Bool.{and_from, both_ways, cases_eq, eq-eqb, ne_eqb}
+use Rattle.std.proofs.Common.{◌≡◌, ◌∙◌, ℕ, ◌+◌, ◌-◌, ◌*◌, ◌/◌, ◌%◌, ◌<◌, ◌≤◌, ◌⊎◌, ◌&&◌, ◌||◌, not, Bool, true, false, List, Option, Some, None, is_some, length, get_or, eqb, ltb, refl, sym, ap, inl, inr, arith}
+use Rattle.std.proofs.lemmas.Bool.{and_from, both_ways, cases_eq, cases_lt, eq-eqb, lt-ltb, ne_eqb}
 use Rattle.std.proofs.lemmas.List.{get_or_default}
 use Rattle.mvs_model.specs.Finite.{count_below}
 use Rattle.mvs_model.specs.Storage.{IsLength}
@@ -9,8 +9,9 @@ use Rattle.page_map.specs.Owners.{is_of, is_usable, owner_of}
 use Rattle.subpool_store.specs.Edits.{IsFreeRun}
 use Rattle.subpool_store.specs.Memory.{MemoryState}
 use Rattle.subpool_store.specs.Search.{may_take}
-use Rattle.subpool_store.specs.Walk.{begins_run, looked_at}
-use Rattle.subpool_store.proofs.Counts.{count_all, count_empty, count_none, count_split}
+use Rattle.subpool_store.specs.Bits.{digit}
+use Rattle.subpool_store.specs.Walk.{begins_run, entries_to, looked_at}
+use Rattle.subpool_store.proofs.Counts.{count_all, count_most, count_none, count_split}
 
 -- where none begins the count stays
 pub count_stays : (f : ℕ → Bool) (a b : ℕ) → a ≤ b → ((i : ℕ) → a ≤ i → i < b → f i ≡ false) → count_below b f ≡ count_below a f
@@ -29,10 +30,10 @@ pub count_grows : (f : ℕ → Bool) (a b : ℕ) → a ≤ b → count_below a f
 count_grows f a b le = let all : count_below b f ≡ count_below a f + count_below (b - a) (λ i. f (a + i)) = count_split b a (b - a) f (omega (arith, le)) in omega arith
 
 module _ (m : MemoryState) (pages : List (Option ℕ)) (s : ℕ) where
-  held_begins : (i : ℕ) → get_or m.held i false ≡ true → begins_run m.held pages s i ≡ false
+  pub held_begins : (i : ℕ) → get_or m.held i false ≡ true → begins_run m.held pages s i ≡ false
   held_begins i set = ap (λ b. not b && (is_of s (owner_of pages (i / 512)) && (eqb (i % 512) 0 || get_or m.held (i - 1) false))) set
 
-  foreign_begins : (i : ℕ) → is_of s (owner_of pages (i / 512)) ≡ false → begins_run m.held pages s i ≡ false
+  pub foreign_begins : (i : ℕ) → is_of s (owner_of pages (i / 512)) ≡ false → begins_run m.held pages s i ≡ false
   foreign_begins i foreign = ap (λ b. not (get_or m.held i false) && (b && (eqb (i % 512) 0 || get_or m.held (i - 1) false))) foreign ∙ never (not (get_or m.held i false)) where
     never : (b : Bool) → (b && false) ≡ false
     never true = refl
@@ -56,67 +57,94 @@ module _ (m : MemoryState) (pages : List (Option ℕ)) (s : ℕ) where
         either true = refl
         either false = refl
 
-  -- pages that are none of s
-  pub pages_counted : (from to : ℕ) → from % 512 ≡ 0 → from / 512 ≤ to → ((p : ℕ) → from / 512 ≤ p → p < to → is_of s (owner_of pages p) ≡ false) → looked_at m pages s from false + (to - from / 512) ≡ looked_at m pages s (512 * to) false
-  pages_counted from to on rises foreign =
-      let same : count_below (512 * to) (begins_run m.held pages s) ≡ count_below from (begins_run m.held pages s) = count_stays (begins_run m.held pages s) from (512 * to) (omega (arith, on, rises)) (λ i low high.
-      foreign_begins i (foreign (i / 512) (omega (arith, low)) (omega (arith, high)))) in
-      omega (arith, same, on, rises)
+  -- the entry of a page that there is
+  pub entries_at : (p : ℕ) → p < length pages → entries_to pages p ≡ p + 1
+  entries_at p low = ap (λ b. p + digit b) (lt-ltb p (length pages) low)
 
-  -- pages of which nothing is free
-  pub full_counted : (from to : ℕ) → from % 512 ≡ 0 → from / 512 ≤ to → ((i : ℕ) → from ≤ i → i < 512 * to → get_or m.held i false ≡ true) → looked_at m pages s from false + (to - from / 512) ≡ looked_at m pages s (512 * to) false
-  full_counted from to on rises held =
-      let same : count_below (512 * to) (begins_run m.held pages s) ≡ count_below from (begins_run m.held pages s) = count_stays (begins_run m.held pages s) from (512 * to) (omega (arith, on, rises)) (λ i low high. held_begins i (held i low high)) in
-      omega (arith, same, on, rises)
-
-  -- the rest of a page, in which nothing is free
-  pub rest_counted : (from : ℕ) → ((i : ℕ) → from ≤ i → i < 512 * (from / 512) + 512 → get_or m.held i false ≡ true) → looked_at m pages s from true + 0 ≡ looked_at m pages s (512 * (from / 512) + 512) false
-  rest_counted from held =
-      let same : count_below (512 * (from / 512) + 512) (begins_run m.held pages s) ≡ count_below from (begins_run m.held pages s) = count_stays (begins_run m.held pages s) from (512 * (from / 512) + 512) (omega arith) (λ i low high. held_begins i (held i low high)) in
-      omega (arith, same)
+  -- page entries, and no free run
+  pub passed_counted : (from to steps more : ℕ) → from / 512 < length pages → from / 512 < to → ((i : ℕ) → from ≤ i → i < 512 * to → begins_run m.held pages s i ≡ false) → more + (from / 512 + 1) ≡ steps + entries_to pages to →
+      looked_at m pages s from + more ≡ looked_at m pages s (512 * to) + steps
+  passed_counted from to steps more low rises none is =
+      let same : count_below (512 * to) (begins_run m.held pages s) ≡ count_below from (begins_run m.held pages s) = count_stays (begins_run m.held pages s) from (512 * to) (omega (arith, rises)) none in
+      let page : 512 * to / 512 ≡ to = omega arith in
+      let first = entries_at (from / 512) low in
+      let last = ap (entries_to pages) page in
+      omega (arith, same, first, last, is)
 
   -- a free run of a page of s
-  pub run_counted : (from start end : ℕ) (inside : Bool) → owner_of pages (from / 512) ≡ Some s → (from % 512 ≡ 0) ⊎ (get_or m.held from false ≡ true) → IsFreeRun m.held from (512 * (from / 512) + 512) start end →
-      (inside ≡ true → end < 512 * (from / 512) + 512) → (inside ≡ false → end ≡ 512 * (from / 512) + 512) → looked_at m pages s from true + 1 ≡ looked_at m pages s end inside
-  run_counted from start end inside own fresh run on past =
-      let f = begins_run m.held pages s in
-      let before : count_below start f ≡ count_below from f = count_stays f from start run.after (λ i low high. held_begins i (run.held i low high)) in
-      let page : start / 512 ≡ from / 512 = omega (arith, run.after, run.some, run.within) in
-      let one : count_below (start + 1) f ≡ count_below start f + 1 = count_once f start (first_begins start (ap (owner_of pages) page ∙ own) (run.free start (omega arith) run.some) begun) in
-      let behind : count_below end f ≡ count_below (start + 1) f = count_stays f (start + 1) end (omega (arith, run.some)) (λ i low high.
-      inner_begins i (λ zero. absurd (omega (arith, zero, low, high, run.after, run.within))) (run.free (i - 1) (omega (arith, low)) (omega (arith, high)))) in
-      by inside on past (before, one, behind) where
-        begun : (start % 512 ≡ 0) ⊎ (get_or m.held (start - 1) false ≡ true)
-        begun = elim (cases_eq from start) [
-          | inl is ↦ elim fresh [
-            | inl zero ↦ inl (ap (λ x. x % 512) (sym is) ∙ zero)
-            | inr set ↦ absurd (both_ways _ (run.free start (omega arith) run.some) (ap (λ x. get_or m.held x false) (sym is) ∙ set))
-          ]
-          | inr other ↦ inr (run.held (start - 1) (omega (arith, other, run.after)) (omega (arith, other, run.after)))
-        ]
+  module _ (from start end : ℕ) (low : from / 512 < length pages) (own : owner_of pages (from / 512) ≡ Some s) (fresh : (from % 512 ≡ 0) ⊎ (get_or m.held from false ≡ true)) (run : IsFreeRun m.held from (512 * (from / 512) + 512) start end) where
+    begun : (start % 512 ≡ 0) ⊎ (get_or m.held (start - 1) false ≡ true)
+    begun = elim (cases_eq from start) [
+      | inl is ↦ elim fresh [
+        | inl zero ↦ inl (ap (λ x. x % 512) (sym is) ∙ zero)
+        | inr set ↦ absurd (both_ways _ (run.free start (omega arith) run.some) (ap (λ x. get_or m.held x false) (sym is) ∙ set))
+      ]
+      | inr other ↦ inr (run.held (start - 1) (omega (arith, other, run.after)) (omega (arith, other, run.after)))
+    ]
 
-        by : (inside : Bool) → (inside ≡ true → end < 512 * (from / 512) + 512) → (inside ≡ false → end ≡ 512 * (from / 512) + 512)
-            → (count_below start (begins_run m.held pages s) ≡ count_below from (begins_run m.held pages s)) × (count_below (start + 1) (begins_run m.held pages s) ≡ count_below start (begins_run m.held pages s) + 1) × (count_below end (begins_run m.held pages s) ≡ count_below (start + 1) (begins_run m.held pages s))
-            → looked_at m pages s from true + 1 ≡ looked_at m pages s end inside
-        by true on past counts = let low = on refl in omega (arith, low, run.after, run.some, counts.0, counts.1, counts.2)
-        by false on past counts = let is = past refl in omega (arith, is, counts.0, counts.1, counts.2)
+    one_begins : count_below end (begins_run m.held pages s) ≡ count_below from (begins_run m.held pages s) + 1
+    one_begins =
+        let f = begins_run m.held pages s in
+        let before : count_below start f ≡ count_below from f = count_stays f from start run.after (λ i low high. held_begins i (run.held i low high)) in
+        let page : start / 512 ≡ from / 512 = omega (arith, run.after, run.some, run.within) in
+        let one : count_below (start + 1) f ≡ count_below start f + 1 = count_once f start (first_begins start (ap (owner_of pages) page ∙ own) (run.free start (omega arith) run.some) begun) in
+        let behind : count_below end f ≡ count_below (start + 1) f = count_stays f (start + 1) end (omega (arith, run.some)) (λ i low high.
+        inner_begins i (λ zero. absurd (omega (arith, zero, low, high, run.after, run.within))) (run.free (i - 1) (omega (arith, low)) (omega (arith, high)))) in
+        omega (arith, before, one, behind)
+
+    -- that ends before the page does
+    pub inside_counted : (steps : ℕ) → 1 ≤ steps → end < 512 * (from / 512) + 512 → looked_at m pages s from + steps ≡ looked_at m pages s end + (steps - 1)
+    inside_counted steps some inside =
+        let page : end / 512 ≡ from / 512 = omega (arith, inside, run.some, run.after) in
+        let same = ap (entries_to pages) page in
+        let one = one_begins in
+        omega (arith, same, one, some)
+
+    -- that ends with the page, and the entry of the next one
+    pub ending_counted : (steps more : ℕ) → 1 ≤ steps → end ≡ 512 * (from / 512) + 512 → more ≡ steps + digit (ltb (from / 512 + 1) (length pages)) → looked_at m pages s from + more ≡ looked_at m pages s end + (steps - 1)
+    ending_counted steps more some ends is =
+        let page : end / 512 ≡ from / 512 + 1 = omega (arith, ends) in
+        let last = ap (entries_to pages) page in
+        let first = entries_at (from / 512) low in
+        let one = one_begins in
+        omega (arith, first, last, one, some, is)
 
 -- s may take what is free in a page that it may use
 pub free_passes : (bits : List Bool) (pages : List (Option ℕ)) (s i : ℕ) → i < length bits → get_or bits i false ≡ false → is_usable s (owner_of pages (i / 512)) ≡ true → may_take bits pages s i ≡ true
 free_passes bits pages s i within clear usable = and_from _ _ (ap not (get_or_default bits i true false within ∙ clear)) usable
 
--- a pass that has not begun has looked at nothing
-pub starts_counted : (m : MemoryState) (pages : List (Option ℕ)) (s : ℕ) → 0 ≡ looked_at m pages s 0 false
-starts_counted m pages s = let none : 0 ≡ count_below 0 (begins_run m.held pages s) = count_empty 0 (begins_run m.held pages s) refl in omega arith
-
 -- what a pass has looked at, of all that there is
-pub counted_within : (m : MemoryState) (pages : List (Option ℕ)) (s at : ℕ) (inside : Bool) → length m.held ≡ 512 * length pages → at ≤ length m.held → (inside ≡ true → at < length m.held) → looked_at m pages s at inside ≤ looked_at m pages s (length m.held) false
-counted_within m pages s at true sizes low within = let less = within refl in let grows = count_grows (begins_run m.held pages s) at (length m.held) low in omega (arith, less, grows)
-counted_within m pages s at false sizes low within = let grows = count_grows (begins_run m.held pages s) at (length m.held) low in omega (arith, low, grows)
+pub counted_within : (m : MemoryState) (pages : List (Option ℕ)) (s at : ℕ) → length m.held ≡ 512 * length pages → at ≤ length m.held → looked_at m pages s at ≤ looked_at m pages s (length m.held)
+counted_within m pages s at sizes low = elim (cases_lt at (length m.held)) [
+  | inl less ↦
+      let grows = count_grows (begins_run m.held pages s) at (length m.held) low in
+      let first = entries_at m pages s (at / 512) (omega (arith, less, sizes)) in
+      omega (arith, less, sizes, grows, first)
+  | inr past ↦ let is : at ≡ length m.held = omega (arith, low, past) in let same = ap (looked_at m pages s) is in omega (arith, same)
+]
 
-pub counted_some : (m : MemoryState) (pages : List (Option ℕ)) (s at : ℕ) (inside : Bool) → 0 < at → (inside ≡ false → at % 512 ≡ 0) → 1 ≤ looked_at m pages s at inside
-counted_some m pages s at true some page = omega arith
-counted_some m pages s at false some page = let on = page refl in omega (arith, some, on)
+pub counted_some : (m : MemoryState) (pages : List (Option ℕ)) (s at : ℕ) → length m.held ≡ 512 * length pages → at ≤ length m.held → 1 ≤ looked_at m pages s (length m.held) → 1 ≤ looked_at m pages s at
+counted_some m pages s at sizes low some = elim (cases_lt at (length m.held)) [
+  | inl less ↦ let first = entries_at m pages s (at / 512) (omega (arith, less, sizes)) in omega (arith, first)
+  | inr past ↦ let is : at ≡ length m.held = omega (arith, low, past) in let same = ap (looked_at m pages s) is in omega (arith, same, some)
+]
+
+-- it is not much
+pub counted_few : (m : MemoryState) (pages : List (Option ℕ)) (s at steps : ℕ) → steps ≡ looked_at m pages s at → at ≤ length m.held → length m.held ≡ 512 * length pages → length pages ≤ 8192 → steps < 33554432
+counted_few m pages s at steps is low sizes few =
+    let most = count_most at (begins_run m.held pages s) in
+    let one = digit_small (ltb (at / 512) (length pages)) in
+    omega (arith, is, low, sizes, few, most, one) where
+      digit_small : (b : Bool) → digit b ≤ 1
+      digit_small true = omega arith
+      digit_small false = omega arith
+
+-- s may take nothing in a page that it may not use
+pub foreign_fails : (bits : List Bool) (pages : List (Option ℕ)) (s i : ℕ) → is_usable s (owner_of pages (i / 512)) ≡ false → may_take bits pages s i ≡ false
+foreign_fails bits pages s i foreign = ap (λ b. not (get_or bits i true) && b) foreign ∙ never (not (get_or bits i true)) where
+  never : (b : Bool) → (b && false) ≡ false
+  never true = refl
+  never false = refl
 
 -- the least length is one that is wanted
 pub least_length : (want : WantValue) → IsWant want → IsLength want want.least

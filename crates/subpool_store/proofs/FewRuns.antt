@@ -5,7 +5,7 @@ use Rattle.mvs_model.specs.Finite.{count_below}
 use Rattle.mvs_model.specs.Storage.{Storage, end_of, holder}
 use Rattle.mvs_model.specs.declared.want.Side.{Side}
 use Rattle.mvs_model.specs.declared.want.Side.TheVariants.{Below, Either}
-use Rattle.subpool_store.specs.Bound.{FewSteps, begins, free_runs, has_page, own_pages}
+use Rattle.subpool_store.specs.Bound.{begins_free_run, free_runs, holds_in_page, own_pages}
 use Rattle.subpool_store.proofs.Counts.{count_none, count_split}
 
 count_more : (n : ℕ) (f : ℕ → Bool) → count_below (suc n) f ≡ cond (f n) 1 0 + count_below n f
@@ -49,38 +49,35 @@ no_page false c = refl
 
 module _ (holder : ℕ → Option ℕ) (s : ℕ) where
   -- behind the first doubleword of a page a run begins behind a held one
-  never_both : (d : ℕ) → ((d + 1) % 512 ≡ 0 → ⊥) → begins holder s d ≡ true → begins holder s (d + 1) ≡ true → ⊥
+  never_both : (d : ℕ) → ((d + 1) % 512 ≡ 0 → ⊥) → begins_free_run holder s d ≡ true → begins_free_run holder s (d + 1) ≡ true → ⊥
   never_both d inner one other =
       let clear : is_some (holder d) ≡ false = is_clear _ _ one in
       let set : is_some (holder (d + 1 - 1)) ≡ true = is_behind _ _ _ _ (ne_eqb ((d + 1) % 512) 0 inner) other in
       both_ways _ clear (ap (λ k. is_some (holder k)) (let same : d ≡ d + 1 - 1 = omega arith in same) ∙ set)
 
   -- the runs of one page
-  in_page : (p : ℕ) (own : Bool) → has_page holder s p ≡ own → count_below 512 (λ i. begins holder s (512 * p + i)) ≤ 256 * cond own 1 0
+  in_page : (p : ℕ) (own : Bool) → holds_in_page holder s p ≡ own → count_below 512 (λ i. begins_free_run holder s (512 * p + i)) ≤ 256 * cond own 1 0
   in_page p true own =
-      halves (λ i. begins holder s (512 * p + i)) 256 (λ i low one other.
-      never_both (512 * p + i) (λ zero. absurd (omega (arith, low, zero))) one (ap (begins holder s) (let same : 512 * p + i + 1 ≡ 512 * p + (i + 1) = omega arith in same) ∙ other))
+      halves (λ i. begins_free_run holder s (512 * p + i)) 256 (λ i low one other.
+      never_both (512 * p + i) (λ zero. absurd (omega (arith, low, zero))) one (ap (begins_free_run holder s) (let same : 512 * p + i + 1 ≡ 512 * p + (i + 1) = omega arith in same) ∙ other))
   in_page p false own =
-      let none : count_below 512 (λ i. begins holder s (512 * p + i)) ≡ 0 = count_none 512 (λ i. begins holder s (512 * p + i)) (λ i low.
+      let none : count_below 512 (λ i. begins_free_run holder s (512 * p + i)) ≡ 0 = count_none 512 (λ i. begins_free_run holder s (512 * p + i)) (λ i low.
       ap (λ b. not (is_some (holder (512 * p + i))) && (b && (eqb ((512 * p + i) % 512) 0 || is_some (holder (512 * p + i - 1)))))
-      (ap (has_page holder s) (let page : (512 * p + i) / 512 ≡ p = omega (arith, low) in page) ∙ own) ∙ no_page (is_some (holder (512 * p + i))) (eqb ((512 * p + i) % 512) 0 || is_some (holder (512 * p + i - 1)))) in
+      (ap (holds_in_page holder s) (let page : (512 * p + i) / 512 ≡ p = omega (arith, low) in page) ∙ own) ∙ no_page (is_some (holder (512 * p + i))) (eqb ((512 * p + i) % 512) 0 || is_some (holder (512 * p + i - 1)))) in
       omega (arith, none)
 
-  in_pages : (n : ℕ) → count_below (512 * n) (begins holder s) ≤ 256 * count_below n (has_page holder s)
-  in_pages zero = none_below (begins holder s) (256 * count_below 0 (has_page holder s))
+  in_pages : (n : ℕ) → count_below (512 * n) (begins_free_run holder s) ≤ 256 * count_below n (holds_in_page holder s)
+  in_pages zero = none_below (begins_free_run holder s) (256 * count_below 0 (holds_in_page holder s))
   in_pages (suc n) =
-      rw (count_more n (has_page holder s))
-      (sum_bound (count_below (512 * suc n) (begins holder s)) (count_below (512 * n) (begins holder s)) (count_below 512 (λ i. begins holder s (512 * n + i))) (count_below n (has_page holder s)) (cond (has_page holder s n) 1 0)
-      (count_split (512 * suc n) (512 * n) 512 (begins holder s) (omega arith)) (in_pages n) (in_page n (has_page holder s n) refl))
+      rw (count_more n (holds_in_page holder s))
+      (sum_bound (count_below (512 * suc n) (begins_free_run holder s)) (count_below (512 * n) (begins_free_run holder s)) (count_below 512 (λ i. begins_free_run holder s (512 * n + i))) (count_below n (holds_in_page holder s)) (cond (holds_in_page holder s n) 1 0)
+      (count_split (512 * suc n) (512 * n) 512 (begins_free_run holder s) (omega arith)) (in_pages n) (in_page n (holds_in_page holder s n) refl))
 
-runs_few : (st : Storage) (s : ℕ) (side : Side) → free_runs st s side ≤ 256 * own_pages st s side
+-- the free runs of the pages of s
+pub runs_few : (st : Storage) (s : ℕ) (side : Side) → free_runs st s side ≤ 256 * own_pages st s side
 runs_few st s Below = in_pages (holder st) s 4096
 runs_few st s Either =
     let n = 4096 + st.regions.above in
     let doublewords : end_of st.regions ≡ 512 * n = omega arith in
     let pages : end_of st.regions / 512 ≡ n = omega (arith, doublewords) in
     rw (pages, doublewords) (in_pages (holder st) s n)
-
-pub few_steps : FewSteps
-few_steps st s side place steps bound =
-    let few = runs_few st s side in let most = bound.at_most in omega (arith, few, most)

@@ -9,6 +9,7 @@ pub mod Marked
 pub mod Filled
 pub mod Cursors
 pub mod Begun
+pub mod Entries
 pub mod RegionCount
 pub mod StoreCount
 pub mod Scan
@@ -24,6 +25,7 @@ pub mod Choice
 pub mod Opened
 pub mod Parts
 pub mod LentRegion
+pub mod Value
 pub mod Counts
 pub mod PagesDropped
 pub mod FewRuns

@@ -4,11 +4,12 @@ use Rattle.std.proofs.lemmas.Bool.{cases_Bool, cases_eq, eq-eqb, le-ltb, lt-ltb,
 use Rattle.std.specs.FinMap.{get}
 use Rattle.mvs_model.specs.Finite.{count_below, has}
 use Rattle.page_map.specs.Owners.{is_of, owner_of}
-use Rattle.subpool_store.specs.Bound.{begins, has_page}
+use Rattle.subpool_store.specs.Bound.{begins_free_run, holds_in_page}
 use Rattle.subpool_store.specs.Region.{RegionState, IsRegion, cell, region_of, held_of}
 use Rattle.subpool_store.specs.Memory.{MemoryState}
-use Rattle.subpool_store.specs.Walk.{begins_run, looked_at}
+use Rattle.subpool_store.specs.Walk.{begins_run, entries_to, looked_at}
 use Rattle.subpool_store.proofs.Begun.{count_grows, count_once}
+use Rattle.subpool_store.proofs.Entries.{none_there}
 use Rattle.subpool_store.proofs.Counts.{count_none, count_same}
 use Rattle.subpool_store.proofs.Exact.{holder_index}
 
@@ -30,7 +31,7 @@ module _ (first : ℕ) (bits : List Bool) (pages : List (Option ℕ)) (region : 
   page_owner_is i j low = let page : (512 * (i / 512) + j) / 512 ≡ i / 512 = omega (arith, low) in ap (owner_of pages) page
 
   -- a page is of s where s holds something of it
-  page_is : (i : ℕ) (o : Option ℕ) → owner_of pages (i / 512) ≡ o → has_page at s ((first + i) / 512) ≡ is_of s o
+  page_is : (i : ℕ) (o : Option ℕ) → owner_of pages (i / 512) ≡ o → holds_in_page at s ((first + i) / 512) ≡ is_of s o
   page_is i None e = le-ltb 0 _ (let zero = count_none 512 (λ j. has (λ t. eqb t s) (at (512 * ((first + i) / 512) + j))) (λ j low. ap (has (λ t. eqb t s)) (cell_of i j ∙ none j low)) in omega (arith, zero)) where
     none : (j : ℕ) → j < 512 → cell bits pages (512 * (i / 512) + j) ≡ None
     none j low = ap (λ o. cond (get_or bits (512 * (i / 512) + j) false) o None) (page_owner_is i j low ∙ e) ∙ same (get_or bits (512 * (i / 512) + j) false) where
@@ -59,7 +60,7 @@ module _ (first : ℕ) (bits : List Bool) (pages : List (Option ℕ)) (region : 
     by true = refl
     by false = refl
 
-  begins_by : (i : ℕ) (o : Option ℕ) → owner_of pages (i / 512) ≡ o → begins_run bits pages s i ≡ begins at s (first + i)
+  begins_by : (i : ℕ) (o : Option ℕ) → owner_of pages (i / 512) ≡ o → begins_run bits pages s i ≡ begins_free_run at s (first + i)
   begins_by i None e =
       (λ k. not (get_or bits i false) && (is_of s (e k) && (eqb (i % 512) 0 || get_or bits (i - 1) false)))
       ∙ never (not (get_or bits i false)) (not (is_some (at (first + i))))
@@ -86,7 +87,7 @@ module _ (first : ℕ) (bits : List Bool) (pages : List (Option ℕ)) (region : 
     never false true = refl
     never false false = refl
 
-    both : owner_of pages (i / 512) ≡ Some s → is_of s (owner_of pages (i / 512)) ≡ has_page at s ((first + i) / 512)
+    both : owner_of pages (i / 512) ≡ Some s → is_of s (owner_of pages (i / 512)) ≡ holds_in_page at s ((first + i) / 512)
     both own = ap (is_of s) own ∙ sym (page_is i (Some s) own)
 
     before : owner_of pages (i / 512) ≡ Some s → (eqb (i % 512) 0 || get_or bits (i - 1) false) ≡ (eqb ((first + i) % 512) 0 || is_some (at (first + i - 1)))
@@ -102,10 +103,12 @@ module _ (first : ℕ) (bits : List Bool) (pages : List (Option ℕ)) (region : 
 
 -- what there is to look at in a region
 pub counted_region : (first : ℕ) (m : MemoryState) (pages : List (Option ℕ)) (bytes : ℕ → ℕ) (h : RegionState) → IsRegion first m.held pages → region_of first m.held pages bytes ≡ h → (s : ℕ) →
-    looked_at m pages s (length m.held) false ≡ h.pages + count_below (512 * h.pages) (λ i. begins (get h.held) s (h.first + i))
+    looked_at m pages s (length m.held) ≡ h.pages + count_below (512 * h.pages) (λ i. begins_free_run (get h.held) s (h.first + i))
 counted_region first m pages bytes h region is s =
     let sizes : length m.held ≡ 512 * length pages = region.exact.sizes in
-    let pages_is : length m.held / 512 + 0 ≡ length pages = omega (arith, sizes) in
+    let page : length m.held / 512 ≡ length pages = omega (arith, sizes) in
+    let past = none_there (length pages) (length pages) (omega arith) in
+    let pages_is : entries_to pages (length m.held / 512) ≡ length pages = ap (entries_to pages) page ∙ (let all : entries_to pages (length pages) ≡ length pages = omega (arith, past) in all) in
     (λ k. pages_is k + count_below (sizes k) (begins_run m.held pages s))
-    ∙ ap (λ n. length pages + n) (count_same (512 * length pages) (begins_run m.held pages s) (λ i. begins (get (held_of first m.held pages)) s (first + i)) (λ i _. begins_by first m.held pages region s i (owner_of pages (i / 512)) refl))
-    ∙ ap (λ g. g.pages + count_below (512 * g.pages) (λ i. begins (get g.held) s (g.first + i))) is
+    ∙ ap (λ n. length pages + n) (count_same (512 * length pages) (begins_run m.held pages s) (λ i. begins_free_run (get (held_of first m.held pages)) s (first + i)) (λ i _. begins_by first m.held pages region s i (owner_of pages (i / 512)) refl))
+    ∙ ap (λ g. g.pages + count_below (512 * g.pages) (λ i. begins_free_run (get g.held) s (g.first + i))) is

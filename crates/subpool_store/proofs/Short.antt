@@ -1,5 +1,5 @@
 -- Runs that are too short for what is wanted.
-use Rattle.std.proofs.Common.{◌≡◌, ℕ, ◌+◌, ◌/◌, ◌<◌, ◌≤◌, ◌&&◌, not, Bool, true, false, List, Option, length, ap, inl, inr, arith, IsTrue, ◌↔◌}
+use Rattle.std.proofs.Common.{◌≡◌, ℕ, ◌+◌, ◌/◌, ◌<◌, ◌≤◌, ◌&&◌, not, Bool, true, false, List, Option, length, ap, inl, inr, arith}
 use Rattle.std.proofs.lemmas.Bool.{both_ways, cases_eq, cases_lt}
 use Rattle.std.proofs.lemmas.List.{get_or_past}
 use Rattle.page_map.specs.Owners.{is_usable, owner_of}
@@ -10,8 +10,8 @@ pub past_fails : (bits : List Bool) (pages : List (Option ℕ)) (s i : ℕ) → 
 past_fails bits pages s i past = ap (λ b. not b && is_usable s (owner_of pages (i / 512))) (get_or_past bits i true past)
 
 -- what does not go on with a run begins behind its end
-pub begins_behind : (b : Bool) (start end : ℕ) → IsTrue b ↔ (start ≡ end) → b ≡ false → end ≤ start → end < start
-begins_behind b start end says no_more low = elim (cases_eq start end) [ inl is ↦ absurd (both_ways _ no_more (says.1 is)) | inr other ↦ omega (arith, other, low) ]
+pub begins_behind : (start end : ℕ) → (start ≡ end → ⊥) → end ≤ start → end < start
+begins_behind start end no_more low = elim (cases_eq start end) [ inl is ↦ absurd (no_more is) | inr other ↦ omega (arith, other, low) ]
 
 module _ (test : ℕ → Bool) (n : ℕ) where
   -- nothing lies between a place and itself

@@ -9,18 +9,19 @@ use Rattle.mvs_model.specs.Place.{PlaceValue}
 use Rattle.mvs_model.specs.Storage.{IsLength, end_of, holder}
 use Rattle.mvs_model.specs.Want.{IsWant, WantValue}
 use Rattle.mvs_model.specs.declared.want.Side.TheVariants.{Below, Either}
-use Rattle.subpool_store.specs.Bound.{IsBound, begins, free_runs, has_page, page_entries, to_look_at}
+use Rattle.subpool_store.specs.Bound.{IsBound, begins_free_run, free_runs, holds_in_page, page_entries, most_steps}
 use Rattle.subpool_store.specs.Region.{BestIn, RegionState}
 use Rattle.subpool_store.specs.Joined.{BestAbove, CountedAbove, IsStore, regions_of, store_of}
 use Rattle.subpool_store.specs.Search.{Beats, IsCounted}
 use Rattle.subpool_store.proofs.Begun.{least_length}
+use Rattle.subpool_store.proofs.FewRuns.{runs_few}
 use Rattle.subpool_store.proofs.Both.{high_holder, low_holder}
 use Rattle.subpool_store.proofs.Counts.{count_middle, count_most, count_none, count_same, count_split}
 
 -- a run begins where it does in a map that has the same page
-pub begins_same : (f g : ℕ → Option ℕ) (s d : ℕ) → ((e : ℕ) → e / 512 ≡ d / 512 → f e ≡ g e) → begins f s d ≡ begins g s d
+pub begins_same : (f g : ℕ → Option ℕ) (s d : ℕ) → ((e : ℕ) → e / 512 ≡ d / 512 → f e ≡ g e) → begins_free_run f s d ≡ begins_free_run g s d
 begins_same f g s d same = λ j. not (is_some (same d refl j)) && (page j && before j) where
-  page : has_page f s (d / 512) ≡ has_page g s (d / 512)
+  page : holds_in_page f s (d / 512) ≡ holds_in_page g s (d / 512)
   page = ap (λ n. nat_lt 0 n) (count_same 512 (λ i. has (λ t. eqb t s) (f (512 * (d / 512) + i))) (λ i. has (λ t. eqb t s) (g (512 * (d / 512) + i))) (λ i low. ap (has (λ t. eqb t s)) (same (512 * (d / 512) + i) (omega (arith, low)))))
 
   before : (eqb (d % 512) 0 || is_some (f (d - 1))) ≡ (eqb (d % 512) 0 || is_some (g (d - 1)))
@@ -30,9 +31,9 @@ begins_same f g s d same = λ j. not (is_some (same d refl j)) && (page j && bef
   ]
 
 -- no run of s begins in a page of which nothing is held
-pub begins_none : (f : ℕ → Option ℕ) (s d : ℕ) → ((e : ℕ) → e / 512 ≡ d / 512 → f e ≡ None) → begins f s d ≡ false
+pub begins_none : (f : ℕ → Option ℕ) (s d : ℕ) → ((e : ℕ) → e / 512 ≡ d / 512 → f e ≡ None) → begins_free_run f s d ≡ false
 begins_none f s d none = ap (λ b. not (is_some (f d)) && (b && (eqb (d % 512) 0 || is_some (f (d - 1))))) page ∙ never (not (is_some (f d))) where
-  page : has_page f s (d / 512) ≡ false
+  page : holds_in_page f s (d / 512) ≡ false
   page = le-ltb 0 _ (let zero = count_none 512 (λ i. has (λ t. eqb t s) (f (512 * (d / 512) + i))) (λ i low. ap (has (λ t. eqb t s)) (none (512 * (d / 512) + i) (omega (arith, low)))) in omega (arith, zero))
 
   never : (b : Bool) → (b && false) ≡ false
@@ -59,29 +60,29 @@ module _ (b a : RegionState) (fill : ℕ) (both : IsStore b a) (s : ℕ) where
     by (Some t) e = let at = both.sound_below.bounded d t e in let first = first_b in elim out [ inl low ↦ absurd (omega (arith, at.0, low)) | inr past ↦ absurd (omega (arith, at.1, past)) ]
 
   -- the runs below, in the storage and in the region
-  pub runs_below : count_below 2097152 (begins (holder (store_of b a fill)) s) ≡ count_below (512 * b.pages) (λ i. begins (get b.held) s (b.first + i))
+  pub runs_below : count_below 2097152 (begins_free_run (holder (store_of b a fill)) s) ≡ count_below (512 * b.pages) (λ i. begins_free_run (get b.held) s (b.first + i))
   runs_below =
       let f = first_b in let m = few_b in
-      count_same 2097152 (begins (holder (store_of b a fill)) s) (begins (get b.held) s) (λ d low. begins_same (holder (store_of b a fill)) (get b.held) s d (λ e page. low_holder b a fill e (omega (arith, page, low))))
-      ∙ count_middle 2097152 b.first (512 * b.pages) (2097152 - 3072 - 512 * b.pages) (begins (get b.held) s) (omega arith)
+      count_same 2097152 (begins_free_run (holder (store_of b a fill)) s) (begins_free_run (get b.held) s) (λ d low. begins_same (holder (store_of b a fill)) (get b.held) s d (λ e page. low_holder b a fill e (omega (arith, page, low))))
+      ∙ count_middle 2097152 b.first (512 * b.pages) (2097152 - 3072 - 512 * b.pages) (begins_free_run (get b.held) s) (omega arith)
       (λ d before. begins_none (get b.held) s d (λ e page. outside_b e (inl (omega (arith, f, before, page)))))
       (λ d behind to. begins_none (get b.held) s d (λ e page. outside_b e (inr (omega (arith, f, behind, page)))))
 
   -- the runs above
-  pub runs_above : count_below (512 * a.pages) (λ i. begins (holder (store_of b a fill)) s (2097152 + i)) ≡ count_below (512 * a.pages) (λ i. begins (get a.held) s (a.first + i))
+  pub runs_above : count_below (512 * a.pages) (λ i. begins_free_run (holder (store_of b a fill)) s (2097152 + i)) ≡ count_below (512 * a.pages) (λ i. begins_free_run (get a.held) s (a.first + i))
   runs_above =
       let f = first_a in let m = few_a in
-      count_same (512 * a.pages) (λ i. begins (holder (store_of b a fill)) s (2097152 + i)) (λ i. begins (get a.held) s (a.first + i)) (λ i low.
+      count_same (512 * a.pages) (λ i. begins_free_run (holder (store_of b a fill)) s (2097152 + i)) (λ i. begins_free_run (get a.held) s (a.first + i)) (λ i low.
       begins_same (holder (store_of b a fill)) (get a.held) s (2097152 + i) (λ e page. high_holder b a fill e (omega (arith, page)) (omega (arith, page, low, m)))
-      ∙ ap (λ x. begins (get a.held) s (x + i)) (sym f))
+      ∙ ap (λ x. begins_free_run (get a.held) s (x + i)) (sym f))
 
-  all_below : page_entries (regions_of b a fill) Below + free_runs (store_of b a fill) s Below ≡ to_look_at b s
+  all_below : page_entries (regions_of b a fill) Below + free_runs (store_of b a fill) s Below ≡ most_steps b s
   all_below = ap (λ n. b.pages + n) runs_below
 
-  all_either : page_entries (regions_of b a fill) Either + free_runs (store_of b a fill) s Either ≡ to_look_at a s + to_look_at b s
+  all_either : page_entries (regions_of b a fill) Either + free_runs (store_of b a fill) s Either ≡ most_steps a s + most_steps b s
   all_either =
-      let split : count_below (end_of (regions_of b a fill)) (begins (holder (store_of b a fill)) s) ≡ count_below 2097152 (begins (holder (store_of b a fill)) s) + count_below (512 * a.pages) (λ i. begins (holder (store_of b a fill)) s (2097152 + i)) =
-      count_split (end_of (regions_of b a fill)) 2097152 (512 * a.pages) (begins (holder (store_of b a fill)) s) refl in
+      let split : count_below (end_of (regions_of b a fill)) (begins_free_run (holder (store_of b a fill)) s) ≡ count_below 2097152 (begins_free_run (holder (store_of b a fill)) s) + count_below (512 * a.pages) (λ i. begins_free_run (holder (store_of b a fill)) s (2097152 + i)) =
+      count_split (end_of (regions_of b a fill)) 2097152 (512 * a.pages) (begins_free_run (holder (store_of b a fill)) s) refl in
       omega (arith, split, runs_below, runs_above)
 
   -- a region with a place has pages
@@ -103,37 +104,40 @@ module _ (b a : RegionState) (fill : ℕ) (both : IsStore b a) (s : ℕ) where
           | inr gone ↦ absurd (none-some p (sym gone.1))
           | inl found ↦
               let pages = place_pages a want p ok found in
-              let most : page_entries (regions_of b a fill) want.side + free_runs (store_of b a fill) s want.side ≡ to_look_at a s + to_look_at b s = ap (λ x. page_entries (regions_of b a fill) x + free_runs (store_of b a fill) s x) real.0 ∙ all_either in record {
+              let most : page_entries (regions_of b a fill) want.side + free_runs (store_of b a fill) s want.side ≡ most_steps a s + most_steps b s = ap (λ x. page_entries (regions_of b a fill) x + free_runs (store_of b a fill) s x) real.0 ∙ all_either in record {
                 some = real.1.some (omega (arith, pages));
                 at_most = let few = real.1.at_most in omega (arith, few, most);
+                few = let few = real.1.at_most in let runs = runs_few (store_of b a fill) s want.side in omega (arith, few, most, runs);
                 all = λ none. absurd (none-some p (sym none ∙ e));
               }
         ]
       ]
 
     -- the search above and the one below
-    pub bound_both : (r : Option PlaceValue) (more : ℕ) (result : Option PlaceValue) → IsCounted (to_look_at b s) r more → (result ≡ None → (place ≡ None) × (r ≡ None)) → IsBound (store_of b a fill) s want.side result (steps + more)
+    pub bound_both : (r : Option PlaceValue) (more : ℕ) (result : Option PlaceValue) → IsCounted (most_steps b s) r more → (result ≡ None → (place ≡ None) × (r ≡ None)) → IsBound (store_of b a fill) s want.side result (steps + more)
     bound_both r more result other none = elim counted [
       | inl real ↦
-          let most : page_entries (regions_of b a fill) want.side + free_runs (store_of b a fill) s want.side ≡ to_look_at a s + to_look_at b s = ap (λ x. page_entries (regions_of b a fill) x + free_runs (store_of b a fill) s x) real.0 ∙ all_either in record {
+          let most : page_entries (regions_of b a fill) want.side + free_runs (store_of b a fill) s want.side ≡ most_steps a s + most_steps b s = ap (λ x. page_entries (regions_of b a fill) x + free_runs (store_of b a fill) s x) real.0 ∙ all_either in record {
             some = let one = other.some (let some = both.some_below in omega (arith, some)) in omega (arith, one);
             at_most = let few = real.1.at_most in let less = other.at_most in omega (arith, few, less, most);
+            few = let few = real.1.at_most in let less = other.at_most in let runs = runs_few (store_of b a fill) s want.side in omega (arith, few, less, most, runs);
             all = λ gone. let no_place = none gone in let x = real.1.all no_place.0 in let y = other.all no_place.1 in omega (arith, x, y, most);
           }
       | inr below ↦
-          let most : page_entries (regions_of b a fill) want.side + free_runs (store_of b a fill) s want.side ≡ to_look_at b s = ap (λ x. page_entries (regions_of b a fill) x + free_runs (store_of b a fill) s x) below.0 ∙ all_below in
+          let most : page_entries (regions_of b a fill) want.side + free_runs (store_of b a fill) s want.side ≡ most_steps b s = ap (λ x. page_entries (regions_of b a fill) x + free_runs (store_of b a fill) s x) below.0 ∙ all_below in
           let zero = below.2 in record {
             some = let one = other.some (let some = both.some_below in omega (arith, some)) in omega (arith, one);
             at_most = let less = other.at_most in omega (arith, less, most, zero);
+            few = let less = other.at_most in let runs = runs_few (store_of b a fill) s want.side in omega (arith, less, most, zero, runs);
             all = λ gone. let y = other.all (none gone).1 in omega (arith, y, most, zero);
           }
     ]
 
     -- both are few
-    pub few_steps : (r : Option PlaceValue) (more : ℕ) → IsCounted (to_look_at b s) r more → steps + more ≤ 10485760
+    pub few_steps : (r : Option PlaceValue) (more : ℕ) → IsCounted (most_steps b s) r more → steps + more ≤ 10485760
     few_steps r more other =
-        let count_b = count_most (512 * b.pages) (λ i. begins (get b.held) s (b.first + i)) in
-        let count_a = count_most (512 * a.pages) (λ i. begins (get a.held) s (a.first + i)) in
+        let count_b = count_most (512 * b.pages) (λ i. begins_free_run (get b.held) s (b.first + i)) in
+        let count_a = count_most (512 * a.pages) (λ i. begins_free_run (get a.held) s (a.first + i)) in
         let fa = few_a in let fb = few_b in let less = other.at_most in
         elim counted [
           | inl real ↦ let few = real.1.at_most in omega (arith, few, less, count_a, count_b, fa, fb)

@@ -9,7 +9,7 @@ use Rattle.mvs_model.specs.Storage.{Storage, Regions, covers, has_address}
 use Rattle.mvs_model.specs.Table.{table}
 use Rattle.mvs_model.specs.Want.{WantValue}
 use Rattle.mvs_model.specs.declared.want.Side.TheVariants.{Below, Either}
-use Rattle.subpool_store.specs.Bound.{to_look_at}
+use Rattle.subpool_store.specs.Bound.{most_steps}
 use Rattle.subpool_store.specs.Region.{RegionState, IsSound, BestIn}
 use Rattle.subpool_store.specs.Search.{IsCounted}
 use Rattle.subpool_store.specs.Sizes.{all_addresses, all_doublewords}
@@ -52,4 +52,4 @@ BestAbove a s want r = BestIn a s want r ⊎ ((want.side ≡ Below) × (r ≡ No
 
 -- what a search above has looked at, where a place above is wanted
 abbrev pub CountedAbove : RegionState → ℕ → WantValue → Option PlaceValue → ℕ → Type 0
-CountedAbove a s want r steps = ((want.side ≡ Either) × IsCounted (to_look_at a s) r steps) ⊎ ((want.side ≡ Below) × (r ≡ None) × (steps ≡ 0))
+CountedAbove a s want r steps = ((want.side ≡ Either) × IsCounted (most_steps a s) r steps) ⊎ ((want.side ≡ Below) × (r ≡ None) × (steps ≡ 0))

@@ -1,22 +1,36 @@
 -- Where a pass over a region stands.
-use Rattle.std.specs.Prelude.{◌≡◌, ℕ, ◌+◌, ◌-◌, ◌*◌, ◌/◌, ◌%◌, ◌<◌, ◌≤◌, ◌⊎◌, ◌==◌, ◌&&◌, ◌||◌, not, Bool, true, false, Option, Some, List, length, slice_index_or}
+use Rattle.std.specs.Prelude.{◌≡◌, ℕ, ◌+◌, ◌-◌, ◌*◌, ◌/◌, ◌%◌, ◌<◌, ◌≤◌, ◌⊎◌, ◌==◌, ◌&&◌, ◌||◌, not, Bool, true, false, Option, Some, None, List, length, nat_lt, slice_index_or, if◌then◌else◌}
 use Rattle.mvs_model.specs.Finite.{count_below}
-use Rattle.mvs_model.specs.Numbers.{page_doublewords}
+use Rattle.mvs_model.specs.Numbers.{page_bytes, page_doublewords}
 use Rattle.page_map.specs.Owners.{is_of, owner_of}
 use Rattle.subpool_store.specs.Bits.{digit}
 use Rattle.subpool_store.specs.Edits.{IsFreeRun}
 use Rattle.subpool_store.specs.Memory.{IsCursor, MemoryState}
 use Rattle.subpool_store.specs.Search.{may_take}
+use Rattle.subpool_store.specs.declared.counted.Entry.{Entry}
+use Rattle.subpool_store.specs.declared.counted.Entry.TheVariants.{Free, Own, Other, End}
 use Rattle.subpool_store.specs.declared.walk.Part.{Part}
 use Rattle.subpool_store.specs.declared.walk.Walk.{Walk}
 
--- A pass stands before a page, or inside a page of s, and before the free runs in its queue.
-pub record Stands (m : MemoryState) (pages : List (Option ℕ)) (s at : ℕ) (inside : Bool) (queue : ℕ) : Type 0 where
-  pub page : inside ≡ false → at % page_doublewords ≡ 0
-  pub own : inside ≡ true → owner_of pages (at / page_doublewords) ≡ Some s
-  pub within : inside ≡ true → at < length m.held
-  pub cursor : inside ≡ true → IsCursor m (at / page_doublewords) at queue
-  pub fresh : inside ≡ true → (at % page_doublewords ≡ 0) ⊎ (slice_index_or m.held at false ≡ true)
+-- what the entry of a page of this owner is for s
+abbrev pub entry_by : ℕ → Option ℕ → Entry
+entry_by s None = Free
+entry_by s (Some t) = if t == s then Own else Other
+
+-- what the entry of a page is for s, and the end behind the last page
+abbrev pub entry_of : List (Option ℕ) → ℕ → ℕ → Entry
+entry_of pages s p = if nat_lt p (length pages) then entry_by s (owner_of pages p) else End
+
+-- The entry is of a page of s.
+abbrev pub IsOwn : Entry → Type 0
+IsOwn entry = entry ≡ Own
+
+-- A pass stands before a page whose entry it has looked at, or inside such a page of s, before the free runs in its queue.
+pub record Stands (m : MemoryState) (pages : List (Option ℕ)) (s at : ℕ) (entry : Entry) (queue : ℕ) : Type 0 where
+  pub is : entry ≡ entry_of pages s (at / page_doublewords)
+  pub page : IsOwn entry ⊎ (at % page_doublewords ≡ 0)
+  pub cursor : IsOwn entry → IsCursor m (at / page_doublewords) at queue
+  pub fresh : IsOwn entry → (at % page_doublewords ≡ 0) ⊎ (slice_index_or m.held at false ≡ true)
 
 -- whether a free run of a page of s begins at an index: it is free, and it is the first of its page or the one before it is held
 abbrev pub begins_run : List Bool → List (Option ℕ) → ℕ → ℕ → Bool
@@ -26,39 +40,41 @@ begins_run bits pages s i = not (slice_index_or bits i false) && (is_of s (owner
 abbrev pub IsFull : List Bool → List (Option ℕ) → ℕ → ℕ → Type 0
 IsFull bits pages s p = (owner_of pages p ≡ Some s) × ((i : ℕ) → i / page_doublewords ≡ p → slice_index_or bits i false ≡ true)
 
--- how many page entries and free runs a pass has looked at: those before an index, and the entry of the page that it stands inside
-abbrev pub looked_at : MemoryState → List (Option ℕ) → ℕ → ℕ → Bool → ℕ
-looked_at m pages s at inside = at / page_doublewords + digit inside + count_below at (begins_run m.held pages s)
+-- how many page entries there are up to that of a page
+abbrev pub entries_to : List (Option ℕ) → ℕ → ℕ
+entries_to pages p = p + digit (nat_lt p (length pages))
 
--- how far a pass has come
-abbrev pub progress : ℕ → Bool → ℕ
-progress at inside = 2 * at + digit inside
+-- how many page entries and free runs a pass has looked at where it stands at an index: the entries up to that of its page,
+-- and the free runs of pages of s before it
+abbrev pub looked_at : MemoryState → List (Option ℕ) → ℕ → ℕ → ℕ
+looked_at m pages s at = entries_to pages (at / page_doublewords) + count_below at (begins_run m.held pages s)
 
 -- The part is what comes next from an index on: first doublewords that s may not take, then some that s may take.
-pub record IsNextPart (m : MemoryState) (pages : List (Option ℕ)) (s from : ℕ) (inside : Bool) (part : Part) : Type 0 where
+pub record IsNextPart (m : MemoryState) (pages : List (Option ℕ)) (s from steps : ℕ) (part : Part) : Type 0 where
   pub after : from ≤ part.start
   pub ordered : part.start ≤ part.end
+  pub farther : from < part.end
   pub within : part.end ≤ length m.held
   pub skipped : (i : ℕ) → from ≤ i → i < part.start → may_take m.held pages s i ≡ false
   pub passes : (i : ℕ) → part.start ≤ i → i < part.end → may_take m.held pages s i ≡ true
-  pub stands : Stands m pages s part.end part.inside part.queue
-  pub farther : progress from inside < progress part.end part.inside
-  pub few : progress from inside + part.examined ≤ progress part.end part.inside
-  pub counted : looked_at m pages s from inside + part.examined ≡ looked_at m pages s part.end part.inside
+  pub stands : Stands m pages s part.end part.entry part.queue
+  pub counted : looked_at m pages s from + part.counted.steps ≡ looked_at m pages s part.end + steps
 
 -- The pass has joined a run up to where it stands.
 pub record IsWalk (m : MemoryState) (pages : List (Option ℕ)) (s : ℕ) (w : Walk) : Type 0 where
   pub ordered : w.start ≤ w.end
   pub within : w.end ≤ length m.held
   pub passes : (i : ℕ) → w.start ≤ i → i < w.end → may_take m.held pages s i ≡ true
-  pub stands : Stands m pages s w.end w.inside w.queue
-  pub few : w.steps ≤ progress w.end w.inside
-  pub counted : w.steps ≡ looked_at m pages s w.end w.inside
+  pub stands : Stands m pages s w.end w.entry w.queue
+  pub counted : w.counted.steps ≡ looked_at m pages s w.end
 
--- The first free run of a page from an index on is shorter than n and ends before the page does; then the queue goes on.
-pub record IsShortRun (m : MemoryState) (page from n end queue : ℕ) : Type 0 where
-  pub start : ℕ
-  pub run : IsFreeRun m.held from (page_doublewords * page + page_doublewords) start end
-  pub short : end < start + n
-  pub inside : end < page_doublewords * page + page_doublewords
-  pub cursor : IsCursor m page end queue
+-- The first free run of a page from an index on lies from one byte of the page up to another, and then the queue goes on.
+pub record IsFoundRun (m : MemoryState) (page from at end queue : ℕ) : Type 0 where
+  pub run : IsFreeRun m.held from (page_doublewords * page + page_doublewords) (page_doublewords * page + at / 8) (page_doublewords * page + end / 8)
+  pub whole : at % 8 ≡ 0
+  pub inside : end ≤ page_bytes
+  pub cursor : IsCursor m page (page_doublewords * page + end / 8) queue
+
+-- The pass stands inside a page of s.
+abbrev pub IsInside : List (Option ℕ) → ℕ → Walk → Type 0
+IsInside pages s w = entry_of pages s (w.end / page_doublewords) ≡ Own

@@ -1,9 +1,9 @@
 //! Storage of both regions: obtain and release.
 #![tactic(auto)]
 
+mod counted;
 mod dropping;
 mod free_runs;
-pub mod laws;
 mod memory;
 mod region_store;
 mod run;

@@ -1,6 +1,6 @@
 //! The pages of a region in raw memory, with the queues of what is free in them.
 
-ghost use Rattle.std.specs.Prelude.{◌≡◌, ◌<◌, ◌≤◌, ◌+◌, ◌*◌, ◌/◌, ◌↔◌, ℕ, IfOk, IfSome, MatchOption, MatchBool, IsTrue, None, Some, List, false, true, length, replicate, slice_index, slice_index_or};
+ghost use Rattle.std.specs.Prelude.{◌≡◌, ◌<◌, ◌≤◌, ◌+◌, ◌*◌, ◌/◌, ◌↔◌, ℕ, IfOk, MatchOption, MatchBool, IsTrue, None, Some, List, false, true, length, replicate, slice_index, slice_index_or};
 ghost use Rattle.std.specs.Borrow.{sem};
 ghost use Rattle.mvs_model.specs.Numbers.{most_pages_above, page_doublewords};
 ghost use Rattle.region_raw.specs.Pages.{IsBlank, Writes, byte_of, is_open, with_part};
@@ -8,12 +8,12 @@ ghost use Rattle.region_raw.specs.Rows.{IsApart};
 ghost use Rattle.subpool_store.specs.Edits.{IsClear, IsMarked, IsFreeRun, HasNoBit, HasBit};
 ghost use Rattle.subpool_store.specs.Memory.{IsCursor, IsFilled, IsHeldPart, KeepsHeld, Stays, Turns};
 ghost use Rattle.subpool_store.specs.Sizes.{most_doublewords};
-ghost use Rattle.subpool_store.specs.Walk.{IsShortRun};
+ghost use Rattle.subpool_store.specs.Walk.{IsFoundRun};
 
 use crate::run::Run;
 use free_queue::queue::{self, Head};
 use mvs_model::error::OutOfMemory;
-use mvs_model::numbers::{PAGE_BYTES, PAGE_DOUBLEWORDS};
+use mvs_model::numbers::PAGE_DOUBLEWORDS;
 use region_raw::region::Region;
 use std::alloc::Global;
 use std::marker::Model;
@@ -191,28 +191,19 @@ impl Memory {
         Some((run, queue::behind(&self.region, page, queue)))
     }
 
-    // The same run, if it is shorter than so many doublewords and ends before the page does: its end, in bytes from the
-    // page's start, and the queue behind it.
-    pub fn short_run(
-        &self,
-        page: usize,
-        from: usize,
-        queue: Head,
-        least: usize,
-    ) -> Option<(u32, Head)>
+    // The same run in bytes from the page's start: the first one, and the one behind it; and the queue behind the run.
+    pub fn free_run(&self, page: usize, from: usize, queue: Head) -> Option<(u32, u32, Head)>
         requires there { is_open self.now.bytes page ≡ true }
         requires from { page_doublewords * page ≤ from }
         requires queue { IsCursor self.now page from queue }
-        ensures { IfSome result (λ found. IsShortRun self.now page from least (page_doublewords * page + found.0 / 8) found.1) }
+        ensures { MatchOption result
+            ((i : ℕ) → from ≤ i → i < page_doublewords * page + page_doublewords → slice_index_or self.now.held i false ≡ true)
+            (λ found. IsFoundRun self.now page from found.0 found.1 found.2) }
     {
         let Some((at, len)) = queue::next_free(&self.region, page, queue, 0) else {
             return None;
         };
-        let end = at + len;
-        if least <= (len / 8) as usize || end == PAGE_BYTES {
-            return None;
-        }
-        Some((end, queue::behind(&self.region, page, queue)))
+        Some((at, at + len, queue::behind(&self.region, page, queue)))
     }
 
     // Gives each of some bytes that are held the value.

@@ -8,7 +8,7 @@ ghost use Rattle.mvs_model.specs.Numbers.{first_doubleword_above, most_pages_abo
 ghost use Rattle.mvs_model.specs.Storage.{IsWhole, is_one_of};
 ghost use Rattle.mvs_model.specs.Want.{IsWant};
 ghost use Rattle.page_map.specs.Owners.{owner_of, is_usable};
-ghost use Rattle.subpool_store.specs.Bound.{to_look_at};
+ghost use Rattle.subpool_store.specs.Bound.{most_steps};
 ghost use Rattle.subpool_store.specs.Edits.{HasNoBit, IsAssigned, IsGivenUp, IsMarked};
 ghost use Rattle.subpool_store.specs.Region.{
   AllHeldIn,
@@ -297,7 +297,7 @@ impl RegionStore {
     // A longest open place that meets what is wanted, the one that the placement takes.
     pub fn find(&self, placement: Placement, subpool: SubpoolId, want: &Want) -> Found
         ensures best { BestIn self.now subpool want.now result.place }
-        ensures counted { IsCounted (to_look_at self.now subpool) result.place result.steps }
+        ensures counted { IsCounted (most_steps self.now subpool) result.place result.steps }
         ensures wanted { IsWant want.now }
     {
         find(

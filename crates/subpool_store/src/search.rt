@@ -27,7 +27,7 @@ use mvs_model::subpool::SubpoolId;
 use mvs_model::want::{Placement, Want};
 use page_map::PageMap;
 
-/// What a search found, and how many page entries and free runs it examined.
+/// What a search found, and how many page entries and free runs it looked at.
 #[derive(Clone, Copy)]
 pub struct Found {
     pub place: Option<Place>,
@@ -180,12 +180,12 @@ pub fn find(
     requires one_side { first < first_doubleword_above → first + length memory.now.held ≤ first_doubleword_above }
     ensures found { IfSome result.place (IsCandidate (may_take memory.now.held pages.now subpool) first want.now) }
     ensures longest { (q : PlaceValue) → IsCandidate (may_take memory.now.held pages.now subpool) first want.now q → Beats result.place q.len }
-    ensures counted { IsCounted (looked_at memory.now pages.now subpool (length memory.now.held) false) result.place result.steps }
+    ensures counted { IsCounted (looked_at memory.now pages.now subpool (length memory.now.held)) result.place result.steps }
     ensures wanted { IsWant want.now }
 {
     let only = only_length(want);
     let least = least_doublewords(want);
-    let mut walk = Walk::new();
+    let mut walk = Walk::new(memory, pages, subpool);
     let mut best = None;
     'runs: while let Some(run) = walk.next_run(memory, pages, subpool, least) {
         best = preferred(
@@ -194,8 +194,8 @@ pub fn find(
             best_in(placement, run_place(first, run), want, only),
         );
         if is_final(placement, &best, want) {
-            return Found::new(best, walk.steps);
+            return Found::new(best, walk.counted.steps);
         }
     }
-    Found::new(best, walk.steps)
+    Found::new(best, walk.counted.steps)
 }

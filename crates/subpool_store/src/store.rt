@@ -39,8 +39,6 @@ use std::marker::Model;
 use thiserror::Error;
 
 #[cfg(test)]
-mod random;
-#[cfg(test)]
 mod tests;
 
 /// The subpool does not hold each doubleword of the place.
@@ -60,14 +58,14 @@ pub struct Store {
 }
 
 impl Model for Store {
-    ghost use Rattle.mvs_model.specs.Storage.{Storage, storage_code};
-    ghost use Rattle.subpool_store.specs.Joined.{store_of, IsStore};
+    ghost use Rattle.subpool_store.specs.Joined.{IsStore};
+    ghost use Rattle.subpool_store.specs.Value.{StoreValue, store_code, value_of};
 
-    ghost Value = { Storage };
+    ghost Value = { StoreValue };
 
-    ghost coded = { storage_code };
+    ghost coded = { store_code };
 
-    ghost view = { λ s. store_of s.below s.above s.fill };
+    ghost view = { λ s. value_of s.below s.above s.fill s.steps };
 
     ghost invariant = { λ s. IsStore s.below s.above };
 }
@@ -124,8 +122,8 @@ impl Store {
         requires below { below ≤ most_pages_below }
         requires above { above ≤ most_pages_above }
         ensures empty { IfOk result
-            (λ s. s ≡ record { regions = record { below = below; above = above; fill = fill }; held = empty; bytes = empty }) }
-        ensures storage { IfOk result IsStorage }
+            (λ s. s ≡ record { storage = record { regions = record { below = below; above = above; fill = fill }; held = empty; bytes = empty }; steps = 0 }) }
+        ensures storage { IfOk result (λ s. IsStorage s.storage) }
     {
         Ok(Store {
             below: RegionStore::new(alloc, FIRST_DOUBLEWORD_BELOW, below as usize)?,
@@ -139,10 +137,10 @@ impl Store {
     // The place to take for what is wanted: the longest one, above if one of that length is above.
     fn search(&self, subpool: SubpoolId, want: &Want) -> Found
         ensures chosen { MatchOption result.place
-            (NoPlace self.now.regions (holder self.now) subpool want.now)
-            (Chosen self.now.regions (holder self.now) subpool want.now) }
-        ensures bound { IsBound self.now subpool want.now.side result.place result.steps }
-        ensures storage { IsStorage self.now }
+            (NoPlace self.now.storage.regions (holder self.now.storage) subpool want.now)
+            (Chosen self.now.storage.regions (holder self.now.storage) subpool want.now) }
+        ensures bound { IsBound self.now.storage subpool want.now.side result.place result.steps }
+        ensures storage { IsStorage self.now.storage }
     {
         let above = find_above(self.placement, &self.above, subpool, want);
         if is_longest(&above.place, want) {
@@ -154,11 +152,12 @@ impl Store {
 
     // Gives an open place to the subpool and fills it.
     fn take(&mut self, subpool: SubpoolId, place: Place)
-        requires open { Open self.old.regions (holder self.old) subpool place }
+        requires open { Open self.old.storage.regions (holder self.old.storage) subpool place }
         requires whole { IsWhole place }
         requires some { 8 ≤ place.len }
-        ensures taken { Taken self.old place (Some subpool) (Some self.old.regions.fill) self.new }
-        ensures storage { IsStorage self.new }
+        ensures taken { Taken self.old.storage place (Some subpool) (Some self.old.storage.regions.fill) self.new.storage }
+        ensures storage { IsStorage self.new.storage }
+        ensures steps { self.new.steps ≡ self.old.steps }
     {
         if is_below(place) {
             self.below.take(subpool, place, self.fill);
@@ -169,46 +168,37 @@ impl Store {
 
     /// Obtains what is wanted: the greatest length of those that are wanted for which there is a place, and of
     /// such places above 16 megabytes, or below where none is above, the lowest or the highest, as the placement
-    /// says. None where there is no place, and then nothing changes (Assembler Services Reference, GETMAIN; which
-    /// place is taken is this project's choice).
+    /// says. None where there is no place, and then the storage stays as it is (Assembler Services Reference, GETMAIN;
+    /// which place is taken is this project's choice).
     pub fn obtain(&mut self, subpool: SubpoolId, want: &Want) -> Option<Place>
         ensures grant { MatchOption result
-            (NoPlace self.old.regions (holder self.old) subpool want.now × (self.new ≡ self.old))
-            (λ p. Grant self.old subpool want.now p self.new) }
-        ensures storage { IsStorage self.new }
-    {
-        let found = self.obtain_counted(subpool, want);
-        self.steps = found.steps;
-        found.place
-    }
-
-    /// Obtains what is wanted, and counts the page entries and the free runs that the search for it looked at. It looks
-    /// at each at most once, and at all of them before it answers that there is no place.
-    pub fn obtain_counted(&mut self, subpool: SubpoolId, want: &Want) -> Found
-        ensures grant { MatchOption result.place
-            (NoPlace self.old.regions (holder self.old) subpool want.now × (self.new ≡ self.old))
-            (λ p. Grant self.old subpool want.now p self.new) }
-        ensures bound { IsBound self.old subpool want.now.side result.place result.steps }
-        ensures storage { IsStorage self.new }
+            (NoPlace self.old.storage.regions (holder self.old.storage) subpool want.now × (self.new.storage ≡ self.old.storage))
+            (λ p. Grant self.old.storage subpool want.now p self.new.storage) }
+        ensures bound { IsBound self.old.storage subpool want.now.side result self.new.steps }
+        ensures storage { IsStorage self.new.storage }
     {
         let found = self.search(subpool, want);
+        self.steps = found.steps;
         if let Some(place) = found.place {
             self.take(subpool, place);
         }
-        found
+        found.place
     }
 
-    /// How many page entries and free runs the latest `obtain` looked at; 0 before one.
-    pub fn steps(&self) -> u32 {
+    /// How many page entries and free runs the latest `obtain` counted; 0 before one.
+    pub fn steps(&self) -> u32
+        ensures { result ≡ self.now.steps }
+    {
         self.steps
     }
 
     // Takes back a place that the subpool holds.
     fn give(&mut self, subpool: SubpoolId, place: Place)
-        requires held { HeldBy self.old subpool place }
+        requires held { HeldBy self.old.storage subpool place }
         requires whole { IsWhole place }
-        ensures given { Taken self.old place None None self.new }
-        ensures storage { IsStorage self.new }
+        ensures given { Taken self.old.storage place None None self.new.storage }
+        ensures storage { IsStorage self.new.storage }
+        ensures steps { self.new.steps ≡ self.old.steps }
     {
         if is_below(place) {
             self.below.give(subpool, place);
@@ -222,9 +212,10 @@ impl Store {
     pub fn release(&mut self, subpool: SubpoolId, place: Place) -> Result<(), NotHeld>
         requires { IsWhole place }
         ensures released { MatchResult result
-            (λ _. Release self.old subpool place self.new)
-            (λ _. (HeldBy self.old subpool place → ⊥) × (self.new ≡ self.old)) }
-        ensures storage { IsStorage self.new }
+            (λ _. Release self.old.storage subpool place self.new.storage)
+            (λ _. (HeldBy self.old.storage subpool place → ⊥) × (self.new.storage ≡ self.old.storage)) }
+        ensures storage { IsStorage self.new.storage }
+        ensures steps { self.new.steps ≡ self.old.steps }
     {
         if !self.holds_whole(subpool, place) {
             return Err(NotHeld);
@@ -235,8 +226,9 @@ impl Store {
 
     /// Takes back all that the subpool holds (Assembler Services Reference, FREEMAIN, subpool release).
     pub fn release_all(&mut self, subpool: SubpoolId)
-        ensures released { ReleaseAll self.old subpool self.new }
-        ensures storage { IsStorage self.new }
+        ensures released { ReleaseAll self.old.storage subpool self.new.storage }
+        ensures storage { IsStorage self.new.storage }
+        ensures steps { self.new.steps ≡ self.old.steps }
     {
         let mut subpools = SubpoolSet::empty();
         subpools.insert(subpool);
@@ -245,8 +237,9 @@ impl Store {
 
     /// Takes back all that the subpools of a set hold, in one pass.
     pub fn release_each(&mut self, subpools: &SubpoolSet)
-        ensures released { ReleaseEach self.old subpools.now self.new }
-        ensures storage { IsStorage self.new }
+        ensures released { ReleaseEach self.old.storage subpools.now self.new.storage }
+        ensures storage { IsStorage self.new.storage }
+        ensures steps { self.new.steps ≡ self.old.steps }
     {
         self.below.release_each(subpools);
         self.above.release_each(subpools);
@@ -254,8 +247,8 @@ impl Store {
 
     /// Whether the subpool holds each doubleword of which a byte lies in the place.
     pub fn holds(&self, subpool: SubpoolId, place: Place) -> bool
-        ensures holds { IsTrue result ↔ HeldBy self.now subpool place }
-        ensures storage { IsStorage self.now }
+        ensures holds { IsTrue result ↔ HeldBy self.now.storage subpool place }
+        ensures storage { IsStorage self.now.storage }
     {
         let _ = &self.fill;
         if !has_addresses(place) {
@@ -267,8 +260,8 @@ impl Store {
     // The same of a place of whole doublewords.
     fn holds_whole(&self, subpool: SubpoolId, place: Place) -> bool
         requires { IsWhole place }
-        ensures holds { IsTrue result ↔ HeldBy self.now subpool place }
-        ensures storage { IsStorage self.now }
+        ensures holds { IsTrue result ↔ HeldBy self.now.storage subpool place }
+        ensures storage { IsStorage self.now.storage }
     {
         if is_below(place) {
             self.below.holds(subpool, place)
@@ -279,8 +272,8 @@ impl Store {
 
     /// The subpool that holds the doubleword of an address.
     pub fn held(&self, addr: Addr) -> Option<SubpoolId>
-        ensures held { result ≡ holder self.now (addr / 8) }
-        ensures storage { IsStorage self.now }
+        ensures held { result ≡ holder self.now.storage (addr / 8) }
+        ensures storage { IsStorage self.now.storage }
     {
         if addr.get() < ABOVE_BEGINS {
             self.below.holder(addr)
@@ -291,28 +284,28 @@ impl Store {
 
     /// How many pages the region below has.
     pub fn pages_below(&self) -> u32
-        ensures { result ≡ self.now.regions.below }
+        ensures { result ≡ self.now.storage.regions.below }
     {
         self.below.page_count()
     }
 
     /// How many pages the region above has.
     pub fn pages_above(&self) -> u32
-        ensures { result ≡ self.now.regions.above }
+        ensures { result ≡ self.now.storage.regions.above }
     {
         self.above.page_count()
     }
 
     /// How many bytes the subpool holds.
     pub fn held_bytes(&self, subpool: SubpoolId) -> u32
-        ensures { result ≡ held_bytes self.now subpool }
+        ensures { result ≡ held_bytes self.now.storage subpool }
     {
         8 * (self.below.count(subpool) + self.above.count(subpool))
     }
 
     /// The subpool that the page of an address is assigned to: the one that holds a doubleword of the page.
     pub fn page_owner(&self, addr: Addr) -> Option<SubpoolId>
-        ensures { IsPageOwner self.now addr result }
+        ensures { IsPageOwner self.now.storage addr result }
     {
         if addr.get() < ABOVE_BEGINS {
             self.below.page_owner(addr)
@@ -323,9 +316,9 @@ impl Store {
 
     /// The bytes of a place that is held.
     pub fn bytes(&self, place: Place) -> &[u8]
-        requires { AllHeld self.now place }
+        requires { AllHeld self.now.storage place }
         ensures len { length result.now ≡ place.len }
-        ensures bytes { (k : ℕ) → k < place.len → slice_get result.now k ≡ get self.now.bytes (place.addr + k) }
+        ensures bytes { (k : ℕ) → k < place.len → slice_get result.now k ≡ get self.now.storage.bytes (place.addr + k) }
     {
         if is_below(place) {
             self.below.part(place)
@@ -337,13 +330,13 @@ impl Store {
     /// Lends the bytes of a place that is held: what is written back is what they are then, and all else is as
     /// before.
     pub fn bytes_mut(&mut self, place: Place) -> &mut [u8]
-        requires { AllHeld self.old place }
+        requires { AllHeld self.old.storage place }
         ensures* writes_back { sem 𝓛 (LendsBytes self.entry place result) }
 
         // What the storage is once the loan is over, where `w` was left behind the result.
-        ensures written { (w : List ℕ) → length w ≡ place.len → Puts self.old place w (written self.old place w) }
+        ensures written { (w : List ℕ) → length w ≡ place.len → Puts self.old.storage place w (written self.old.storage place w) }
         ensures len { length result.now ≡ place.len }
-        ensures bytes { (k : ℕ) → k < place.len → slice_get result.now k ≡ get self.old.bytes (place.addr + k) }
+        ensures bytes { (k : ℕ) → k < place.len → slice_get result.now k ≡ get self.old.storage.bytes (place.addr + k) }
     {
         if is_below(place) {
             self.below.part_mut(place)
@@ -354,66 +347,66 @@ impl Store {
 
     // Both places lie below.
     fn two_below(&mut self, from: Place, to: Place) -> (&[u8], &mut [u8])
-        requires source { AllHeld self.old from }
-        requires target { AllHeld self.old to }
+        requires source { AllHeld self.old.storage from }
+        requires target { AllHeld self.old.storage to }
         requires len { from.len ≡ to.len }
         requires from_below { from.addr < above_begins }
         requires to_below { to.addr < above_begins }
         requires apart { (from.addr + from.len ≤ to.addr) ⊎ (to.addr + to.len ≤ from.addr) }
         ensures* writes_back { sem 𝓛 (LendsBytes self.entry to result.1) }
-        ensures written { (w : List ℕ) → length w ≡ to.len → Puts self.old to w (written self.old to w) }
+        ensures written { (w : List ℕ) → length w ≡ to.len → Puts self.old.storage to w (written self.old.storage to w) }
         ensures len { (length result.0.now ≡ from.len) × (length result.1.now ≡ to.len) }
-        ensures source_bytes { (k : ℕ) → k < from.len → slice_get result.0.now k ≡ get self.old.bytes (from.addr + k) }
-        ensures target_bytes { (k : ℕ) → k < to.len → slice_get result.1.now k ≡ get self.old.bytes (to.addr + k) }
+        ensures source_bytes { (k : ℕ) → k < from.len → slice_get result.0.now k ≡ get self.old.storage.bytes (from.addr + k) }
+        ensures target_bytes { (k : ℕ) → k < to.len → slice_get result.1.now k ≡ get self.old.storage.bytes (to.addr + k) }
     {
         self.below.two(from, to)
     }
 
     // Both places lie above.
     fn two_above(&mut self, from: Place, to: Place) -> (&[u8], &mut [u8])
-        requires source { AllHeld self.old from }
-        requires target { AllHeld self.old to }
+        requires source { AllHeld self.old.storage from }
+        requires target { AllHeld self.old.storage to }
         requires len { from.len ≡ to.len }
         requires from_above { above_begins ≤ from.addr }
         requires to_above { above_begins ≤ to.addr }
         requires apart { (from.addr + from.len ≤ to.addr) ⊎ (to.addr + to.len ≤ from.addr) }
         ensures* writes_back { sem 𝓛 (LendsBytes self.entry to result.1) }
-        ensures written { (w : List ℕ) → length w ≡ to.len → Puts self.old to w (written self.old to w) }
+        ensures written { (w : List ℕ) → length w ≡ to.len → Puts self.old.storage to w (written self.old.storage to w) }
         ensures len { (length result.0.now ≡ from.len) × (length result.1.now ≡ to.len) }
-        ensures source_bytes { (k : ℕ) → k < from.len → slice_get result.0.now k ≡ get self.old.bytes (from.addr + k) }
-        ensures target_bytes { (k : ℕ) → k < to.len → slice_get result.1.now k ≡ get self.old.bytes (to.addr + k) }
+        ensures source_bytes { (k : ℕ) → k < from.len → slice_get result.0.now k ≡ get self.old.storage.bytes (from.addr + k) }
+        ensures target_bytes { (k : ℕ) → k < to.len → slice_get result.1.now k ≡ get self.old.storage.bytes (to.addr + k) }
     {
         self.above.two(from, to)
     }
 
     // The bytes that are read lie below, and those that are written above.
     fn two_up(&mut self, from: Place, to: Place) -> (&[u8], &mut [u8])
-        requires source { AllHeld self.old from }
-        requires target { AllHeld self.old to }
+        requires source { AllHeld self.old.storage from }
+        requires target { AllHeld self.old.storage to }
         requires len { from.len ≡ to.len }
         requires from_below { from.addr < above_begins }
         requires to_above { above_begins ≤ to.addr }
         ensures* writes_back { sem 𝓛 (LendsBytes self.entry to result.1) }
-        ensures written { (w : List ℕ) → length w ≡ to.len → Puts self.old to w (written self.old to w) }
+        ensures written { (w : List ℕ) → length w ≡ to.len → Puts self.old.storage to w (written self.old.storage to w) }
         ensures len { (length result.0.now ≡ from.len) × (length result.1.now ≡ to.len) }
-        ensures source_bytes { (k : ℕ) → k < from.len → slice_get result.0.now k ≡ get self.old.bytes (from.addr + k) }
-        ensures target_bytes { (k : ℕ) → k < to.len → slice_get result.1.now k ≡ get self.old.bytes (to.addr + k) }
+        ensures source_bytes { (k : ℕ) → k < from.len → slice_get result.0.now k ≡ get self.old.storage.bytes (from.addr + k) }
+        ensures target_bytes { (k : ℕ) → k < to.len → slice_get result.1.now k ≡ get self.old.storage.bytes (to.addr + k) }
     {
         (self.below.part(from), self.above.part_mut(to))
     }
 
     // The bytes that are read lie above, and those that are written below.
     fn two_down(&mut self, from: Place, to: Place) -> (&[u8], &mut [u8])
-        requires source { AllHeld self.old from }
-        requires target { AllHeld self.old to }
+        requires source { AllHeld self.old.storage from }
+        requires target { AllHeld self.old.storage to }
         requires len { from.len ≡ to.len }
         requires from_above { above_begins ≤ from.addr }
         requires to_below { to.addr < above_begins }
         ensures* writes_back { sem 𝓛 (LendsBytes self.entry to result.1) }
-        ensures written { (w : List ℕ) → length w ≡ to.len → Puts self.old to w (written self.old to w) }
+        ensures written { (w : List ℕ) → length w ≡ to.len → Puts self.old.storage to w (written self.old.storage to w) }
         ensures len { (length result.0.now ≡ from.len) × (length result.1.now ≡ to.len) }
-        ensures source_bytes { (k : ℕ) → k < from.len → slice_get result.0.now k ≡ get self.old.bytes (from.addr + k) }
-        ensures target_bytes { (k : ℕ) → k < to.len → slice_get result.1.now k ≡ get self.old.bytes (to.addr + k) }
+        ensures source_bytes { (k : ℕ) → k < from.len → slice_get result.0.now k ≡ get self.old.storage.bytes (from.addr + k) }
+        ensures target_bytes { (k : ℕ) → k < to.len → slice_get result.1.now k ≡ get self.old.storage.bytes (to.addr + k) }
     {
         (self.above.part(from), self.below.part_mut(to))
     }
@@ -421,17 +414,17 @@ impl Store {
     /// Lends the bytes of one place to read, and those of another one to write: what is written back is what the
     /// second place has then, and all else is as before. Both are held, are of one length and have no byte in common.
     pub fn two(&mut self, from: Place, to: Place) -> (&[u8], &mut [u8])
-        requires source { AllHeld self.old from }
-        requires target { AllHeld self.old to }
+        requires source { AllHeld self.old.storage from }
+        requires target { AllHeld self.old.storage to }
         requires len { from.len ≡ to.len }
         requires apart { (from.addr + from.len ≤ to.addr) ⊎ (to.addr + to.len ≤ from.addr) }
         ensures* writes_back { sem 𝓛 (LendsBytes self.entry to result.1) }
 
         // What the storage is once the loan is over, where `w` was left behind the second result.
-        ensures written { (w : List ℕ) → length w ≡ to.len → Puts self.old to w (written self.old to w) }
+        ensures written { (w : List ℕ) → length w ≡ to.len → Puts self.old.storage to w (written self.old.storage to w) }
         ensures len { (length result.0.now ≡ from.len) × (length result.1.now ≡ to.len) }
-        ensures source_bytes { (k : ℕ) → k < from.len → slice_get result.0.now k ≡ get self.old.bytes (from.addr + k) }
-        ensures target_bytes { (k : ℕ) → k < to.len → slice_get result.1.now k ≡ get self.old.bytes (to.addr + k) }
+        ensures source_bytes { (k : ℕ) → k < from.len → slice_get result.0.now k ≡ get self.old.storage.bytes (from.addr + k) }
+        ensures target_bytes { (k : ℕ) → k < to.len → slice_get result.1.now k ≡ get self.old.storage.bytes (to.addr + k) }
     {
         if from.addr().get() < ABOVE_BEGINS {
             if to.addr().get() < ABOVE_BEGINS {

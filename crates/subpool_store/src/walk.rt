@@ -1,195 +1,224 @@
 //! One pass in rising order over the pages of a region and the free runs of the subpool's own pages.
 
-ghost use Rattle.std.specs.Prelude.{◌≡◌, ◌<◌, ◌≤◌, ◌+◌, ◌/◌, ◌%◌, ◌⊎◌, ◌↔◌, ℕ, IsTrue, MatchOption, Some, None, false, true, length, slice_index_or};
-ghost use Rattle.mvs_model.specs.Numbers.{page_doublewords};
-ghost use Rattle.free_queue.specs.Runs.{end};
+ghost use Rattle.std.specs.Prelude.{◌≡◌, ◌<◌, ◌≤◌, ◌+◌, ◌-◌, ◌*◌, ◌/◌, ◌%◌, ◌⊎◌, ◌↔◌, ℕ, IsTrue, MatchOption, Some, None, false, true, length, slice_index_or};
+ghost use Rattle.mvs_model.specs.Numbers.{most_pages_above, page_doublewords};
 ghost use Rattle.page_map.specs.Owners.{owner_of, is_usable};
+ghost use Rattle.subpool_store.specs.Edits.{IsFreeRun};
 ghost use Rattle.subpool_store.specs.Region.{IsOpened};
 ghost use Rattle.subpool_store.specs.Memory.{IsCursor};
 ghost use Rattle.subpool_store.specs.Search.{may_take, IsExact, IsNextRun, NoneFits};
-ghost use Rattle.subpool_store.specs.Walk.{progress, IsFull, IsNextPart, IsWalk};
+ghost use Rattle.subpool_store.specs.Sizes.{most_doublewords};
+ghost use Rattle.subpool_store.specs.Walk.{entry_of, IsInside, IsNextPart, IsWalk, Stands};
 
+use crate::counted::{Counted, Entry};
 use crate::memory::Memory;
 use crate::run::Run;
 use free_queue::queue::Head;
-use mvs_model::numbers::PAGE_DOUBLEWORDS;
+use mvs_model::numbers::{PAGE_BYTES, PAGE_DOUBLEWORDS};
 use mvs_model::subpool::SubpoolId;
 use page_map::PageMap;
 
 /// What a look at page entries or at one free run says: from where the pass stands to `start` the subpool may
-/// take no doubleword, from there to `end` each of them.
+/// take no doubleword, from there to `end` each of them. Then the pass stands at `end`.
 #[derive(Clone, Copy)]
 struct Part {
     start: usize,
     end: usize,
-    inside: bool,
+    entry: Entry,
     queue: Head,
-    examined: u32,
+    counted: Counted,
 }
 
-/// A pass: the run that it has joined so far, which ends where it stands; whether it stands inside a page of
-/// the subpool's own, whose entry it has examined; the queue of the runs of that page that it has not examined; and
-/// how many page entries and free runs it has examined.
+/// A pass: the run that it has joined so far, which ends where it stands; the entry of the page that it stands at, and,
+/// where that is the subpool's own, the queue of the runs of the page that it has not looked at; and how much it has
+/// looked at.
 #[derive(Clone, Copy)]
 pub struct Walk {
     start: usize,
     end: usize,
-    inside: bool,
+    entry: Entry,
     queue: Head,
-    pub steps: u32,
+    pub counted: Counted,
 }
 
-// Joins the pages from a free one on, up to the first one that is assigned.
-fn join_pages(memory: &Memory, pages: &PageMap, subpool: SubpoolId, from: usize) -> Part
-    requires exact { IsExact memory.now.held pages.now }
-    requires within { from < length memory.now.held }
-    requires page { from % page_doublewords ≡ 0 }
-    requires free { owner_of pages.now (from / page_doublewords) ≡ None }
-    ensures { IsNextPart memory.now pages.now subpool from false result }
+// The queue of what is free in a page, where its entry is the subpool's own.
+fn queue_of(memory: &Memory, pages: &PageMap, subpool: SubpoolId, entry: Entry, page: usize) -> Head
+    requires entry { entry ≡ entry_of pages.now subpool page }
+    requires opened { IsOpened pages.now memory.now.bytes }
+    ensures { Stands memory.now pages.now subpool (page_doublewords * page) entry result }
 {
-    let _ = memory;
+    let _ = pages;
     let _ = subpool;
-    let page = pages.first_assigned(from / PAGE_DOUBLEWORDS);
-    Part {
-        start: from,
-        end: PAGE_DOUBLEWORDS * page,
-        inside: false,
-        queue: Head::none(),
-        examined: (page - from / PAGE_DOUBLEWORDS) as u32,
+    match entry {
+        Entry::Own => memory.first(page),
+        _ => Head::none(),
     }
 }
 
-// Passes the entries of other subpools' pages, up to the first one that is free or the subpool's own.
-fn pass_pages(memory: &Memory, pages: &PageMap, subpool: SubpoolId, from: usize) -> Part
-    requires exact { IsExact memory.now.held pages.now }
-    requires within { from < length memory.now.held }
-    requires page { from % page_doublewords ≡ 0 }
-    requires foreign { is_usable subpool (owner_of pages.now (from / page_doublewords)) ≡ false }
-    ensures { IsNextPart memory.now pages.now subpool from false result }
-{
-    let _ = memory;
-    let page = pages.first_usable(subpool, from / PAGE_DOUBLEWORDS);
-    Part {
-        start: PAGE_DOUBLEWORDS * page,
-        end: PAGE_DOUBLEWORDS * page,
-        inside: false,
-        queue: Head::none(),
-        examined: (page - from / PAGE_DOUBLEWORDS) as u32,
-    }
-}
-
-// Whether a page is the subpool's own and nothing of it is free.
-fn is_full(memory: &Memory, pages: &PageMap, subpool: SubpoolId, page: usize) -> bool
-    requires within { page < length pages.now }
-    requires opened { IsOpened pages.now memory.now.bytes }
-    ensures { IsTrue result ↔ IsFull memory.now.held pages.now subpool page }
-{
-    if !pages.is_of(page, subpool) {
-        return false;
-    }
-    memory.is_full(page)
-}
-
-// The first page from one on that is not the subpool's own or of which something is free, or the number of pages.
-fn pass_full(memory: &Memory, pages: &PageMap, subpool: SubpoolId, from: usize) -> usize
-    requires within { from ≤ length pages.now }
-    requires opened { IsOpened pages.now memory.now.bytes }
-    ensures after { from ≤ result }
-    ensures within { result ≤ length pages.now }
-    ensures full { (p : ℕ) → from ≤ p → p < result → IsFull memory.now.held pages.now subpool p }
-{
-    let mut page = from;
-    'pages: while page < pages.pages() {
-        if !is_full(memory, pages, subpool, page) {
-            return page;
-        }
-        page += 1;
-    }
-    page
-}
-
-// Passes pages of the subpool's own of which nothing is free, and looks at the entry of the page behind them, if it is
-// the subpool's own as well.
-fn examine_own(memory: &Memory, pages: &PageMap, subpool: SubpoolId, from: usize) -> Part
-    requires exact { IsExact memory.now.held pages.now }
-    requires within { from < length memory.now.held }
-    requires page { from % page_doublewords ≡ 0 }
-    requires own { owner_of pages.now (from / page_doublewords) ≡ Some subpool }
-    requires opened { IsOpened pages.now memory.now.bytes }
-    ensures { IsNextPart memory.now pages.now subpool from false result }
-{
-    let page = pass_full(memory, pages, subpool, from / PAGE_DOUBLEWORDS);
-    let passed = (page - from / PAGE_DOUBLEWORDS) as u32;
-    if page < pages.pages() && pages.is_of(page, subpool) {
-        return Part {
-            start: PAGE_DOUBLEWORDS * page,
-            end: PAGE_DOUBLEWORDS * page,
-            inside: true,
-            queue: memory.first(page),
-            examined: passed + 1,
-        };
-    }
-    Part {
-        start: PAGE_DOUBLEWORDS * page,
-        end: PAGE_DOUBLEWORDS * page,
-        inside: false,
-        queue: Head::none(),
-        examined: passed,
-    }
-}
-
-// Looks at the entry of the next page, and of those behind it that are alike.
-fn examine_page(memory: &Memory, pages: &PageMap, subpool: SubpoolId, from: usize) -> Part
-    requires exact { IsExact memory.now.held pages.now }
-    requires within { from < length memory.now.held }
-    requires page { from % page_doublewords ≡ 0 }
-    requires opened { IsOpened pages.now memory.now.bytes }
-    ensures { IsNextPart memory.now pages.now subpool from false result }
-{
-    match pages.owner(from / PAGE_DOUBLEWORDS) {
-        None => join_pages(memory, pages, subpool, from),
-        Some(owner) if owner == subpool => examine_own(memory, pages, subpool, from),
-        Some(_) => pass_pages(memory, pages, subpool, from),
-    }
-}
-
-// Looks at the next free run of a page of the subpool's own. Where there is none it looks at nothing.
-#[tactic(auto, using(crate::proofs::Begun::rest_counted, crate::proofs::Begun::run_counted))]
-fn examine_run(
+// Joins a free page with those behind it, up to the first one that is assigned.
+fn join_pages(
+    counted: Counted,
     memory: &Memory,
     pages: &PageMap,
     subpool: SubpoolId,
-    page: usize,
+    from: usize,
+) -> Part
+    requires few { counted.steps ≤ 8 * most_doublewords }
+    requires exact { IsExact memory.now.held pages.now }
+    requires opened { IsOpened pages.now memory.now.bytes }
+    requires within { from < length memory.now.held }
+    requires page { from % page_doublewords ≡ 0 }
+    requires free { owner_of pages.now (from / page_doublewords) ≡ None }
+    ensures { IsNextPart memory.now pages.now subpool from counted.steps result }
+{
+    let mut counted = counted;
+    let (page, entry) = counted.pass_free(pages, subpool, from / PAGE_DOUBLEWORDS + 1);
+    Part {
+        start: from,
+        end: PAGE_DOUBLEWORDS * page,
+        entry,
+        queue: queue_of(memory, pages, subpool, entry, page),
+        counted,
+    }
+}
+
+// Passes a page of another subpool, and those behind it, up to the first one that is free or the subpool's own.
+fn pass_pages(
+    counted: Counted,
+    memory: &Memory,
+    pages: &PageMap,
+    subpool: SubpoolId,
+    from: usize,
+) -> Part
+    requires few { counted.steps ≤ 8 * most_doublewords }
+    requires exact { IsExact memory.now.held pages.now }
+    requires opened { IsOpened pages.now memory.now.bytes }
+    requires within { from < length memory.now.held }
+    requires page { from % page_doublewords ≡ 0 }
+    requires other { is_usable subpool (owner_of pages.now (from / page_doublewords)) ≡ false }
+    ensures { IsNextPart memory.now pages.now subpool from counted.steps result }
+{
+    let mut counted = counted;
+    let (page, entry) = counted.pass_others(pages, subpool, from / PAGE_DOUBLEWORDS + 1);
+    let end = PAGE_DOUBLEWORDS * page;
+    Part {
+        start: end,
+        end,
+        entry,
+        queue: queue_of(memory, pages, subpool, entry, page),
+        counted,
+    }
+}
+
+// Leaves a page of the subpool's own of which nothing is free from an index on, and passes those behind it of which
+// nothing is free.
+fn leave_page(
+    counted: Counted,
+    memory: &Memory,
+    pages: &PageMap,
+    subpool: SubpoolId,
+    from: usize,
+) -> Part
+    requires few { counted.steps ≤ 8 * most_doublewords }
+    requires exact { IsExact memory.now.held pages.now }
+    requires opened { IsOpened pages.now memory.now.bytes }
+    requires within { from < length memory.now.held }
+    requires rest { (i : ℕ) → from ≤ i → i < page_doublewords * (from / page_doublewords) + page_doublewords → slice_index_or memory.now.held i false ≡ true }
+    ensures { IsNextPart memory.now pages.now subpool from counted.steps result }
+{
+    let mut counted = counted;
+    let (page, entry) = counted.pass_full(memory, pages, subpool, from / PAGE_DOUBLEWORDS + 1);
+    let end = PAGE_DOUBLEWORDS * page;
+    Part {
+        start: end,
+        end,
+        entry,
+        queue: queue_of(memory, pages, subpool, entry, page),
+        counted,
+    }
+}
+
+// Makes a free run that was looked at the next part. Where it ends with its page the next entry is looked at.
+fn take_run(
+    counted: Counted,
+    memory: &Memory,
+    pages: &PageMap,
+    subpool: SubpoolId,
+    from: usize,
+    found: (Run, Head),
+) -> Part
+    requires some { 1 ≤ counted.steps }
+    requires few { counted.steps ≤ 8 * most_doublewords }
+    requires exact { IsExact memory.now.held pages.now }
+    requires opened { IsOpened pages.now memory.now.bytes }
+    requires within { from < length memory.now.held }
+    requires own { owner_of pages.now (from / page_doublewords) ≡ Some subpool }
+    requires fresh { (from % page_doublewords ≡ 0) ⊎ (slice_index_or memory.now.held from false ≡ true) }
+    requires run { IsFreeRun memory.now.held from (page_doublewords * (from / page_doublewords) + page_doublewords) found.0.start found.0.end }
+    requires cursor { IsCursor memory.now (from / page_doublewords) found.0.end found.1 }
+    ensures { IsNextPart memory.now pages.now subpool from (counted.steps - 1) result }
+{
+    let mut counted = counted;
+    let (run, behind) = found;
+    let next = from / PAGE_DOUBLEWORDS + 1;
+    if run.end < PAGE_DOUBLEWORDS * next {
+        return Part {
+            start: run.start,
+            end: run.end,
+            entry: Entry::Own,
+            queue: behind,
+            counted,
+        };
+    }
+    let entry = counted.entry(pages, subpool, next);
+    Part {
+        start: run.start,
+        end: run.end,
+        entry,
+        queue: queue_of(memory, pages, subpool, entry, next),
+        counted,
+    }
+}
+
+// The doublewords of a run that lies from one byte of a page up to another.
+fn run_at(page: usize, at: u32, end: u32) -> Run
+    requires few { page < most_pages_above }
+    ensures start { result.start ≡ page_doublewords * page + at / 8 }
+    ensures end { result.end ≡ page_doublewords * page + end / 8 }
+{
+    let first = PAGE_DOUBLEWORDS * page;
+    Run {
+        start: first + (at / 8) as usize,
+        end: first + (end / 8) as usize,
+    }
+}
+
+// Looks at the next free run of a page of the subpool's own, and leaves the page where there is none.
+fn examine_run(
+    counted: Counted,
+    memory: &Memory,
+    pages: &PageMap,
+    subpool: SubpoolId,
     from: usize,
     queue: Head,
 ) -> Part
+    requires few { counted.steps < 8 * most_doublewords }
     requires exact { IsExact memory.now.held pages.now }
-    requires within { from < length memory.now.held }
-    requires page { from / page_doublewords ≡ page }
-    requires own { owner_of pages.now page ≡ Some subpool }
     requires opened { IsOpened pages.now memory.now.bytes }
-    requires cursor { IsCursor memory.now page from queue }
+    requires within { from < length memory.now.held }
+    requires own { owner_of pages.now (from / page_doublewords) ≡ Some subpool }
     requires fresh { (from % page_doublewords ≡ 0) ⊎ (slice_index_or memory.now.held from false ≡ true) }
-    ensures part { IsNextPart memory.now pages.now subpool from true result }
-    ensures stops { result.inside ≡ true → may_take memory.now.held pages.now subpool result.end ≡ false }
-    ensures page { result.inside ≡ true → result.end / page_doublewords ≡ page }
+    requires cursor { IsCursor memory.now (from / page_doublewords) from queue }
+    ensures { IsNextPart memory.now pages.now subpool from counted.steps result }
 {
-    let end = PAGE_DOUBLEWORDS * page + PAGE_DOUBLEWORDS;
-    match memory.next_free(page, from, queue) {
-        None => Part {
-            start: end,
-            end,
-            inside: false,
-            queue: Head::none(),
-            examined: 0,
-        },
-        Some((run, behind)) => Part {
-            start: run.start,
-            end: run.end,
-            inside: run.end < end,
-            queue: behind,
-            examined: 1,
-        },
+    let mut counted = counted;
+    let page = from / PAGE_DOUBLEWORDS;
+    match counted.free_run(memory, page, from, queue) {
+        None => leave_page(counted, memory, pages, subpool, from),
+        Some((at, end, behind)) => {
+            let run = run_at(page, at, end);
+            take_run(counted, memory, pages, subpool, from, (run, behind))
+        }
     }
 }
 
@@ -201,21 +230,33 @@ fn goes_on(start: usize, end: usize) -> bool
 }
 
 impl Walk {
-    // A pass before the first page.
-    pub fn new() -> Walk
-        ensures { result ≡ record { start = 0; end = 0; inside = false; queue = end; steps = 0 } }
+    // A pass before the first page, whose entry it has looked at.
+    pub fn new(memory: &Memory, pages: &PageMap, subpool: SubpoolId) -> Walk
+        requires opened { IsOpened pages.now memory.now.bytes }
+        ensures walk { IsWalk memory.now pages.now subpool result }
+        ensures start { result.start ≡ 0 }
     {
+        let mut counted = Counted { steps: 0 };
+        let entry = counted.entry(pages, subpool, 0);
         Walk {
             start: 0,
             end: 0,
-            inside: false,
-            queue: Head::none(),
-            steps: 0,
+            entry,
+            queue: queue_of(memory, pages, subpool, entry, 0),
+            counted,
         }
     }
 
-    // Passes free runs of a page that are shorter than the least length and end before the page does; gives what comes
-    // behind them.
+    // Has the pass stand at an index, with nothing joined.
+    fn stand(&mut self, at: usize)
+        ensures { self.new ≡ record { start = at; end = at; entry = self.old.entry; queue = self.old.queue; counted = self.old.counted } }
+    {
+        self.start = at;
+        self.end = at;
+    }
+
+    // Passes free runs of a page of the subpool's own that are shorter than the least length and end before the page does;
+    // gives what comes behind them.
     fn pass_short(
         &mut self,
         memory: &Memory,
@@ -226,39 +267,35 @@ impl Walk {
         requires exact { IsExact memory.now.held pages.now }
         requires opened { IsOpened pages.now memory.now.bytes }
         requires walk { IsWalk memory.now pages.now subpool self.old }
-        requires inside { self.old.inside ≡ true }
+        requires own { IsInside pages.now subpool self.old }
         requires empty { self.old.start ≡ self.old.end }
         ensures walk { IsWalk memory.now pages.now subpool self.new }
-        ensures inside { self.new.inside ≡ true }
         ensures after { self.old.start ≤ self.new.start }
         ensures on { self.old.end ≤ self.new.end }
         ensures none { NoneFits (may_take memory.now.held pages.now subpool) least self.old.start self.new.start }
-        ensures part { IsNextPart memory.now pages.now subpool self.new.end true result }
+        ensures part { IsNextPart memory.now pages.now subpool self.new.end self.new.counted.steps result }
     {
         let page = self.end / PAGE_DOUBLEWORDS;
         let first = PAGE_DOUBLEWORDS * page;
-        let mut at = 8 * (self.end - first) as u32;
-        let mut queue = self.queue;
-        let mut passed = 0;
-        'runs: while let Some((end, behind)) = memory.short_run(
+        let mut passed = 8 * (self.end - first) as u32;
+        let mut counted = self.counted;
+        'runs: while let Some((at, end, behind)) = counted.free_run(
+            memory,
             page,
-            first + (at / 8) as usize,
-            queue,
-            least,
+            first + (passed / 8) as usize,
+            self.queue,
         ) {
-            at = end;
-            queue = behind;
-            passed += 1;
+            if least <= ((end - at) / 8) as usize || end == PAGE_BYTES {
+                self.stand(first + (passed / 8) as usize);
+                let run = run_at(page, at, end);
+                return take_run(counted, memory, pages, subpool, self.end, (run, behind));
+            }
+            passed = end;
+            self.queue = behind;
+            self.counted = counted;
         }
-        let end = first + (at / 8) as usize;
-        *self = Walk {
-            start: end,
-            end,
-            inside: true,
-            queue,
-            steps: self.steps + passed,
-        };
-        examine_run(memory, pages, subpool, page, end, queue)
+        self.stand(first + (passed / 8) as usize);
+        leave_page(counted, memory, pages, subpool, self.end)
     }
 
     // Whether the run that is joined so far is still of use: it may go on in the page that the pass has entered, or it is
@@ -270,6 +307,32 @@ impl Walk {
     {
         let len = self.end - self.start;
         0 < len && (least <= len || self.end % PAGE_DOUBLEWORDS == 0)
+    }
+
+    // Looks at what comes next in a page of the subpool's own, behind free runs that are too short.
+    fn examine_own(
+        &mut self,
+        memory: &Memory,
+        pages: &PageMap,
+        subpool: SubpoolId,
+        least: usize,
+    ) -> Part
+        requires exact { IsExact memory.now.held pages.now }
+        requires opened { IsOpened pages.now memory.now.bytes }
+        requires walk { IsWalk memory.now pages.now subpool self.old }
+        requires own { IsInside pages.now subpool self.old }
+        requires least { 1 ≤ least }
+        ensures walk { IsWalk memory.now pages.now subpool self.new }
+        ensures after { self.old.start ≤ self.new.start }
+        ensures on { self.old.end ≤ self.new.end }
+        ensures none { NoneFits (may_take memory.now.held pages.now subpool) least self.old.start self.new.start }
+        ensures part { IsNextPart memory.now pages.now subpool self.new.end self.new.counted.steps result }
+    {
+        if self.is_of_use(least) {
+            return examine_run(self.counted, memory, pages, subpool, self.end, self.queue);
+        }
+        self.start = self.end;
+        self.pass_short(memory, pages, subpool, least)
     }
 
     // Looks at what comes next, behind free runs that are too short.
@@ -287,19 +350,15 @@ impl Walk {
         requires least { 1 ≤ least }
         ensures walk { IsWalk memory.now pages.now subpool self.new }
         ensures after { self.old.start ≤ self.new.start }
-        ensures on { progress self.old.end self.old.inside ≤ progress self.new.end self.new.inside }
+        ensures on { self.old.end ≤ self.new.end }
         ensures none { NoneFits (may_take memory.now.held pages.now subpool) least self.old.start self.new.start }
-        ensures part { IsNextPart memory.now pages.now subpool self.new.end self.new.inside result }
+        ensures part { IsNextPart memory.now pages.now subpool self.new.end self.new.counted.steps result }
     {
-        if !self.inside {
-            return examine_page(memory, pages, subpool, self.end);
+        match self.entry {
+            Entry::Free => join_pages(self.counted, memory, pages, subpool, self.end),
+            Entry::Own => self.examine_own(memory, pages, subpool, least),
+            _ => pass_pages(self.counted, memory, pages, subpool, self.end),
         }
-        if self.is_of_use(least) {
-            let page = self.end / PAGE_DOUBLEWORDS;
-            return examine_run(memory, pages, subpool, page, self.end, self.queue);
-        }
-        self.start = self.end;
-        self.pass_short(memory, pages, subpool, least)
     }
 
     // The next run of doublewords that the subpool may take, joined across pages, which is no shorter than the least
@@ -319,7 +378,7 @@ impl Walk {
         ensures run { MatchOption result
             ((to : ℕ) → NoneFits (may_take memory.now.held pages.now subpool) least self.old.start to)
             (λ run. IsNextRun (may_take memory.now.held pages.now subpool) least self.old.start run.start run.end self.new.start) }
-        ensures all { MatchOption result (self.new.end ≡ length memory.now.held) (λ _. 0 < self.new.end) }
+        ensures all { result ≡ None → self.new.end ≡ length memory.now.held }
     {
         let total = PAGE_DOUBLEWORDS * pages.pages();
         'parts: while self.end < total {
@@ -329,9 +388,9 @@ impl Walk {
                 end: self.end,
             };
             self.end = part.end;
-            self.inside = part.inside;
+            self.entry = part.entry;
             self.queue = part.queue;
-            self.steps += part.examined;
+            self.counted = part.counted;
             if !goes_on(part.start, run.end) {
                 self.start = part.start;
                 if least <= run.end - run.start {

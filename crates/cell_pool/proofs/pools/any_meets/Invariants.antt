@@ -5,4 +5,4 @@ use Rattle.cell_pool.specs.declared.entry.Entry.{Entry}
 use Rattle.cell_pool.proofs.pools.any_meets.Given as goal
 
 abbrev pub invariant-loop-key : goal.invariant-loop-key
-invariant-loop-key l = (k : ℕ) → k < l.key → (x : Entry) → get l.entries k ≡ Some x → x.root.subpool ≡ l.subpool → Meets l.store x.root l.place → ⊥
+invariant-loop-key l = (k : ℕ) → k < l.key → (x : Entry) → get l.entries k ≡ Some x → x.root.subpool ≡ l.subpool → Meets l.store.storage x.root l.place → ⊥

@@ -5,4 +5,4 @@ use Rattle.cell_pool.specs.Release.{DropsParts}
 use Rattle.cell_pool.proofs.release.release_parts.Given as goal
 
 abbrev pub invariant-walk : goal.invariant-walk
-invariant-walk l = (l.part ≡ part_addr (byte_of l.fn.store) l.root.first l.number) × DropsParts l.fn.store l.root l.number l.store
+invariant-walk l = (l.part ≡ part_addr (byte_of l.fn.store.storage) l.root.first l.number) × DropsParts l.fn.store.storage l.root l.number l.store.storage

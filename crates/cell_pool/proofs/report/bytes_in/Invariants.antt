@@ -7,4 +7,4 @@ use Rattle.cell_pool.specs.Report.{is_in_entry}
 use Rattle.cell_pool.proofs.report.bytes_in.Given as goal
 
 abbrev pub invariant-loop-key : goal.invariant-loop-key
-invariant-loop-key l = l.bytes ≡ 8 * count_below (end_of l.store.regions) (λ d. any_below (λ k. is_in_entry (byte_of l.store) l.subpool (get l.entries k) d) l.key)
+invariant-loop-key l = l.bytes ≡ 8 * count_below (end_of l.store.storage.regions) (λ d. any_below (λ k. is_in_entry (byte_of l.store.storage) l.subpool (get l.entries k) d) l.key)

@@ -7,4 +7,4 @@ use Rattle.cell_pool.specs.Release.{in_first}
 use Rattle.cell_pool.proofs.report.bytes_of.Given as goal
 
 abbrev pub invariant-walk : goal.invariant-walk
-invariant-walk l = (l.part ≡ part_addr (byte_of l.store) l.root.first l.number) × (l.bytes ≡ 8 * count_below (end_of l.store.regions) (in_first (byte_of l.store) l.root l.number))
+invariant-walk l = (l.part ≡ part_addr (byte_of l.store.storage) l.root.first l.number) × (l.bytes ≡ 8 * count_below (end_of l.store.storage.regions) (in_first (byte_of l.store.storage) l.root l.number))

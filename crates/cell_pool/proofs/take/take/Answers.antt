@@ -11,11 +11,11 @@ use Rattle.std.proofs.Common.{refl}
 pub overflow_add-spot : goal.overflow_add-spot
 overflow_add-spot c =
     let f = c.requires.free in
-    let few : count_at (byte_of c.args.store.now) c.args.spot.part ≤ 65536 = few_at c.args.store.now c.args.root.now c.requires.chain f.number f.is_part c.args.spot.part f.addr _ refl in
-    let most = count_most (count_at (byte_of c.args.store.now) c.args.spot.part) (flag (byte_of c.args.store.now) c.args.spot.part) in
-    let is = counts c.args.store.now c.args.root.now c.requires.chain f.number f.is_part c.args.spot.part f.addr in
+    let few : count_at (byte_of c.args.store.now.storage) c.args.spot.part ≤ 65536 = few_at c.args.store.now.storage c.args.root.now c.requires.chain f.number f.is_part c.args.spot.part f.addr _ refl in
+    let most = count_most (count_at (byte_of c.args.store.now.storage) c.args.spot.part) (flag (byte_of c.args.store.now.storage) c.args.spot.part) in
+    let is = counts c.args.store.now.storage c.args.root.now c.requires.chain f.number f.is_part c.args.spot.part f.addr in
     let of_taken = f.of_taken in
     omega arith
 
 pub returns-clause-taken : goal.returns-clause-taken
-returns-clause-taken c = (c.mark.new.store, c.mark.ensures, subst (λ b. Fills c.mark.new.store c.new-place.result b c.fill.new.store) (ap (λ (r : Root). r.fill) c.root.view_is) c.fill.ensures)
+returns-clause-taken c = (c.mark.new.store.storage, c.mark.ensures, subst (λ b. Fills c.mark.new.store.storage c.new-place.result b c.fill.new.store.storage) (ap (λ (r : Root). r.fill) c.root.view_is) c.fill.ensures)

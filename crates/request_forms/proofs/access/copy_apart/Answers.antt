@@ -9,7 +9,7 @@ use Rattle.request_forms.proofs.access.copy_apart.Goals as goal
 
 pub returns : goal.returns
 returns c =
-    let old = c.args.store.now in let w = c.copy_from_slice.new.self in let is = c.copy_from_slice.ensures.after in
+    let old = c.args.store.now.storage in let w = c.copy_from_slice.new.self in let is = c.copy_from_slice.ensures.after in
     let from_is = c.new.ensures in let to_is = c.new-2.ensures in
     let size = ap length is ∙ c.two-target.ensures.len.0 ∙ ap (λ (p : PlaceValue). p.len) from_is in
     let target = c.two-target.ensures.written w (size ∙ sym (ap (λ (p : PlaceValue). p.len) to_is)) in

@@ -5,7 +5,7 @@ use Rattle.request_forms.proofs.access.copy_down.Given as goal
 abbrev pub invariant-pieces : goal.invariant-pieces
 invariant-pieces l = record {
   most : l.done ≤ l.len;
-  copied : Copied l.fn.store l.to l.from l.done l.store;
+  copied : Copied l.fn.store.storage l.to l.from l.done l.store.storage;
 }
 
 abbrev pub decreases-pieces : goal.decreases-pieces

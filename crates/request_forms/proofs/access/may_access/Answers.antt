@@ -13,7 +13,7 @@ returns-then-at-ge2147483648-clause-granted c = λ o.
     let len : c.len.result ≡ p.len = c.len.ensures.len in (
       λ no. absurd (let f : false ≡ true = no in cc),
       λ h. absurd (
-          let l : p.addr + (c.walk.at - p.addr) < 2147483648 = address_held c.args.store.now p.addr p.len (c.walk.at - p.addr) (step_storage c.args.pools.now c.args.store.now c.requires) (held_place c.args.pools.now c.args.store.now c.requires o p (omega (arith, c.len.ensures.some, len)) h) (omega (arith, c.walk-test.true, c.walk.invariant.behind, at, len)) in
+          let l : p.addr + (c.walk.at - p.addr) < 2147483648 = address_held c.args.store.now.storage p.addr p.len (c.walk.at - p.addr) (step_storage c.args.pools.now c.args.store.now.storage c.requires) (held_place c.args.pools.now c.args.store.now.storage c.requires o p (omega (arith, c.len.ensures.some, len)) h) (omega (arith, c.walk-test.true, c.walk.invariant.behind, at, len)) in
           omega (arith, l, c.walk.invariant.behind, c.if-at-ge2147483648.true)),
     )
 

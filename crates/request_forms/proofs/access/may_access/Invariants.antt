@@ -7,7 +7,7 @@ use Rattle.request_forms.proofs.access.may_access.Given as goal
 abbrev pub invariant-walk : goal.invariant-walk
 invariant-walk l = record {
   behind : l.fn.place.addr ≤ l.at;
-  so_far : (o : Owners) (a : ℕ) → l.fn.place.addr ≤ a → a < l.at → granted (machine_state l.pools l.store o) a ≡ true;
+  so_far : (o : Owners) (a : ℕ) → l.fn.place.addr ≤ a → a < l.at → granted (machine_state l.pools l.store.storage o) a ≡ true;
 }
 
 abbrev pub decreases-walk : goal.decreases-walk

@@ -15,15 +15,15 @@ returns-in-Some c = λ o.
     let begin : c.get.result ≡ c.in-Some.cell.addr = c.get.ensures.value ∙ c.addr.ensures in
     let long : c.len.result ≡ c.in-Some.cell.len = c.len.ensures.len in (
       omega (arith, inside.1, begin, long),
-      λ a low high. cell_granted c.args.pools.now c.args.store.now o c.requires c.in-Some.cell a c.in-Some.ensures.0 (has_within c.in-Some.cell a (omega (arith, inside.0, low)) (omega (arith, high, begin, long))),
+      λ a low high. cell_granted c.args.pools.now c.args.store.now.storage o c.requires c.in-Some.cell a c.in-Some.ensures.0 (has_within c.in-Some.cell a (omega (arith, inside.0, low)) (omega (arith, high, begin, long))),
     )
 
 pub returns-in_default-held : goal.returns-in_default-held
-returns-in_default-held c = λ o. free_denied c.args.pools.now c.args.store.now o c.requires c.args.addr (sym c.held.ensures.held ∙ c.in_default-held.is) (c.in_default.ensures o)
+returns-in_default-held c = λ o. free_denied c.args.pools.now c.args.store.now.storage o c.requires c.args.addr (sym c.held.ensures.held ∙ c.in_default-held.is) (c.in_default.ensures o)
 
 pub returns-then-not-is_outside_pools : goal.returns-then-not-is_outside_pools
 returns-then-not-is_outside_pools c = λ o.
-    let st = c.args.store.now in
+    let st = c.args.store.now.storage in
     let pools = pools_of c.args.pools.now st in
     let place : c.new-2.result ≡ place_at (c.args.addr / 8 * 8) 8 = c.new-2.ensures ∙ ap (λ a. place_at a 8) (c.new.ensures ∙ ap (λ n. n / 8 * 8) c.get-2.ensures.value) in
     let touches = subst (λ p. Touches st pools c.in-Some-held.subpool p) place c.if-not-is_outside_pools.ensures in
@@ -32,7 +32,7 @@ returns-then-not-is_outside_pools c = λ o.
 
 pub returns : goal.returns
 returns c = λ o.
-    let st = c.args.store.now in
+    let st = c.args.store.now.storage in
     let pools = pools_of c.args.pools.now st in
     let place : c.new-2.result ≡ place_at (c.args.addr / 8 * 8) 8 = c.new-2.ensures ∙ ap (λ a. place_at a 8) (c.new.ensures ∙ ap (λ n. n / 8 * 8) c.get-2.ensures.value) in
     let none = subst (λ p. TouchesNone st pools c.in-Some-held.subpool p) place c.if-not-is_outside_pools.ensures in

@@ -12,16 +12,16 @@ nobody = record { tasks = empty; table = empty; owner = empty }
 
 pub returns-then-not-may_access-clause-written : goal.returns-then-not-may_access-clause-written
 returns-then-not-may_access-clause-written c o =
-    (not_as (Granted (machine_state c.args.pools.now c.args.store.now o)) c.may_access.result c.args.place c.args.place refl (c.may_access.ensures.granted o) c.if-not-may_access.true, refl)
+    (not_as (Granted (machine_state c.args.pools.now c.args.store.now.storage o)) c.may_access.result c.args.place c.args.place refl (c.may_access.ensures.granted o) c.if-not-may_access.true, refl)
 
 pub write-requires-clause-held : goal.write-requires-clause-held
 write-requires-clause-held c =
-    held_place c.args.pools.now c.args.store.now c.requires.agree nobody c.args.place c.may_access.ensures.some ((c.may_access.ensures.granted nobody).0 c.if-not-may_access.false)
+    held_place c.args.pools.now c.args.store.now.storage c.requires.agree nobody c.args.place c.may_access.ensures.some ((c.may_access.ensures.granted nobody).0 c.if-not-may_access.false)
 
 pub returns-clause-written : goal.returns-clause-written
 returns-clause-written c o =
-    (may_as (Granted (machine_state c.args.pools.now c.args.store.now o)) c.may_access.result c.args.place c.args.place refl (c.may_access.ensures.granted o) c.if-not-may_access.false, c.write.ensures)
+    (may_as (Granted (machine_state c.args.pools.now c.args.store.now.storage o)) c.may_access.result c.args.place c.args.place refl (c.may_access.ensures.granted o) c.if-not-may_access.false, c.write.ensures)
 
 pub returns-clause-agree : goal.returns-clause-agree
 returns-clause-agree c =
-    put_agrees c.args.pools.now c.args.store.now c.requires.agree nobody c.write.new.store c.args.place c.args.bytes.now c.write.ensures ((c.may_access.ensures.granted nobody).0 c.if-not-may_access.false)
+    put_agrees c.args.pools.now c.args.store.now.storage c.requires.agree nobody c.write.new.store.storage c.args.place c.args.bytes.now c.write.ensures ((c.may_access.ensures.granted nobody).0 c.if-not-may_access.false)

@@ -12,8 +12,8 @@ take_back_each-requires t c =
       (
         others_pass on_doubleword c.args.places.now (others c.args.places.now) c.place-item.result split c.requires.placed,
         (
-          others_held c.args.store.now c.take_back.new.store c.args.subpool whole c.args.places.now (others c.args.places.now) c.place-item.result split c.requires.held
-              (subst (λ p. Release c.args.store.now c.args.subpool p c.take_back.new.store) c.whole.ensures c.take_back.ensures.released),
+          others_held c.args.store.now.storage c.take_back.new.store.storage c.args.subpool whole c.args.places.now (others c.args.places.now) c.place-item.result split c.requires.held
+              (subst (λ p. Release c.args.store.now.storage c.args.subpool p c.take_back.new.store.storage) c.whole.ensures c.take_back.ensures.released),
           c.take_back.ensures.storage,
         ),
       ),
@@ -21,6 +21,6 @@ take_back_each-requires t c =
 
 pub returns-clause-released : goal.returns-clause-released
 returns-clause-released t c =
-    first_released c.args.store.now c.take_back.new.store c.take_back_each.new.store c.args.subpool whole c.args.places.now (others c.args.places.now) c.place-item.result
+    first_released c.args.store.now.storage c.take_back.new.store.storage c.take_back_each.new.store.storage c.args.subpool whole c.args.places.now (others c.args.places.now) c.place-item.result
     (first_and_others c.args.places.now c.place-item.result c.in-len1-up.len_at_least c.place-item.is) c.take_back.ensures.storage
-    (subst (λ p. Release c.args.store.now c.args.subpool p c.take_back.new.store) c.whole.ensures c.take_back.ensures.released) c.take_back_each.ensures.released
+    (subst (λ p. Release c.args.store.now.storage c.args.subpool p c.take_back.new.store.storage) c.whole.ensures c.take_back.ensures.released) c.take_back_each.ensures.released

@@ -3,4 +3,4 @@ use Rattle.request_forms.proofs.Reporting.{page_owned}
 use Rattle.request_forms.proofs.report.page_owner.Goals as goal
 
 pub returns : goal.returns
-returns c = page_owned c.args.store.now c.new.result c.args.page c.page_owner.result c.requires.storage (omega (arith, c.new.ensures)) c.page_owner.ensures
+returns c = page_owned c.args.store.now.storage c.new.result c.args.page c.page_owner.result c.requires.storage (omega (arith, c.new.ensures)) c.page_owner.ensures

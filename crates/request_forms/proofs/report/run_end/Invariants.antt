@@ -3,4 +3,4 @@ use Rattle.request_forms.specs.Reports.{page_holder}
 use Rattle.request_forms.proofs.report.run_end.Given as goal
 
 abbrev pub invariant-loop-next : goal.invariant-loop-next
-invariant-loop-next l = (p : ℕ) → l.page ≤ p → p < l.next → page_holder l.store p ≡ page_holder l.store l.page
+invariant-loop-next l = (p : ℕ) → l.page ≤ p → p < l.next → page_holder l.store.storage p ≡ page_holder l.store.storage l.page

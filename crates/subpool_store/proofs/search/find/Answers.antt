@@ -1,25 +1,17 @@
-use Rattle.std.proofs.Common.{◌≡◌, ◌≤◌, false, length, ◌∙◌, None, refl, ap, sym, subst, arith}
-use Rattle.std.proofs.lemmas.Bool.{false≢true}
+use Rattle.std.proofs.Common.{◌≡◌, ◌≤◌, length, ◌∙◌, None, refl, ap, sym, subst, arith}
 use Rattle.mvs_model.specs.Place.{PlaceValue}
-use Rattle.subpool_store.specs.Walk.{IsWalk, looked_at}
+use Rattle.subpool_store.specs.Walk.{looked_at}
 use Rattle.subpool_store.specs.Search.{may_take, BehindBest, Beats, IsCandidate}
-use Rattle.subpool_store.proofs.Begun.{counted_some, counted_within, least_length, starts_counted}
+use Rattle.subpool_store.proofs.Begun.{counted_some, counted_within, least_length}
 use Rattle.subpool_store.proofs.Scan.{best_anywhere, best_behind, best_found, best_of_all}
 use Rattle.subpool_store.proofs.search.find.Goals as goal
 
 pub runs-init : goal.runs-init
 runs-init c =
     let test = may_take c.args.memory.now.held c.args.pages.now c.args.subpool in record {
-      walk = subst (IsWalk c.args.memory.now c.args.pages.now c.args.subpool) (sym c.new-walk.ensures) (record {
-        ordered = omega arith;
-        within = omega arith;
-        passes = λ i low high. absurd (omega arith);
-        stands = record { page = λ _. refl; own = λ e. absurd (false≢true e); within = λ e. absurd (false≢true e); cursor = λ e. absurd (false≢true e); fresh = λ e. absurd (false≢true e) };
-        few = omega arith;
-        counted = starts_counted c.args.memory.now c.args.pages.now c.args.subpool;
-      });
+      walk = c.new-walk.ensures.walk;
       found = tt;
-      behind = subst (BehindBest test c.args.first c.args.want.now None) (sym (ap (λ w. w.start) c.new-walk.ensures)) (best_anywhere test c.args.first c.args.want.now c.only_length-only.ensures.wanted.some);
+      behind = subst (BehindBest test c.args.first c.args.want.now None) (sym c.new-walk.ensures.start) (best_anywhere test c.args.first c.args.want.now c.only_length-only.ensures.wanted.some);
     }
 
 pub runs-preserved : goal.runs-preserved
@@ -41,8 +33,8 @@ returns-clause-longest c =
 pub returns-then-is_final-clause-counted : goal.returns-then-is_final-clause-counted
 returns-then-is_final-clause-counted c =
     let m = c.args.memory.now in let pages = c.args.pages.now in let s = c.args.subpool in let w = c.next_run.new.self in let walk = c.next_run.ensures.walk in
-    let steps : c.new.result.steps ≡ looked_at m pages s w.end w.inside = c.new.ensures.steps ∙ walk.counted in record {
-      some = λ _. subst (λ n. 1 ≤ n) (sym steps) (counted_some m pages s w.end w.inside c.in-Some.ensures.all walk.stands.page);
-      at_most = subst (λ n. n ≤ looked_at m pages s (length m.held) false) (sym steps) (counted_within m pages s w.end w.inside c.requires.exact.sizes walk.within walk.stands.within);
+    let steps : c.new.result.steps ≡ looked_at m pages s w.end = c.new.ensures.steps ∙ walk.counted in record {
+      some = λ some. subst (λ n. 1 ≤ n) (sym steps) (counted_some m pages s w.end c.requires.exact.sizes walk.within some);
+      at_most = subst (λ n. n ≤ looked_at m pages s (length m.held)) (sym steps) (counted_within m pages s w.end c.requires.exact.sizes walk.within);
       all = λ none. absurd (subst (λ p. Beats p c.args.want.now.least) (sym c.new.ensures.place ∙ none) (c.if-is_final.ensures.longest refl c.args.want.now.least (least_length c.args.want.now c.only_length-only.ensures.wanted)));
     }

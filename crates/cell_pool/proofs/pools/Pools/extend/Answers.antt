@@ -19,17 +19,17 @@ use Rattle.cell_pool.proofs.pools.Pools.extend.Goals as goal
 pub put_word-requires-clause-held : goal.put_word-requires-clause-held
 put_word-requires-clause-held c =
     let counted = c.requires.agree.counted c.args.name.now c.args.root.now c.requires.root in
-    let chain = chain_of c.args.self.now c.args.store.now c.args.name.now c.args.root.now c.requires.agree.parts c.requires.root in
+    let chain = chain_of c.args.self.now c.args.store.now.storage c.args.name.now c.args.root.now c.requires.agree.parts c.requires.root in
     let some = chain.some in
     let k : ℕ = c.args.root.now.count - 1 in
     let more : c.args.root.now.count ≡ k + 1 = omega arith in
     let g = c.in-Some.ensures.obtained in
-    let grant = subst (λ (r : Root). Grant c.args.store.now r.subpool (part_want r.cell_size r.secondary r.side) c.in-Some.place c.obtain_part.new.store) c.root.view_is g.0 in
-    let lays = lays_is c.obtain_part.new.store c.lay_out.new.store _ _ _ _ _ _ (c.get.ensures.value ∙ c.addr-part.ensures) (c.get-2.ensures.value ∙ ap (λ (r : Root). r.secondary) c.root.view_is) c.cell_size.ensures.size c.lay_out.ensures in
-    subst (λ b. AllHeld c.lay_out.new.store (place_at b 4)) (sym (c.last.ensures.last ∙ counted.last k more)) (link_held c.args.self.now c.args.store.now c.obtain_part.new.store c.lay_out.new.store c.requires.agree.parts g.1 c.args.name.now c.args.root.now c.requires.root c.in-Some.place grant lays k more)
+    let grant = subst (λ (r : Root). Grant c.args.store.now.storage r.subpool (part_want r.cell_size r.secondary r.side) c.in-Some.place c.obtain_part.new.store.storage) c.root.view_is g.0 in
+    let lays = lays_is c.obtain_part.new.store.storage c.lay_out.new.store.storage _ _ _ _ _ _ (c.get.ensures.value ∙ c.addr-part.ensures) (c.get-2.ensures.value ∙ ap (λ (r : Root). r.secondary) c.root.view_is) c.cell_size.ensures.size c.lay_out.ensures in
+    subst (λ b. AllHeld c.lay_out.new.store.storage (place_at b 4)) (sym (c.last.ensures.last ∙ counted.last k more)) (link_held c.args.self.now c.args.store.now.storage c.obtain_part.new.store.storage c.lay_out.new.store.storage c.requires.agree.parts g.1 c.args.name.now c.args.root.now c.requires.root c.in-Some.place grant lays k more)
 
 pub with_part-extended-requires : goal.with_part-extended-requires
-with_part-extended-requires c = let b = count_bound c.args.self.now c.args.store.now c.requires.agree.parts c.args.name.now c.args.root.now c.requires.root in omega arith
+with_part-extended-requires c = let b = count_bound c.args.self.now c.args.store.now.storage c.requires.agree.parts c.args.name.now c.args.root.now c.requires.root in omega arith
 
 pub replace-requires : goal.replace-requires
 replace-requires c = ap is_some c.requires.root
@@ -37,34 +37,34 @@ replace-requires c = ap is_some c.requires.root
 pub returns-clause-extended : goal.returns-clause-extended
 returns-clause-extended c =
     let counted = c.requires.agree.counted c.args.name.now c.args.root.now c.requires.root in
-    let chain = chain_of c.args.self.now c.args.store.now c.args.name.now c.args.root.now c.requires.agree.parts c.requires.root in
+    let chain = chain_of c.args.self.now c.args.store.now.storage c.args.name.now c.args.root.now c.requires.agree.parts c.requires.root in
     let some = chain.some in
     let k : ℕ = c.args.root.now.count - 1 in
     let more : c.args.root.now.count ≡ k + 1 = omega arith in
     let g = c.in-Some.ensures.obtained in
     let part = c.get.ensures.value ∙ c.addr-part.ensures in
-    let grant = subst (λ (r : Root). Grant c.args.store.now r.subpool (part_want r.cell_size r.secondary r.side) c.in-Some.place c.obtain_part.new.store) c.root.view_is g.0 in
+    let grant = subst (λ (r : Root). Grant c.args.store.now.storage r.subpool (part_want r.cell_size r.secondary r.side) c.in-Some.place c.obtain_part.new.store.storage) c.root.view_is g.0 in
     let second = c.get-2.ensures.value ∙ ap (λ (r : Root). r.secondary) c.root.view_is in
-    let lays = lays_is c.obtain_part.new.store c.lay_out.new.store _ _ _ _ _ _ part second c.cell_size.ensures.size c.lay_out.ensures in
-    let w = subst (λ b. PutsWord c.lay_out.new.store b c.in-Some.place.addr c.put_word.new.store) (c.last.ensures.last ∙ counted.last k more) (subst (λ b. PutsWord c.lay_out.new.store c.last.result b c.put_word.new.store) (c.get-3.ensures.value ∙ c.addr-part.ensures) c.put_word.ensures) in
+    let lays = lays_is c.obtain_part.new.store.storage c.lay_out.new.store.storage _ _ _ _ _ _ part second c.cell_size.ensures.size c.lay_out.ensures in
+    let w = subst (λ b. PutsWord c.lay_out.new.store.storage b c.in-Some.place.addr c.put_word.new.store.storage) (c.last.ensures.last ∙ counted.last k more) (subst (λ b. PutsWord c.lay_out.new.store.storage c.last.result b c.put_word.new.store.storage) (c.get-3.ensures.value ∙ c.addr-part.ensures) c.put_word.ensures) in
     let now = λ (n : Name). c.replace.ensures n ∙ ap (λ (r : Root). cond (same_name n c.args.name.now) (Some r) (get c.args.self.now n)) (c.with_part-extended.ensures ∙ ap (extended c.args.root.now) c.addr-part.ensures) in
-    (c.in-Some.place.addr, c.with_part-extended.ensures ∙ ap (extended c.args.root.now) c.addr-part.ensures, has_extended c.args.self.now c.args.store.now c.obtain_part.new.store c.lay_out.new.store c.put_word.new.store c.requires.agree.parts g.1 c.args.name.now c.args.root.now c.requires.root c.in-Some.place grant lays k more w c.replace.new.self now (subst (λ n. 1 ≤ n) second c.get-2.ensures.low) (subst (λ n. n ≤ 65536) second c.get-2.ensures.high) (full_of_none (byte_of c.args.store.now) c.args.root.now.first c.args.root.now.count (sym counted.free ∙ c.requires.full)))
+    (c.in-Some.place.addr, c.with_part-extended.ensures ∙ ap (extended c.args.root.now) c.addr-part.ensures, has_extended c.args.self.now c.args.store.now.storage c.obtain_part.new.store.storage c.lay_out.new.store.storage c.put_word.new.store.storage c.requires.agree.parts g.1 c.args.name.now c.args.root.now c.requires.root c.in-Some.place grant lays k more w c.replace.new.self now (subst (λ n. 1 ≤ n) second c.get-2.ensures.low) (subst (λ n. n ≤ 65536) second c.get-2.ensures.high) (full_of_none (byte_of c.args.store.now.storage) c.args.root.now.first c.args.root.now.count (sym counted.free ∙ c.requires.full)))
 
 pub returns-clause-agree : goal.returns-clause-agree
 returns-clause-agree c =
     let counted = c.requires.agree.counted c.args.name.now c.args.root.now c.requires.root in
-    let chain = chain_of c.args.self.now c.args.store.now c.args.name.now c.args.root.now c.requires.agree.parts c.requires.root in
+    let chain = chain_of c.args.self.now c.args.store.now.storage c.args.name.now c.args.root.now c.requires.agree.parts c.requires.root in
     let some = chain.some in
     let k : ℕ = c.args.root.now.count - 1 in
     let more : c.args.root.now.count ≡ k + 1 = omega arith in
     let g = c.in-Some.ensures.obtained in
     let part = c.get.ensures.value ∙ c.addr-part.ensures in
-    let grant = subst (λ (r : Root). Grant c.args.store.now r.subpool (part_want r.cell_size r.secondary r.side) c.in-Some.place c.obtain_part.new.store) c.root.view_is g.0 in
+    let grant = subst (λ (r : Root). Grant c.args.store.now.storage r.subpool (part_want r.cell_size r.secondary r.side) c.in-Some.place c.obtain_part.new.store.storage) c.root.view_is g.0 in
     let second = c.get-2.ensures.value ∙ ap (λ (r : Root). r.secondary) c.root.view_is in
-    let lays = lays_is c.obtain_part.new.store c.lay_out.new.store _ _ _ _ _ _ part second c.cell_size.ensures.size c.lay_out.ensures in
-    let w = subst (λ b. PutsWord c.lay_out.new.store b c.in-Some.place.addr c.put_word.new.store) (c.last.ensures.last ∙ counted.last k more) (subst (λ b. PutsWord c.lay_out.new.store c.last.result b c.put_word.new.store) (c.get-3.ensures.value ∙ c.addr-part.ensures) c.put_word.ensures) in
+    let lays = lays_is c.obtain_part.new.store.storage c.lay_out.new.store.storage _ _ _ _ _ _ part second c.cell_size.ensures.size c.lay_out.ensures in
+    let w = subst (λ b. PutsWord c.lay_out.new.store.storage b c.in-Some.place.addr c.put_word.new.store.storage) (c.last.ensures.last ∙ counted.last k more) (subst (λ b. PutsWord c.lay_out.new.store.storage c.last.result b c.put_word.new.store.storage) (c.get-3.ensures.value ∙ c.addr-part.ensures) c.put_word.ensures) in
     let now = λ (n : Name). c.replace.ensures n ∙ ap (λ (r : Root). cond (same_name n c.args.name.now) (Some r) (get c.args.self.now n)) (c.with_part-extended.ensures ∙ ap (extended c.args.root.now) c.addr-part.ensures) in
     record {
-      parts = extended_agrees c.args.self.now c.args.store.now c.obtain_part.new.store c.lay_out.new.store c.put_word.new.store c.requires.agree.parts g.1 c.args.name.now c.args.root.now c.requires.root c.in-Some.place grant lays k more w c.replace.new.self now (subst (λ n. 1 ≤ n) second c.get-2.ensures.low) (subst (λ n. n ≤ 65536) second c.get-2.ensures.high) (full_of_none (byte_of c.args.store.now) c.args.root.now.first c.args.root.now.count (sym counted.free ∙ c.requires.full));
-      counted = extended_counted c.args.self.now c.args.store.now c.obtain_part.new.store c.lay_out.new.store c.put_word.new.store c.requires.agree.parts g.1 c.args.name.now c.args.root.now c.requires.root c.in-Some.place grant lays k more w c.replace.new.self now (subst (λ n. 1 ≤ n) second c.get-2.ensures.low) (subst (λ n. n ≤ 65536) second c.get-2.ensures.high) (full_of_none (byte_of c.args.store.now) c.args.root.now.first c.args.root.now.count (sym counted.free ∙ c.requires.full)) c.requires.agree.counted;
+      parts = extended_agrees c.args.self.now c.args.store.now.storage c.obtain_part.new.store.storage c.lay_out.new.store.storage c.put_word.new.store.storage c.requires.agree.parts g.1 c.args.name.now c.args.root.now c.requires.root c.in-Some.place grant lays k more w c.replace.new.self now (subst (λ n. 1 ≤ n) second c.get-2.ensures.low) (subst (λ n. n ≤ 65536) second c.get-2.ensures.high) (full_of_none (byte_of c.args.store.now.storage) c.args.root.now.first c.args.root.now.count (sym counted.free ∙ c.requires.full));
+      counted = extended_counted c.args.self.now c.args.store.now.storage c.obtain_part.new.store.storage c.lay_out.new.store.storage c.put_word.new.store.storage c.requires.agree.parts g.1 c.args.name.now c.args.root.now c.requires.root c.in-Some.place grant lays k more w c.replace.new.self now (subst (λ n. 1 ≤ n) second c.get-2.ensures.low) (subst (λ n. n ≤ 65536) second c.get-2.ensures.high) (full_of_none (byte_of c.args.store.now.storage) c.args.root.now.first c.args.root.now.count (sym counted.free ∙ c.requires.full)) c.requires.agree.counted;
     }

@@ -4,15 +4,15 @@ use Rattle.request_forms.proofs.machine.Machine.build_pool.Goals as goal
 
 pub returns-in-Some : goal.returns-in-Some
 returns-in-Some c = rw (← c.self.view_is)
-    (built_here c.self.inside.pools c.build.new.self c.self.inside.store c.build.new.store c.self.inside.tasks.owners c.args.name c.args.pool.now c.args.number c.in-Some.subpool _ c.self.invariant c.requires.valid c.build.result
+    (built_here c.self.inside.pools c.build.new.self c.self.inside.store.storage c.build.new.store.storage c.self.inside.tasks.owners c.args.name c.args.pool.now c.args.number c.in-Some.subpool _ c.self.invariant c.requires.valid c.build.result
     (sym c.subpool_of.ensures ∙ c.in-Some.is) c.build.ensures.built c.build.ensures.refused c.build.ensures.unchanged c.build.ensures.pools_unchanged)
 
 pub returns-then-is_ok : goal.returns-then-is_ok
 returns-then-is_ok c = rw (← c.self.view_is)
-    (built_new c.self.inside.pools c.build-built.new.self c.self.inside.store c.build-built.new.store c.self.inside.tasks.owners c.args.name c.args.pool.now c.args.number c.spare_for-subpool.result _ c.self.invariant c.requires.valid c.bind_to.new.self.owners c.build-built.result
+    (built_new c.self.inside.pools c.build-built.new.self c.self.inside.store.storage c.build-built.new.store.storage c.self.inside.tasks.owners c.args.name c.args.pool.now c.args.number c.spare_for-subpool.result _ c.self.invariant c.requires.valid c.bind_to.new.self.owners c.build-built.result
     (sym c.is_ok.ensures.value ∙ c.if-is_ok.true) (sym c.subpool_of.ensures ∙ c.in-None.is) c.spare_for-subpool.ensures c.bind_to.ensures c.build-built.ensures.built)
 
 pub returns-else-is_ok : goal.returns-else-is_ok
 returns-else-is_ok c = rw (← c.self.view_is)
-    (not_built c.self.inside.pools c.build-built.new.self c.self.inside.store c.build-built.new.store c.self.inside.tasks.owners c.args.name c.args.pool.now c.args.number c.spare_for-subpool.result _ c.self.invariant c.requires.valid c.build-built.result
+    (not_built c.self.inside.pools c.build-built.new.self c.self.inside.store.storage c.build-built.new.store.storage c.self.inside.tasks.owners c.args.name c.args.pool.now c.args.number c.spare_for-subpool.result _ c.self.invariant c.requires.valid c.build-built.result
     (sym c.is_ok.ensures.value ∙ c.if-is_ok.false) (sym c.subpool_of.ensures ∙ c.in-None.is) c.spare_for-subpool.ensures c.build-built.ensures.refused c.build-built.ensures.unchanged c.build-built.ensures.pools_unchanged)

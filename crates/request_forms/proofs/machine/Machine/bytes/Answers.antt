@@ -16,7 +16,7 @@ returns-then-not-may_access-clause-granted c =
     )
 
 pub bytes-requires : goal.bytes-requires
-bytes-requires c = held_place c.self.inside.pools c.self.inside.store c.self.invariant c.self.inside.tasks.owners c.args.place c.may_access.ensures.some ((c.may_access.ensures.granted c.self.inside.tasks.owners).0 c.if-not-may_access.false)
+bytes-requires c = held_place c.self.inside.pools c.self.inside.store.storage c.self.invariant c.self.inside.tasks.owners c.args.place c.may_access.ensures.some ((c.may_access.ensures.granted c.self.inside.tasks.owners).0 c.if-not-may_access.false)
 
 pub returns-clause-granted : goal.returns-clause-granted
 returns-clause-granted c =
@@ -32,5 +32,5 @@ returns-clause-bytes c = λ k low.
     let state = c.self.view_is in
     let at = c.args.place.addr + k in
     c.bytes.ensures.bytes k low
-    ∙ sym (bytes_granted s.store s.tasks.owners (pools_of s.pools s.store) c.self.invariant.parts.storage c.args.place ((c.may_access.ensures.granted s.tasks.owners).0 c.if-not-may_access.false) at (omega arith) (omega (arith, low)))
+    ∙ sym (bytes_granted s.store.storage s.tasks.owners (pools_of s.pools s.store.storage) c.self.invariant.parts.storage c.args.place ((c.may_access.ensures.granted s.tasks.owners).0 c.if-not-may_access.false) at (omega arith) (omega (arith, low)))
     ∙ ap (λ (st : State). get st.bytes at) state

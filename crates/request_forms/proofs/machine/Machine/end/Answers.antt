@@ -12,10 +12,10 @@ pub returns : goal.returns
 returns c = rw (← c.self.view_is) (
     let fallen = c.end_of-gone.result.fallen in
     let roots = c.self.inside.pools in
-    let st = c.self.inside.store in
+    let st = c.self.inside.store.storage in
     let o = c.self.inside.tasks.owners in
     let fewer = c.release_each.new.pools in
-    let new = c.release_each.new.store in
+    let new = c.release_each.new.store.storage in
     let after = c.end_of-gone.new.self.owners in
     let released = c.release_each.ensures.released in
     let gone = c.release_each.ensures.gone in

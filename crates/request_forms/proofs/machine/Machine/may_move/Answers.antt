@@ -7,7 +7,7 @@ use Rattle.request_forms.proofs.machine.Machine.may_move.Goals as goal
 
 pub returns-then-not-may_access : goal.returns-then-not-may_access
 returns-then-not-may_access c = rw (← c.self.view_is) (
-    let st = machine_state c.self.inside.pools c.self.inside.store c.self.inside.tasks.owners in
+    let st = machine_state c.self.inside.pools c.self.inside.store.storage c.self.inside.tasks.owners in
     let target = c.new.ensures ∙ ap (place_at c.args.to) c.get-len.ensures.value in (
       λ no. absurd (let f : false ≡ true = no in cc),
       λ both. absurd (not_as (Granted st) c.may_access.result c.new.result (place_at c.args.to c.args.len) target (c.may_access.ensures.granted c.self.inside.tasks.owners) c.if-not-may_access.true both.0),
@@ -15,7 +15,7 @@ returns-then-not-may_access c = rw (← c.self.view_is) (
 
 pub returns : goal.returns
 returns c = rw (← c.self.view_is) (
-    let st = machine_state c.self.inside.pools c.self.inside.store c.self.inside.tasks.owners in
+    let st = machine_state c.self.inside.pools c.self.inside.store.storage c.self.inside.tasks.owners in
     let target = c.new.ensures ∙ ap (place_at c.args.to) c.get-len.ensures.value in
     let source = c.new-2.ensures ∙ ap (place_at c.args.from) c.get-len.ensures.value in
     let test = c.may_access-2.ensures.granted c.self.inside.tasks.owners in (

@@ -17,7 +17,7 @@ returns-in-Some-obtain c = rw (← c.self.view_is)
     (area_of_new c.self.inside.pools _ _ _ _ _ _ _ _ _ c.self.invariant c.obtain-in-None.ensures.storage (sym c.subpool_of.ensures ∙ c.in-None.is) c.spare_for-subpool.ensures c.bind_to.ensures c.in-Some-obtain.ensures.grant)
 
 pub invariant_of-self : goal.invariant_of-self
-invariant_of-self c = area_agrees c.self.inside.pools c.self.inside.store c.obtain.new.self c.in-Some.subpool c.args.want.now c.obtain.result c.self.invariant c.obtain.ensures.storage c.obtain.ensures.grant
+invariant_of-self c = area_agrees c.self.inside.pools c.self.inside.store.storage c.obtain.new.self.storage c.in-Some.subpool c.args.want.now c.obtain.result c.self.invariant c.obtain.ensures.storage c.obtain.ensures.grant
 
 pub invariant_of-self-in-None : goal.invariant_of-self-in-None
-invariant_of-self-in-None c = area_agrees c.self.inside.pools c.self.inside.store c.obtain-in-None.new.self c.spare_for-subpool.result c.args.want.now c.obtain-in-None.result c.self.invariant c.obtain-in-None.ensures.storage c.obtain-in-None.ensures.grant
+invariant_of-self-in-None c = area_agrees c.self.inside.pools c.self.inside.store.storage c.obtain-in-None.new.self.storage c.spare_for-subpool.result c.args.want.now c.obtain-in-None.result c.self.invariant c.obtain-in-None.ensures.storage c.obtain-in-None.ensures.grant

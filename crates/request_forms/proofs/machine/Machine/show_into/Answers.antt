@@ -7,14 +7,14 @@ use Rattle.request_forms.proofs.machine.Machine.show_into.Goals as goal
 
 pub returns-then-not-may_access-clause-answer : goal.returns-then-not-may_access-clause-answer
 returns-then-not-may_access-clause-answer c = λ t. rw (← c.self.view_is) (
-    let st = machine_state c.self.inside.pools c.self.inside.store c.self.inside.tasks.owners in
+    let st = machine_state c.self.inside.pools c.self.inside.store.storage c.self.inside.tasks.owners in
     let place = c.new.ensures ∙ ap (place_at c.args.from) c.get.ensures.value in
-    show_denied c.self.inside.pools c.self.inside.store c.self.invariant c.self.inside.tasks.owners t c.args.from c.args.len
+    show_denied c.self.inside.pools c.self.inside.store.storage c.self.invariant c.self.inside.tasks.owners t c.args.from c.args.len
     (not_as (Granted st) c.may_access.result c.new.result (place_at c.args.from c.args.len) place (c.may_access.ensures.granted c.self.inside.tasks.owners) c.if-not-may_access.true))
 
 pub returns-clause-answer : goal.returns-clause-answer
 returns-clause-answer c = λ t. rw (← c.self.view_is) (
-    let st = machine_state c.self.inside.pools c.self.inside.store c.self.inside.tasks.owners in
+    let st = machine_state c.self.inside.pools c.self.inside.store.storage c.self.inside.tasks.owners in
     let place = c.new.ensures ∙ ap (place_at c.args.from) c.get.ensures.value in
-    show_done c.self.inside.pools c.self.inside.store c.self.invariant c.self.inside.tasks.owners t c.args.from c.args.len
+    show_done c.self.inside.pools c.self.inside.store.storage c.self.invariant c.self.inside.tasks.owners t c.args.from c.args.len
     (may_as (Granted st) c.may_access.result c.new.result (place_at c.args.from c.args.len) place (c.may_access.ensures.granted c.self.inside.tasks.owners) c.if-not-may_access.false))

@@ -16,8 +16,8 @@ returns c =
     let of_name = λ (v : Option Name). unwrap_or v [] in
     let first = c.in-Some-first_entry.ensures in
     rw (← c.self.view_is)
-    (line_is c.self.inside.pools c.self.inside.store c.self.inside.tasks.owners (name_of c.self.inside.tasks c.in-Some.t) c.args.name.now c.args.from _ _ _ c.self.invariant (ap of_name c.in-Some.ensures.named) first.0 first.1 first.2 first.3 refl c.owns.ensures
+    (line_is c.self.inside.pools c.self.inside.store.storage c.self.inside.tasks.owners (name_of c.self.inside.tasks c.in-Some.t) c.args.name.now c.args.from _ _ _ c.self.invariant (ap of_name c.in-Some.ensures.named) first.0 first.1 first.2 first.3 refl c.owns.ensures
     (c.pool_bytes-pool.ensures c.self.inside.tasks.owners) (ap (λ n. n - c.pool_bytes-pool.result) c.held_bytes.ensures))
 
 pub overflow_sub-result : goal.overflow_sub-result
-overflow_sub-result c = pool_fits c.self.inside.pools c.self.inside.store _ c.self.inside.tasks.owners _ _ c.self.invariant (c.pool_bytes-pool.ensures c.self.inside.tasks.owners) c.held_bytes.ensures
+overflow_sub-result c = pool_fits c.self.inside.pools c.self.inside.store.storage _ c.self.inside.tasks.owners _ _ c.self.invariant (c.pool_bytes-pool.ensures c.self.inside.tasks.owners) c.held_bytes.ensures

@@ -1,6 +1,6 @@
-use Rattle.std.proofs.Common.{◌≤◌, ◌+◌, ◌-◌, ◌*◌, length}
+use Rattle.std.proofs.Common.{◌≤◌, ◌-◌}
 use Rattle.subpool_store.specs.Search.{may_take, NoneFits}
-use Rattle.subpool_store.specs.Walk.{IsWalk, progress}
+use Rattle.subpool_store.specs.Walk.{IsWalk}
 use Rattle.subpool_store.proofs.walk.Walk.next_run.Given as goal
 
 abbrev pub invariant-parts : goal.invariant-parts
@@ -11,4 +11,4 @@ invariant-parts l = record {
 }
 
 abbrev pub decreases-parts : goal.decreases-parts
-decreases-parts l = 2 * length l.memory.held + 1 - progress l.self.end l.self.inside
+decreases-parts l = l.total - l.self.end

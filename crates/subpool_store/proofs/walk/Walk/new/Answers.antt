@@ -1,0 +1,17 @@
+use Rattle.std.proofs.Common.{◌≡◌, ℕ, ◌+◌, ◌/◌, ◌<◌, ◌≤◌, length, refl, arith}
+use Rattle.mvs_model.specs.Finite.{count_below}
+use Rattle.subpool_store.specs.Walk.{begins_run}
+use Rattle.subpool_store.proofs.Counts.{count_none}
+use Rattle.subpool_store.proofs.walk.Walk.new.Goals as goal
+
+pub returns-clause-walk : goal.returns-clause-walk
+returns-clause-walk c = record {
+  ordered = omega arith;
+  within = omega arith;
+  passes = λ i low high. absurd (omega (arith, low, high));
+  stands = c.queue_of.ensures;
+  counted =
+      let none = count_none 0 (begins_run c.args.memory.now.held c.args.pages.now c.args.subpool) (λ i low. absurd (omega (arith, low))) in
+      let one = c.entry-entry.ensures.counted in
+      omega (arith, none, one);
+}
