@@ -1,4 +1,9 @@
-"""How ./run begins and ends where something is wrong with its words, its input or its output."""
+"""How ./run begins and ends: its words, its input, its output, and what may be wrong with them.
+
+Three cases are named after bodies that no contract refuses: a job that always answers "out of memory" (`always_memory`), a
+reader or writer that is always taken as failed (`watched_always_fails`), words that are always refused
+(`settings_always_refuses`).
+"""
 
 import os
 import shutil
@@ -8,6 +13,13 @@ from pathlib import Path
 
 TOP = Path(__file__).resolve().parent.parent
 FIRST = TOP / "examples/first.job"
+ONE_AREA = "JOB REGION BELOW=1\nJOB GETMAIN RU,LV=8,A=X\nJOB WHERE X\n"
+PLACED = {
+    "--place low -": "00006000",
+    "- --place=low": "00006000",
+    "--place high": "00006FF8",
+    "--place=high -": "00006FF8",
+}
 BIG = "JOB REGION BELOW=1\nJOB GETMAIN R,LV=4096,A=X\n" + "JOB SHOW X,4096\n" * 300
 
 
@@ -17,14 +29,26 @@ def shell(command, cwd=None, stdin=None, **names):
     return ran.returncode, ran.stdout.decode(), ran.stderr.decode()
 
 
+def ends_at_a_fault():
+    """Whether the program ends behind a line that is too long, though more could be read."""
+    with subprocess.Popen([TOP / "run"], stdin=subprocess.PIPE, stdout=subprocess.PIPE) as run:
+        run.stdin.write(ONE_AREA.encode() + 256 * b"*")
+        run.stdin.flush()
+        return run.wait(60) == 12 and run.stdout.read().endswith(b"\n4 JS01\nJOB FAULT RC 12\n")
+
+
 def cases(folder):
     """Each case: its name, and whether it went as the documents say."""
     printed = FIRST.with_suffix(".out").read_text()
     link = Path(folder) / "link"
     link.symlink_to(TOP / "run")
     patient = subprocess.Popen(["bash", "-c", f'(sleep 61; cat "{FIRST}") | "{TOP}/run"'], stdout=subprocess.PIPE, stderr=subprocess.PIPE)
-    yield "a file", shell('"$RUN" "$FIRST"') == (0, printed, "")
-    yield "standard input", shell('"$RUN"', stdin=FIRST.read_bytes()) == (0, printed, "")
+    yield "always_memory", shell('"$RUN" "$FIRST"') == (0, printed, "")
+    yield "watched_always_fails", shell('"$RUN"', stdin=FIRST.read_bytes()) == (0, printed, "")
+    for words, address in PLACED.items():
+        status, out, err = shell(f'"$RUN" {words}', cwd=folder, stdin=ONE_AREA.encode())
+        yield f"settings_always_refuses, {words}", (status, err) == (0, "") and f"3 JOB AT {address}\n" in out
+    yield "a file that is named as an option", shell('"$RUN" -- --help', cwd=folder) == (16, "", "mvsjob: cannot open script\n")
     yield "a dash", shell('"$RUN" -', stdin=FIRST.read_bytes()) == (0, printed, "")
     yield "another folder", shell('"$RUN" first.job', cwd=FIRST.parent) == (0, printed, "")
     yield "a link", shell(f'"{link}" "$FIRST"', cwd=folder) == (0, printed, "")
@@ -33,7 +57,8 @@ def cases(folder):
     yield "closed input", shell('"$RUN" <&-') == (16, "", "mvsjob: read failed\n")
     yield "closed output", shell('"$RUN" "$FIRST" >&-') == (16, "", "mvsjob: write failed\n")
     yield "a full device", shell('"$RUN" "$FIRST" > /dev/full') == (16, "", "mvsjob: write failed\n")
-    for words in ("a.job b.job", "--place middle", "--unknown", "--place"):
+    yield "no read behind a fault", ends_at_a_fault()
+    for words in ("a.job b.job", "--place middle", "--place HIGH", "--unknown", "--place"):
         status, out, err = shell(f'"$RUN" {words}')
         yield words, status == 16 and out == "" and err != ""
     status, out, err = shell('"$RUN" --help')

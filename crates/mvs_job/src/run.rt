@@ -103,6 +103,3 @@ pub fn run_job<R: Read, W: Write>(
     }
     stream.last_turn(reader, writer)
 }
-
-#[cfg(test)]
-mod tests;

@@ -81,6 +81,3 @@ pub fn settings<'a>(alloc: Global, words: &'a [String]) -> Result<Settings<'a>, 
         placement: placement(&matches),
     })
 }
-
-#[cfg(test)]
-mod tests;
