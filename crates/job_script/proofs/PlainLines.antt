@@ -114,16 +114,16 @@ fixed word f said n area (Some sp) fits_n fits_area fits_sp = said n area (Some 
 placed : (word : List ℕ) (f : Form) (l : Loc) → SaysPlaced word f → Obtains word f l
 placed word f l said n area sp fits_n fits_area fits_sp =
     at sp l (said n area sp None (loc_word l) None None refl refl (record { each = (fits_n, (fits_area, (fits_sp, (tt, (word_fits l, (tt, (tt, tt))))))) })) where
-  at : (sp : Option (List ℕ)) (l : Loc)
-      → Says (codes "GETMAIN") (word ∷ map keyword_text (filled (placed_operands length_kind n area sp None (loc_word l) None None)))
-      (says.Request (written.Obtain f (number_said 0 sp) (spellings.asked (number n) (number n) None (loc_word l) None None) false (padded area)))
-      → Says (codes "GETMAIN") (word ∷ (codes "LV=" ++ n) ∷ (codes "A=" ++ area) ∷ (subpool_operand sp ++ loc_operand l)) (obtaining f n area sp l)
-  at None loc.Res said = said
-  at None loc.Any said = said
-  at None loc.Below said = said
-  at (Some sp) loc.Res said = said
-  at (Some sp) loc.Any said = said
-  at (Some sp) loc.Below said = said
+      at : (sp : Option (List ℕ)) (l : Loc)
+          → Says (codes "GETMAIN") (word ∷ map keyword_text (filled (placed_operands length_kind n area sp None (loc_word l) None None)))
+          (says.Request (written.Obtain f (number_said 0 sp) (spellings.asked (number n) (number n) None (loc_word l) None None) false (padded area)))
+          → Says (codes "GETMAIN") (word ∷ (codes "LV=" ++ n) ∷ (codes "A=" ++ area) ∷ (subpool_operand sp ++ loc_operand l)) (obtaining f n area sp l)
+      at None loc.Res said = said
+      at None loc.Any said = said
+      at None loc.Below said = said
+      at (Some sp) loc.Res said = said
+      at (Some sp) loc.Any said = said
+      at (Some sp) loc.Below said = said
 
 obtains : (f : Form) (l : Loc) → is_single f ≡ true → may_place f l ≡ true → Obtains (form_word f) f l
 obtains form.R loc.Res e m = fixed (codes "R") form.R each_is_said.getmain_r
