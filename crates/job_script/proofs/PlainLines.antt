@@ -1,6 +1,6 @@
 -- What the statements say that a script repeats most, written plainly.
-use Rattle.std.proofs.Common.{◌≡◌, refl, ◌||◌, not, true, false, Bool, ℕ, ◌==◌, ◌+◌, ◌&&◌, suc, List, [], ◌∷◌, ◌++◌, Option, Some, None, ◌≤◌, arith, length, sym, ap, subst, ◌∙◌, append-nil, append_assoc, length-append}
-use Rattle.std.specs.Prelude.{IfSome, MatchOption, codes, map, nat_le, nat_lt, slice_get, slice_index, unwrap_or, if◌then◌else◌}
+use Rattle.std.proofs.Common.{◌≡◌, refl, not, true, false, Bool, ℕ, ◌==◌, ◌+◌, ◌&&◌, suc, List, [], ◌∷◌, ◌++◌, Option, Some, None, ◌≤◌, arith, length, sym, ap, subst, ◌∙◌, append-nil, append_assoc, length-append}
+use Rattle.std.specs.Prelude.{IfSome, MatchOption, codes, map, nat_le, nat_lt, slice_index}
 use Rattle.std.specs.List.{list_all}
 use Rattle.std.proofs.lemmas.Bool.Decides.{nat_tests}
 use Rattle.mvs_model.specs.declared.code.Form.{Form}
@@ -18,14 +18,13 @@ use Rattle.mvs_model.specs.declared.want.Loc.TheVariants as loc
 use Rattle.mvs_model.specs.Name.{padded}
 use Rattle.mvs_model.specs.Want.{AskValue}
 use Rattle.mvs_model.specs.Grammar as grammar
-use Rattle.mvs_model.specs.Reading.{ByKey, LineOf, form_of, hex_bytes, is_digit, is_empty, is_list, is_name, is_name_byte, is_one_of, items, largest, location, number, quoted, smallest}
+use Rattle.mvs_model.specs.Reading.{LineOf, hex_bytes, is_digit, is_empty, is_name, is_name_byte, is_one_of, location, number, quoted}
 use Rattle.mvs_model.specs.Spelling.{Fits, IsWord, closes, joined, keyword_text}
 use Rattle.mvs_model.specs.Spellings as spellings
 use Rattle.mvs_model.specs.Spellings.{Says, SaysFixed, SaysPlaced, SaysRelease, filled, length_kind, number_said, placed_operands}
 use Rattle.mvs_model.proofs.ReadingTaken.{and_true, nat_same}
-use Rattle.mvs_model.proofs.Spelling.{not_true, plain, printed}
+use Rattle.mvs_model.proofs.Spelling.{plain, printed}
 use Rattle.mvs_model.proofs.Spellings.{each_is_said}
-use Rattle.mvs_model.proofs.ValueTexts.{not_list}
 use Rattle.job_script.specs.declared.frequent.Head.{Head}
 use Rattle.job_script.specs.Frequent.{IsAddressFront, IsFront, IsNumberFront, IsPooled, IsSized, IsSubpoolFront, SaysBehind, form_word, get_text, head_text, is_remark, is_single, loc_text, may_place}
 use Rattle.job_script.specs.Taken.{IsSomeBytes}
@@ -114,16 +113,16 @@ fixed word f said n area (Some sp) fits_n fits_area fits_sp = said n area (Some 
 placed : (word : List ℕ) (f : Form) (l : Loc) → SaysPlaced word f → Obtains word f l
 placed word f l said n area sp fits_n fits_area fits_sp =
     at sp l (said n area sp None (loc_word l) None None refl refl (record { each = (fits_n, (fits_area, (fits_sp, (tt, (word_fits l, (tt, (tt, tt))))))) })) where
-  at : (sp : Option (List ℕ)) (l : Loc)
-      → Says (codes "GETMAIN") (word ∷ map keyword_text (filled (placed_operands length_kind n area sp None (loc_word l) None None)))
-      (says.Request (written.Obtain f (number_said 0 sp) (spellings.asked (number n) (number n) None (loc_word l) None None) false (padded area)))
-      → Says (codes "GETMAIN") (word ∷ (codes "LV=" ++ n) ∷ (codes "A=" ++ area) ∷ (subpool_operand sp ++ loc_operand l)) (obtaining f n area sp l)
-  at None loc.Res said = said
-  at None loc.Any said = said
-  at None loc.Below said = said
-  at (Some sp) loc.Res said = said
-  at (Some sp) loc.Any said = said
-  at (Some sp) loc.Below said = said
+      at : (sp : Option (List ℕ)) (l : Loc)
+          → Says (codes "GETMAIN") (word ∷ map keyword_text (filled (placed_operands length_kind n area sp None (loc_word l) None None)))
+          (says.Request (written.Obtain f (number_said 0 sp) (spellings.asked (number n) (number n) None (loc_word l) None None) false (padded area)))
+          → Says (codes "GETMAIN") (word ∷ (codes "LV=" ++ n) ∷ (codes "A=" ++ area) ∷ (subpool_operand sp ++ loc_operand l)) (obtaining f n area sp l)
+      at None loc.Res said = said
+      at None loc.Any said = said
+      at None loc.Below said = said
+      at (Some sp) loc.Res said = said
+      at (Some sp) loc.Any said = said
+      at (Some sp) loc.Below said = said
 
 obtains : (f : Form) (l : Loc) → is_single f ≡ true → may_place f l ≡ true → Obtains (form_word f) f l
 obtains form.R loc.Res e m = fixed (codes "R") form.R each_is_said.getmain_r
