@@ -1,6 +1,6 @@
 -- What the statements say that a script repeats most, written plainly.
-use Rattle.std.proofs.Common.{◌≡◌, refl, ◌||◌, not, true, false, Bool, ℕ, ◌==◌, ◌+◌, ◌&&◌, suc, List, [], ◌∷◌, ◌++◌, Option, Some, None, ◌≤◌, arith, length, sym, ap, subst, ◌∙◌, append-nil, append_assoc, length-append}
-use Rattle.std.specs.Prelude.{IfSome, MatchOption, codes, map, nat_le, nat_lt, slice_get, slice_index, unwrap_or, if◌then◌else◌}
+use Rattle.std.proofs.Common.{◌≡◌, refl, not, true, false, Bool, ℕ, ◌==◌, ◌+◌, ◌&&◌, suc, List, [], ◌∷◌, ◌++◌, Option, Some, None, ◌≤◌, arith, length, sym, ap, subst, ◌∙◌, append-nil, append_assoc, length-append}
+use Rattle.std.specs.Prelude.{IfSome, MatchOption, codes, map, nat_le, nat_lt, slice_index}
 use Rattle.std.specs.List.{list_all}
 use Rattle.std.proofs.lemmas.Bool.Decides.{nat_tests}
 use Rattle.mvs_model.specs.declared.code.Form.{Form}
@@ -18,14 +18,13 @@ use Rattle.mvs_model.specs.declared.want.Loc.TheVariants as loc
 use Rattle.mvs_model.specs.Name.{padded}
 use Rattle.mvs_model.specs.Want.{AskValue}
 use Rattle.mvs_model.specs.Grammar as grammar
-use Rattle.mvs_model.specs.Reading.{ByKey, LineOf, form_of, hex_bytes, is_digit, is_empty, is_list, is_name, is_name_byte, is_one_of, items, largest, location, number, quoted, smallest}
+use Rattle.mvs_model.specs.Reading.{LineOf, hex_bytes, is_digit, is_empty, is_name, is_name_byte, is_one_of, location, number, quoted}
 use Rattle.mvs_model.specs.Spelling.{Fits, IsWord, closes, joined, keyword_text}
 use Rattle.mvs_model.specs.Spellings as spellings
 use Rattle.mvs_model.specs.Spellings.{Says, SaysFixed, SaysPlaced, SaysRelease, filled, length_kind, number_said, placed_operands}
 use Rattle.mvs_model.proofs.ReadingTaken.{and_true, nat_same}
-use Rattle.mvs_model.proofs.Spelling.{not_true, plain, printed}
+use Rattle.mvs_model.proofs.Spelling.{plain, printed}
 use Rattle.mvs_model.proofs.Spellings.{each_is_said}
-use Rattle.mvs_model.proofs.ValueTexts.{not_list}
 use Rattle.job_script.specs.declared.frequent.Head.{Head}
 use Rattle.job_script.specs.Frequent.{IsAddressFront, IsFront, IsNumberFront, IsPooled, IsSized, IsSubpoolFront, SaysBehind, form_word, get_text, head_text, is_remark, is_single, loc_text, may_place}
 use Rattle.job_script.specs.Taken.{IsSomeBytes}
