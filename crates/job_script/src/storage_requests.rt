@@ -1,4 +1,4 @@
-//! The statements that operands make.
+//! The statements REGION, GETMAIN, FREEMAIN and STORAGE, made of their operands.
 
 ghost use Rattle.std.specs.Prelude.{◌≡◌, [], codes, if◌then◌else◌};
 ghost use Rattle.mvs_model.specs.Grammar.{IsRegion, Obtains, ObtainsList, Releases, ReleasesArea, ReleasesList};

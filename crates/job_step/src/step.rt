@@ -1,4 +1,4 @@
-//! The machine of one step.
+//! One step: the machine, whose tasks may abend.
 
 ghost use Rattle.std.specs.Prelude.{◌≡◌, ◌<◌, ◌+◌, ◌||◌, ◌↔◌, ℕ, true, false, IfOk, IfSome, OnOk, IsSome, MatchOption, length, slice_get};
 ghost use Rattle.std.specs.FinMap.{get};

@@ -1,4 +1,4 @@
-//! The forms of the storage requests: their codes, and what they obtain and release.
+//! The machine of a step: storage, tasks and cell pools, with each request in its forms, its codes, the bytes and the reports.
 #![tactic(auto)]
 
 mod access;

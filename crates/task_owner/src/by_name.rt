@@ -1,4 +1,4 @@
-//! The same by the names of the tasks, for callers that know no identifiers.
+//! The calls of a task by its name, for callers that know no identifiers.
 
 ghost use Rattle.std.specs.Prelude.{◌≡◌, ◌↔◌, ℕ, true, Some, None, IfErr, MatchOption, OnOk, OnErr};
 ghost use Rattle.std.specs.FinMap.{get};
