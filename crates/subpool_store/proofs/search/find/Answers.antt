@@ -1,4 +1,4 @@
-use Rattle.std.proofs.Common.{◌≡◌, ◌≤◌, length, ◌∙◌, None, refl, ap, sym, subst, arith}
+use Rattle.std.proofs.Common.{◌≡◌, ◌≤◌, length, ◌∙◌, None, refl, sym, subst}
 use Rattle.mvs_model.specs.Place.{PlaceValue}
 use Rattle.subpool_store.specs.Walk.{looked_at}
 use Rattle.subpool_store.specs.Search.{may_take, BehindBest, Beats, IsCandidate}

@@ -1,8 +1,7 @@
-use Rattle.std.proofs.Common.{◌≡◌, ◌∙◌, ℕ, ◌+◌, ◌-◌, ◌*◌, ◌/◌, ◌%◌, ◌<◌, ◌≤◌, Some, length, refl, sym, ap, subst, inl, inr, arith}
+use Rattle.std.proofs.Common.{◌≡◌, ◌∙◌, ◌+◌, ◌*◌, ◌/◌, ◌<◌, length, refl, sym, ap, subst, inl, inr, arith}
 use Rattle.std.proofs.lemmas.Bool.{eq-eqb}
 use Rattle.page_map.specs.Owners.{is_usable, owner_of}
 use Rattle.subpool_store.specs.Memory.{IsCursor}
-use Rattle.subpool_store.specs.Search.{may_take}
 use Rattle.subpool_store.specs.Walk.{Stands, entry_of}
 use Rattle.subpool_store.proofs.Begun.{ending_counted, free_passes, inside_counted}
 use Rattle.subpool_store.proofs.Entries.{own_entry}

@@ -1,4 +1,4 @@
-use Rattle.std.proofs.Common.{◌≡◌, ◌∙◌, ℕ, ◌+◌, ◌<◌, ◌≤◌, length, refl, sym, subst, inl, inr, arith}
+use Rattle.std.proofs.Common.{◌∙◌, length, refl, sym, subst, inl, inr, arith}
 use Rattle.std.proofs.lemmas.Bool.{cases_eq}
 use Rattle.subpool_store.specs.Walk.{IsFull}
 use Rattle.subpool_store.proofs.Entries.{entry_own, one_there}

@@ -1,4 +1,4 @@
-use Rattle.std.proofs.Common.{◌≡◌, ◌+◌, ◌-◌, ◌*◌, ◌/◌, ◌%◌, ◌≤◌, ◌∷◌, sym, subst, arith}
+use Rattle.std.proofs.Common.{◌≡◌, ◌+◌, ◌-◌, ◌*◌, ◌/◌, ◌∷◌, sym, subst, arith}
 use Rattle.free_queue.specs.Runs.{Queue, page_of}
 use Rattle.subpool_store.specs.Edits.{IsFreeRun}
 use Rattle.subpool_store.specs.Memory.{IsCursor, MemoryState}

@@ -1,4 +1,4 @@
-use Rattle.std.proofs.Common.{◌<◌, arith}
+use Rattle.std.proofs.Common.{arith}
 use Rattle.subpool_store.proofs.Passed.{walk_few}
 use Rattle.subpool_store.proofs.walk.Walk.examine.Goals as goal
 

@@ -1,5 +1,4 @@
-use Rattle.std.proofs.Common.{◌≡◌, ℕ, ◌+◌, ◌/◌, ◌<◌, ◌≤◌, length, refl, arith}
-use Rattle.mvs_model.specs.Finite.{count_below}
+use Rattle.std.proofs.Common.{arith}
 use Rattle.subpool_store.specs.Walk.{begins_run}
 use Rattle.subpool_store.proofs.Counts.{count_none}
 use Rattle.subpool_store.proofs.walk.Walk.new.Goals as goal

@@ -1,4 +1,4 @@
-use Rattle.std.proofs.Common.{rules, ◌≡◌, ◌∙◌, ◌+◌, ◌-◌, ◌*◌, ◌/◌, ◌<◌, ◌≤◌, ap, refl, inl, inr, arith}
+use Rattle.std.proofs.Common.{rules, ◌∙◌, ◌+◌, ◌*◌, ◌/◌, ◌<◌, ap, refl, inl, inr, arith}
 use Rattle.std.proofs.lemmas.Bool.{cases_lt}
 use Rattle.subpool_store.specs.Walk.{IsWalk}
 use Rattle.subpool_store.proofs.Passed.{short_fits, short_inside, short_page, short_passed, walk_at, walk_few}
