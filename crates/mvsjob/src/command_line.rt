@@ -2,10 +2,10 @@
 
 ghost use Rattle.std.specs.Prelude.{◌≡◌, ◌↔◌, ◌⊎◌, ℕ, List, [], Option, Some, IfOk, IfErr, codes, map, string_bytes};
 ghost use Rattle.std.specs.Option.{unwrap_or};
-ghost use Rattle.clap.specs.Words.{IsAmong, Kinds, app_of, first_value, found_of, kind_of};
+ghost use Rattle.clap.specs.Words.{IsAmong, Kinds, app_of, first_value, found_of, kind_of, new_app};
 ghost use Rattle.clap.specs.declared.builder.value_parser.ValueParser.{ValueParser};
 ghost use Rattle.clap.specs.declared.error.kind.ErrorKind.TheVariants.{OutOfMemory};
-ghost use Rattle.mvsjob.specs.CommandLine.{Assigns, FindsWrong, IsLowOrHigh, IsTaken, command};
+ghost use Rattle.mvsjob.specs.CommandLine.{Assigns, FindsWrong, IsLowOrHigh, IsTaken, command, versioned};
 
 use crate::choices::Settings;
 use clap::{Arg, ArgMatches, Command};
@@ -15,16 +15,29 @@ use std::alloc::{AllocError, Global};
 const ABOUT: &str =
     "Simulates the virtual storage services of z/OS: runs a script, and prints what each request is answered.";
 
+/// The version of this program, and the kit that it is proved with.
+const VERSION: &str = "1.0.0 (rattle-kit-13b logic dac8208d650f15bf)";
+
 const STATUSES: &str = "Exit status:
   0   clean: every line was run, and no task abended
   8   every line was run, and some task abended
   12  a line of the script has a fault, and no line behind it was run
   16  the job gave up, or could not begin: standard error says why
 
-The script's language is described in docs/SCRIPT.md.";
+The script's language is described in mvsjob-script(5), which is docs/SCRIPT.md.";
 
 /// The values of the option `--place`.
 static PLACES: [&str; 2] = ["low", "high"];
+
+// The command without its words: its name, its version, and what the help says around them.
+fn titled<'a>(alloc: Global) -> Command<'a>
+    ensures { app_of result ≡ versioned (new_app (codes "mvsjob")) }
+{
+    Command::new(alloc, "mvsjob")
+        .version(VERSION)
+        .about(ABOUT)
+        .after_help(STATUSES)
+}
 
 // The command: a word and an option, which may both be left out.
 fn command<'a>(alloc: Global) -> Result<Command<'a>, AllocError>
@@ -35,11 +48,7 @@ fn command<'a>(alloc: Global) -> Result<Command<'a>, AllocError>
         .long("place")
         .value_parser(PLACES.as_slice())
         .help("Which of the places that serve a request is taken; low where it is left out");
-    Command::new(alloc, "mvsjob")
-        .about(ABOUT)
-        .after_help(STATUSES)
-        .arg(file)?
-        .arg(place)
+    titled(alloc).arg(file)?.arg(place)
 }
 
 // The word for the script.
