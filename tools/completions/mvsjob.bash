@@ -1,0 +1,20 @@
+# Completion of mvsjob's words for bash.
+_mvsjob() {
+    local word=${COMP_WORDS[COMP_CWORD]} before=${COMP_WORDS[COMP_CWORD - 1]}
+    COMPREPLY=()
+    # `--place=low` is three words to bash: the option, `=` and the value.
+    if [ "$word" = = ]; then
+        word=
+    elif [ "$before" = = ]; then
+        before=${COMP_WORDS[COMP_CWORD - 2]}
+    fi
+    if [ "$before" = --place ]; then
+        mapfile -t COMPREPLY < <(compgen -W "low high" -- "$word")
+    elif [[ $word == -* ]]; then
+        mapfile -t COMPREPLY < <(compgen -W "--place --help --version -h -V" -- "$word")
+    else
+        compopt -o filenames 2> /dev/null
+        mapfile -t COMPREPLY < <(compgen -f -- "$word")
+    fi
+}
+complete -F _mvsjob mvsjob
