@@ -1,4 +1,4 @@
-use Rattle.std.proofs.Common.{◌≡◌, ◌∙◌, ap, sym, map, string_bytes}
+use Rattle.std.proofs.Common.{◌∙◌, ap, sym, map, string_bytes}
 use Rattle.std.proofs.lemmas.Result.{err_from_is_err_and}
 use Rattle.clap.specs.Words.{fault_of, is_simple_and_free, kind_of, takes}
 use Rattle.mvsjob.proofs.Assigning.{assigned, command_is_free, kinds_found}
