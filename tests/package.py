@@ -1,7 +1,7 @@
 """What ./package and `./build --install` make: the same bytes twice, a program that runs the examples without any environment,
 manual pages without a warning, completions.
 
-It needs no root and no network. Where a shell is not on the machine its completion is not tried, and not counted.
+It needs no root and no network. Where a shell is not on the machine its completion is not tried, and not counted; nor is lintian.
 """
 
 import os
@@ -89,6 +89,14 @@ def completions(root):
         yield f"bash completes {' '.join(words)}", sorted(output(*command, cwd=TOP / "examples").split()) == sorted(wanted.split())
 
 
+def without_errors(package):
+    """Whether lintian finds no error in a package; None where it is not there."""
+    if not shutil.which("lintian"):
+        return None
+    ran = subprocess.run(["lintian", "--fail-on", "error", package], capture_output=True, text=True)
+    return ran.returncode == 0
+
+
 def packages(folder):
     """The packages, made twice."""
     made = [sorted(Path(path) for path in output(TOP / "package", folder / name).split()) for name in ("once", "again")]
@@ -96,6 +104,7 @@ def packages(folder):
         yield f"{once.name}, the same bytes twice", once.read_bytes() == again.read_bytes()
     archive, package = made[0]
     listed = [line.split() for line in output("dpkg-deb", "-c", package).splitlines()]
+    yield "lintian", without_errors(package)
     yield "all files are root's", {words[1] for words in listed} == {"root/root"}
     yield "modes", {words[0] for words in listed} == {"drwxr-xr-x", "-rw-r--r--", "-rwxr-xr-x"}
     output("dpkg-deb", "-x", package, folder / "debian")
