@@ -1,11 +1,12 @@
 -- Two starts decide for a whole run.
-use Rattle.std.proofs.Common.{◌≡◌, ℕ, ◌+◌, ◌-◌, ◌%◌, ◌^◌, ◌<◌, ◌≤◌, ◌↔◌, ◌⊎◌, refl, subst, inl, inr, arith}
-use Rattle.std.specs.Prelude.{IfSome}
+use Rattle.std.proofs.Common.{◌≡◌, ℕ, ◌+◌, ◌-◌, ◌%◌, ◌^◌, ◌<◌, ◌≤◌, ◌↔◌, ◌⊎◌, refl, inl, inr, arith}
+use Rattle.std.proofs.lemmas.Bool.Decides.{nat_tests}
+use Rattle.std.proofs.lemmas.Grind.{common_steps}
 use Rattle.mvs_model.specs.Place.{PlaceValue, place_at}
 use Rattle.mvs_model.specs.Want.{WantValue, IsWant}
 use Rattle.mvs_model.specs.Storage.{Meets, IsLength, IsRun, InRun}
 use Rattle.boundary_loc.specs.declared.Starts.{Starts}
-use Rattle.boundary_loc.specs.Boundary.{Fits, IsWithin, IsLeastMultiple, IsGreatestMultiple, IsLastStart, IsNextStart, Allows}
+use Rattle.boundary_loc.specs.Boundary.{Fits, IsLeastMultiple, IsGreatestMultiple, IsLastStart, IsNextStart, Allows}
 use Rattle.boundary_loc.specs.Starts.{Serves, IsStarts}
 use Rattle.boundary_loc.proofs.Multiples.{lower_power}
 
@@ -72,13 +73,7 @@ lowest_at_next run want starts n decide some long short =
 longest_in_room : (run : PlaceValue) (want : WantValue) (starts : Starts) (n : ℕ) → IsStarts run want starts → IsWant want →
     ((m : ℕ) → m % 8 ≡ 0 → m ≤ want.most → (m ≤ starts.first_room) ⊎ (m ≤ starts.next_room) → m ≤ n) →
     (q : PlaceValue) → IsLength want q.len → InRun run q → Meets want q → q.len ≤ n
-longest_in_room run want starts n decide is_want bound q len inside meets =
-    let some : 8 ≤ want.least = is_want.some in
-    let least : want.least ≤ q.len = len.least in
-    elim (decide.enough q (omega arith) inside meets) [
-      | inl fits ↦ bound q.len len.whole len.most (inl fits)
-      | inr fits ↦ bound q.len len.whole len.most (inr fits.1)
-    ]
+longest_in_room run want starts n h1 h2 h3 q h4 h5 h6 = grind (arith, common_steps)
 
 -- that length at a start whose room it does not pass is a longest place
 pub longest_at_first : (run : PlaceValue) (want : WantValue) (starts : Starts) (n : ℕ) → IsStarts run want starts → IsWant want → IsLength want n → n ≤ starts.first_room →
@@ -106,14 +101,4 @@ IsHighest run want n p = (p.len ≡ n) × InRun run p × Meets want p × ((q : P
 -- the last start up to the last one at which the length ends in time
 pub highest_at_last : (run : PlaceValue) (want : WantValue) (n last at : ℕ) → IsRun run → IsWant want → Allows want.side run.addr → 8 ≤ n → n ≤ run.len →
     IsGreatestMultiple (2 ^ want.start) (run.addr + (run.len - n)) last → IsLastStart want.start want.within n last at → run.addr ≤ at → IsHighest run want n (place_at at n)
-highest_at_last run want n last at is_run is_want allowed some room down decide from =
-    let low : at ≤ last = decide.before in
-    let high : last ≤ run.addr + (run.len - n) = down.before in
-    let serves : Serves run want (place_at at n) = (serving run want at n is_run is_want allowed from decide.on_start (omega arith)).0 (omega arith, decide.lies_within) in (
-      refl,
-      serves.0,
-      serves.1,
-      λ q len inside meets.
-          let ends : q.addr + q.len ≤ run.addr + run.len = inside.1 in
-          decide.highest q.addr (down.greatest q.addr (omega arith) meets.start) meets.start (subst (λ m. IfSome want.within (λ k. IsWithin (2 ^ k) m q.addr)) len meets.within),
-    )
+highest_at_last run want n last at h1 h2 h3 h4 h5 h6 h7 h8 = grind (arith, nat_tests, serving)

@@ -1,14 +1,9 @@
 -- The last start for a length, up to one start.
-use Rattle.std.proofs.Common.{◌≡◌, ℕ, ◌+◌, ◌-◌, ◌^◌, ◌%◌, ◌<◌, ◌≤◌, Some, None, ◌⊎◌, sym, ◌∙◌, inl, inr, arith}
+use Rattle.std.proofs.Common.{◌≡◌, ℕ, ◌+◌, ◌-◌, ◌^◌, ◌%◌, ◌<◌, ◌≤◌, Some, ◌⊎◌, sym, ◌∙◌, inl, inr, arith, pow_pos, mod-eq_of_lt}
 use Rattle.std.proofs.lemmas.Bool.{cases_lt}
-use Rattle.std.proofs.lemmas.Nat.{pow_pos}
-use Rattle.std.proofs.Math.Nat.{mod-eq_of_lt, mod-eq-sub-mod}
+use Rattle.std.proofs.Math.Nat.{mod-eq-sub-mod}
 use Rattle.boundary_loc.specs.Boundary.{IsGreatestMultiple, IsLastStart}
 use Rattle.boundary_loc.proofs.Multiples.{lower_power, within_multiple, within_unpassed, within_before, passes}
-
--- where there is no containing boundary it is the start itself
-pub last_stays : (s n last : ℕ) → last % 2 ^ s ≡ 0 → IsLastStart s None n last last
-last_stays s n last on = record { before = omega arith; on_start = on; lies_within = tt; highest = λ q low on_q within. low }
 
 -- where the bytes pass no boundary it is the start itself
 pub last_within : (s k n last passed : ℕ) → last % 2 ^ s ≡ 0 → 0 < n → IsGreatestMultiple (2 ^ k) (last + n - 1) passed → passed ≤ last → IsLastStart s (Some k) n last last

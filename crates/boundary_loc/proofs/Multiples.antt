@@ -1,8 +1,9 @@
 -- Multiples of a unit, and bytes that do not pass one.
-use Rattle.std.proofs.Common.{◌≡◌, ℕ, ◌+◌, ◌-◌, ◌*◌, ◌/◌, ◌%◌, ◌^◌, ◌<◌, ◌≤◌, ◌↔◌, sym, ap, ◌∙◌, inl, inr, arith}
+use Rattle.std.proofs.Common.{◌≡◌, ℕ, ◌+◌, ◌-◌, ◌*◌, ◌/◌, ◌%◌, ◌^◌, ◌<◌, ◌≤◌, ◌↔◌, sym, ap, ◌∙◌, inl, inr, arith, div-add-mod', mul-le-mul_right}
 use Rattle.std.proofs.lemmas.Bool.{cases_lt}
-use Rattle.std.proofs.lemmas.Nat.{mod-pow-add, div-add-mod'}
-use Rattle.std.proofs.Math.Nat.{mul-le-mul_right, mul-mod_left}
+use Rattle.std.proofs.lemmas.Nat.{mod-pow-add}
+use Rattle.std.proofs.Math.Nat.{mul-mod_left}
+use Rattle.std.proofs.lemmas.Bool.Decides.{nat_tests}
 use Rattle.boundary_loc.specs.Boundary.{IsWithin, IsLeastMultiple, IsGreatestMultiple}
 
 -- a number is below the next multiple, and not below its own
@@ -28,27 +29,10 @@ multiple : (x u : ℕ) → x % u ≡ 0 → x / u * u ≡ x
 multiple x u e = let p : x / u * u + x % u ≡ x = div-add-mod' x u in omega arith
 
 pub rounded : (n u : ℕ) → 0 < u → IsLeastMultiple u n ((n + u - 1) / u * u)
-rounded n u some = record {
-  after = let next : n + u - 1 < (n + u - 1) / u * u + u = below_next (n + u - 1) u some in omega arith;
-  multiple = mul-mod_left ((n + u - 1) / u) u;
-  least = λ p from on.
-      let p_is : p / u * u ≡ p = multiple p u on in
-      let low : (n + u - 1) / u * u ≤ n + u - 1 = quotient_below (n + u - 1) u in
-      let le : (n + u - 1) / u ≤ p / u = quotient_le ((n + u - 1) / u) u (p / u) (omega arith) in
-      let les : (n + u - 1) / u * u ≤ p / u * u = mul-le-mul_right u le in
-      omega arith;
-}
+rounded n u some = grind (arith, nat_tests, below_next, quotient_below, quotient_le, multiple, mul-mod_left)
 
 pub rounded_down : (n u : ℕ) → 0 < u → IsGreatestMultiple u n (n / u * u)
-rounded_down n u some = record {
-  before = quotient_below n u;
-  multiple = mul-mod_left (n / u) u;
-  greatest = λ q low on.
-      let q_is : q / u * u ≡ q = multiple q u on in
-      let le : q / u ≤ n / u = quotient_mono q n u some low in
-      let les : q / u * u ≤ n / u * u = mul-le-mul_right u le in
-      omega arith;
-}
+rounded_down n u some = grind (arith, nat_tests, quotient_below, quotient_mono, multiple, mul-mod_left)
 
 -- a multiple of a power of two is one of each lower power
 pub lower_power : (n k s : ℕ) → k ≤ s → n % 2 ^ s ≡ 0 → n % 2 ^ k ≡ 0
@@ -61,19 +45,7 @@ lower_power n k s low zero_rest =
 
 -- the bytes up to the next multiple of the bound are those that do not pass one
 room_within : (b a n : ℕ) → 0 < b → 0 < n → (n ≤ b - a % b) ↔ IsWithin b n a
-room_within b a n some bytes = (
-  λ short.
-      let is : a / b * b + a % b ≡ a = div-add-mod' a b in
-      let r : a % b < b = omega arith in
-      let low : a / b ≤ (a + n - 1) / b = quotient_mono a (a + n - 1) b some (omega arith) in
-      let high : (a + n - 1) / b ≤ a / b = quotient_to (a + n - 1) (a / b) b (omega arith) in
-      omega arith,
-  λ same.
-      let is : a / b * b + a % b ≡ a = div-add-mod' a b in
-      let last : a + n - 1 < (a + n - 1) / b * b + b = below_next (a + n - 1) b some in
-      let ends : a / b * b ≡ (a + n - 1) / b * b = ap (λ q. q * b) same in
-      omega arith,
-)
+room_within b a n some bytes = grind (arith, nat_tests, below_next, quotient_to, quotient_mono)
 
 -- bytes that do not pass a multiple are no more than the bound, and from a multiple on each such number is right
 pub within_short : (b a n : ℕ) → 0 < b → 0 < n → IsWithin b n a → n ≤ b
@@ -104,23 +76,8 @@ within_unpassed b n last passed some bytes is low =
 
 -- bytes that end at or before a multiple and begin no further before it than the bound lie within the bound
 pub within_before : (b n m r : ℕ) → 0 < b → 0 < n → m % b ≡ 0 → b ≤ m → m - b ≤ r → r + n ≤ m → IsWithin b n r
-within_before b n m r some bytes on big low short =
-    let is : m / b * b ≡ m = multiple m b on in
-    between (m / b - 1) (let front : 1 ≤ m / b = quotient_from m 1 b some (omega arith) in omega arith) where
-      between : (p : ℕ) → m / b ≡ p + 1 → IsWithin b n r
-      between p e =
-          let is : p * b + b ≡ m = omega (arith, ap (λ q. q * b) e, multiple m b on) in
-          let from : p ≤ r / b = quotient_from r p b some (omega arith) in
-          let mono : r / b ≤ (r + n - 1) / b = quotient_mono r (r + n - 1) b some (omega arith) in
-          let to : (r + n - 1) / b ≤ p = quotient_to (r + n - 1) p b (omega arith) in
-          omega arith
+within_before b n m r h1 h2 h3 h4 h5 h6 = grind (arith, nat_tests, quotient_from, quotient_to, quotient_mono, multiple)
 
 -- bytes from before a multiple to behind it pass it
 pub passes : (b n m q : ℕ) → 0 < b → m % b ≡ 0 → q < m → m ≤ q + n - 1 → IsWithin b n q → ⊥
-passes b n m q some on before behind same =
-    let is : m / b * b ≡ m = multiple m b on in
-    let high : m / b ≤ (q + n - 1) / b = quotient_mono m (q + n - 1) b some behind in
-    let low : q / b * b ≤ q = quotient_below q b in
-    let le : m / b ≤ q / b = omega (arith, same) in
-    let les : m / b * b ≤ q / b * b = mul-le-mul_right b le in
-    absurd (omega arith)
+passes b n m q h1 h2 h3 h4 h5 = grind (arith, nat_tests, quotient_below, quotient_mono, multiple)

@@ -8,18 +8,18 @@ ghost use Rattle.boundary_loc.specs.Boundary.{IsWithin, Fits, IsLeastMultiple, I
 ghost use Rattle.boundary_loc.specs.Starts.{IsStarts};
 ghost use Rattle.mvs_model.specs.Want.{side_of};
 
+use mvs_model::bounded::Exponent;
 use mvs_model::numbers::ABOVE_BEGINS;
 use mvs_model::place::{Addr, Place};
 use mvs_model::want::{Loc, Residence, Side, Want};
 
 // A power of two.
-fn power(exponent: u8) -> u64
-    requires { exponent ≤ 31 }
+fn power(exponent: Exponent) -> u64
     ensures is { result ≡ 2 ^ exponent }
     ensures some { 0 < result }
     ensures small { result ≤ 2 ^ 31 }
 {
-    1u64 << exponent
+    1u64 << exponent.get()
 }
 
 // The least multiple of the unit from a number on.
@@ -43,8 +43,7 @@ fn round_down(number: u64, unit: u64) -> u64
 }
 
 // The bytes from an address up to the next containing boundary.
-fn room_within(addr: u64, within: u8) -> u64
-    requires { within ≤ 31 }
+fn room_within(addr: u64, within: Exponent) -> u64
     ensures { (n : ℕ) → 0 < n → (n ≤ result) ↔ IsWithin (2 ^ within) n addr }
 {
     let bound = power(within);
@@ -52,8 +51,7 @@ fn room_within(addr: u64, within: u8) -> u64
 }
 
 // The bytes from an address up to an end, no further than to the containing boundary.
-fn room(addr: u64, within: Option<u8>, end: u64) -> u64
-    requires { IfSome within (λ k. k ≤ 31) }
+fn room(addr: u64, within: Option<Exponent>, end: u64) -> u64
     ensures { (n : ℕ) → 0 < n → (n ≤ result) ↔ Fits within end n addr }
 {
     let left = end.saturating_sub(addr);
@@ -64,9 +62,7 @@ fn room(addr: u64, within: Option<u8>, end: u64) -> u64
 }
 
 // The first start behind the containing boundary that comes next, or the start itself where there is none.
-fn next_start(first: u64, start: u8, within: Option<u8>) -> u64
-    requires start { start ≤ 31 }
-    requires within { IfSome within (λ k. k ≤ 31) }
+fn next_start(first: u64, start: Exponent, within: Option<Exponent>) -> u64
     requires on_start { first % 2 ^ start ≡ 0 }
     requires small { first ≤ 2 ^ 33 }
     ensures next { IsNextStart start within first result }
@@ -79,9 +75,8 @@ fn next_start(first: u64, start: u8, within: Option<u8>) -> u64
 }
 
 // The last start for a length up to one: that one, or the last before the containing boundary that it would pass.
-fn last_start(last: u64, start: u8, within: Option<u8>, len: u64) -> u64
-    requires start { start ≤ 31 }
-    requires within { IfSome within (λ k. (k ≤ 31) × (len ≤ 2 ^ k)) }
+fn last_start(last: u64, start: Exponent, within: Option<Exponent>, len: u64) -> u64
+    requires within { IfSome within (λ k. len ≤ 2 ^ k) }
     requires on_start { last % 2 ^ start ≡ 0 }
     requires small { last + len ≤ 2 ^ 33 }
     requires some { 0 < len }
@@ -98,8 +93,7 @@ fn last_start(last: u64, start: u8, within: Option<u8>, len: u64) -> u64
 }
 
 // Whether a length lies within a boundary at all.
-fn is_short(len: u64, within: Option<u8>) -> bool
-    requires { IfSome within (λ k. k ≤ 31) }
+fn is_short(len: u64, within: Option<Exponent>) -> bool
     ensures { IsTrue result ↔ IfSome within (λ k. len ≤ 2 ^ k) }
 {
     match within {
@@ -140,14 +134,13 @@ fn starts_in(run: Place, want: &Want) -> Option<Starts>
     }
     let from = u64::from(from);
     let end = from + u64::from(run.len());
-    let within = want.within();
     let first = round_up(from, power(want.start()));
-    let next = next_start(first, want.start(), within);
+    let next = next_start(first, want.start(), want.within());
     Some(Starts {
         first,
-        first_room: room(first, within, end),
+        first_room: room(first, want.within(), end),
         next,
-        next_room: room(next, within, end),
+        next_room: room(next, want.within(), end),
     })
 }
 
@@ -220,7 +213,8 @@ pub fn longest_in(run: Place, want: &Want) -> Option<Place>
     ensures { MatchOption result
         ((q : PlaceValue) → IsLength want.now q.len → InRun run q → Meets want.now q → ⊥)
         (λ p. IsLength want.now p.len × InRun run p × Meets want.now p
-        × ((q : PlaceValue) → IsLength want.now q.len → InRun run q → Meets want.now q → q.len ≤ p.len)) }
+        × ((q : PlaceValue) → IsLength want.now q.len → InRun run q → Meets want.now q
+        → q.len ≤ p.len)) }
 {
     let starts = starts_in(run, want)?;
     let most = u64::from(want.most());

@@ -10,27 +10,6 @@ use Rattle.mvs_model.specs.Finite.{any_below}
 use Rattle.mvs_model.proofs.Tables.{eq_by_cmp_is}
 use Rattle.cell_pool.specs.Roots.{passing}
 
-or_true : (b : Bool) → (b || true) ≡ true
-or_true true = refl
-or_true false = refl
-
--- one that passes is found, and what is found passes
-pub any_from : (test : ℕ → Bool) (m n : ℕ) → n < m → test n ≡ true → any_below test m ≡ true
-unfolding any_below
-any_from test zero n l e = absurd (omega arith)
-any_from test (suc m) n l e = elim (cases_eq n m) [
-  | inl s ↦ ap (λ b. b || any_below test m) (ap test (sym s) ∙ e)
-  | inr d ↦ ap (λ b. test m || b) (any_from test m n (omega arith) e) ∙ or_true (test m)
-]
-
-pub any_found : (test : ℕ → Bool) (m : ℕ) → any_below test m ≡ true → (n : ℕ) × (n < m) × (test n ≡ true)
-unfolding any_below
-any_found test zero h = absurd (let e : false ≡ true = h in cc)
-any_found test (suc m) h = by (test m) refl h (any_found test m) where
-  by : (b : Bool) → test m ≡ b → (b || any_below test m) ≡ true → (any_below test m ≡ true → (n : ℕ) × (n < m) × (test n ≡ true)) → (n : ℕ) × (n < suc m) × (test n ≡ true)
-  by true e t f = (m, omega arith, e)
-  by false e t f = let r = f t in (r.0, (let l = r.1 in omega arith), r.2)
-
 -- tests that agree below the bound
 pub any_same : (f g : ℕ → Bool) (n : ℕ) → ((i : ℕ) → i < n → f i ≡ g i) → any_below f n ≡ any_below g n
 unfolding any_below

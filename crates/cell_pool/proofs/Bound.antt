@@ -6,6 +6,7 @@ use Rattle.std.proofs.lemmas.List.FromFn.{length-map-range_with_len, get_or-map-
 use Rattle.std.proofs.lemmas.Map.Keys.{IsDistinct-from_apart}
 use Rattle.std.proofs.lemmas.Map.Steps.{length-le_from_distinct_below}
 use Rattle.std.specs.FinMap.{FinMap, get}
+use Rattle.std.proofs.lemmas.Bool.{eqb-true}
 use Rattle.mvs_model.specs.declared.name.Name.{Name}
 use Rattle.mvs_model.specs.Name.{name_cmp}
 use Rattle.mvs_model.specs.Storage.{Storage, Covers}
@@ -39,11 +40,8 @@ module _ (roots : FinMap name_cmp Root) (st : Storage) (agree : AgreeParts roots
       let l : j < r.count = (let h = f.1.1 in omega (arith, size)) in
       let at : f.0 ≡ part_addr (byte_of st) r.first j / 8 = sym f.1.2 ∙ get_or-map-range_with_len (λ k. part_addr (byte_of st) r.first k / 8) 0 r.count j j f.0 l (omega arith) in
       let low = (chain_of roots st name r agree is).low j l in
-      let same : q ≡ f.0 = equal q f.0 f.2 in
+      let same : q ≡ f.0 = eqb-true q f.0 f.2 in
       omega arith
-    where
-      equal : (a b : ℕ) → eqb a b ≡ true → a ≡ b
-      equal a b e = grind (arith, nat_tests)
 
   pub count_bound : r.count ≤ 0x600000
   unfolding firsts

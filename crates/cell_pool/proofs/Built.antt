@@ -27,7 +27,6 @@ use Rattle.cell_pool.specs.Roots.{Root, part_addr, part_at, part_of, parts_of, t
 use Rattle.cell_pool.specs.Agree.{IsChained, AgreeParts, IsCounted}
 use Rattle.cell_pool.specs.Laws.{KeepsParts}
 use Rattle.cell_pool.specs.Laying.{LaysOut}
-use Rattle.cell_pool.proofs.Counts.{count_none}
 use Rattle.cell_pool.proofs.Taken.{TakenAt, set_found}
 use Rattle.cell_pool.proofs.Frame.{get-pools_of, kept}
 use Rattle.cell_pool.specs.Roots.{free_in}
@@ -37,6 +36,8 @@ use Rattle.mvs_model.proofs.Stand.{granted_held}
 use Rattle.cell_pool.proofs.Only.{stands, part_held, head_covered}
 use Rattle.cell_pool.proofs.Marked.{same_byte}
 use Rattle.cell_pool.proofs.Growing.{extends_seen, apart_grown}
+use Rattle.mvs_model.proofs.Tests.{none_some}
+use Rattle.mvs_model.proofs.Below.{count_none}
 
 -- a part that is laid out has no taken cell
 pub laid_out : (old new : Storage) (a count size : ℕ) → LaysOut old a count size new → count ≤ 65536 → IsLaid (byte_of new) size a
@@ -52,9 +53,7 @@ module _ (roots : FinMap name_cmp Root) (old mid new : Storage) (agree : AgreePa
   -- no part that there was has a byte of the place
   pub apart_from_old : (name : Name) (r : Root) (j x : ℕ) → get roots name ≡ Some r → j < r.count → Covers (part_of (byte_of old) r j).place (x / 8) → p.addr ≤ x → x < p.addr + p.len → ⊥
   apart_from_old name r j x e l c low high =
-      none (grant.chosen.placed.0.each (x / 8) (omega arith, omega arith)).free (part_held roots old agree name r j (x / 8) e l c) where
-        none : {o : Option ℕ} {t : ℕ} → o ≡ None → o ≡ Some t → ⊥
-        none e f = absurd (let g : None ≡ Some _ = sym e ∙ f in cc)
+      none_some (sym (grant.chosen.placed.0.each (x / 8) (omega arith, omega arith)).free ∙ part_held roots old agree name r j (x / 8) e l c)
 
   keeps_mid : KeepsParts roots old mid
   keeps_mid = grant_parts roots old mid s want p agree is_mid grant
@@ -90,16 +89,11 @@ module _ (roots : FinMap name_cmp Root) (old mid new : Storage) (agree : AgreePa
     (is_want : want ≡ part_want plan.cell_size plan.primary plan.side) (lays : LaysOut mid p.addr plan.primary plan.cell_size new) (fill : ℕ) (is_fill : fill ≡ old.regions.fill) (new_roots : FinMap name_cmp Root)
     (roots_now : (n : Name) → get new_roots n ≡ cond (same_name n name) (Some (record { subpool = s; cell_size = plan.cell_size; primary = plan.primary; secondary = plan.secondary; side = plan.side; fill = fill; count = 1; first = p.addr; last = p.addr; free = plan.primary; open_part = p.addr })) (get roots n))
     (size : 4 ≤ plan.cell_size) (small : plan.cell_size ≤ 65536) (some : 1 ≤ plan.primary) (few : plan.primary ≤ 65536) where
-  root : Root
-  root = record { subpool = s; cell_size = plan.cell_size; primary = plan.primary; secondary = plan.secondary; side = plan.side; fill = fill; count = 1; first = p.addr; last = p.addr; free = plan.primary; open_part = p.addr }
-
   chosen : Chosen old.regions (held_by old) s (part_want plan.cell_size plan.primary plan.side) p
   chosen = subst (λ w. Chosen old.regions (held_by old) s w p) is_want grant.chosen
 
   len_is : p.len ≡ part_length plan.cell_size plan.primary
-  len_is = let l = chosen.length.least in let m = chosen.length.most in same p.len (part_length plan.cell_size plan.primary) l m where
-    same : (m n : ℕ) → n ≤ m → m ≤ n → m ≡ n
-    same m n k l = omega arith
+  len_is = let l = chosen.length.least in let m = chosen.length.most in omega (arith, l, m)
 
   head_in : head_length plan.primary ≤ p.len
   head_in = let e = len_is in omega arith

@@ -2,11 +2,8 @@
 use Rattle.std.proofs.Common.{◌≡◌, ℕ, zero, suc, ◌+◌, ◌<◌, ◌≤◌, ◌≢◌, Bool, true, false, cond, refl, sym, ap, ◌∙◌, inl, inr, arith}
 use Rattle.std.proofs.lemmas.Bool.{cases_eq}
 use Rattle.mvs_model.specs.Finite.{count_below}
-
-pub count_same : (n : ℕ) (f g : ℕ → Bool) → ((i : ℕ) → i < n → f i ≡ g i) → count_below n f ≡ count_below n g
-unfolding count_below
-count_same zero f g same = refl
-count_same (suc n) f g same = λ k. cond (same n (omega arith) k) 1 0 + count_same n f g (λ i low. same i (omega arith)) k
+use Rattle.subpool_store.proofs.Counts.{count_most}
+use Rattle.mvs_model.proofs.Below.{count_same}
 
 -- one number more passes
 plus : (b c : Bool) (x y : ℕ) → b ≡ true → c ≡ false → x ≡ y → cond b 1 0 + x ≡ cond c 1 0 + y + 1
@@ -41,24 +38,6 @@ count_some (suc n) i f l e = elim (cases_eq n i) [
   | inr ne ↦ more (f n) (count_below n f) (count_some n i f (omega arith) e)
 ]
 
--- where each passes, and where as many pass as there are
-succ : (b : Bool) (x n : ℕ) → b ≡ true → x ≡ n → cond b 1 0 + x ≡ suc n
-succ true x n e f = omega arith
-succ false x n e f = absurd (let g : false ≡ true = e in cc)
-
-pub count_all : (n : ℕ) (f : ℕ → Bool) → ((i : ℕ) → i < n → f i ≡ true) → count_below n f ≡ n
-unfolding count_below
-count_all zero f h = refl
-count_all (suc n) f h = succ (f n) (count_below n f) n (h n (omega arith)) (count_all n f (λ i l. h i (omega arith)))
-
-pub count_most : (n : ℕ) (f : ℕ → Bool) → count_below n f ≤ n
-unfolding count_below
-count_most zero f = omega arith
-count_most (suc n) f = at (f n) (count_below n f) (count_most n f) where
-  at : (b : Bool) (x : ℕ) → x ≤ n → cond b 1 0 + x ≤ suc n
-  at true x l = omega arith
-  at false x l = omega arith
-
 pub count_full : (n i : ℕ) (f : ℕ → Bool) → i < n → n ≤ count_below n f → f i ≡ true
 unfolding count_below
 count_full zero i f l h = absurd (omega arith)
@@ -69,8 +48,3 @@ count_full (suc n) i f l h = at (f n) refl h (λ m k. count_full n i f m k) wher
     | inl s ↦ ap f (sym s) ∙ e
     | inr ne ↦ rest (omega arith) (omega arith)
   ]
-
-pub count_none : (n : ℕ) (f : ℕ → Bool) → ((i : ℕ) → i < n → f i ≡ false) → count_below n f ≡ 0
-unfolding count_below
-count_none zero f none = refl
-count_none (suc n) f none = ap (λ b. cond b 1 0 + count_below n f) (none n (omega arith)) ∙ (let rest : count_below n f ≡ 0 = count_none n f (λ i low. none i (omega arith)) in let e : 0 + count_below n f ≡ 0 = omega arith in e)

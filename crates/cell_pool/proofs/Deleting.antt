@@ -25,7 +25,7 @@ use Rattle.cell_pool.specs.Layout.{byte_of}
 use Rattle.cell_pool.specs.Roots.{Root, part_of, pool_of, pools_of}
 use Rattle.cell_pool.specs.Agree.{Agree}
 use Rattle.cell_pool.specs.Laws.{KeepsParts}
-use Rattle.cell_pool.specs.Answered.{Answered}
+use Rattle.mvs_model.specs.Answered.{Answered}
 use Rattle.cell_pool.specs.Release.{in_first, DropsParts}
 use Rattle.mvs_model.proofs.Stand.{held_state, bytes_state, pooled_found, pooled_from}
 use Rattle.cell_pool.proofs.Frame.{get-pools_of, pool_from}

@@ -45,9 +45,7 @@ module _ (roots : FinMap name_cmp Root) (old one two new : Storage) (agree : Agr
     (lays : LaysOut one p.addr r.secondary r.cell_size two) (k : ℕ) (last : r.count ≡ k + 1) (w : PutsWord two (part_addr (byte_of old) r.first k) p.addr new) (new_roots : FinMap name_cmp Root)
     (roots_now : (n : Name) → get new_roots n ≡ cond (same_name n name) (Some (extended r p.addr)) (get roots n)) (some : 1 ≤ r.secondary) (few : r.secondary ≤ 65536) (full : AreFull (byte_of old) r.first r.count) where
   len_is : p.len ≡ part_length r.cell_size r.secondary
-  len_is = let l = grant.chosen.length.least in let m = grant.chosen.length.most in same p.len (part_length r.cell_size r.secondary) l m where
-    same : (m n : ℕ) → n ≤ m → m ≤ n → m ≡ n
-    same m n k l = omega arith
+  len_is = let l = grant.chosen.length.least in let m = grant.chosen.length.most in omega (arith, l, m)
 
   head_in : head_length r.secondary ≤ p.len
   head_in = let e = len_is in omega arith

@@ -20,10 +20,10 @@ use Rattle.cell_pool.specs.Roots.{Root, part_addr, part_at, parts_of, has_taken,
 use Rattle.cell_pool.specs.Agree.{IsChained, AgreeParts}
 use Rattle.cell_pool.specs.Laws.{KeepsParts}
 use Rattle.cell_pool.proofs.Below.{any_same}
-use Rattle.cell_pool.proofs.Counts.{count_same}
 use Rattle.cell_pool.proofs.Chains.{same_word, same_flag, contained_part, same_addr, same_parts}
 use Rattle.cell_pool.proofs.Taken.{same_taken}
 use Rattle.mvs_model.proofs.Stand.{Stand, stand, apart_from}
+use Rattle.mvs_model.proofs.Below.{count_same}
 
 -- the pool of a name
 pub get-pools_of : (roots : FinMap name_cmp Root) (st : Storage) (name : Name) → get (pools_of roots st) name ≡ option_map (pool_of (byte_of st)) (get roots name)

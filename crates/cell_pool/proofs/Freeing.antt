@@ -1,11 +1,11 @@
 -- What CPOOL FREE is answered.
 use Rattle.std.proofs.Common.{◌≡◌, ◌≢◌, ℕ, ◌+◌, ◌/◌, ◌<◌, ◌≤◌, Bool, true, false, cond, Some, None, Err, refl, sym, ap, ◌∙◌, subst, arith}
-use Rattle.std.specs.Prelude.{◌==◌, ◌&&◌, not}
-use Rattle.std.specs.Bool.{MatchBool}
+use Rattle.std.specs.Prelude.{◌==◌, not}
 use Rattle.std.specs.Option.{option_map}
 use Rattle.std.proofs.lemmas.Bool.Decides.{nat_tests}
 use Rattle.std.specs.FinMap.{FinMap, get}
 use Rattle.std.specs.FinSet as set
+use Rattle.std.proofs.lemmas.Bool.{and_right}
 use Rattle.mvs_model.specs.declared.name.Name.{Name}
 use Rattle.mvs_model.specs.declared.code.Code.TheVariants.{User}
 use Rattle.mvs_model.specs.declared.request.Reply.TheVariants.{Rc0}
@@ -21,27 +21,16 @@ use Rattle.cell_pool.specs.Roots.{Root, part_addr, is_taken, taken_of, pool_of, 
 use Rattle.cell_pool.specs.Agree.{IsCounted, AgreeParts, Agree}
 use Rattle.cell_pool.specs.Marks.{Marks}
 use Rattle.cell_pool.specs.Walk.{IsTakenAt}
-use Rattle.cell_pool.specs.Answered.{Answered}
-use Rattle.cell_pool.proofs.Counts.{count_one_more, count_some, count_most}
+use Rattle.mvs_model.specs.Answered.{Answered}
+use Rattle.cell_pool.proofs.Counts.{count_one_more, count_some}
+use Rattle.subpool_store.proofs.Counts.{count_most}
 use Rattle.cell_pool.proofs.Counted.{booked_pools, booked_agrees}
 use Rattle.cell_pool.proofs.Recounted.{counted_other, counted_freed}
 use Rattle.cell_pool.proofs.Taken.{contains-taken, set_from}
 use Rattle.cell_pool.proofs.Frame.{get-pools_of, pool_from}
 use Rattle.cell_pool.proofs.Marked.{cell_small, agrees, gives_seen, apart_given}
 use Rattle.cell_pool.proofs.Walking.{chain_of, held_in}
-
--- the cases of a test
-yes_match : {P : Type 0} (Q : Type 0) (b : Bool) → b ≡ true → P → MatchBool b P Q
-yes_match Q true e p = p
-yes_match Q false e p = absurd (let f : false ≡ true = e in cc)
-
-no_match : (P : Type 0) {Q : Type 0} (b : Bool) → b ≡ false → Q → MatchBool b P Q
-no_match P true e q = absurd (let f : true ≡ false = e in cc)
-no_match P false e q = q
-
-none_and : (a b : Bool) → b ≡ false → (a && b) ≡ false
-none_and true b e = e
-none_and false b e = refl
+use Rattle.mvs_model.proofs.Tests.{match_true, match_false}
 
 module _ (roots : FinMap name_cmp Root) (old : Storage) (agree : AgreeParts roots old) (name : Name) (c : ℕ) where
   pub no_pool : get roots name ≡ None → (o : Owners) (t : Name) → Answered {A = Unit {0}} (λ _. Rc0) (λ reply new. FreeStep (state_of old o (pools_of roots old)) t name c (get (pools_of roots old) name) reply new) (state_of old o (pools_of roots old)) t (Err (User 4002)) (state_of old o (pools_of roots old))
@@ -52,7 +41,7 @@ module _ (roots : FinMap name_cmp Root) (old : Storage) (agree : AgreeParts root
     no_cell e o t = (
       refl,
       λ reply ended a. subst (λ v. FreeStep (state_of old o (pools_of roots old)) t name c v reply ended) (sym (pool_from roots old name r is))
-          (yes_match _ (not (set.contains (taken_of (byte_of old) r) c)) (ap not (contains-taken (byte_of old) r c ∙ none_and _ _ e)) a),
+          (match_true _ _ (not (set.contains (taken_of (byte_of old) r) c)) (ap not (contains-taken (byte_of old) r c ∙ and_right _ _ e)) a),
     )
 
     module _ (a i taken k : ℕ) (new : Storage) {past : Bool} (spot : IsTakenAt old r a i taken past c) (marks : Marks old a i false k new) (one_fewer : k + 1 ≡ taken) where
@@ -80,7 +69,7 @@ module _ (roots : FinMap name_cmp Root) (old : Storage) (agree : AgreeParts root
       pub freed : (o : Owners) (t : Name) → FreeStep (state_of old o (pools_of roots old)) t name c (get (pools_of roots old) name) Rc0 (state_of new o (pools_of roots new))
       freed o t =
           subst (λ v. FreeStep (state_of old o (pools_of roots old)) t name c v Rc0 (state_of new o (pools_of roots new))) (sym (pool_from roots old name r is))
-          (no_match _ (not (set.contains (taken_of (byte_of old) r) c))
+          (match_false _ _ (not (set.contains (taken_of (byte_of old) r) c))
           (ap not (set_from (byte_of old) r c (cell_small roots old new agree name r is spot.number spot.is_part i low false k marks' c spot.at) (record { part = spot.number; cell = i; is_part = spot.is_part; is_cell = low; at = spot.at; set = was })))
           (refl, gives_seen roots old new agree name r is spot.number spot.is_part i low false k marks' c spot.at o refl was))
 

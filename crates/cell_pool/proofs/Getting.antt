@@ -1,6 +1,5 @@
 -- What CPOOL GET is answered.
 use Rattle.std.proofs.Common.{◌≡◌, ◌≢◌, cond, ℕ, ◌+◌, ◌-◌, ◌*◌, ◌<◌, ◌≤◌, inl, inr, Bool, true, false, Some, None, Err, refl, sym, ap, ◌∙◌, subst, arith}
-use Rattle.std.specs.Bool.{MatchBool}
 use Rattle.std.specs.Option.{option_map}
 use Rattle.std.proofs.lemmas.Bool.Decides.{nat_tests}
 use Rattle.std.specs.FinMap.{FinMap, get}
@@ -21,7 +20,7 @@ use Rattle.cell_pool.specs.Roots.{Root, extended, free_in, part_addr, part_of, p
 use Rattle.cell_pool.specs.Agree.{IsCounted, AgreeParts, Agree}
 use Rattle.cell_pool.specs.Marks.{Marks}
 use Rattle.cell_pool.specs.Walk.{IsFreeAt, AllTaken, Fills}
-use Rattle.cell_pool.specs.Answered.{Answered, cell_reply}
+use Rattle.mvs_model.specs.Answered.{Answered, cell_reply}
 use Rattle.cell_pool.specs.Extended.{Extended, NoRoom}
 use Rattle.cell_pool.proofs.Chains.{contained_part}
 use Rattle.cell_pool.proofs.Taken.{TakenAt, set_from}
@@ -34,6 +33,7 @@ use Rattle.cell_pool.proofs.Counted.{some_free, counted_kept, booked_kept, booke
 use Rattle.cell_pool.proofs.Recounted.{counted_other, counted_taken}
 use Rattle.std.proofs.lemmas.Bool.{cases_lt}
 use Rattle.mvs_model.specs.Name.{same_name}
+use Rattle.mvs_model.proofs.Tests.{match_true, match_false}
 
 -- what was taken, by a spot
 module _ (roots : FinMap name_cmp Root) (old : Storage) (agree : AgreeParts roots old) (name : Name) (r : Root) (is : get roots name ≡ Some r) (a i taken : ℕ) (new : Storage) (p : PlaceValue) (spot : IsFreeAt old r a i taken)
@@ -124,20 +124,13 @@ module _ (roots : FinMap name_cmp Root) (old : Storage) (agree : AgreeParts root
 
     pub no_cell : conditional ≡ true → (o : Owners) (t : Name) → GetStep (state_of old o (pools_of roots old)) t name conditional (get (pools_of roots old) name) NoCell (state_of old o (pools_of roots old))
     no_cell e o t = subst (λ v. GetStep (state_of old o (pools_of roots old)) t name conditional v NoCell (state_of old o (pools_of roots old))) (sym (pool_from roots old name r is))
-        (inr (none_free, yes _ conditional e (refl, refl))) where
-          yes : {P : Type 0} (Q : Type 0) (b : Bool) → b ≡ true → P → MatchBool b P Q
-          yes Q true e p = p
-          yes Q false e p = absurd (let f : false ≡ true = e in cc)
-
-    not : (P : Type 0) {Q : Type 0} (b : Bool) → b ≡ false → Q → MatchBool b P Q
-    not P true e q = absurd (let f : true ≡ false = e in cc)
-    not P false e q = q
+        (inr (none_free, match_true _ _ conditional e (refl, refl)))
 
     pub short : conditional ≡ false → NoRoom old r → (o : Owners) (t : Name) → Answered cell_reply (λ reply new. GetStep (state_of old o (pools_of roots old)) t name conditional (get (pools_of roots old) name) reply new) (state_of old o (pools_of roots old)) t (Err (System 0x878)) (state_of old o (pools_of roots old))
     short e none o t = (
       refl,
       λ reply ended a. subst (λ v. GetStep (state_of old o (pools_of roots old)) t name conditional v reply ended) (sym (pool_from roots old name r is))
-          (inr (none_free, not _ conditional e (inl (subst (λ h. NoPlace old.regions h r.subpool (part_want r.cell_size r.secondary r.side)) (λ k d. sym (holder_state old o (pools_of roots old) agree.storage d) k) none, a)))),
+          (inr (none_free, match_false _ _ conditional e (inl (subst (λ h. NoPlace old.regions h r.subpool (part_want r.cell_size r.secondary r.side)) (λ k d. sym (holder_state old o (pools_of roots old) agree.storage d) k) none, a)))),
     )
 
     -- a further part, and its first cell
@@ -170,7 +163,4 @@ module _ (roots : FinMap name_cmp Root) (old : Storage) (agree : AgreeParts root
 
       pub got_more : conditional ≡ false → (o : Owners) (t : Name) → GetStep (state_of old o (pools_of roots old)) t name conditional (get (pools_of roots old) name) (Cell p) (state_of new o (pools_of new_roots new))
       got_more f o t = subst (λ v. GetStep (state_of old o (pools_of roots old)) t name conditional v (Cell p) (state_of new o (pools_of new_roots new))) (sym (pool_from roots old name r is))
-          (inr (none_free, not _ conditional f (inr (gets_more o))))
-
-      pub more_agrees : AgreeParts new_roots new
-      more_agrees = got_agrees new_roots mid agree_mid name (extended r a) e.root a 0 0 new p e.free done place
+          (inr (none_free, match_false _ _ conditional f (inr (gets_more o))))

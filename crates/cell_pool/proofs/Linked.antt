@@ -21,12 +21,12 @@ use Rattle.cell_pool.specs.Laying.{PutsWord}
 use Rattle.cell_pool.specs.Roots.{extended, free_in, AreFull}
 use Rattle.cell_pool.proofs.Counted.{free_next, none_of_full, full_same, counted_same}
 use Rattle.cell_pool.proofs.Below.{map_same}
-use Rattle.cell_pool.proofs.Counts.{count_same, count_none}
 use Rattle.cell_pool.proofs.Chains.{same_word, same_flag}
 use Rattle.cell_pool.proofs.Taken.{TakenAt, found, taken_from, same_taken, contains-taken}
 use Rattle.cell_pool.proofs.Only.{only, head_covered}
 use Rattle.cell_pool.proofs.Only.{misses}
 use Rattle.cell_pool.proofs.Walking.{next_addr}
+use Rattle.mvs_model.proofs.Below.{count_same, count_none}
 
 module _ (m n : ℕ → ℕ) (q : Root) where
   parts_same' : ((j : ℕ) → j < q.count → part_of n q j ≡ part_of m q j) → parts_of n q ≡ parts_of m q

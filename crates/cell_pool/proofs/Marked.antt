@@ -8,7 +8,6 @@ use Rattle.std.specs.Cmp.{nat_cmp_total}
 use Rattle.std.specs.FinSet as set
 use Rattle.std.proofs.lemmas.Bool.{cases_eq, cases_lt}
 use Rattle.std.proofs.lemmas.Bool.Decides.{nat_tests}
-use Rattle.std.proofs.Math.Nat.{mul-le-mul_right}
 use Rattle.std.specs.FinMap.{FinMap, get, retain_keys, nat_cmp-IsAntisymmetric}
 use Rattle.mvs_model.specs.declared.name.Name.{Name}
 use Rattle.mvs_model.specs.Name.{name_cmp, same_name}
@@ -25,28 +24,24 @@ use Rattle.mvs_model.proofs.Orders.{same_name_is, differs}
 use Rattle.mvs_model.proofs.Tables.{eq_by_cmp_is}
 use Rattle.mvs_model.proofs.Made.{get-retained}
 use Rattle.mvs_model.proofs.PartsGiven.{given_apart}
-use Rattle.mvs_model.proofs.CellPlaces.{cell_inside}
+use Rattle.mvs_model.proofs.CellPlaces.{cell_inside, behind_cell}
 use Rattle.mvs_model.proofs.TakenCells.{same_test, never}
 use Rattle.cell_pool.specs.Layout.{byte_of, word, flag, next_at, count_at, taken_at, size_at, flag_room, head_length, IsLaid}
 use Rattle.cell_pool.specs.Roots.{Root, part_addr, part_at, part_of, parts_of, is_taken, taken_of, pool_of, pools_of}
 use Rattle.cell_pool.specs.Agree.{AgreeParts}
 use Rattle.cell_pool.specs.Marks.{IsMark, Marks}
-use Rattle.cell_pool.proofs.Counts.{count_same}
 use Rattle.cell_pool.proofs.Chains.{same_word, same_flag, same_addr, same_part, same_parts}
 use Rattle.cell_pool.proofs.Taken.{TakenAt, found, taken_from, same_taken, contains-taken, set_found, set_from, taken_cell}
 use Rattle.mvs_model.proofs.Stand.{Stand, held_state, bytes_state, apart_from}
 use Rattle.cell_pool.proofs.Frame.{get-pools_of, root_found, pool_from}
 use Rattle.cell_pool.proofs.SameState.{same_state, same_in_pools}
 use Rattle.cell_pool.proofs.Only.{only, stands, part_held, head_covered, not_in_head}
-
--- a later cell begins behind the end of an earlier one
-behind : (i j size : ℕ) → i < j → i * size + size ≤ j * size
-behind i j size l = let s : i + 1 ≤ j = omega arith in let m : (i + 1) * size ≤ j * size = mul-le-mul_right size s in omega arith
+use Rattle.mvs_model.proofs.Below.{count_same}
 
 pub same_index : (i j size : ℕ) → 1 ≤ size → i * size ≡ j * size → i ≡ j
 same_index i j size some e = elim (cases_lt i j) [
-  | inl l ↦ absurd (let h : i * size + size ≤ j * size = behind i j size l in omega arith)
-  | inr l ↦ elim (cases_lt j i) [ inl k ↦ absurd (let h : j * size + size ≤ i * size = behind j i size k in omega arith) | inr k ↦ omega arith ]
+  | inl l ↦ absurd (let h : i * size + size ≤ j * size = behind_cell i j size l in omega arith)
+  | inr l ↦ elim (cases_lt j i) [ inl k ↦ absurd (let h : j * size + size ≤ i * size = behind_cell j i size k in omega arith) | inr k ↦ omega arith ]
 ]
 
 -- a byte that is there, and is the same with 0 for none, is the same
@@ -207,9 +202,6 @@ module _ (roots : FinMap name_cmp Root) (old new : Storage) (agree : AgreeParts 
 
   -- the cell whose flag is changed
   module _ (c : ℕ) (at : c ≡ first_cell r.cell_size (part_of (byte_of old) r p) + i * r.cell_size) where
-    part_length_is : (j : ℕ) → j < r.count → (part_of (byte_of old) r j).place.len ≡ part_length r.cell_size (count_at (byte_of old) (part_addr (byte_of old) r.first j))
-    part_length_is j l = refl
-
     covers_cell : (j k : ℕ) → j < r.count → k < count_at (byte_of old) (part_addr (byte_of old) r.first j) → c ≡ first_cell r.cell_size (part_of (byte_of old) r j) + k * r.cell_size → Covers (part_of (byte_of old) r j).place (c / 8)
     covers_cell j k l h e = let some = (agree.chained name r is).size in cell_inside r.cell_size (part_of (byte_of old) r j) c c refl (k, h, e) (omega arith) (omega arith)
 

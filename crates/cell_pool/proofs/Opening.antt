@@ -15,8 +15,9 @@ use Rattle.cell_pool.specs.Agree.{IsCounted}
 use Rattle.cell_pool.proofs.Counted.{none_of_full, full_of_none}
 use Rattle.cell_pool.proofs.Walking.{next_addr}
 use borrow.Author.Count.{below_more}
-use Rattle.cell_pool.proofs.Counts.{count_all, count_full}
+use Rattle.cell_pool.proofs.Counts.{count_full}
 use Rattle.cell_pool.proofs.Spelled.{lent_byte}
+use Rattle.mvs_model.proofs.Below.{count_all}
 
 pub full_bit : (b k : ℕ) → b ≡ 255 → k < 8 → (bit_at b k == 1) ≡ true
 full_bit b k e l = ap (λ x. bit_at x k == 1) e ∙ ap (λ x. x == 1) (bit_at_ones 8 k l)

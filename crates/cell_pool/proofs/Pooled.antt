@@ -30,6 +30,7 @@ use Rattle.cell_pool.specs.Building.{Builds, IsRefusal}
 use Rattle.cell_pool.specs.Laws.{BuildIsStep}
 use Rattle.mvs_model.proofs.Stand.{holder_state}
 use Rattle.cell_pool.proofs.Frame.{get-pools_of}
+use Rattle.mvs_model.proofs.Tests.{match_true, match_false}
 
 -- a function of each value of a map
 module _ {K A B : Type 0} (R : K → K → Ordering) (f : A → B) where
@@ -87,25 +88,16 @@ contains-pools_of roots st name = ap is_some (get-pools_of roots st name) ∙ at
   at None = refl
   at (Some r) = refl
 
--- the cases of a test
-yes_match : {P : Type 0} (Q : Type 0) (b : Bool) → b ≡ true → P → MatchBool b P Q
-yes_match Q true e p = p
-yes_match Q false e p = absurd (let f : false ≡ true = e in cc)
-
-no_match : (P : Type 0) {Q : Type 0} (b : Bool) → b ≡ false → Q → MatchBool b P Q
-no_match P true e q = absurd (let f : true ≡ false = e in cc)
-no_match P false e q = q
-
 module _ (roots : FinMap name_cmp Root) (old : Storage) (name : Name) (s : ℕ) (plan : Plan) where
   pub in_use : (b : Bool) → b ≡ is_some (get roots name) → b ≡ true → IsRefusal roots old name s plan (User 4008)
-  in_use b e f = yes_match _ (contains_key (pools_of roots old) name) (contains-pools_of roots old name ∙ sym e ∙ f) refl
+  in_use b e f = match_true _ _ (contains_key (pools_of roots old) name) (contains-pools_of roots old name ∙ sym e ∙ f) refl
 
   pub is_fresh : (b : Bool) → b ≡ is_some (get roots name) → b ≡ false → contains_key (pools_of roots old) name ≡ false
   is_fresh b e f = contains-pools_of roots old name ∙ sym e ∙ f
 
   module _ (fresh : contains_key (pools_of roots old) name ≡ false) where
     pub too_many : 64 ≤ len roots → IsRefusal roots old name s plan (User 4007)
-    too_many l = no_match _ (contains_key (pools_of roots old) name) fresh (yes_match _ (nat_le 64 (len (pools_of roots old))) (ap (nat_le 64) (len-pools_of roots old) ∙ many (len roots) l) refl) where
+    too_many l = match_false _ _ (contains_key (pools_of roots old) name) fresh (match_true _ _ (nat_le 64 (len (pools_of roots old))) (ap (nat_le 64) (len-pools_of roots old) ∙ many (len roots) l) refl) where
       many : (n : ℕ) → 64 ≤ n → nat_le 64 n ≡ true
       many n l = grind (arith, nat_tests)
 
@@ -115,16 +107,16 @@ module _ (roots : FinMap name_cmp Root) (old : Storage) (name : Name) (s : ℕ) 
       few n l = grind (arith, nat_tests)
 
     pub no_room : len roots < 64 → NoPlace old.regions (held_by old) s (part_want plan.cell_size plan.primary plan.side) → IsRefusal roots old name s plan (System 0x878)
-    no_room l none = no_match _ (contains_key (pools_of roots old) name) fresh (no_match _ (nat_le 64 (len (pools_of roots old))) (has_room l) (none, refl))
+    no_room l none = match_false _ _ (contains_key (pools_of roots old) name) fresh (match_false _ _ (nat_le 64 (len (pools_of roots old))) (has_room l) (none, refl))
 
 -- what BUILD answers is the machine's step
 pub build_is_step : BuildIsStep
 build_is_step roots new_roots old new name s plan o after t number agree valid of = (done, refused) where
   done : Builds roots old name s plan new_roots new → Enters o (keeper o t number) number s after → BuildStep (state_of old o (pools_of roots old)) t name number plan Rc0 (state_of new after (pools_of new_roots new))
-  done b enters = no_match _ (is_invalid number) valid (no_match _ (contains_key (pools_of roots old) name) b.fresh (no_match _ (nat_le 64 (len (pools_of roots old))) b.room (inr ((s, of, (b.place, after, enters, b.extends o after)), refl))))
+  done b enters = match_false _ _ (is_invalid number) valid (match_false _ _ (contains_key (pools_of roots old) name) b.fresh (match_false _ _ (nat_le 64 (len (pools_of roots old))) b.room (inr ((s, of, (b.place, after, enters, b.extends o after)), refl))))
 
   refused : (code : Code) → IsRefusal roots old name s plan code → (reply : Reply) (ended : State) → Abends (state_of old o (pools_of roots old)) t code reply ended → BuildStep (state_of old o (pools_of roots old)) t name number plan reply ended
-  refused code why reply ended a = no_match _ (is_invalid number) valid (one (contains_key (pools_of roots old) name) (nat_le 64 (len (pools_of roots old))) why) where
+  refused code why reply ended a = match_false _ _ (is_invalid number) valid (one (contains_key (pools_of roots old) name) (nat_le 64 (len (pools_of roots old))) why) where
     abends : (c : Code) → code ≡ c → Abends (state_of old o (pools_of roots old)) t c reply ended
     abends c e = subst (λ c. Abends (state_of old o (pools_of roots old)) t c reply ended) e a
 

@@ -1,8 +1,7 @@
 -- What is kept of the pools once a cell is taken or given back.
 use Rattle.std.proofs.Common.{◌≡◌, ◌≢◌, ℕ, ◌+◌, ◌-◌, ◌/◌, ◌<◌, ◌≤◌, inl, inr, Bool, true, false, cond, Some, sym, ap, ◌∙◌, arith}
 use Rattle.std.specs.Prelude.{◌==◌}
-use Rattle.std.proofs.lemmas.Bool.{cases_lt}
-use Rattle.std.proofs.lemmas.Bool.Decides.{nat_tests}
+use Rattle.std.proofs.lemmas.Bool.{cases_lt, eqb-true, eq-eqb}
 use Rattle.std.specs.FinMap.{FinMap, get}
 use Rattle.mvs_model.specs.declared.name.Name.{Name}
 use Rattle.mvs_model.specs.Name.{name_cmp}
@@ -12,10 +11,10 @@ use Rattle.cell_pool.specs.Layout.{byte_of, count_at, taken_at}
 use Rattle.cell_pool.specs.Roots.{Root, part_addr, free_in, AreFull}
 use Rattle.cell_pool.specs.Agree.{IsCounted, AgreeParts}
 use Rattle.cell_pool.specs.Marks.{Marks}
-use Rattle.cell_pool.proofs.Below.{any_from, any_found}
 use Rattle.cell_pool.proofs.Counted.{full_same, counted_same, free_less}
 use Rattle.cell_pool.proofs.Only.{misses, head_covered}
 use Rattle.cell_pool.proofs.Marked.{addr_is, count_now, taken_else, one_addr}
+use Rattle.mvs_model.proofs.Below.{some_below, below_some}
 
 -- parts with other numbers stand at other addresses
 pub one_number : (roots : FinMap name_cmp Root) (st : Storage) → AgreeParts roots st → (name : Name) (r : Root) → get roots name ≡ Some r → (j k : ℕ) → j < r.count → k < r.count → part_addr (byte_of st) r.first j ≡ part_addr (byte_of st) r.first k → j ≡ k
@@ -75,17 +74,11 @@ module _ (roots : FinMap name_cmp Root) (old new : Storage) (agree : AgreeParts 
     lasts : (k : ℕ) → r.count ≡ k + 1 → r.last ≡ part_addr (byte_of new) r.first k
     lasts k e = c.last k e ∙ sym (addrs k (omega arith))
 
-    same : (a b : ℕ) → (a == b) ≡ true → a ≡ b
-    same a b e = grind (arith, nat_tests)
-
-    equal : (a b : ℕ) → a ≡ b → (a == b) ≡ true
-    equal a b e = grind (arith, nat_tests)
-
     by : (b : Bool) → b ≡ any_below (λ j. part_addr (byte_of old) r.first j == r.open_part) (p + 1) → IsCounted (byte_of new) (record r { free = r.free + 1; open_part = cond b r.open_part (part_addr (byte_of old) r.first p) })
     by true e =
-        let f = any_found (λ j. part_addr (byte_of old) r.first j == r.open_part) (p + 1) (sym e) in
+        let f = below_some (λ j. part_addr (byte_of old) r.first j == r.open_part) (p + 1) (sym e) in
         let l = f.1 in
-        let number_is : c.number ≡ f.0 = one_number roots old agree name r is c.number f.0 c.is_part (omega arith) (sym c.open_part ∙ sym (same _ _ f.2)) in
+        let number_is : c.number ≡ f.0 = one_number roots old agree name r is c.number f.0 c.is_part (omega arith) (sym c.open_part ∙ sym (eqb-true _ _ f.2)) in
         record {
           last = lasts;
           free = (let k = c.free in let m = more in omega arith);
@@ -101,7 +94,7 @@ module _ (roots : FinMap name_cmp Root) (old new : Storage) (agree : AgreeParts 
       is_part = lp;
       open_part = sym (addrs p lp);
       full = below p (omega arith) (λ j l. c.full j (elim (cases_lt c.number (p + 1)) [
-        | inl h ↦ absurd (let t : true ≡ false = sym (any_from (λ j. part_addr (byte_of old) r.first j == r.open_part) (p + 1) c.number h (equal _ _ (sym c.open_part))) ∙ sym e in cc)
+        | inl h ↦ absurd (let t : true ≡ false = sym (some_below (λ j. part_addr (byte_of old) r.first j == r.open_part) (p + 1) c.number h (eq-eqb _ _ (sym c.open_part))) ∙ sym e in cc)
         | inr h ↦ omega arith
       ]));
     }

@@ -13,9 +13,9 @@ use Rattle.cell_pool.specs.Layout.{byte_of, count_at, next_at, head_length}
 use Rattle.cell_pool.specs.Roots.{Root, part_addr, part_at, part_of, pool_of}
 use Rattle.cell_pool.specs.Walk.{IsChain}
 use Rattle.cell_pool.specs.Release.{StandsAt, in_first, DropsParts}
-use Rattle.cell_pool.proofs.Below.{any_from, any_found}
 use Rattle.cell_pool.proofs.Chains.{part_contained, contained_part}
 use Rattle.cell_pool.proofs.Frame.{next_same, count_is}
+use Rattle.mvs_model.proofs.Below.{some_below, below_some}
 
 -- no part is the first of none
 pub in_none : (m : ℕ → ℕ) (r : Root) (d : ℕ) → in_first m r 0 d ≡ false
@@ -30,11 +30,11 @@ in_next m r n d = ap (any_below (λ j. covers (part_of m r j).place d)) (let e :
 -- a part that has the doubleword, and its number
 pub first_found : (m : ℕ → ℕ) (r : Root) (n d : ℕ) → in_first m r n d ≡ true → (j : ℕ) × (j < n) × Covers (part_of m r j).place d
 unfolding in_first
-first_found m r n d e = let f = any_found (λ j. covers (part_of m r j).place d) n e in (f.0, f.1, covers_is (part_of m r f.0).place d f.2)
+first_found m r n d e = let f = below_some (λ j. covers (part_of m r j).place d) n e in (f.0, f.1, covers_is (part_of m r f.0).place d f.2)
 
 pub first_from : (m : ℕ → ℕ) (r : Root) (n j d : ℕ) → j < n → Covers (part_of m r j).place d → in_first m r n d ≡ true
 unfolding in_first
-first_from m r n j d l c = any_from (λ j. covers (part_of m r j).place d) n j l (covers_from (part_of m r j).place d c)
+first_from m r n j d l c = some_below (λ j. covers (part_of m r j).place d) n j l (covers_from (part_of m r j).place d c)
 
 -- all parts are those of the pool
 pub in_all : (m : ℕ → ℕ) (r : Root) (d : ℕ) → in_first m r r.count d ≡ in_parts (pool_of m r) d

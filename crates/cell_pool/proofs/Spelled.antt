@@ -3,7 +3,7 @@ use Rattle.std.proofs.Common.{◌≡◌, ◌≢◌, ℕ, ◌+◌, ◌-◌, ◌*�
 use Rattle.std.specs.Prelude.{◌==◌, slice_get, slice_index, unwrap_or}
 use Rattle.std.specs.Int.{bit_at, from_be_bytes, to_be_bytes, w32}
 use Rattle.std.specs.FinMap.{get}
-use Rattle.std.proofs.lemmas.Bool.{cases_eq}
+use Rattle.std.proofs.lemmas.Bool.{cases_eq, eq-eqb}
 use Rattle.std.proofs.lemmas.Bool.Decides.{nat_tests}
 use Rattle.std.proofs.lemmas.Nat.{from_be_bytes-to_be_bytes_4}
 use Rattle.std.proofs.lemmas.Nat.Bits.{bit_at_set_same, bit_at_set_other, bit_at_clear_same, bit_at_clear_other}
@@ -38,9 +38,6 @@ unfolding flag
 flag_is m part cell b v e f = f ∙ ap (λ x. bit_at x (7 - cell % 8) == 1) e
 
 -- a bit that is set, or not
-equal : (k bit : ℕ) → k ≡ bit → (k == bit) ≡ true
-equal k bit e = grind (arith, nat_tests)
-
 unequal : (k bit : ℕ) → k ≢ bit → (k == bit) ≡ false
 unequal k bit h = grind (arith, nat_tests)
 
@@ -48,7 +45,7 @@ pub set_bit : (b bit k : ℕ) (v : Bool) → v ≡ true → bit < 8 → k < 8 �
 set_bit b bit k v e l h = elim (cases_eq k bit) [
   | inl s ↦
       ap (λ t. bit_at (bit_or b (1 * 2 ^ (7 - bit) % 256)) (7 - t) == 1) s
-      ∙ ap (λ t. t == 1) (bit_at_set_same w8 b (7 - bit) (omega arith)) ∙ sym e ∙ sym (ap (λ t. cond t v (bit_at b (7 - k) == 1)) (equal k bit s))
+      ∙ ap (λ t. t == 1) (bit_at_set_same w8 b (7 - bit) (omega arith)) ∙ sym e ∙ sym (ap (λ t. cond t v (bit_at b (7 - k) == 1)) (eq-eqb k bit s))
   | inr d ↦ ap (λ t. t == 1) (bit_at_set_other w8 b (7 - bit) (omega arith) (7 - k) (omega arith)) ∙ sym (ap (λ t. cond t v (bit_at b (7 - k) == 1)) (unequal k bit d))
 ]
 
@@ -56,7 +53,7 @@ pub clear_bit : (b bit k : ℕ) (v : Bool) → v ≡ false → bit < 8 → k < 8
 clear_bit b bit k v e l h = elim (cases_eq k bit) [
   | inl s ↦
       ap (λ t. bit_at (bit_and b (255 - 1 * 2 ^ (7 - bit) % 256)) (7 - t) == 1) s
-      ∙ ap (λ t. t == 1) (bit_at_clear_same w8 b (7 - bit) (omega arith)) ∙ sym e ∙ sym (ap (λ t. cond t v (bit_at b (7 - k) == 1)) (equal k bit s))
+      ∙ ap (λ t. t == 1) (bit_at_clear_same w8 b (7 - bit) (omega arith)) ∙ sym e ∙ sym (ap (λ t. cond t v (bit_at b (7 - k) == 1)) (eq-eqb k bit s))
   | inr d ↦ ap (λ t. t == 1) (bit_at_clear_other w8 b (7 - bit) (omega arith) (7 - k) (omega arith) (omega arith)) ∙ sym (ap (λ t. cond t v (bit_at b (7 - k) == 1)) (unequal k bit d))
 ]
 
@@ -108,7 +105,7 @@ module _ (old mid new : Storage) (a i taken changed : ℕ) (v : Bool) (small : t
   ] where
     same_test : k / 8 ≡ i / 8 → (k % 8 == i % 8) ≡ (k == i)
     same_test s = elim (cases_eq k i) [
-      | inl e ↦ equal (k % 8) (i % 8) (ap (λ t. t % 8) e) ∙ sym (equal k i e)
+      | inl e ↦ eq-eqb (k % 8) (i % 8) (ap (λ t. t % 8) e) ∙ sym (eq-eqb k i e)
       | inr ne ↦ unequal (k % 8) (i % 8) (λ f. ne (let g : k % 8 ≡ i % 8 = f in omega arith)) ∙ sym (unequal k i ne)
     ]
 

@@ -7,6 +7,7 @@ use Rattle.std.specs.FinMap.{FinMap, get}
 use Rattle.std.specs.FinSet as set
 use Rattle.std.specs.Ordering.{nat_cmp}
 use Rattle.std.specs.Cmp.{nat_cmp_total}
+use Rattle.std.proofs.lemmas.Bool.{or_right}
 use Rattle.mvs_model.specs.declared.name.Name.{Name}
 use Rattle.mvs_model.specs.Name.{name_cmp}
 use Rattle.mvs_model.specs.Place.{place_at}
@@ -35,7 +36,7 @@ use Rattle.cell_pool.proofs.Frame.{pool_from, kept}
 use Rattle.cell_pool.proofs.Keeping.{write_parts}
 use Rattle.cell_pool.proofs.Only.{nobody}
 use Rattle.cell_pool.proofs.SameState.{same_state}
-use Rattle.cell_pool.proofs.Marked.{cell_small, one_cell, inserted, pools_now, agrees, apart_now, holding_now, granted_same}
+use Rattle.cell_pool.proofs.Marked.{one_cell, inserted, pools_now, agrees, apart_now, holding_now, granted_same}
 
 module _ (roots : FinMap name_cmp Root) (old mid new : Storage) (agree : AgreeParts roots old) (name : Name) (r : Root) (is : get roots name ≡ Some r) (p : ℕ) (lp : p < r.count) (i : ℕ) (li : i < count_at (byte_of old) (part_addr (byte_of old) r.first p))
     (k : ℕ) (marks : Marks old (part_addr (byte_of old) r.first p) i true k mid) (c : ℕ) (at : c ≡ first_cell r.cell_size (part_of (byte_of old) r p) + i * r.cell_size)
@@ -52,9 +53,6 @@ module _ (roots : FinMap name_cmp Root) (old mid new : Storage) (agree : AgreePa
       unequal : (j i : ℕ) → j ≢ i → (j == i) ≡ false
       unequal j i h = grind (arith, nat_tests)
 
-  small : c < 2147483648
-  small = cell_small roots old mid agree name r is p lp i li true k marks c at
-
   -- once the cell is marked
   pub agree_mid : AgreeParts roots mid
   agree_mid = agrees roots old mid agree name r is p lp i li true k marks c at counted (λ o. apart_now roots old mid agree name r is p lp i li true k marks c at o)
@@ -68,14 +66,10 @@ module _ (roots : FinMap name_cmp Root) (old mid new : Storage) (agree : AgreePa
   -- its bytes may be written
   cell_granted : (o : Owners) → Granted (state_of mid o (pools_of roots mid)) (place_at c r.cell_size)
   cell_granted o x low high =
-      either (is_plain (get (state_of mid o (pools_of roots mid)).held (x / 8))) _
+      or_right (is_plain (get (state_of mid o (pools_of roots mid)).held (x / 8))) _
       (in_cell_from (state_of mid o (pools_of roots mid)) x (record { name = name; pool = pool_of (byte_of mid) r; first = c; is_pool = pool_from roots mid name r is; taken = has_it; inside = inside })) where
         inside : has_address (place_at c r.cell_size) x ≡ true
         inside = let l : c ≤ x = low in let h : x < c + r.cell_size = high in grind (arith, nat_tests)
-
-        either : (a b : Bool) → b ≡ true → (a || b) ≡ true
-        either true b e = refl
-        either false b e = e
 
   pub keeps_new : KeepsParts roots mid new
   keeps_new = write_parts roots mid new (place_at c r.cell_size) (λ _. Some r.fill) nobody agree_mid fills.storage fills.regions fills.held fills.bytes (cell_granted nobody)

@@ -4,6 +4,7 @@ use Rattle.std.specs.Prelude.{◌||◌, ◌&&◌, ◌==◌}
 use Rattle.std.specs.Option.{option_map}
 use Rattle.std.proofs.lemmas.Bool.Decides.{nat_tests}
 use Rattle.std.specs.FinMap.{FinMap, get}
+use Rattle.std.proofs.lemmas.Bool.{and_from, and_parts, eqb-true, eq-eqb}
 use Rattle.mvs_model.specs.Name.{name_cmp}
 use Rattle.mvs_model.specs.Finite.{has, any_below, count_below}
 use Rattle.mvs_model.specs.Place.{PlaceValue}
@@ -26,28 +27,13 @@ use Rattle.cell_pool.specs.Release.{in_first}
 use Rattle.cell_pool.specs.Report.{is_in_entry, AreApart}
 use Rattle.cell_pool.specs.Entries.{item_at, roots_of, IsDistinct}
 use Rattle.cell_pool.specs.declared.entry.Entry.{Entry}
-use Rattle.cell_pool.proofs.Below.{any_from, any_found}
-use Rattle.cell_pool.proofs.Counts.{count_same, count_none, count_most}
+use Rattle.subpool_store.proofs.Counts.{count_most}
 use Rattle.mvs_model.proofs.Stand.{held_state, pooled_found, pooled_from}
 use Rattle.cell_pool.proofs.Frame.{root_found, pool_from}
 use Rattle.cell_pool.proofs.Named.{named, entry_of}
 use Rattle.cell_pool.proofs.Only.{only, part_held}
 use Rattle.cell_pool.proofs.Released.{in_none, in_next, in_all, first_found}
-
--- of two tests that no number passes both
-sums : (x y z a b c : ℕ) → x ≡ y + z → a ≡ b + c → x + a ≡ (y + b) + (z + c)
-sums x y z a b c e f = omega arith
-
-one_of : (a b : Bool) → (a ≡ true → b ≡ true → ⊥) → cond (a || b) 1 0 ≡ cond a 1 0 + cond b 1 0
-one_of true true h = absurd (h refl refl)
-one_of true false h = refl
-one_of false true h = refl
-one_of false false h = refl
-
-pub count_or : (n : ℕ) (f g : ℕ → Bool) → ((d : ℕ) → f d ≡ true → g d ≡ true → ⊥) → count_below n (λ d. f d || g d) ≡ count_below n f + count_below n g
-unfolding count_below
-count_or zero f g h = refl
-count_or (suc n) f g h = sums (cond (f n || g n) 1 0) (cond (f n) 1 0) (cond (g n) 1 0) (count_below n (λ d. f d || g d)) (count_below n f) (count_below n g) (one_of (f n) (g n) (h n)) (count_or n f g h)
+use Rattle.mvs_model.proofs.Below.{some_below, below_some, count_same, count_or, count_none}
 
 -- the numbers from one up to another
 module _ (a b : ℕ) (f : ℕ → Bool) (l : a ≤ b) (within : (d : ℕ) → a ≤ d → d < b → f d ≡ true) (without : (d : ℕ) → (a ≤ d → d < b → ⊥) → f d ≡ false) where
@@ -127,7 +113,7 @@ module _ (m : ℕ → ℕ) (s end : ℕ) (entry : ℕ → Option Entry) where
       omega arith
     where
       not_both : (d : ℕ) → is_in_entry m s (entry n) d ≡ true → any_below (λ k. is_in_entry m s (entry k) d) n ≡ true → ⊥
-      not_both d t u = let g = any_found (λ k. is_in_entry m s (entry k) d) n u in apart g.0 n d (λ same. let l = g.1 in absurd (omega (arith, same, l))) g.2 t
+      not_both d t u = let g = below_some (λ k. is_in_entry m s (entry k) d) n u in apart g.0 n d (λ same. let l = g.1 in absurd (omega (arith, same, l))) g.2 t
 
 -- what one entry adds
 pub no_entry : (m : ℕ → ℕ) (s end : ℕ) (v : Option Entry) → v ≡ None → 0 ≡ 8 * count_below end (is_in_entry m s v)
@@ -139,24 +125,10 @@ other_entry m s end v x e f = let n : count_below end (is_in_entry m s v) ≡ 0 
 pub own_entry : (m : ℕ → ℕ) (s end : ℕ) (v : Option Entry) (x : Entry) → v ≡ Some x → (x.root.subpool == s) ≡ true → (bytes : ℕ) → bytes ≡ 8 * count_below end (in_first m x.root x.root.count) → bytes ≡ 8 * count_below end (is_in_entry m s v)
 own_entry m s end v x e f bytes g = g ∙ ap (λ n. 8 * n) (sym (count_same end (is_in_entry m s v) (in_first m x.root x.root.count) (λ d l. ap (λ w. is_in_entry m s w d) e ∙ ap (λ b. b && in_first m x.root x.root.count d) f)))
 
-and_both : (a b : Bool) → (a && b) ≡ true → (a ≡ true) × (b ≡ true)
-and_both true b e = (refl, e)
-and_both false b e = absurd (let g : false ≡ true = e in cc)
-
-both_and : (a b : Bool) → a ≡ true → b ≡ true → (a && b) ≡ true
-both_and true b e f = f
-both_and false b e f = absurd (let g : false ≡ true = e in cc)
-
-same_number : (a b : ℕ) → (a == b) ≡ true → a ≡ b
-same_number a b e = grind (arith, nat_tests)
-
-number_same : (a b : ℕ) → a ≡ b → (a == b) ≡ true
-number_same a b e = grind (arith, nat_tests)
-
 -- an entry that has the doubleword
 in_entry_found : (m : ℕ → ℕ) (s : ℕ) (v : Option Entry) (d : ℕ) → is_in_entry m s v d ≡ true → (x : Entry) × (v ≡ Some x) × (x.root.subpool ≡ s) × (in_first m x.root x.root.count d ≡ true)
 in_entry_found m s None d e = absurd (let g : false ≡ true = e in cc)
-in_entry_found m s (Some x) d e = let b = and_both _ _ e in (x, refl, same_number x.root.subpool s b.0, b.1)
+in_entry_found m s (Some x) d e = let b = and_parts _ _ e in (x, refl, eqb-true x.root.subpool s b.0, b.1)
 
 module _ (slots : List (Option Entry)) (roots : FinMap name_cmp Root) (view : roots_of slots ≡ roots) (distinct : IsDistinct slots) (st : Storage) (agree : AgreeParts roots st) (s : ℕ) where
   root_of : (k : ℕ) (x : Entry) → item_at slots k ≡ Some x → get roots x.name ≡ Some x.root
@@ -177,14 +149,14 @@ module _ (slots : List (Option Entry)) (roots : FinMap name_cmp Root) (view : ro
   tally_test n low o d = same_test _ _ there back ∙ ap (has (λ (h : Holding). (h.subpool == s) && h.pooled)) (sym (held_state st o (pools_of roots st) agree.storage d)) where
     there : any_below (λ k. is_in_entry (byte_of st) s (item_at slots k) d) n ≡ true → has (λ (h : Holding). (h.subpool == s) && h.pooled) (holding st (pools_of roots st) d) ≡ true
     there e =
-        let k = any_found (λ k. is_in_entry (byte_of st) s (item_at slots k) d) n e in
+        let k = below_some (λ k. is_in_entry (byte_of st) s (item_at slots k) d) n e in
         let x = in_entry_found (byte_of st) s (item_at slots k.0) d k.2 in
         let is = root_of k.0 x.0 x.1 in
         let f = first_found (byte_of st) x.0.root x.0.root.count d x.3 in
         let held : held_by st d ≡ Some x.0.root.subpool = part_held roots st agree x.0.name x.0.root f.0 d is f.1 f.2 in
         let pooled : in_pools (pools_of roots st) d ≡ true = pooled_from (pools_of roots st) d x.0.name (pool_of (byte_of st) x.0.root) (pool_from roots st x.0.name x.0.root is) (sym (in_all (byte_of st) x.0.root d) ∙ x.3) in
         (λ i. has (λ (h : Holding). (h.subpool == s) && h.pooled) (option_map (λ u. record { subpool = u; pooled = pooled i }) (held i)))
-        ∙ both_and (x.0.root.subpool == s) true (number_same x.0.root.subpool s x.2) refl
+        ∙ and_from (x.0.root.subpool == s) true (eq-eqb x.0.root.subpool s x.2) refl
 
     back : has (λ (h : Holding). (h.subpool == s) && h.pooled) (holding st (pools_of roots st) d) ≡ true → any_below (λ k. is_in_entry (byte_of st) s (item_at slots k) d) n ≡ true
     back e = by (held_by st d) (in_pools (pools_of roots st) d) refl refl e where
@@ -192,7 +164,7 @@ module _ (slots : List (Option Entry)) (roots : FinMap name_cmp Root) (view : ro
           → any_below (λ k. is_in_entry (byte_of st) s (item_at slots k) d) n ≡ true
       by None b ev eb f = absurd (let g : false ≡ true = f in cc)
       by (Some u) b ev eb f =
-          let t = and_both (u == s) b f in
+          let t = and_parts (u == s) b f in
           let q = pooled_found (pools_of roots st) d (eb ∙ t.1) in
           let r = root_found roots st q.0 q.1 q.2 in
           let x = entry_of slots q.0 r.0 (ap (λ m. get m q.0) view ∙ r.1) in
@@ -200,8 +172,8 @@ module _ (slots : List (Option Entry)) (roots : FinMap name_cmp Root) (view : ro
           let g = first_found (byte_of st) r.0 r.0.count d has_it in
           let of : Some r.0.subpool ≡ Some u = sym (part_held roots st agree q.0 r.0 g.0 d r.1 g.1 g.2) ∙ ev in
           let same : r.0.subpool ≡ u = cc in
-          any_from (λ k. is_in_entry (byte_of st) s (item_at slots k) d) n x.0 (low x.0 x.1 x.2)
-          (ap (λ v. is_in_entry (byte_of st) s v d) x.2 ∙ (λ i. (((x.4 i).subpool) == s) && in_first (byte_of st) (x.4 i) (x.4 i).count d) ∙ both_and (r.0.subpool == s) _ (number_same r.0.subpool s (same ∙ same_number u s t.0)) has_it)
+          some_below (λ k. is_in_entry (byte_of st) s (item_at slots k) d) n x.0 (low x.0 x.1 x.2)
+          (ap (λ v. is_in_entry (byte_of st) s v d) x.2 ∙ (λ i. (((x.4 i).subpool) == s) && in_first (byte_of st) (x.4 i) (x.4 i).count d) ∙ and_from (r.0.subpool == s) _ (eq-eqb r.0.subpool s (same ∙ eqb-true u s t.0)) has_it)
 
   pub tallied : (n bytes : ℕ) → ((k : ℕ) (x : Entry) → item_at slots k ≡ Some x → k < n) → bytes ≡ 8 * count_below (end_of st.regions) (λ d. any_below (λ k. is_in_entry (byte_of st) s (item_at slots k) d) n)
       → (o : Owners) → bytes ≡ bytes_held (state_of st o (pools_of roots st)) s true
@@ -212,10 +184,7 @@ pub splits_bytes : SplitsBytes
 splits_bytes roots st s o agree =
     let e : count_below (end_of st.regions) (holds st s) ≡ count_below (end_of st.regions) (held_as false) + count_below (end_of st.regions) (held_as true) =
     count_same (end_of st.regions) _ _ (λ d _. either d) ∙ count_or (end_of st.regions) (held_as false) (held_as true) not_both in
-    joined (count_below (end_of st.regions) (held_as false)) (count_below (end_of st.regions) (held_as true)) (count_below (end_of st.regions) (holds st s)) e where
-      joined : (a b c : ℕ) → c ≡ a + b → 8 * a + 8 * b ≡ 8 * c
-      joined a b c e = omega arith
-
+    omega (arith, e) where
       held_as : Bool → ℕ → Bool
       held_as b d = has (λ (h : Holding). (h.subpool == s) && cond b h.pooled (not h.pooled)) (get (state_of st o (pools_of roots st)).held d)
 

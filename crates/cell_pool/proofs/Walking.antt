@@ -4,7 +4,6 @@ use Rattle.std.specs.Prelude.{is_some, ◌==◌, ◌||◌}
 use Rattle.mvs_model.specs.Finite.{any_below}
 use Rattle.std.proofs.lemmas.Bool.{cases_lt}
 use Rattle.std.proofs.lemmas.Bool.Decides.{nat_tests}
-use Rattle.std.proofs.Math.Nat.{mul-le-mul_right}
 use Rattle.std.specs.FinMap.{FinMap, get}
 use Rattle.mvs_model.specs.declared.name.Name.{Name}
 use Rattle.mvs_model.specs.Name.{name_cmp}
@@ -15,10 +14,11 @@ use Rattle.mvs_model.proofs.TakenCells.{never}
 use Rattle.cell_pool.specs.Layout.{byte_of, count_at, next_at, flag, head_length}
 use Rattle.cell_pool.specs.Roots.{Root, part_addr, part_of, is_taken}
 use Rattle.cell_pool.specs.Agree.{AgreeParts}
-use Rattle.cell_pool.specs.Walk.{IsChain, is_past, IsPartAt, IsTakenAt}
+use Rattle.cell_pool.specs.Walk.{IsChain, is_past, IsPartAt}
 use Rattle.cell_pool.proofs.Taken.{TakenAt, found}
 use Rattle.cell_pool.proofs.Marked.{same_index}
 use Rattle.cell_pool.proofs.Only.{place_whole, some_cell, part_held, misses}
+use Rattle.mvs_model.proofs.CellPlaces.{behind_cell}
 
 -- what agrees with storage is a chain
 pub chain_of : (roots : FinMap name_cmp Root) (st : Storage) (name : Name) (r : Root) → AgreeParts roots st → get roots name ≡ Some r → IsChain st r
@@ -61,10 +61,6 @@ pub first_addr : (m : ℕ → ℕ) (first : ℕ) → part_addr m first 0 ≡ fir
 unfolding part_addr
 first_addr m first = refl
 
--- a later cell begins behind the end of an earlier one
-behind : (i j size : ℕ) → i < j → i * size + size ≤ j * size
-behind i j size l = let s : i + 1 ≤ j = omega arith in let m : (i + 1) * size ≤ j * size = mul-le-mul_right size s in omega arith
-
 module _ (st : Storage) (r : Root) (ch : IsChain st r) where
   -- a doubleword is of one part
   pub one : (i j d : ℕ) → i < r.count → j < r.count → Covers (part_of (byte_of st) r i).place d → Covers (part_of (byte_of st) r j).place d → part_addr (byte_of st) r.first i ≡ part_addr (byte_of st) r.first j
@@ -88,13 +84,10 @@ module _ (st : Storage) (r : Root) (ch : IsChain st r) where
     pub few_at : (count : ℕ) → count ≡ count_at (byte_of st) a → count ≤ 65536
     few_at count is = subst (λ n. n ≤ 65536) (sym (is ∙ ap (count_at (byte_of st)) e)) (ch.laid j l).few
 
-    pub short_at : (count size : ℕ) → count ≡ count_at (byte_of st) a → size ≡ r.cell_size → part_length size count ≤ 0x3000000
-    short_at count size is is_size = subst (λ n. part_length n count ≤ 0x3000000) (sym is_size) (subst (λ n. part_length r.cell_size n ≤ 0x3000000) (sym (is ∙ ap (count_at (byte_of st)) e)) (let h = ch.low j l in omega arith))
-
   -- a cell lies in its part
   pub has_cell : (j i c : ℕ) → j < r.count → i < count_at (byte_of st) (part_addr (byte_of st) r.first j) → c ≡ first_cell r.cell_size (part_of (byte_of st) r j) + i * r.cell_size → has_address (part_of (byte_of st) r j).place c ≡ true
   has_cell j i c l h e =
-      let m : i * r.cell_size + r.cell_size ≤ count_at (byte_of st) (part_addr (byte_of st) r.first j) * r.cell_size = behind i (count_at (byte_of st) (part_addr (byte_of st) r.first j)) r.cell_size h in
+      let m : i * r.cell_size + r.cell_size ≤ count_at (byte_of st) (part_addr (byte_of st) r.first j) * r.cell_size = behind_cell i (count_at (byte_of st) (part_addr (byte_of st) r.first j)) r.cell_size h in
       let some = ch.size in
       let low : part_addr (byte_of st) r.first j ≤ c = omega arith in
       let high : c < part_addr (byte_of st) r.first j + part_length r.cell_size (count_at (byte_of st) (part_addr (byte_of st) r.first j)) = omega arith in
@@ -140,19 +133,6 @@ module _ (st : Storage) (r : Root) (ch : IsChain st r) where
         let here : c ≡ a + head_length count + i * r.cell_size = at ∙ (λ k. e k + i * f k) in
         let same : t.cell ≡ i = same_index t.cell i r.cell_size (omega arith) (let g = n.1 in omega arith) in
         let k : true ≡ false = sym t.set ∙ (λ q. flag (byte_of st) (same_part t q) (same q)) ∙ clear in absurd (cc))
-
-    pub is_set : (first size i : ℕ) → first ≡ a + head_length count → size ≡ r.cell_size → i < count → c ≡ first + i * size → flag (byte_of st) a i ≡ true → IsTakenAt st r a i taken past c
-    is_set first size i e f low at set = record {
-      number = p.number;
-      is_part = p.is_part;
-      addr = p.addr;
-      is_cell = subst (λ k. i < k) p.cells low;
-      at = subst (λ k. c ≡ first_cell r.cell_size (record { place = place_at (part_addr (byte_of st) r.first p.number) (part_length r.cell_size k); count = k }) + i * r.cell_size) (p.cells ∙ ap (count_at (byte_of st)) p.addr)
-          (subst (λ b. c ≡ first_cell r.cell_size (record { place = place_at b (part_length r.cell_size count); count = count }) + i * r.cell_size) p.addr (let here : c ≡ a + head_length count + i * r.cell_size = at ∙ (λ k. e k + i * f k) in omega arith));
-      set = set;
-      of_taken = p.of_taken;
-      of_past = p.of_past;
-    }
 
 -- a part that does not have the address
 pub missed : (m : ℕ → ℕ) (r : Root) (j a len size count c : ℕ) (b : Bool) → a ≡ part_addr m r.first j → len ≡ part_length size count → size ≡ r.cell_size → count ≡ count_at m a → b ≡ has_address (place_at a len) c → b ≡ false → has_address (part_of m r j).place c ≡ false

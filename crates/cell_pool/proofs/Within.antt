@@ -1,9 +1,7 @@
 -- Addresses in taken cells.
 use Rattle.std.proofs.Common.{◌≡◌, ℕ, ◌+◌, ◌*◌, ◌/◌, ◌<◌, ◌≤◌, inl, inr, Bool, true, false, List, Option, Some, None, refl, sym, ap, ◌∙◌, subst, arith}
-use Rattle.std.specs.Prelude.{is_some}
 use Rattle.std.proofs.lemmas.Bool.{cases_lt}
 use Rattle.std.proofs.lemmas.Bool.Decides.{nat_tests}
-use Rattle.std.proofs.Math.Nat.{mul-le-mul_right}
 use Rattle.std.specs.FinMap.{FinMap, get}
 use Rattle.mvs_model.specs.Name.{name_cmp}
 use Rattle.mvs_model.specs.Place.{place_at}
@@ -12,8 +10,8 @@ use Rattle.mvs_model.specs.Owners.{Owners}
 use Rattle.mvs_model.specs.Pools.{part_length, first_cell, cell_at, in_taken}
 use Rattle.mvs_model.specs.State.{in_cell}
 use Rattle.mvs_model.specs.View.{state_of}
-use Rattle.mvs_model.proofs.CellPlaces.{has_is}
-use Rattle.mvs_model.proofs.TakenCells.{in_cell_is, in_cell_from, taken_found, taken_from, never}
+use Rattle.mvs_model.proofs.CellPlaces.{has_is, behind_cell}
+use Rattle.mvs_model.proofs.TakenCells.{in_cell_is, taken_found, taken_from, never}
 use Rattle.cell_pool.specs.Layout.{byte_of, count_at, flag, head_length}
 use Rattle.cell_pool.specs.Roots.{Root, part_addr, part_of, pool_of, pools_of}
 use Rattle.cell_pool.specs.Walk.{IsChain, IsPartAt}
@@ -34,10 +32,6 @@ use Rattle.std.specs.FinSet as set
 use Rattle.std.specs.Prelude.{MatchOption}
 use Rattle.cell_pool.specs.Roots.{taken_of}
 
--- a later cell begins behind the end of an earlier one
-behind : (i j size : ℕ) → i < j → i * size + size ≤ j * size
-behind i j size l = let s : i + 1 ≤ j = omega arith in let m : (i + 1) * size ≤ j * size = mul-le-mul_right size s in omega arith
-
 module _ (st : Storage) (r : Root) (ch : IsChain st r) (x : ℕ) where
   -- A taken cell of the pool has the address.
   record Holds : Type 0 where
@@ -56,7 +50,7 @@ module _ (st : Storage) (r : Root) (ch : IsChain st r) (x : ℕ) where
   in_part : (h : Holds) → (part_addr (byte_of st) r.first h.is.part ≤ x) × (x < part_addr (byte_of st) r.first h.is.part + part_length r.cell_size (count_at (byte_of st) (part_addr (byte_of st) r.first h.is.part)))
   in_part h =
       let t = h.is in
-      let m : t.cell * r.cell_size + r.cell_size ≤ count_at (byte_of st) (part_addr (byte_of st) r.first t.part) * r.cell_size = behind t.cell (count_at (byte_of st) (part_addr (byte_of st) r.first t.part)) r.cell_size t.is_cell in
+      let m : t.cell * r.cell_size + r.cell_size ≤ count_at (byte_of st) (part_addr (byte_of st) r.first t.part) * r.cell_size = behind_cell t.cell (count_at (byte_of st) (part_addr (byte_of st) r.first t.part)) r.cell_size t.is_cell in
       let at = t.at in let low = h.low in let high = h.high in
       (omega arith, omega arith)
 
@@ -95,8 +89,8 @@ module _ (st : Storage) (r : Root) (ch : IsChain st r) (x : ℕ) where
 
     same_index : (i j : ℕ) → first + i * size ≤ x → x < first + i * size + size → first + j * size ≤ x → x < first + j * size + size → i ≡ j
     same_index i j li hi lj hj = elim (cases_lt i j) [
-      | inl l ↦ absurd (let m : i * size + size ≤ j * size = behind i j size l in omega arith)
-      | inr l ↦ elim (cases_lt j i) [ inl k ↦ absurd (let m : j * size + size ≤ i * size = behind j i size k in omega arith) | inr k ↦ omega arith ]
+      | inl l ↦ absurd (let m : i * size + size ≤ j * size = behind_cell i j size l in omega arith)
+      | inr l ↦ elim (cases_lt j i) [ inl k ↦ absurd (let m : j * size + size ≤ i * size = behind_cell j i size k in omega arith) | inr k ↦ omega arith ]
     ]
 
     -- where the flag of that cell is set, the cell is the taken one that has the address
@@ -171,9 +165,3 @@ pub not_held : (roots : FinMap name_cmp Root) (st : Storage) → AgreeParts root
 not_held roots st agree x none o = never _ (λ q.
     let i = in_cell_is (state_of st o (pools_of roots st)) x q in
     let f : None ≡ Some i.pool.subpool = none ∙ sym (holder_state st o (pools_of roots st) agree.storage (x / 8)) ∙ ap subpool_in (cell_pooled (state_of st o (pools_of roots st)) (agree.apart o) x i) in absurd (cc))
-
--- a taken cell that has the address
-pub some_cell_at : (roots : FinMap name_cmp Root) (st : Storage) (x : ℕ) (v : Option PlaceValue) (b : Bool) → b ≡ is_some v
-    → MatchOption v ((o : Owners) → in_cell (state_of st o (pools_of roots st)) x ≡ false) (λ p. IsTakenCell (pools_of roots st) p × (has_address p x ≡ true)) → (o : Owners) → b ≡ in_cell (state_of st o (pools_of roots st)) x
-some_cell_at roots st x None b e h o = e ∙ sym (h o)
-some_cell_at roots st x (Some p) b e h o = e ∙ sym (in_cell_from (state_of st o (pools_of roots st)) x (record { name = h.0.name; pool = h.0.pool; first = p.addr; is_pool = h.0.is_pool; taken = h.0.taken; inside = ap (λ q. has_address q x) (sym h.0.place) ∙ h.1 }))

@@ -4,7 +4,6 @@ pub mod Agree
 pub mod Marks
 pub mod Walk
 pub mod Entries
-pub mod Answered
 pub mod Extended
 pub mod Laying
 pub mod Building

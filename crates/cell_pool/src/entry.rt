@@ -46,7 +46,8 @@ pub(crate) fn find_key(entries: &Slab<Entry>, name: Name) -> Option<usize>
 pub(crate) fn find(entries: &Slab<Entry>, name: Name) -> Option<Root>
     ensures { MatchOption result
         ((k : ℕ) (x : Entry) → slab_get entries.now k ≡ Some x → x.name ≢ name)
-        (λ r. (k : ℕ) × (x : Entry) × (slab_get entries.now k ≡ Some x) × (x.name ≡ name) × (x.root ≡ r)) }
+        (λ r. (k : ℕ) × (x : Entry) × (slab_get entries.now k ≡ Some x) × (x.name ≡ name)
+        × (x.root ≡ r)) }
 {
     for key in 0..entries.capacity() {
         if let Some(entry) = entries.get(key) {
@@ -61,7 +62,8 @@ pub(crate) fn find(entries: &Slab<Entry>, name: Name) -> Option<Root>
 // Keeps something else of the pool at a key.
 pub(crate) fn set_root(entries: &mut Slab<Entry>, key: usize, root: Root)
     requires there { IsSome (slab_get entries.old key) }
-    ensures changed { (x : Entry) → slab_get entries.old key ≡ Some x → slab_get entries.new key ≡ Some (record x { root = root }) }
+    ensures changed { (x : Entry) → slab_get entries.old key ≡ Some x
+        → slab_get entries.new key ≡ Some (record x { root = root }) }
     ensures others { (k : ℕ) → k ≢ key → slab_get entries.new k ≡ slab_get entries.old k }
     ensures len { slab_len entries.new ≡ slab_len entries.old }
     ensures capacity { entries.new.capacity ≡ entries.old.capacity }
@@ -83,7 +85,8 @@ pub(crate) fn remove(entries: &mut Slab<Entry>, key: usize)
 
 // Whether the pool at a key is of a subpool of the set.
 pub(crate) fn is_of_one(entries: &Slab<Entry>, key: usize, subpools: &SubpoolSet) -> bool
-    ensures { result ≡ has (λ (x : Entry). is_one_of subpools.now x.root.subpool) (slab_get entries.now key) }
+    ensures { result
+        ≡ has (λ (x : Entry). is_one_of subpools.now x.root.subpool) (slab_get entries.now key) }
 {
     match entries.get(key) {
         Some(entry) => subpools.contains(entry.root.subpool),
@@ -93,7 +96,10 @@ pub(crate) fn is_of_one(entries: &Slab<Entry>, key: usize, subpools: &SubpoolSet
 
 // Removes the entries of the pools of a set of subpools.
 pub(crate) fn remove_each(entries: &mut Slab<Entry>, subpools: &SubpoolSet)
-    ensures kept { (k : ℕ) → slab_get entries.new k ≡ kept (λ (x : Entry). not (is_one_of subpools.now x.root.subpool)) (slab_get entries.old k) }
+    ensures kept { (k : ℕ)
+        → slab_get entries.new k
+        ≡ kept (λ (x : Entry). not (is_one_of subpools.now x.root.subpool))
+        (slab_get entries.old k) }
     ensures len { slab_len entries.new ≤ slab_len entries.old }
     ensures capacity { entries.new.capacity ≡ entries.old.capacity }
 {

@@ -35,8 +35,10 @@ pub(crate) fn obtain_part(
 ) -> Option<Place>
     requires { IsBounded store.old.storage.regions }
     ensures obtained { MatchOption result
-        (NoPlace store.old.storage.regions (holder store.old.storage) subpool (part_want size count side) × (store.new.storage ≡ store.old.storage))
-        (λ p. Grant store.old.storage subpool (part_want size count side) p store.new.storage × IsStorage store.new.storage) }
+        (NoPlace store.old.storage.regions (holder store.old.storage) subpool
+        (part_want size count side) × (store.new.storage ≡ store.old.storage))
+        (λ p. Grant store.old.storage subpool (part_want size count side) p store.new.storage
+        × IsStorage store.new.storage) }
 {
     let bytes = part_bytes(size.get(), count.get());
     if bytes > 0x7FFF_FFFF {

@@ -5,6 +5,7 @@ mod entry;
 pub mod laws;
 mod laying;
 mod open;
+mod plan;
 mod pools;
 mod release;
 mod report;
@@ -13,4 +14,5 @@ mod take;
 mod walk;
 mod words;
 
+pub use plan::Plan;
 pub use pools::Pools;

@@ -64,9 +64,9 @@ fn full_front(bytes: &[u8]) -> usize
 
 // The first bit of a byte, from the high one on, that is not set.
 fn clear_bit(byte: u8) -> Option<u32>
-    ensures { MatchOption result
-        ((i : ℕ) → i < 8 → (bit_at byte (7 - i) == 1) ≡ true)
-        (λ at. (at < 8) × ((bit_at byte (7 - at) == 1) ≡ false) × ((i : ℕ) → i < at → (bit_at byte (7 - i) == 1) ≡ true)) }
+    ensures { MatchOption result ((i : ℕ) → i < 8 → (bit_at byte (7 - i) == 1) ≡ true)
+        (λ at. (at < 8) × ((bit_at byte (7 - at) == 1) ≡ false)
+        × ((i : ℕ) → i < at → (bit_at byte (7 - i) == 1) ≡ true)) }
 {
     for bit in 0..8u32 {
         if !is_set(byte, bit) {
@@ -80,8 +80,12 @@ fn clear_bit(byte: u8) -> Option<u32>
 fn first_clear(bytes: &[u8]) -> Option<u32>
     requires { length bytes.now ≤ 65536 / 8 }
     ensures { MatchOption result
-        ((i : ℕ) → i < 8 * length bytes.now → (bit_at (slice_index bytes.now (i / 8)) (7 - i % 8) == 1) ≡ true)
-        (λ at. (at < 8 * length bytes.now) × ((bit_at (slice_index bytes.now (at / 8)) (7 - at % 8) == 1) ≡ false) × ((i : ℕ) → i < at → (bit_at (slice_index bytes.now (i / 8)) (7 - i % 8) == 1) ≡ true)) }
+        ((i : ℕ) → i < 8 * length bytes.now
+        → (bit_at (slice_index bytes.now (i / 8)) (7 - i % 8) == 1) ≡ true)
+        (λ at. (at < 8 * length bytes.now)
+        × ((bit_at (slice_index bytes.now (at / 8)) (7 - at % 8) == 1) ≡ false)
+        × ((i : ℕ) → i < at
+        → (bit_at (slice_index bytes.now (i / 8)) (7 - i % 8) == 1) ≡ true)) }
 {
     for index in full_front(bytes)..bytes.len() {
         if let Some(bit) = clear_bit(bytes[index]) {
@@ -114,7 +118,8 @@ pub(crate) fn find_free(store: &Store, root: &Root) -> Spot
     requires chain { IsChain store.now.storage root.now }
     requires counted { IsCounted (byte_of store.now.storage) root.now }
     requires free { 1 ≤ root.now.free }
-    ensures { IsFreeAt store.now.storage root.now result.part result.cell result.taken }
+    ensures free { IsFreeAt store.now.storage root.now result.part result.cell result.taken }
+    ensures count { result.count ≡ count_at (byte_of store.now.storage) result.part }
 {
     let mut part = root.open_part();
     'walk: for step in 0..root.count() {
@@ -123,6 +128,7 @@ pub(crate) fn find_free(store: &Store, root: &Root) -> Spot
             return Spot {
                 part,
                 cell: first_free(store, part, header.count),
+                count: header.count,
                 taken: header.taken,
             };
         }

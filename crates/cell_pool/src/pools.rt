@@ -26,19 +26,19 @@ ghost use Rattle.mvs_model.specs.State.{in_cell};
 ghost use Rattle.mvs_model.specs.Steps.{DeleteStep, FreeStep, GetStep};
 ghost use Rattle.cell_pool.specs.Roots.{extended, pool_of, pools_of, taken_of};
 ghost use Rattle.cell_pool.specs.Agree.{Agree};
-ghost use Rattle.cell_pool.specs.Answered.{Answered, cell_reply};
+ghost use Rattle.mvs_model.specs.Answered.{Answered, cell_reply};
 ghost use Rattle.cell_pool.specs.Extended.{Extended, NoRoom};
 
 use crate::entry::{Entry, find, find_key, has_none, remove, remove_each, set_root};
 use crate::laying::{lay_out, obtain_part, put_word};
 use crate::open::find_free;
+use crate::plan::Plan;
 use crate::release::release_parts;
 use crate::report::bytes_in;
 use crate::root::Root;
 use crate::take::take;
 use crate::walk::{Spot, Taken, cell_round, find_taken, meets};
 use crate::words::{byte, mark};
-use mvs_model::bounded::{CellCount, CellSize};
 use mvs_model::code::Code;
 use mvs_model::error::OutOfMemory;
 use mvs_model::name::Name;
@@ -46,7 +46,6 @@ use mvs_model::numbers::MOST_POOLS;
 use mvs_model::place::{Addr, Place};
 use mvs_model::subpool::SubpoolId;
 use mvs_model::subpool_set::SubpoolSet;
-use mvs_model::want::Side;
 use slab::Slab;
 use std::alloc::Global;
 use std::marker::Model;
@@ -78,10 +77,14 @@ impl Model for Pools {
 
 // The taken cell of one of the subpool's pools that has the address.
 fn cell_in(entries: &Slab<Entry>, store: &Store, subpool: SubpoolId, addr: u32) -> Option<Place>
-    requires { (k : ℕ) (x : TheEntry) → slab_get entries.now k ≡ Some x → IsChain store.now.storage x.root }
+    requires { (k : ℕ) (x : TheEntry) → slab_get entries.now k ≡ Some x
+        → IsChain store.now.storage x.root }
     ensures { MatchOption result
-        ((k : ℕ) (x : TheEntry) → slab_get entries.now k ≡ Some x → x.root.subpool ≡ subpool → in_taken (pool_of (byte_of store.now.storage) x.root) addr ≡ false)
-        (λ p. (k : ℕ) × (x : TheEntry) × (slab_get entries.now k ≡ Some x) × (set.contains (taken_of (byte_of store.now.storage) x.root) p.addr ≡ true) × (p.len ≡ x.root.cell_size) × (has_address p addr ≡ true)) }
+        ((k : ℕ) (x : TheEntry) → slab_get entries.now k ≡ Some x → x.root.subpool ≡ subpool
+        → in_taken (pool_of (byte_of store.now.storage) x.root) addr ≡ false)
+        (λ p. (k : ℕ) × (x : TheEntry) × (slab_get entries.now k ≡ Some x)
+        × (set.contains (taken_of (byte_of store.now.storage) x.root) p.addr ≡ true)
+        × (p.len ≡ x.root.cell_size) × (has_address p addr ≡ true)) }
 {
     if has_none(entries) {
         return None;
@@ -103,10 +106,14 @@ fn cell_of(
     subpool: SubpoolId,
     addr: u32,
 ) -> Option<Place>
-    requires { (k : ℕ) (x : TheEntry) → slab_get entries.now k ≡ Some x → IsChain store.now.storage x.root }
+    requires { (k : ℕ) (x : TheEntry) → slab_get entries.now k ≡ Some x
+        → IsChain store.now.storage x.root }
     ensures { MatchOption result
-        ((x : TheEntry) → slab_get entries.now key ≡ Some x → x.root.subpool ≡ subpool → in_taken (pool_of (byte_of store.now.storage) x.root) addr ≡ false)
-        (λ p. (x : TheEntry) × (slab_get entries.now key ≡ Some x) × (set.contains (taken_of (byte_of store.now.storage) x.root) p.addr ≡ true) × (p.len ≡ x.root.cell_size) × (has_address p addr ≡ true)) }
+        ((x : TheEntry) → slab_get entries.now key ≡ Some x → x.root.subpool ≡ subpool
+        → in_taken (pool_of (byte_of store.now.storage) x.root) addr ≡ false)
+        (λ p. (x : TheEntry) × (slab_get entries.now key ≡ Some x)
+        × (set.contains (taken_of (byte_of store.now.storage) x.root) p.addr ≡ true)
+        × (p.len ≡ x.root.cell_size) × (has_address p addr ≡ true)) }
 {
     let Some(entry) = entries.get(key) else {
         return None;
@@ -125,10 +132,13 @@ fn entry_meets(
     subpool: SubpoolId,
     place: Place,
 ) -> bool
-    requires { (k : ℕ) (x : TheEntry) → slab_get entries.now k ≡ Some x → IsChain store.now.storage x.root }
+    requires { (k : ℕ) (x : TheEntry) → slab_get entries.now k ≡ Some x
+        → IsChain store.now.storage x.root }
     ensures { MatchBool result
-        ((x : TheEntry) × (slab_get entries.now key ≡ Some x) × (x.root.subpool ≡ subpool) × Meets store.now.storage x.root place)
-        ((x : TheEntry) → slab_get entries.now key ≡ Some x → x.root.subpool ≡ subpool → Meets store.now.storage x.root place → ⊥) }
+        ((x : TheEntry) × (slab_get entries.now key ≡ Some x) × (x.root.subpool ≡ subpool)
+        × Meets store.now.storage x.root place)
+        ((x : TheEntry) → slab_get entries.now key ≡ Some x → x.root.subpool ≡ subpool
+        → Meets store.now.storage x.root place → ⊥) }
 {
     let Some(entry) = entries.get(key) else {
         return false;
@@ -141,10 +151,13 @@ fn entry_meets(
 
 // Whether a part of one of the subpool's pools has a doubleword of the place.
 fn any_meets(entries: &Slab<Entry>, store: &Store, subpool: SubpoolId, place: Place) -> bool
-    requires { (k : ℕ) (x : TheEntry) → slab_get entries.now k ≡ Some x → IsChain store.now.storage x.root }
+    requires { (k : ℕ) (x : TheEntry) → slab_get entries.now k ≡ Some x
+        → IsChain store.now.storage x.root }
     ensures { MatchBool result
-        ((k : ℕ) × (x : TheEntry) × (slab_get entries.now k ≡ Some x) × (x.root.subpool ≡ subpool) × Meets store.now.storage x.root place)
-        ((k : ℕ) (x : TheEntry) → slab_get entries.now k ≡ Some x → x.root.subpool ≡ subpool → Meets store.now.storage x.root place → ⊥) }
+        ((k : ℕ) × (x : TheEntry) × (slab_get entries.now k ≡ Some x) × (x.root.subpool ≡ subpool)
+        × Meets store.now.storage x.root place)
+        ((k : ℕ) (x : TheEntry) → slab_get entries.now k ≡ Some x → x.root.subpool ≡ subpool
+        → Meets store.now.storage x.root place → ⊥) }
 {
     if has_none(entries) {
         return false;
@@ -192,8 +205,11 @@ impl Pools {
     /// are this project's choice.
     pub fn free(&mut self, store: &mut Store, name: &Name, cell: Addr) -> Result<(), Code>
         requires { Agree self.old store.old.storage }
-        ensures answer { (o : Owners) (t : TheName) → let old = state_of store.old.storage o (pools_of self.old store.old.storage) in
-            Answered (λ _. Rc0) (λ reply new. FreeStep old t name.now cell (get old.pools name.now) reply new) old t result (state_of store.new.storage o (pools_of self.new store.new.storage)) }
+        ensures answer { (o : Owners) (t : TheName)
+            → let old = state_of store.old.storage o (pools_of self.old store.old.storage) in
+            Answered (λ _. Rc0)
+            (λ reply new. FreeStep old t name.now cell (get old.pools name.now) reply new) old t
+            result (state_of store.new.storage o (pools_of self.new store.new.storage)) }
         ensures agree { Agree self.new store.new.storage }
         ensures unchanged { OnErr result (store.new.storage ≡ store.old.storage) }
         ensures pools_unchanged { OnErr result (self.new ≡ self.old) }
@@ -212,8 +228,10 @@ impl Pools {
     fn give_cell(&mut self, store: &mut Store, name: &Name, root: &Root, spot: Taken)
         requires agree { Agree self.old store.old.storage }
         requires root { get self.old name.now ≡ Some root.now }
-        requires taken { (c : ℕ) × IsTakenAt store.old.storage root.now spot.part spot.cell spot.taken spot.past c }
-        ensures marked { Marks store.old.storage spot.part spot.cell false (spot.taken - 1) store.new.storage }
+        requires taken { (c : ℕ)
+            × IsTakenAt store.old.storage root.now spot.part spot.cell spot.taken spot.past c }
+        ensures marked { Marks store.old.storage spot.part spot.cell false (spot.taken - 1)
+            store.new.storage }
         ensures pools { pools_of self.new store.new.storage ≡ pools_of self.old store.new.storage }
         ensures agree { Agree self.new store.new.storage }
     {
@@ -222,22 +240,21 @@ impl Pools {
         self.replace(name, root.with_freed(open));
     }
 
-    /// Makes a pool with a first part of `primary` cells, in the subpool and on the side that are named; a further part will
-    /// have `secondary` cells (Assembler Services Reference, CPOOL BUILD). Refused are, in this order, a name that a pool has
+    /// Makes a pool in the subpool, with a first part as the plan says (Assembler Services Reference, CPOOL BUILD). Refused are, in this order, a name that a pool has
     /// (user 4008), a pool beyond 64 (user 4007), and want of a place for the part (878); the codes are this project's choice.
     pub fn build(
         &mut self,
         store: &mut Store,
         name: &Name,
         subpool: SubpoolId,
-        cell_size: CellSize,
-        primary: CellCount,
-        secondary: CellCount,
-        side: Side,
+        plan: &Plan,
     ) -> Result<(), Code>
         requires { Agree self.old store.old.storage }
-        ensures built { OnOk result (Builds self.old store.old.storage name.now subpool (record { cell_size = cell_size; primary = primary; secondary = secondary; side = side }) self.new store.new.storage) }
-        ensures refused { IfErr result (IsRefusal self.old store.old.storage name.now subpool (record { cell_size = cell_size; primary = primary; secondary = secondary; side = side })) }
+        ensures built { OnOk result
+            (Builds self.old store.old.storage name.now subpool plan.now self.new
+            store.new.storage) }
+        ensures refused { IfErr result
+            (IsRefusal self.old store.old.storage name.now subpool plan.now) }
         ensures agree { Agree self.new store.new.storage }
         ensures unchanged { OnErr result (store.new.storage ≡ store.old.storage) }
         ensures pools_unchanged { OnErr result (self.new ≡ self.old) }
@@ -248,20 +265,21 @@ impl Pools {
         if self.len() >= MOST_POOLS {
             return Err(Code::TOO_MANY_POOLS);
         }
-        let Some(place) = obtain_part(store, subpool, cell_size, primary, side) else {
+        let primary = plan.primary;
+        let Some(place) = obtain_part(store, subpool, plan.cell_size, primary, plan.side) else {
             return Err(Code::SHORTAGE);
         };
         let first = place.addr();
         let fill = byte(store, first.get());
-        lay_out(store, first.get(), primary.get(), cell_size.get());
+        lay_out(store, first.get(), primary.get(), plan.cell_size.get());
         self.insert(
             name,
             Root {
                 subpool,
-                cell_size,
+                cell_size: plan.cell_size,
                 primary,
-                secondary,
-                side,
+                secondary: plan.secondary,
+                side: plan.side,
                 fill,
                 count: 1,
                 first,
@@ -277,7 +295,8 @@ impl Pools {
     fn insert(&mut self, name: &Name, root: Root)
         requires fresh { get self.old name.now ≡ None }
         requires room { len self.old < most_pools }
-        ensures { (n : TheName) → get self.new n ≡ (if same_name n name.now then Some root else get self.old n) }
+        ensures { (n : TheName)
+            → get self.new n ≡ (if same_name n name.now then Some root else get self.old n) }
     {
         self.entries.insert_reserved(Entry { name: *name, root });
     }
@@ -295,8 +314,11 @@ impl Pools {
         requires root { get self.old name.now ≡ Some root.now }
         requires full { root.now.free ≡ 0 }
         ensures extended { MatchOption result
-            (NoRoom store.old.storage root.now × (store.new.storage ≡ store.old.storage) × (self.new ≡ self.old))
-            (λ r. (a : ℕ) × (r ≡ extended root.now a) × Extended self.old store.old.storage name.now root.now a self.new store.new.storage) }
+            (NoRoom store.old.storage root.now × (store.new.storage ≡ store.old.storage)
+            × (self.new ≡ self.old))
+            (λ r. (a : ℕ) × (r ≡ extended root.now a)
+            × Extended self.old store.old.storage name.now root.now a self.new
+            store.new.storage) }
         ensures agree { Agree self.new store.new.storage }
     {
         let Some(place) = obtain_part(
@@ -319,7 +341,8 @@ impl Pools {
     // Keeps something else of a pool that there is.
     fn replace(&mut self, name: &Name, root: Root)
         requires { IsSome (get self.old name.now) }
-        ensures { (n : TheName) → get self.new n ≡ (if same_name n name.now then Some root else get self.old n) }
+        ensures { (n : TheName)
+            → get self.new n ≡ (if same_name n name.now then Some root else get self.old n) }
     {
         match find_key(&self.entries, *name) {
             Some(key) => set_root(&mut self.entries, key, root),
@@ -331,8 +354,11 @@ impl Pools {
     /// (user 4002; the code is this project's choice).
     pub fn delete(&mut self, store: &mut Store, name: &Name) -> Result<(), Code>
         requires { Agree self.old store.old.storage }
-        ensures answer { (o : Owners) (t : TheName) → let old = state_of store.old.storage o (pools_of self.old store.old.storage) in
-            Answered (λ _. Rc0) (λ reply new. DeleteStep old t name.now (get old.pools name.now) reply new) old t result (state_of store.new.storage o (pools_of self.new store.new.storage)) }
+        ensures answer { (o : Owners) (t : TheName)
+            → let old = state_of store.old.storage o (pools_of self.old store.old.storage) in
+            Answered (λ _. Rc0)
+            (λ reply new. DeleteStep old t name.now (get old.pools name.now) reply new) old t
+            result (state_of store.new.storage o (pools_of self.new store.new.storage)) }
         ensures agree { Agree self.new store.new.storage }
         ensures unchanged { OnErr result (store.new.storage ≡ store.old.storage) }
         ensures pools_unchanged { OnErr result (self.new ≡ self.old) }
@@ -348,7 +374,8 @@ impl Pools {
     // Forgets a pool that there is.
     fn forget(&mut self, name: &Name)
         requires { IsSome (get self.old name.now) }
-        ensures { (n : TheName) → get self.new n ≡ (if same_name n name.now then None else get self.old n) }
+        ensures { (n : TheName)
+            → get self.new n ≡ (if same_name n name.now then None else get self.old n) }
     {
         match find_key(&self.entries, *name) {
             Some(key) => remove(&mut self.entries, key),
@@ -367,7 +394,8 @@ impl Pools {
 
     /// The same for the pools of a set of subpools.
     pub fn drop_subpools(&mut self, subpools: &SubpoolSet)
-        ensures { Keeps (get self.old) (λ _ r. not (is_one_of subpools.now r.subpool)) (get self.new) }
+        ensures { Keeps (get self.old) (λ _ r. not (is_one_of subpools.now r.subpool))
+            (get self.new) }
     {
         remove_each(&mut self.entries, subpools);
     }
@@ -383,8 +411,11 @@ impl Pools {
         conditional: bool,
     ) -> Result<Option<Place>, Code>
         requires { Agree self.old store.old.storage }
-        ensures answer { (o : Owners) (t : TheName) → let old = state_of store.old.storage o (pools_of self.old store.old.storage) in
-            Answered cell_reply (λ reply new. GetStep old t name.now conditional (get old.pools name.now) reply new) old t result (state_of store.new.storage o (pools_of self.new store.new.storage)) }
+        ensures answer { (o : Owners) (t : TheName)
+            → let old = state_of store.old.storage o (pools_of self.old store.old.storage) in
+            Answered cell_reply
+            (λ reply new. GetStep old t name.now conditional (get old.pools name.now) reply new)
+            old t result (state_of store.new.storage o (pools_of self.new store.new.storage)) }
         ensures agree { Agree self.new store.new.storage }
         ensures unchanged { OnErr result (store.new.storage ≡ store.old.storage) }
         ensures pools_unchanged { OnErr result (self.new ≡ self.old) }
@@ -405,6 +436,7 @@ impl Pools {
         let spot = Spot {
             part: extended.last(),
             cell: 0,
+            count: extended.secondary.get(),
             taken: 0,
         };
         Ok(Some(self.take_cell(store, name, &extended, spot)))
@@ -415,8 +447,14 @@ impl Pools {
         requires agree { Agree self.old store.old.storage }
         requires root { get self.old name.now ≡ Some root.now }
         requires free { IsFreeAt store.old.storage root.now spot.part spot.cell spot.taken }
-        ensures place { result ≡ place_at (spot.part + head_length (count_at (byte_of store.old.storage) spot.part) + spot.cell * root.now.cell_size) root.now.cell_size }
-        ensures taken { (mid : Storage) × Marks store.old.storage spot.part spot.cell true (spot.taken + 1) mid × Fills mid result root.now.fill store.new.storage }
+        requires count { spot.count ≡ count_at (byte_of store.old.storage) spot.part }
+        ensures place { result
+            ≡ place_at
+            (spot.part + head_length (count_at (byte_of store.old.storage) spot.part)
+            + spot.cell * root.now.cell_size) root.now.cell_size }
+        ensures taken { (mid : Storage)
+            × Marks store.old.storage spot.part spot.cell true (spot.taken + 1) mid
+            × Fills mid result root.now.fill store.new.storage }
         ensures pools { pools_of self.new store.new.storage ≡ pools_of self.old store.new.storage }
         ensures agree { Agree self.new store.new.storage }
     {
@@ -429,21 +467,16 @@ impl Pools {
     pub fn cell_at(&self, store: &Store, addr: Addr) -> Option<Place>
         requires { Agree self.now store.now.storage }
         ensures { MatchOption result
-            ((o : Owners) → in_cell (state_of store.now.storage o (pools_of self.now store.now.storage)) addr ≡ false)
-            (λ p. IsTakenCell (pools_of self.now store.now.storage) p × (has_address p addr ≡ true)) }
+            ((o : Owners)
+            → in_cell (state_of store.now.storage o (pools_of self.now store.now.storage)) addr
+            ≡ false)
+            (λ p. IsTakenCell (pools_of self.now store.now.storage) p
+            × (has_address p addr ≡ true)) }
     {
         let Some(subpool) = store.held(addr) else {
             return None;
         };
         cell_in(&self.entries, store, subpool, addr.get())
-    }
-
-    /// Whether the byte at an address lies in a taken cell of some pool.
-    pub fn taken_cell(&self, store: &Store, addr: Addr) -> bool
-        requires { Agree self.now store.now.storage }
-        ensures { (o : Owners) → result ≡ in_cell (state_of store.now.storage o (pools_of self.now store.now.storage)) addr }
-    {
-        self.cell_at(store, addr).is_some()
     }
 
     /// Whether the subpool holds some doubleword of a place as a part of a pool. Parts in other subpools do not count, so this
@@ -460,7 +493,10 @@ impl Pools {
     /// How many bytes the subpool holds in parts of pools.
     pub fn pool_bytes(&self, store: &Store, subpool: SubpoolId) -> u32
         requires { Agree self.now store.now.storage }
-        ensures { (o : Owners) → result ≡ bytes_held (state_of store.now.storage o (pools_of self.now store.now.storage)) subpool true }
+        ensures { (o : Owners)
+            → result
+            ≡ bytes_held (state_of store.now.storage o (pools_of self.now store.now.storage))
+            subpool true }
     {
         bytes_in(&self.entries, store, subpool)
     }

@@ -16,7 +16,8 @@ use subpool_store::Store;
 // Gives back the part at an address, and says where the next one is.
 fn release_part(store: &mut Store, root: &Root, part: u32) -> u32
     requires { StandsAt store.old.storage root.now part }
-    ensures released { Release store.old.storage root.now.subpool (part_at (byte_of store.old.storage) root.now.cell_size part).place store.new.storage }
+    ensures released { Release store.old.storage root.now.subpool
+        (part_at (byte_of store.old.storage) root.now.cell_size part).place store.new.storage }
     ensures storage { IsStorage store.new.storage }
     ensures next { result ≡ next_at (byte_of store.old.storage) part }
 {

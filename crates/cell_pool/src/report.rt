@@ -23,7 +23,9 @@ use subpool_store::Store;
 fn bytes_of(store: &Store, root: &Root) -> u32
     requires chain { IsChain store.now.storage root.now }
     requires bounded { IsBounded store.now.storage.regions }
-    ensures { result ≡ 8 * count_below (end_of store.now.storage.regions) (in_first (byte_of store.now.storage) root.now root.now.count) }
+    ensures { result
+        ≡ 8 * count_below (end_of store.now.storage.regions)
+        (in_first (byte_of store.now.storage) root.now root.now.count) }
 {
     let mut part = root.first();
     let mut bytes = 0;
@@ -37,9 +39,12 @@ fn bytes_of(store: &Store, root: &Root) -> u32
 
 // How many bytes the parts of the pool at a key take, where it is one of the subpool.
 fn bytes_at(entries: &Slab<Entry>, store: &Store, key: usize, subpool: SubpoolId) -> u32
-    requires chains { (k : ℕ) (x : TheEntry) → slab_get entries.now k ≡ Some x → IsChain store.now.storage x.root }
+    requires chains { (k : ℕ) (x : TheEntry) → slab_get entries.now k ≡ Some x
+        → IsChain store.now.storage x.root }
     requires bounded { IsBounded store.now.storage.regions }
-    ensures { result ≡ 8 * count_below (end_of store.now.storage.regions) (is_in_entry (byte_of store.now.storage) subpool (slab_get entries.now key)) }
+    ensures { result
+        ≡ 8 * count_below (end_of store.now.storage.regions)
+        (is_in_entry (byte_of store.now.storage) subpool (slab_get entries.now key)) }
 {
     let Some(entry) = entries.get(key) else {
         return 0;
@@ -52,11 +57,17 @@ fn bytes_at(entries: &Slab<Entry>, store: &Store, key: usize, subpool: SubpoolId
 
 // How many bytes the parts of the subpool's pools take.
 pub(crate) fn bytes_in(entries: &Slab<Entry>, store: &Store, subpool: SubpoolId) -> u32
-    requires chains { (k : ℕ) (x : TheEntry) → slab_get entries.now k ≡ Some x → IsChain store.now.storage x.root }
+    requires chains { (k : ℕ) (x : TheEntry) → slab_get entries.now k ≡ Some x
+        → IsChain store.now.storage x.root }
     requires bounded { IsBounded store.now.storage.regions }
     requires apart { AreApart (byte_of store.now.storage) subpool (slab_get entries.now) }
-    ensures bytes { result ≡ 8 * count_below (end_of store.now.storage.regions) (λ d. any_below (λ k. is_in_entry (byte_of store.now.storage) subpool (slab_get entries.now k) d) entries.now.capacity) }
-    ensures low { (k : ℕ) (x : TheEntry) → slab_get entries.now k ≡ Some x → k < entries.now.capacity }
+    ensures bytes { result
+        ≡ 8 * count_below (end_of store.now.storage.regions)
+        (λ d. any_below
+        (λ k. is_in_entry (byte_of store.now.storage) subpool (slab_get entries.now k) d)
+        entries.now.capacity) }
+    ensures low { (k : ℕ) (x : TheEntry) → slab_get entries.now k ≡ Some x
+        → k < entries.now.capacity }
 {
     if has_none(entries) {
         return 0;

@@ -9,7 +9,7 @@ ghost use Rattle.cell_pool.specs.Walk.{Fills, IsChain, IsFreeAt};
 
 use crate::root::Root;
 use crate::walk::{Spot, bytes_before};
-use crate::words::{fill, mark, read_header};
+use crate::words::{fill, mark};
 use mvs_model::place::{Addr, Place};
 use subpool_store::Store;
 
@@ -17,10 +17,16 @@ use subpool_store::Store;
 pub(crate) fn take(store: &mut Store, root: &Root, spot: Spot) -> Place
     requires chain { IsChain store.old.storage root.now }
     requires free { IsFreeAt store.old.storage root.now spot.part spot.cell spot.taken }
-    ensures place { result ≡ place_at (spot.part + head_length (count_at (byte_of store.old.storage) spot.part) + spot.cell * root.now.cell_size) root.now.cell_size }
-    ensures taken { (mid : Storage) × Marks store.old.storage spot.part spot.cell true (spot.taken + 1) mid × Fills mid result root.now.fill store.new.storage }
+    requires count { spot.count ≡ count_at (byte_of store.old.storage) spot.part }
+    ensures place { result
+        ≡ place_at
+        (spot.part + head_length (count_at (byte_of store.old.storage) spot.part)
+        + spot.cell * root.now.cell_size) root.now.cell_size }
+    ensures taken { (mid : Storage)
+        × Marks store.old.storage spot.part spot.cell true (spot.taken + 1) mid
+        × Fills mid result root.now.fill store.new.storage }
 {
-    let first = spot.part + bytes_before(read_header(store, spot.part).count);
+    let first = spot.part + bytes_before(spot.count);
     mark(store, spot.part, spot.cell, true, spot.taken + 1);
     let place = Place::new(
         Addr::new(first + spot.cell * root.cell_size()),

@@ -34,11 +34,12 @@ pub(crate) struct Taken {
     pub(crate) past: bool,
 }
 
-// A free cell: its part's address, its number, and how many cells of the part are taken.
+// A free cell: its part's address, its number, how many cells the part has, and how many of them are taken.
 #[derive(Clone, Copy)]
 pub(crate) struct Spot {
     pub(crate) part: u32,
     pub(crate) cell: u32,
+    pub(crate) count: u32,
     pub(crate) taken: u32,
 }
 
@@ -77,8 +78,11 @@ fn is_past(past: bool, part: u32, root: &Root) -> bool
 fn find_part(store: &Store, root: &Root, addr: u32) -> Option<Found>
     requires { IsChain store.now.storage root.now }
     ensures { MatchOption result
-        ((j : ℕ) → j < root.now.count → has_address (part_of (byte_of store.now.storage) root.now j).place addr ≡ false)
-        (λ f. IsPartAt store.now.storage root.now f.part f.count f.taken f.past × (has_address (place_at f.part (part_length root.now.cell_size f.count)) addr ≡ true)) }
+        ((j : ℕ) → j < root.now.count
+        → has_address (part_of (byte_of store.now.storage) root.now j).place addr ≡ false)
+        (λ f. IsPartAt store.now.storage root.now f.part f.count f.taken f.past
+        × (has_address (place_at f.part (part_length root.now.cell_size f.count)) addr
+        ≡ true)) }
 {
     let mut part = root.first();
     let mut past = false;
@@ -165,7 +169,8 @@ pub(crate) fn cell_round(store: &Store, root: &Root, addr: u32) -> Option<Place>
     requires { IsChain store.now.storage root.now }
     ensures { MatchOption result
         (in_taken (pool_of (byte_of store.now.storage) root.now) addr ≡ false)
-        (λ p. (set.contains (taken_of (byte_of store.now.storage) root.now) p.addr ≡ true) × (p.len ≡ root.now.cell_size) × (has_address p addr ≡ true)) }
+        (λ p. (set.contains (taken_of (byte_of store.now.storage) root.now) p.addr ≡ true)
+        × (p.len ≡ root.now.cell_size) × (has_address p addr ≡ true)) }
 {
     let Some(found) = find_part(store, root, addr) else {
         return None;
@@ -195,7 +200,8 @@ fn overlaps(from: u32, len: u32, other: u32, other_len: u32) -> bool
 // Whether a part of the pool has a doubleword of the place.
 pub(crate) fn meets(store: &Store, root: &Root, place: Place) -> bool
     requires { IsChain store.now.storage root.now }
-    ensures { MatchBool result (Meets store.now.storage root.now place) (Meets store.now.storage root.now place → ⊥) }
+    ensures { MatchBool result (Meets store.now.storage root.now place)
+        (Meets store.now.storage root.now place → ⊥) }
 {
     let mut part = root.first();
     'walk: for number in 0..root.count() {

@@ -23,7 +23,10 @@ pub struct Header {
 // The word at an index, its high byte first.
 fn word_in(bytes: &[u8], at: usize) -> u32
     requires { at + 4 ≤ length bytes.now }
-    ensures { result ≡ from_be_bytes w32 (slice_index bytes.now at ∷ slice_index bytes.now (at + 1) ∷ slice_index bytes.now (at + 2) ∷ slice_index bytes.now (at + 3) ∷ []) }
+    ensures { result
+        ≡ from_be_bytes w32
+        (slice_index bytes.now at ∷ slice_index bytes.now (at + 1)
+        ∷ slice_index bytes.now (at + 2) ∷ slice_index bytes.now (at + 3) ∷ []) }
 {
     u32::from_be_bytes([bytes[at], bytes[at + 1], bytes[at + 2], bytes[at + 3]])
 }
@@ -64,7 +67,8 @@ pub(crate) fn is_set(byte: u8, bit: u32) -> bool
 // The byte with the bit set or not.
 fn with_bit(byte: u8, bit: u32, value: bool) -> u8
     requires { bit < 8 }
-    ensures { (k : ℕ) → k < 8 → (bit_at result (7 - k) == 1) ≡ (if k == bit then value else (bit_at byte (7 - k) == 1)) }
+    ensures { (k : ℕ) → k < 8
+        → (bit_at result (7 - k) == 1) ≡ (if k == bit then value else (bit_at byte (7 - k) == 1)) }
 {
     let mask = 1u8 << (7 - bit);
     if value { byte | mask } else { byte & !mask }
@@ -85,7 +89,8 @@ pub(crate) fn put(store: &mut Store, addr: u32, bytes: &[u8])
     requires some { 1 ≤ length bytes.now }
     requires few { length bytes.now ≤ 8 }
     requires held { AllHeld store.old.storage (place_at addr (length bytes.now)) }
-    ensures { Puts store.old.storage (place_at addr (length bytes.now)) bytes.now store.new.storage }
+    ensures { Puts store.old.storage (place_at addr (length bytes.now)) bytes.now
+        store.new.storage }
 {
     let part = store.bytes_mut(Place::new(Addr::new(addr), bytes.len() as u32));
     part.copy_from_slice(bytes);

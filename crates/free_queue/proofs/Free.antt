@@ -1,6 +1,7 @@
 -- What is free in a queue.
-use Rattle.std.proofs.Common.{◌≡◌, ◌∙◌, ℕ, zero, suc, ◌+◌, ◌*◌, ◌/◌, ◌<◌, ◌≤◌, ◌↔◌, List, [], ◌∷◌, Option, sym, ap, refl, subst, inl, inr, arith}
-use Rattle.std.proofs.lemmas.Bool.{cases_lt, lt-ltb, cond-true, cond-false, le-ltb}
+use Rattle.std.proofs.Common.{◌≡◌, ◌∙◌, ℕ, zero, suc, ◌+◌, ◌*◌, ◌/◌, ◌<◌, ◌≤◌, ◌↔◌, List, [], ◌∷◌, Option, sym, ap, subst, inl, inr, arith, lt-ltb}
+use Rattle.std.proofs.lemmas.Bool.{cases_lt, cond-true, cond-false}
+use Rattle.std.proofs.lemmas.Bool.Decides.{nat_tests}
 use Rattle.mvs_model.specs.Numbers.{page_bytes}
 use Rattle.free_queue.specs.Runs.{end, word, Run, Spells, Rising, Within, IsFree, Covers, Queue, Same, runs_from, runs_of}
 use Rattle.free_queue.proofs.Words.{same_words}
@@ -53,8 +54,7 @@ free_whole lo (r ∷ rs) d up =
 
 -- a queue of no run
 none_from : (n : ℕ) (v : ℕ → Option ℕ) (h : ℕ) → h ≡ end → runs_from n v h ≡ []
-none_from zero v h is = refl
-none_from (suc n) v h is = cond-false _ _ _ (le-ltb h page_bytes (omega (arith, is)))
+none_from n v h h1 = grind (arith, nat_tests, cond-false)
 
 are_from : (n lo : ℕ) (rs : List Run) (v : ℕ → Option ℕ) (h : ℕ) → page_bytes ≤ lo + n → Rising lo rs → Spells v h rs → runs_from n v h ≡ rs
 are_from n lo [] v h enough up s = none_from n v h s
@@ -69,9 +69,3 @@ are_from (suc n) lo (r ∷ rs) v h enough up s =
 pub runs_are : (rs : List Run) (v : ℕ → Option ℕ) (h : ℕ) → Queue 0 v h rs → runs_of v h ≡ rs
 unfolding runs_of
 runs_are rs v h q = are_from page_bytes 0 rs v h (omega arith) q.0 q.1
-
--- the queue behind the first run
-pub tail_of : (lo : ℕ) (r : Run) (rs : List Run) (v : ℕ → Option ℕ) (h : ℕ) → Queue lo v h (r ∷ rs) → (h + 8 ≤ page_bytes) × Queue (r.from + r.len + 1) v (word v h) rs
-tail_of lo r rs v h q =
-    let e : r.from ≡ h = sym q.1.0 in
-    (omega (arith, e, q.0.1, q.0.2, q.0.4, q.0.5), (q.0.3, subst (λ k. Spells v (word v k) rs) e q.1.2))

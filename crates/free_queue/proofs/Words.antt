@@ -1,9 +1,9 @@
 -- The words of a page, as its bytes.
-use Rattle.std.proofs.Common.{◌≡◌, ◌∙◌, ℕ, ◌+◌, ◌-◌, ◌*◌, ◌/◌, ◌%◌, ◌^◌, ◌<◌, ◌≤◌, [], ◌∷◌, get_or, Option, Some, true, ◌⊎◌, inl, inr, sym, ap, arith}
+use Rattle.std.proofs.Common.{◌≡◌, ◌∙◌, ℕ, ◌+◌, ◌-◌, ◌*◌, ◌/◌, ◌%◌, ◌^◌, ◌<◌, ◌≤◌, [], ◌∷◌, get_or, Option, Some, true, sym, ap, arith, unwrap_or, w32}
 use Rattle.std.proofs.lemmas.Bool.{cases_lt}
 use Rattle.std.proofs.lemmas.Nat.{from_be_bytes-to_be_bytes_4}
-use Rattle.std.specs.Prelude.{unwrap_or}
-use Rattle.std.specs.Int.{from_be_bytes, to_be_bytes, w32}
+use Rattle.std.specs.Int.{from_be_bytes, to_be_bytes}
+use Rattle.std.proofs.lemmas.Bool.Decides.{nat_tests}
 use Rattle.mvs_model.specs.Numbers.{page_bytes}
 use Rattle.region_raw.specs.Pages.{Pages, Writes, byte_of, is_open, word_of}
 use Rattle.free_queue.specs.Runs.{Keeps, Same, page_of, word}
@@ -14,9 +14,7 @@ word_from v o a b c d e f g h = λ i. from_be_bytes w32 (unwrap_or (e i) 0 ∷ u
 
 -- the word at an offset of a page is that of the region
 pub word_here : (ps : Pages) (p at k : ℕ) → k ≡ page_bytes * p + at → word_of ps k ≡ word (page_of ps p) at
-word_here ps p at k e =
-    let here : (i : ℕ) → page_bytes * p + (at + i) ≡ k + i = λ i. omega (arith, e) in
-    sym (word_from (page_of ps p) at (byte_of ps k) (byte_of ps (k + 1)) (byte_of ps (k + 2)) (byte_of ps (k + 3)) (ap (byte_of ps) (sym e)) (ap (byte_of ps) (here 1)) (ap (byte_of ps) (here 2)) (ap (byte_of ps) (here 3)))
+word_here ps p at k h1 = grind (arith, nat_tests, word_from)
 
 -- a doubleword with the same bytes has the same words
 pub same_words : (v w : ℕ → Option ℕ) (d : ℕ) → d % 8 ≡ 0 → Same v w d → (word w d ≡ word v d) × (word w (d + 4) ≡ word v (d + 4))
@@ -55,18 +53,7 @@ module _ (old mid new : Pages) (p at k k' next n : ℕ) (e : k ≡ page_bytes * 
       ∙ put_reads old mid p at k next e (omega (arith, inside)) there small one
 
   pub two_same : at % 8 ≡ 0 → (d : ℕ) → (d ≡ at → ⊥) → Same (page_of old p) (page_of new p) d
-  two_same whole d other on i low =
-      let far : (at + 8 ≤ d) ⊎ (d + 8 ≤ at) = apart d on other in
-      put_leaves mid new p (at + 4) k' n e' two (d + i) (λ from. elim far [ inl behind ↦ omega (arith, behind) | inr before ↦ absurd (omega (arith, before, from, low)) ])
-      ∙ put_leaves old mid p at k next e one (d + i) (λ from. elim far [ inl behind ↦ omega (arith, behind) | inr before ↦ absurd (omega (arith, before, from, low)) ]) where
-        apart : (d : ℕ) → d % 8 ≡ 0 → (d ≡ at → ⊥) → (at + 8 ≤ d) ⊎ (d + 8 ≤ at)
-        apart d on other = elim (cases_lt d at) [ inl lt ↦ inr (omega (arith, lt, on, whole)) | inr le ↦ elim (cases_lt at d) [ inl gt ↦ inl (omega (arith, gt, on, whole)) | inr ge ↦ absurd (other (omega (arith, le, ge))) ] ]
+  two_same h1 d h2 = grind (arith, nat_tests, put_leaves, cases_lt)
 
   pub two_keeps : Keeps old p new
-  two_keeps = record {
-    sizes = two.sizes ∙ one.sizes;
-    pages = λ q. two.pages q ∙ one.pages q;
-    others = λ j other.
-        two.others j (λ from. elim (cases_lt j (k' + 4)) [ inl low ↦ absurd (other (omega (arith, e', inside, from, low))) | inr past ↦ past ])
-        ∙ one.others j (λ from. elim (cases_lt j (k + 4)) [ inl low ↦ absurd (other (omega (arith, e, inside, from, low))) | inr past ↦ past ]);
-  }
+  two_keeps = grind (arith, nat_tests, cases_lt)

@@ -72,7 +72,8 @@ fn set(region: &mut Region, page: usize, at: u32, next: u32, n: u32)
     requires there { is_open region.old page ≡ true }
     ensures next { word (page_of region.new page) at ≡ next }
     ensures len { word (page_of region.new page) (at + 4) ≡ n }
-    ensures same { (d : ℕ) → (d ≡ at → ⊥) → Same (page_of region.old page) (page_of region.new page) d }
+    ensures same { (d : ℕ) → (d ≡ at → ⊥)
+        → Same (page_of region.old page) (page_of region.new page) d }
     ensures keeps { Keeps region.old page region.new }
 {
     region.put_word(index(page, at), next);
@@ -87,8 +88,10 @@ fn put_run(region: &mut Region, page: usize, at: u32, stop: u32, next: u32) -> u
     requires inside { stop ≤ page_bytes }
     requires whole { (at % 8 ≡ 0) × (stop % 8 ≡ 0) }
     ensures keeps { Keeps region.old page region.new }
-    ensures same { (d : ℕ) → (d < at) ⊎ (stop ≤ d) → Same (page_of region.old page) (page_of region.new page) d }
-    ensures queue { (rs : List Run) → Queue (stop + 1) (page_of region.old page) next rs → Adds at stop rs (page_of region.new page) result }
+    ensures same { (d : ℕ) → (d < at) ⊎ (stop ≤ d)
+        → Same (page_of region.old page) (page_of region.new page) d }
+    ensures queue { (rs : List Run) → Queue (stop + 1) (page_of region.old page) next rs
+        → Adds at stop rs (page_of region.new page) result }
 {
     if at < stop {
         set(region, page, at, next, stop - at);
@@ -96,17 +99,6 @@ fn put_run(region: &mut Region, page: usize, at: u32, stop: u32, next: u32) -> u
     } else {
         next
     }
-}
-
-// Makes all of an open page free, and gives its head.
-fn start(region: &mut Region, page: usize) -> u32
-    requires few { page < most_pages_above }
-    requires there { is_open region.old page ≡ true }
-    ensures keeps { Keeps region.old page region.new }
-    ensures queue { Queue 0 (page_of region.new page) result (record { from = 0; len = page_bytes } ∷ []) }
-{
-    set(region, page, 0, END, PAGE_BYTES);
-    0
 }
 
 // Makes all of an open page free but some bytes from an offset on, and gives its head.
@@ -117,7 +109,8 @@ fn start_around(region: &mut Region, page: usize, from: u32, n: u32) -> u32
     requires inside { from + n ≤ page_bytes }
     requires whole { (from % 8 ≡ 0) × (n % 8 ≡ 0) }
     ensures keeps { Keeps region.old page region.new }
-    ensures same { (d : ℕ) → Within from n d → Same (page_of region.old page) (page_of region.new page) d }
+    ensures same { (d : ℕ) → Within from n d
+        → Same (page_of region.old page) (page_of region.new page) d }
     ensures queue { Takes 0 whole_page from n (page_of region.new page) result }
 {
     let rest = put_run(region, page, from + n, PAGE_BYTES, END);
@@ -128,7 +121,8 @@ fn start_around(region: &mut Region, page: usize, from: u32, n: u32) -> u32
 fn is_whole(region: &Region, page: usize, head: u32) -> bool
     requires few { page < most_pages_above }
     requires there { is_open region.now page ≡ true }
-    ensures { (rs : List Run) → Queue 0 (page_of region.now page) head rs → IsTrue result ↔ ((d : ℕ) → d < page_bytes → IsFree rs d) }
+    ensures { (rs : List Run) → Queue 0 (page_of region.now page) head rs
+        → IsTrue result ↔ ((d : ℕ) → d < page_bytes → IsFree rs d) }
 {
     head == 0 && len(region, page, 0) == PAGE_BYTES
 }
@@ -139,7 +133,8 @@ fn next_free(region: &Region, page: usize, head: u32, from: u32) -> Option<(u32,
     requires there { is_open region.now page ≡ true }
     requires inside { from ≤ page_bytes }
     requires queue { (rs : List Run) × Queue 0 (page_of region.now page) head rs }
-    ensures { (rs : List Run) → Queue 0 (page_of region.now page) head rs → result ≡ place_of (next_run from rs) }
+    ensures { (rs : List Run) → Queue 0 (page_of region.now page) head rs
+        → result ≡ place_of (next_run from rs) }
 {
     let mut at = head;
     'runs: while at < from {
@@ -158,11 +153,15 @@ fn take_first(region: &mut Region, page: usize, head: u32, from: u32, n: u32) ->
     requires there { is_open region.old page ≡ true }
     requires some { 0 < n }
     requires whole { (from % 8 ≡ 0) × (n % 8 ≡ 0) }
-    requires queue { (lo : ℕ) × (rs : List Run) × Queue lo (page_of region.old page) head rs × Covers rs from n }
+    requires queue { (lo : ℕ) × (rs : List Run) × Queue lo (page_of region.old page) head rs
+        × Covers rs from n }
     requires near { from < head + word (page_of region.old page) (head + 4) }
     ensures keeps { Keeps region.old page region.new }
-    ensures same { (lo : ℕ) (rs : List Run) → Queue lo (page_of region.old page) head rs → Covers rs from n → (d : ℕ) → (IsFree rs d → ⊥) → Same (page_of region.old page) (page_of region.new page) d }
-    ensures queue { (lo : ℕ) (rs : List Run) → Queue lo (page_of region.old page) head rs → Covers rs from n → Takes lo rs from n (page_of region.new page) result }
+    ensures same { (lo : ℕ) (rs : List Run) → Queue lo (page_of region.old page) head rs
+        → Covers rs from n → (d : ℕ) → (IsFree rs d → ⊥)
+        → Same (page_of region.old page) (page_of region.new page) d }
+    ensures queue { (lo : ℕ) (rs : List Run) → Queue lo (page_of region.old page) head rs
+        → Covers rs from n → Takes lo rs from n (page_of region.new page) result }
 {
     let next = link(region, page, head);
     let stop = head + len(region, page, head);
@@ -177,11 +176,15 @@ fn take_behind(region: &mut Region, page: usize, head: u32, from: u32, n: u32)
     requires there { is_open region.old page ≡ true }
     requires some { 0 < n }
     requires whole { (from % 8 ≡ 0) × (n % 8 ≡ 0) }
-    requires queue { (lo : ℕ) × (rs : List Run) × Queue lo (page_of region.old page) head rs × Covers rs from n }
+    requires queue { (lo : ℕ) × (rs : List Run) × Queue lo (page_of region.old page) head rs
+        × Covers rs from n }
     requires far { head + word (page_of region.old page) (head + 4) ≤ from }
     ensures keeps { Keeps region.old page region.new }
-    ensures same { (lo : ℕ) (rs : List Run) → Queue lo (page_of region.old page) head rs → Covers rs from n → (d : ℕ) → (IsFree rs d → ⊥) → Same (page_of region.old page) (page_of region.new page) d }
-    ensures queue { (lo : ℕ) (rs : List Run) → Queue lo (page_of region.old page) head rs → Covers rs from n → Takes lo rs from n (page_of region.new page) head }
+    ensures same { (lo : ℕ) (rs : List Run) → Queue lo (page_of region.old page) head rs
+        → Covers rs from n → (d : ℕ) → (IsFree rs d → ⊥)
+        → Same (page_of region.old page) (page_of region.new page) d }
+    ensures queue { (lo : ℕ) (rs : List Run) → Queue lo (page_of region.old page) head rs
+        → Covers rs from n → Takes lo rs from n (page_of region.new page) head }
 {
     let next = link(region, page, head);
     if next + len(region, page, next) <= from {
@@ -199,10 +202,14 @@ fn take(region: &mut Region, page: usize, head: u32, from: u32, n: u32) -> u32
     requires there { is_open region.old page ≡ true }
     requires some { 0 < n }
     requires whole { (from % 8 ≡ 0) × (n % 8 ≡ 0) }
-    requires queue { (lo : ℕ) × (rs : List Run) × Queue lo (page_of region.old page) head rs × Covers rs from n }
+    requires queue { (lo : ℕ) × (rs : List Run) × Queue lo (page_of region.old page) head rs
+        × Covers rs from n }
     ensures keeps { Keeps region.old page region.new }
-    ensures same { (lo : ℕ) (rs : List Run) → Queue lo (page_of region.old page) head rs → Covers rs from n → (d : ℕ) → (IsFree rs d → ⊥) → Same (page_of region.old page) (page_of region.new page) d }
-    ensures queue { (lo : ℕ) (rs : List Run) → Queue lo (page_of region.old page) head rs → Covers rs from n → Takes lo rs from n (page_of region.new page) result }
+    ensures same { (lo : ℕ) (rs : List Run) → Queue lo (page_of region.old page) head rs
+        → Covers rs from n → (d : ℕ) → (IsFree rs d → ⊥)
+        → Same (page_of region.old page) (page_of region.new page) d }
+    ensures queue { (lo : ℕ) (rs : List Run) → Queue lo (page_of region.old page) head rs
+        → Covers rs from n → Takes lo rs from n (page_of region.new page) result }
 {
     if head + len(region, page, head) <= from {
         take_behind(region, page, head, from, n);
@@ -219,7 +226,8 @@ fn ends_before(region: &Region, page: usize, head: u32, from: u32) -> bool
     requires inside { from ≤ page_bytes }
     requires queue { (lo : ℕ) × (rs : List Run) × Queue lo (page_of region.now page) head rs }
     ensures run { IsTrue result → head + word (page_of region.now page) (head + 4) < from }
-    ensures none { result ≡ false → head < from → from ≤ head + word (page_of region.now page) (head + 4) }
+    ensures none { result ≡ false → head < from
+        → from ≤ head + word (page_of region.now page) (head + 4) }
 {
     head < from && head + len(region, page, head) < from
 }
@@ -232,11 +240,16 @@ fn give_first(region: &mut Region, page: usize, head: u32, from: u32, n: u32) ->
     requires some { 0 < n }
     requires inside { from + n ≤ page_bytes }
     requires whole { (from % 8 ≡ 0) × (n % 8 ≡ 0) }
-    requires queue { (lo : ℕ) × (rs : List Run) × (lo ≤ from) × Queue lo (page_of region.old page) head rs × NoneFree rs from n }
+    requires queue { (lo : ℕ) × (rs : List Run) × (lo ≤ from)
+        × Queue lo (page_of region.old page) head rs × NoneFree rs from n }
     requires near { head < from → from ≤ head + word (page_of region.old page) (head + 4) }
     ensures keeps { Keeps region.old page region.new }
-    ensures same { (lo : ℕ) (rs : List Run) → lo ≤ from → Queue lo (page_of region.old page) head rs → NoneFree rs from n → (d : ℕ) → (IsFree rs d → ⊥) → (Within from n d → ⊥) → Same (page_of region.old page) (page_of region.new page) d }
-    ensures queue { (lo : ℕ) (rs : List Run) → lo ≤ from → Queue lo (page_of region.old page) head rs → NoneFree rs from n → Gives lo rs from n (page_of region.new page) result }
+    ensures same { (lo : ℕ) (rs : List Run) → lo ≤ from → Queue lo (page_of region.old page) head rs
+        → NoneFree rs from n → (d : ℕ) → (IsFree rs d → ⊥) → (Within from n d → ⊥)
+        → Same (page_of region.old page) (page_of region.new page) d }
+    ensures queue { (lo : ℕ) (rs : List Run) → lo ≤ from
+        → Queue lo (page_of region.old page) head rs → NoneFree rs from n
+        → Gives lo rs from n (page_of region.new page) result }
 {
     let stop = from + n;
     if stop < head {
@@ -258,11 +271,16 @@ fn give_behind(region: &mut Region, page: usize, head: u32, from: u32, n: u32)
     requires some { 0 < n }
     requires inside { from + n ≤ page_bytes }
     requires whole { (from % 8 ≡ 0) × (n % 8 ≡ 0) }
-    requires queue { (lo : ℕ) × (rs : List Run) × (lo ≤ from) × Queue lo (page_of region.old page) head rs × NoneFree rs from n }
+    requires queue { (lo : ℕ) × (rs : List Run) × (lo ≤ from)
+        × Queue lo (page_of region.old page) head rs × NoneFree rs from n }
     requires far { head + word (page_of region.old page) (head + 4) < from }
     ensures keeps { Keeps region.old page region.new }
-    ensures same { (lo : ℕ) (rs : List Run) → lo ≤ from → Queue lo (page_of region.old page) head rs → NoneFree rs from n → (d : ℕ) → (IsFree rs d → ⊥) → (Within from n d → ⊥) → Same (page_of region.old page) (page_of region.new page) d }
-    ensures queue { (lo : ℕ) (rs : List Run) → lo ≤ from → Queue lo (page_of region.old page) head rs → NoneFree rs from n → Gives lo rs from n (page_of region.new page) head }
+    ensures same { (lo : ℕ) (rs : List Run) → lo ≤ from → Queue lo (page_of region.old page) head rs
+        → NoneFree rs from n → (d : ℕ) → (IsFree rs d → ⊥) → (Within from n d → ⊥)
+        → Same (page_of region.old page) (page_of region.new page) d }
+    ensures queue { (lo : ℕ) (rs : List Run) → lo ≤ from
+        → Queue lo (page_of region.old page) head rs → NoneFree rs from n
+        → Gives lo rs from n (page_of region.new page) head }
 {
     let next = link(region, page, head);
     if ends_before(region, page, next, from) {
@@ -281,10 +299,15 @@ fn give(region: &mut Region, page: usize, head: u32, from: u32, n: u32) -> u32
     requires some { 0 < n }
     requires inside { from + n ≤ page_bytes }
     requires whole { (from % 8 ≡ 0) × (n % 8 ≡ 0) }
-    requires queue { (lo : ℕ) × (rs : List Run) × (lo ≤ from) × Queue lo (page_of region.old page) head rs × NoneFree rs from n }
+    requires queue { (lo : ℕ) × (rs : List Run) × (lo ≤ from)
+        × Queue lo (page_of region.old page) head rs × NoneFree rs from n }
     ensures keeps { Keeps region.old page region.new }
-    ensures same { (lo : ℕ) (rs : List Run) → lo ≤ from → Queue lo (page_of region.old page) head rs → NoneFree rs from n → (d : ℕ) → (IsFree rs d → ⊥) → (Within from n d → ⊥) → Same (page_of region.old page) (page_of region.new page) d }
-    ensures queue { (lo : ℕ) (rs : List Run) → lo ≤ from → Queue lo (page_of region.old page) head rs → NoneFree rs from n → Gives lo rs from n (page_of region.new page) result }
+    ensures same { (lo : ℕ) (rs : List Run) → lo ≤ from → Queue lo (page_of region.old page) head rs
+        → NoneFree rs from n → (d : ℕ) → (IsFree rs d → ⊥) → (Within from n d → ⊥)
+        → Same (page_of region.old page) (page_of region.new page) d }
+    ensures queue { (lo : ℕ) (rs : List Run) → lo ≤ from
+        → Queue lo (page_of region.old page) head rs → NoneFree rs from n
+        → Gives lo rs from n (page_of region.new page) result }
 {
     if ends_before(region, page, head, from) {
         give_behind(region, page, head, from, n);

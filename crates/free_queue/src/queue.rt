@@ -57,17 +57,6 @@ impl Head {
     }
 }
 
-/// Makes all of a page free. What it holds is lost.
-pub fn start(region: &mut Region, page: usize) -> Head
-    requires few { page < most_pages_above }
-    requires there { is_open region.old page ≡ true }
-    ensures keeps { Keeps region.old page region.new }
-    ensures queue { Queue 0 (page_of region.new page) result (record { from = 0; len = page_bytes } ∷ []) }
-{
-    let offset = crate::start(region, page);
-    Head { offset }
-}
-
 /// Makes all of a page free but `n` bytes from an offset on, at least 8, which keep what they are. What all others hold
 /// is lost.
 pub fn start_around(region: &mut Region, page: usize, from: u32, n: u32) -> Head
@@ -77,7 +66,8 @@ pub fn start_around(region: &mut Region, page: usize, from: u32, n: u32) -> Head
     requires inside { from + n ≤ page_bytes }
     requires whole { (from % 8 ≡ 0) × (n % 8 ≡ 0) }
     ensures keeps { Keeps region.old page region.new }
-    ensures same { (d : ℕ) → Within from n d → Same (page_of region.old page) (page_of region.new page) d }
+    ensures same { (d : ℕ) → Within from n d
+        → Same (page_of region.old page) (page_of region.new page) d }
     ensures queue { Takes 0 whole_page from n (page_of region.new page) result }
 {
     let offset = crate::start_around(region, page, from, n);
@@ -91,10 +81,13 @@ pub fn take(region: &mut Region, page: usize, head: Head, from: u32, n: u32) -> 
     requires there { is_open region.old page ≡ true }
     requires some { 0 < n }
     requires whole { (from % 8 ≡ 0) × (n % 8 ≡ 0) }
-    requires queue { (rs : List Run) × Queue 0 (page_of region.old page) head rs × Covers rs from n }
+    requires queue { (rs : List Run) × Queue 0 (page_of region.old page) head rs
+        × Covers rs from n }
     ensures keeps { Keeps region.old page region.new }
-    ensures same { (rs : List Run) → Queue 0 (page_of region.old page) head rs → Covers rs from n → (d : ℕ) → (IsFree rs d → ⊥) → Same (page_of region.old page) (page_of region.new page) d }
-    ensures queue { (rs : List Run) → Queue 0 (page_of region.old page) head rs → Covers rs from n → Takes 0 rs from n (page_of region.new page) result }
+    ensures same { (rs : List Run) → Queue 0 (page_of region.old page) head rs → Covers rs from n
+        → (d : ℕ) → (IsFree rs d → ⊥) → Same (page_of region.old page) (page_of region.new page) d }
+    ensures queue { (rs : List Run) → Queue 0 (page_of region.old page) head rs → Covers rs from n
+        → Takes 0 rs from n (page_of region.new page) result }
 {
     let offset = crate::take(region, page, head.offset, from, n);
     Head { offset }
@@ -108,10 +101,14 @@ pub fn give(region: &mut Region, page: usize, head: Head, from: u32, n: u32) -> 
     requires some { 0 < n }
     requires inside { from + n ≤ page_bytes }
     requires whole { (from % 8 ≡ 0) × (n % 8 ≡ 0) }
-    requires queue { (rs : List Run) × Queue 0 (page_of region.old page) head rs × NoneFree rs from n }
+    requires queue { (rs : List Run) × Queue 0 (page_of region.old page) head rs
+        × NoneFree rs from n }
     ensures keeps { Keeps region.old page region.new }
-    ensures same { (rs : List Run) → Queue 0 (page_of region.old page) head rs → NoneFree rs from n → (d : ℕ) → (IsFree rs d → ⊥) → (Within from n d → ⊥) → Same (page_of region.old page) (page_of region.new page) d }
-    ensures queue { (rs : List Run) → Queue 0 (page_of region.old page) head rs → NoneFree rs from n → Gives 0 rs from n (page_of region.new page) result }
+    ensures same { (rs : List Run) → Queue 0 (page_of region.old page) head rs → NoneFree rs from n
+        → (d : ℕ) → (IsFree rs d → ⊥) → (Within from n d → ⊥)
+        → Same (page_of region.old page) (page_of region.new page) d }
+    ensures queue { (rs : List Run) → Queue 0 (page_of region.old page) head rs → NoneFree rs from n
+        → Gives 0 rs from n (page_of region.new page) result }
 {
     let offset = crate::give(region, page, head.offset, from, n);
     Head { offset }
@@ -123,7 +120,8 @@ pub fn next_free(region: &Region, page: usize, head: Head, from: u32) -> Option<
     requires there { is_open region.now page ≡ true }
     requires inside { from ≤ page_bytes }
     requires queue { (rs : List Run) × Queue 0 (page_of region.now page) head rs }
-    ensures { (rs : List Run) → Queue 0 (page_of region.now page) head rs → result ≡ place_of (next_run from rs) }
+    ensures { (rs : List Run) → Queue 0 (page_of region.now page) head rs
+        → result ≡ place_of (next_run from rs) }
 {
     crate::next_free(region, page, head.offset, from)
 }
@@ -132,8 +130,10 @@ pub fn next_free(region: &Region, page: usize, head: Head, from: u32) -> Option<
 pub fn behind(region: &Region, page: usize, head: Head) -> Head
     requires few { page < most_pages_above }
     requires there { is_open region.now page ≡ true }
-    requires queue { (lo : ℕ) × (r : Run) × (rs : List Run) × Queue lo (page_of region.now page) head (r ∷ rs) }
-    ensures { (lo : ℕ) (r : Run) (rs : List Run) → Queue lo (page_of region.now page) head (r ∷ rs) → Queue (r.from + r.len + 1) (page_of region.now page) result rs }
+    requires queue { (lo : ℕ) × (r : Run) × (rs : List Run)
+        × Queue lo (page_of region.now page) head (r ∷ rs) }
+    ensures { (lo : ℕ) (r : Run) (rs : List Run) → Queue lo (page_of region.now page) head (r ∷ rs)
+        → Queue (r.from + r.len + 1) (page_of region.now page) result rs }
 {
     let offset = crate::link(region, page, head.offset);
     Head { offset }
@@ -143,7 +143,8 @@ pub fn behind(region: &Region, page: usize, head: Head) -> Head
 pub fn is_whole(region: &Region, page: usize, head: Head) -> bool
     requires few { page < most_pages_above }
     requires there { is_open region.now page ≡ true }
-    ensures { (rs : List Run) → Queue 0 (page_of region.now page) head rs → IsTrue result ↔ ((d : ℕ) → d < page_bytes → IsFree rs d) }
+    ensures { (rs : List Run) → Queue 0 (page_of region.now page) head rs
+        → IsTrue result ↔ ((d : ℕ) → d < page_bytes → IsFree rs d) }
 {
     crate::is_whole(region, page, head.offset)
 }

@@ -20,6 +20,7 @@ use Rattle.job_script.specs.Given.{IsRead, by_place}
 use Rattle.job_script.specs.Rules.{AreNumbers, IsFit, is_shared_number}
 use Rattle.job_script.proofs.Taking.{taken_text}
 use Rattle.job_script.proofs.SameNumbers.{number_digits}
+use Rattle.mvs_model.proofs.Allowed.{four_exchanged}
 
 pub any_map : {X Y : Type 0} (f : X → Y) (p : Y → Bool) (xs : List X) → list_any p (map f xs) ≡ list_any (λ x. p (f x)) xs
 any_map f p [] = refl
@@ -63,13 +64,14 @@ pub shared_numbers : (least most : ℕ) (xs ys : List (List ℕ)) → list_any (
 shared_numbers least most [] ys = refl
 shared_numbers least most (x ∷ xs) ys = λ i. any_same 0 x least most ys i || shared_numbers least most xs ys i
 
+or_assoc : (a b c : Bool) → (a || (b || c)) ≡ ((a || b) || c)
+or_assoc true b c = refl
+or_assoc false b c = refl
+
 -- numbers of two lists, and of two others
 any_both : {X : Type 0} (p : X → Bool) (xs ys : List X) → list_any p (xs ++ ys) ≡ (list_any p xs || list_any p ys)
 any_both p [] ys = refl
-any_both p (x ∷ xs) ys = ap (λ b. p x || b) (any_both p xs ys) ∙ or_assoc (p x) (list_any p xs) (list_any p ys) where
-  or_assoc : (a b c : Bool) → (a || (b || c)) ≡ ((a || b) || c)
-  or_assoc true b c = refl
-  or_assoc false b c = refl
+any_both p (x ∷ xs) ys = ap (λ b. p x || b) (any_both p xs ys) ∙ or_assoc (p x) (list_any p xs) (list_any p ys)
 
 shares_none : (ms : List ℕ) → is_shared_number ms [] ≡ false
 shares_none [] = refl
@@ -80,19 +82,11 @@ shares_nothing ms = sym (shares_none ms)
 
 shares_right : (ms ns ps : List ℕ) → is_shared_number ms (ns ++ ps) ≡ (is_shared_number ms ns || is_shared_number ms ps)
 shares_right [] ns ps = refl
-shares_right (m ∷ ms) ns ps = (λ i. any_both (◌==◌ m) ns ps i || shares_right ms ns ps i) ∙ swap (list_any (◌==◌ m) ns) (list_any (◌==◌ m) ps) (is_shared_number ms ns) (is_shared_number ms ps) where
-  swap : (a b c d : Bool) → ((a || b) || (c || d)) ≡ ((a || c) || (b || d))
-  swap true b c d = refl
-  swap false true true d = refl
-  swap false true false d = refl
-  swap false false c d = refl
+shares_right (m ∷ ms) ns ps = (λ i. any_both (◌==◌ m) ns ps i || shares_right ms ns ps i) ∙ four_exchanged (list_any (◌==◌ m) ns) (list_any (◌==◌ m) ps) (is_shared_number ms ns) (is_shared_number ms ps)
 
 pub shares_apart : (a b c d : List ℕ) → is_shared_number (a ++ b) (c ++ d) ≡ (((is_shared_number a c || is_shared_number a d) || is_shared_number b c) || is_shared_number b d)
 shares_apart a b c d =
-    any_both (λ n. list_any (◌==◌ n) (c ++ d)) a b ∙ (λ i. shares_right a c d i || shares_right b c d i) ∙ assoc (is_shared_number a c || is_shared_number a d) (is_shared_number b c) (is_shared_number b d) where
-      assoc : (x y z : Bool) → (x || (y || z)) ≡ ((x || y) || z)
-      assoc true y z = refl
-      assoc false y z = refl
+    any_both (λ n. list_any (◌==◌ n) (c ++ d)) a b ∙ (λ i. shares_right a c d i || shares_right b c d i) ∙ or_assoc (is_shared_number a c || is_shared_number a d) (is_shared_number b c) (is_shared_number b d)
 
 -- ---- rules
 

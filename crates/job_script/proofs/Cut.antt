@@ -5,6 +5,7 @@ use Rattle.std.specs.List.{list_any, position_or_len, before_first, after_first,
 use Rattle.std.proofs.lemmas.List.{take_all, drop_all}
 use Rattle.std.proofs.lemmas.List.Splits.{slice_split_first}
 use Rattle.std.proofs.lemmas.Bool.Decides.{nat_tests}
+use Rattle.std.proofs.lemmas.Bool.{not-true}
 use Rattle.mvs_model.specs.Reading.{words, is_empty}
 use Rattle.job_script.specs.Parted.{starts_word, field_in}
 
@@ -65,10 +66,6 @@ cut_at p xs i e = at (nat_lt (position_or_len p xs) (length xs)) refl e where
 
 -- ---- words
 
--- a blank in front is no word
-pub blank_first : (bs : List ℕ) → words (32 ∷ bs) ≡ words bs
-blank_first bs = refl
-
 -- what a text that starts with a word has before its first blank is not empty
 before_some : (b : ℕ) (bs : List ℕ) → (b == 32) ≡ false → is_empty (before_first (λ b. b == 32) (b ∷ bs)) ≡ false
 before_some b bs e = rw e (at (position_or_len (λ b. b == 32) bs)) where
@@ -100,12 +97,9 @@ first_word [] word behind s w e =
     let none : behind ≡ [] = (let f : [] ∷ [] ≡ word ∷ behind = e in cc) in
     (w, ap (filter (λ word. not (is_empty word))) none)
 first_word (b ∷ bs) word behind s w e =
-    let some : is_empty word ≡ false = ap is_empty w ∙ before_some b bs (not_true (b == 32) s) in
+    let some : is_empty word ≡ false = ap is_empty w ∙ before_some b bs (not-true (b == 32) s) in
     let all : words (b ∷ bs) ≡ word ∷ filter (λ word. not (is_empty word)) behind = ap (filter (λ word. not (is_empty word))) e ∙ first_kept word behind some in
-    (ap (λ ws. unwrap_or (slice_get ws 0) []) (sym all), ap (drop 1) (sym all)) where
-      not_true : (b : Bool) → not b ≡ true → b ≡ false
-      not_true true e = absurd (let f : false ≡ true = e in cc)
-      not_true false e = refl
+    (ap (λ ws. unwrap_or (slice_get ws 0) []) (sym all), ap (drop 1) (sym all))
 
 pub field_first : (text : List ℕ) → starts_word text ≡ true → field_in text ≡ unwrap_or (slice_get (words text) 0) []
 field_first text s =

@@ -1,8 +1,8 @@
 -- What is known of the texts of operands that were taken.
-use Rattle.std.proofs.Common.{◌≡◌, ℕ, ◌≤◌, List, length, refl, sym, ap, subst, ◌∙◌, arith, true, false, Bool, Option, Some, None}
+use Rattle.std.proofs.Common.{◌≡◌, ℕ, List, length, refl, sym, ap, subst, ◌∙◌, true, false, Bool, Option, Some, None}
 use Rattle.std.specs.Prelude.{◌==◌, ◌&&◌, ◌||◌, is_some, nat_le, flat_map, codes, if◌then◌else◌}
 use Rattle.std.specs.List.{list_all, list_any}
-use Rattle.std.proofs.lemmas.Bool.Decides.{nat_tests}
+use Rattle.std.proofs.lemmas.Bool.{leb-true, or_right}
 use Rattle.mvs_model.specs.Grammar as grammar
 use Rattle.mvs_model.specs.Gifts.{IsGifts}
 use Rattle.mvs_model.specs.Reading.{is_list, is_pair, is_number, is_in_range, is_pair_in_range, is_hex_digit, is_name, is_address, is_address_in_range, is_bytes, items, quoted, presents, is_conflict, first_of, operand_checks, with_left}
@@ -15,7 +15,7 @@ use Rattle.job_script.specs.declared.rows.Row.{Row}
 use Rattle.job_script.specs.declared.rows.Row.TheVariants as row
 use Rattle.job_script.specs.Rows.{row_at}
 use Rattle.job_script.specs.Given.{IsRead, IsPlaced, by_place}
-use Rattle.job_script.specs.Taken.{IsExtent, IsNumbers, IsNames, IsLocations, IsSomeBytes}
+use Rattle.job_script.specs.Values.{IsExtent, IsNumbers, IsNames, IsLocations, IsSomeBytes}
 use Rattle.job_script.specs.Said.{IsByte, AreGiven, if_list}
 use Rattle.job_script.proofs.Taking.{taken_text}
 
@@ -24,9 +24,6 @@ at_key g read r is key text e = subst (λ r. IsTaken (row_at r) key text) is (ta
 
 pub at_place : (g : Given) → IsRead g → (r : Row) → g.row ≡ r → (place : ℕ) (text : List ℕ) → (by_place g).at place ≡ Some text → IsPlaced (row_at r) place text
 at_place g read r is place text e = subst (λ r. IsPlaced (row_at r) place text) is (read.1.placed place text e)
-
-le_by : (a b : ℕ) → nat_le a b ≡ true → a ≤ b
-le_by a b e = grind (arith, nat_tests)
 
 not_list : (text : List ℕ) → is_number text ≡ true → is_list text ≡ false
 not_list text n = at (is_list text) refl where
@@ -45,12 +42,9 @@ extent_pair text p r =
     let a = and_true (is_list text && (length (items text) == 2)) (list_all is_number (items text)) p in
     let l = and_true (is_list text) (length (items text) == 2) a.0 in
     record {
-      of_kind = ap (λ b. is_number text || b) p ∙ or_last (is_number text);
+      of_kind = ap (λ b. is_number text || b) p ∙ or_right (is_number text) true refl;
       within = ap (λ b. if b then is_pair_in_range 1 2147483647 text else is_in_range 1 2147483647 text) l.0 ∙ r;
-    } where
-      or_last : (b : Bool) → (b || true) ≡ true
-      or_last true = refl
-      or_last false = refl
+    }
 
 pub a_byte : (text : List ℕ) → ((length text == 2) && list_all is_hex_digit text) ≡ true → IsByte text
 a_byte text e = let a = and_true (length text == 2) (list_all is_hex_digit text) e in record { two = nat_same (length text) 2 a.0; digits = a.1 }
@@ -59,19 +53,19 @@ pub some_numbers : (text : List ℕ) → (is_list text && list_all is_number (it
 some_numbers text k w =
     let a = and_true (is_list text) (list_all is_number (items text)) k in
     let b = and_true (nat_le (length (items text)) 16) (list_all (is_in_range 1 2147483647) (items text)) w in
-    record { are = a.1; within = b.1; few = le_by (length (items text)) 16 b.0 }
+    record { are = a.1; within = b.1; few = leb-true (length (items text)) 16 b.0 }
 
 pub some_names : (text : List ℕ) → (is_list text && list_all is_name (items text)) ≡ true → nat_le (length (items text)) 16 ≡ true → IsNames text
-some_names text k w = record { are = (and_true (is_list text) (list_all is_name (items text)) k).1; few = le_by (length (items text)) 16 w }
+some_names text k w = record { are = (and_true (is_list text) (list_all is_name (items text)) k).1; few = leb-true (length (items text)) 16 w }
 
 pub some_locations : (text : List ℕ) → (is_list text && list_all is_address (items text)) ≡ true → (nat_le (length (items text)) 16 && list_all is_address_in_range (items text)) ≡ true → IsLocations text
 some_locations text k w =
     let a = and_true (is_list text) (list_all is_address (items text)) k in
     let b = and_true (nat_le (length (items text)) 16) (list_all is_address_in_range (items text)) w in
-    record { are = a.1; within = b.1; few = le_by (length (items text)) 16 b.0 }
+    record { are = a.1; within = b.1; few = leb-true (length (items text)) 16 b.0 }
 
 pub some_bytes : (text : List ℕ) → is_bytes text ≡ true → nat_le (length (quoted text)) 200 ≡ true → IsSomeBytes text
-some_bytes text k w = record { are = k; few = le_by (length (quoted text)) 200 w }
+some_bytes text k w = record { are = k; few = leb-true (length (quoted text)) 200 w }
 
 -- ---- ATTACH
 

@@ -5,7 +5,7 @@ use Rattle.std.specs.List.{list_all}
 use Rattle.std.specs.Char.{is_ascii_digit}
 use Rattle.std.proofs.lemmas.Bool.Decides.{nat_tests}
 use Rattle.std.proofs.lemmas.List.{take_more, take_rest}
-use Rattle.std.proofs.lemmas.Bool.{and_from}
+use Rattle.std.proofs.lemmas.Bool.{and_from, le-leb}
 use Rattle.std.proofs.lemmas.Grind.{common_steps}
 use Rattle.mvs_model.specs.Grammar as grammar
 use Rattle.mvs_model.specs.Reading.{is_digit, is_empty, is_hex_digit, is_in_range, is_name, is_name_byte, is_number, number}
@@ -13,7 +13,7 @@ use Rattle.mvs_model.specs.Name.{padded}
 use Rattle.mvs_model.specs.declared.line.Location.TheVariants.{Named}
 use Rattle.mvs_model.proofs.ValueTexts.{bytes_fit, digits_fit, each_is_written, name_alone, name_with}
 use Rattle.mvs_model.specs.Spelling.{FitsAlone, quoted_text}
-use Rattle.job_script.specs.Frequent.{IsAddressFront, IsFront, IsNumberFront, IsSubpoolFront}
+use Rattle.job_script.specs.Fronts.{IsAddressFront, IsFront, IsNumberFront, IsSubpoolFront}
 use Rattle.mvs_model.proofs.ReadingLoops.{counted, counted_all}
 use Rattle.mvs_model.proofs.ReadingTaken.{and_true}
 
@@ -61,9 +61,6 @@ some_front (b ∷ text) (suc n) some h = refl
 short_front : (text : List ℕ) (n most : ℕ) → n ≤ most → nat_le (length (take n text)) most ≡ true
 short_front text n most h = grind (arith, common_steps, nat_tests)
 
-le_true : (a b : ℕ) → a ≤ b → nat_le a b ≡ true
-le_true a b h = grind (arith, nat_tests)
-
 -- a number in front
 pub number_front : (least most : ℕ) (text : List ℕ) (n value : ℕ) → list_all is_digit (take n text) ≡ true → value ≡ number (take n text) → n ≤ 10 → n ≤ length text → (n ≡ 0 → ⊥) → least ≤ value → value ≤ most
     → (digits : List ℕ) × IsNumberFront least most text value digits (take (length text - n) (drop n text))
@@ -72,7 +69,7 @@ number_front least most text n value digits is few within some low high =
     let number_is : is_number front ≡ true = and_from (not (is_empty front)) _ (ap not (some_front text n some within)) digits in
     let range : is_in_range least most front ≡ true =
     and_from (nat_le (length front) 10 && nat_le least (number front)) _
-    (and_from (nat_le (length front) 10) _ (short_front text n 10 few) (ap (nat_le least) (sym is) ∙ le_true least value low)) (ap (λ m. nat_le m most) (sym is) ∙ le_true value most high) in
+    (and_from (nat_le (length front) 10) _ (short_front text n 10 few) (ap (nat_le least) (sym is) ∙ le-leb least value low)) (ap (λ m. nat_le m most) (sym is) ∙ le-leb value most high) in
     (front, record { front = record { whole = front_rest text n; alone = digits_fit least most front number_is range }; value = is; low = low; high = high })
 
 -- a name in front

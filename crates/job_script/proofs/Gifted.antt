@@ -20,17 +20,8 @@ alone_given text given l = subst AreGifts (sym (alone text given l)) (subst (λ 
 pub alone_numbers : (text : List ℕ) → AreGiven (Some text) → is_list text ≡ false → map number (items_in text) ≡ numbers_in (Some text)
 alone_numbers text given l = ap (map number) (alone text given l) ∙ sym (ap (λ b. if b then map number (items text) else number text ∷ []) l)
 
-pub list_given : (text : List ℕ) → AreGiven (Some text) → is_list text ≡ true → AreGifts (items text)
-list_given text given l = subst (λ b. if_list b text) l given
-
-pub list_numbers : (text : List ℕ) → is_list text ≡ true → map number (items text) ≡ numbers_in (Some text)
-list_numbers text l = sym (ap (λ b. if b then map number (items text) else number text ∷ []) l)
-
 -- where one of two is there, the other is not
 pub only_one : (a b : Option (List ℕ)) (text : List ℕ) → (is_some a && is_some b) ≡ false → a ≡ Some text → numbers_in (Some text) ≡ numbers_in a ++ numbers_in b
 only_one None b text both is = absurd (let f : None ≡ Some text = is in cc)
 only_one (Some x) None text both is = ap numbers_in (sym is) ∙ sym (append-nil (numbers_in (Some x)))
 only_one (Some x) (Some y) text both is = absurd (let f : true ≡ false = both in cc)
-
-pub only_other : (a b : Option (List ℕ)) → a ≡ None → numbers_in b ≡ numbers_in a ++ numbers_in b
-only_other a b is = ap (λ o. numbers_in o ++ numbers_in b) (sym is)

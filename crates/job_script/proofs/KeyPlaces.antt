@@ -3,40 +3,9 @@ use Rattle.std.proofs.Common.{◌≡◌, ℕ, suc, List, [], ◌∷◌, get_or, 
 use Rattle.std.specs.Prelude.{bytes_eq, if◌then◌else◌}
 use Rattle.std.specs.Option.{option_map}
 use Rattle.mvs_model.proofs.ReadingTaken.{bytes_same}
-use Rattle.job_script.specs.declared.keys.Key.{Key}
 use Rattle.job_script.specs.declared.keys.Key.TheVariants as key
 use Rattle.job_script.specs.Rows.{key_text}
-use Rattle.job_script.specs.Places.{place_by, place_in, key_index, keys}
-
--- a key has the place of its index
-pub key_place : (k : Key) → place_in (key_text k) ≡ Some (key_index k)
-unfolding place_in keys
-key_place key.Below = refl
-key_place key.Above = refl
-key_place key.Fill = refl
-key_place key.Res = refl
-key_place key.Lv = refl
-key_place key.A = refl
-key_place key.Sp = refl
-key_place key.Bndry = refl
-key_place key.Loc = refl
-key_place key.Startbdy = refl
-key_place key.Contbdy = refl
-key_place key.La = refl
-key_place key.Length = refl
-key_place key.Addr = refl
-key_place key.Cond = refl
-key_place key.Cpid = refl
-key_place key.Csize = refl
-key_place key.Pcellct = refl
-key_place key.Scellct = refl
-key_place key.Cell = refl
-key_place key.Task = refl
-key_place key.Gspv = refl
-key_place key.Gspl = refl
-key_place key.Shspv = refl
-key_place key.Shspl = refl
-key_place key.Szero = refl
+use Rattle.job_script.specs.Places.{place_by, place_in, keys}
 
 pub mapped_some : (o : Option ℕ) (i : ℕ) → option_map (λ i. suc i) o ≡ Some i → (j : ℕ) × (o ≡ Some j) × (i ≡ suc j)
 mapped_some None i e = absurd (let f : None ≡ Some i = e in cc)

@@ -1,24 +1,25 @@
-pub mod Parts
-pub mod Cut
-pub mod SameNumbers
-pub mod ListItems
-pub mod Unknown
-pub mod KeyPlaces
-pub mod Taking
-pub mod Conflicts
-pub mod ListsRead
-pub mod Gifted
-pub mod Facts
-pub mod Rowing
-pub mod Stating
-pub mod InRanges
+-- Lemmas of this crate; Appending serves the crates above too.
+mod Parts
+mod Cut
+mod SameNumbers
+mod ListItems
+mod Unknown
+mod KeyPlaces
+mod Taking
+mod Conflicts
+mod ListsRead
+mod Gifted
+mod Facts
+mod Rowing
+mod Stating
+mod InRanges
 pub mod Appending
 pub mod PrintedDigits
 pub mod Showing
-pub mod Named
-pub mod Fitting
-pub mod Fronts
-pub mod Remarks
-pub mod PlainLines
-pub mod Plain
-pub mod FormTexts
+mod Named
+mod Fitting
+mod Fronts
+mod Remarks
+mod PlainLines
+mod PrintedBytes
+mod FormTexts

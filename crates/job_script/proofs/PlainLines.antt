@@ -1,6 +1,6 @@
 -- What the statements say that a script repeats most, written plainly.
 use Rattle.std.proofs.Common.{◌≡◌, refl, not, true, false, Bool, ℕ, ◌==◌, ◌+◌, ◌&&◌, suc, List, [], ◌∷◌, ◌++◌, Option, Some, None, ◌≤◌, arith, length, sym, ap, subst, ◌∙◌, append-nil, append_assoc, length-append}
-use Rattle.std.specs.Prelude.{IfSome, MatchOption, codes, map, nat_le, nat_lt, slice_index}
+use Rattle.std.specs.Prelude.{IfSome, codes, map, nat_le, nat_lt, slice_index}
 use Rattle.std.specs.List.{list_all}
 use Rattle.std.proofs.lemmas.Bool.Decides.{nat_tests}
 use Rattle.mvs_model.specs.declared.code.Form.{Form}
@@ -25,9 +25,8 @@ use Rattle.mvs_model.specs.Spellings.{Says, SaysFixed, SaysPlaced, SaysRelease, 
 use Rattle.mvs_model.proofs.ReadingTaken.{and_true, nat_same}
 use Rattle.mvs_model.proofs.Spelling.{plain, printed}
 use Rattle.mvs_model.proofs.Spellings.{each_is_said}
-use Rattle.job_script.specs.declared.frequent.Head.{Head}
-use Rattle.job_script.specs.Frequent.{IsAddressFront, IsFront, IsNumberFront, IsPooled, IsSized, IsSubpoolFront, SaysBehind, form_word, get_text, head_text, is_remark, is_single, loc_text, may_place}
-use Rattle.job_script.specs.Taken.{IsSomeBytes}
+use Rattle.job_script.specs.Fronts.{IsAddressFront, IsFront, IsNumberFront, IsPooled, IsSized, IsSubpoolFront, SaysBehind, form_word, get_text, is_remark, is_single, loc_text, may_place}
+use Rattle.job_script.specs.Values.{IsSomeBytes}
 use Rattle.job_script.proofs.Remarks.{begins_word, with_remark, without_blank}
 
 -- ---- the number of a subpool and the place in storage, where they are written
@@ -77,6 +76,23 @@ joined_end : (operand text : List ℕ) (n : ℕ) (sp : Option (List ℕ)) (after
 joined_end operand text n sp after l behind e placed =
     ap (λ t. operand ++ t) (both_are text n sp after l behind e placed) ∙ sym (append_assoc operand (subpool_text sp ++ loc_text l) behind) ∙ ap (λ t. t ++ behind) (sym (joined_with operand sp l))
 
+-- ---- the forms for one area
+
+one_of_three : (P : Form → Type 0) → P form.R → P form.Rc → P form.Ru → (f : Form) → is_single f ≡ true → P f
+one_of_three P r rc ru form.R e = r
+one_of_three P r rc ru form.Rc e = rc
+one_of_three P r rc ru form.Ru e = ru
+one_of_three P r rc ru form.Vrc e = absurd (let g : false ≡ true = e in cc)
+one_of_three P r rc ru form.Vru e = absurd (let g : false ≡ true = e in cc)
+one_of_three P r rc ru form.Ec e = absurd (let g : false ≡ true = e in cc)
+one_of_three P r rc ru form.Eu e = absurd (let g : false ≡ true = e in cc)
+one_of_three P r rc ru form.Vc e = absurd (let g : false ≡ true = e in cc)
+one_of_three P r rc ru form.Vu e = absurd (let g : false ≡ true = e in cc)
+one_of_three P r rc ru form.Lc e = absurd (let g : false ≡ true = e in cc)
+one_of_three P r rc ru form.Lu e = absurd (let g : false ≡ true = e in cc)
+one_of_three P r rc ru form.Storage e = absurd (let g : false ≡ true = e in cc)
+one_of_three P r rc ru form.StorageConditional e = absurd (let g : false ≡ true = e in cc)
+
 -- ---- obtains
 
 abbrev asked : List ℕ → Loc → AskValue
@@ -124,22 +140,15 @@ placed word f l said n area sp fits_n fits_area fits_sp =
       at (Some sp) loc.Any said = said
       at (Some sp) loc.Below said = said
 
+obtains_unplaced : (l : Loc) → may_place form.R l ≡ true → Obtains (codes "R") form.R l
+obtains_unplaced loc.Res m = fixed (codes "R") form.R each_is_said.getmain_r
+obtains_unplaced loc.Any m = absurd (let g : false ≡ true = m in cc)
+obtains_unplaced loc.Below m = absurd (let g : false ≡ true = m in cc)
+
 obtains : (f : Form) (l : Loc) → is_single f ≡ true → may_place f l ≡ true → Obtains (form_word f) f l
-obtains form.R loc.Res e m = fixed (codes "R") form.R each_is_said.getmain_r
-obtains form.R loc.Any e m = absurd (let g : false ≡ true = m in cc)
-obtains form.R loc.Below e m = absurd (let g : false ≡ true = m in cc)
-obtains form.Rc l e m = placed (codes "RC") form.Rc l each_is_said.getmain_rc
-obtains form.Ru l e m = placed (codes "RU") form.Ru l each_is_said.getmain_ru
-obtains form.Vrc l e m = absurd (let g : false ≡ true = e in cc)
-obtains form.Vru l e m = absurd (let g : false ≡ true = e in cc)
-obtains form.Ec l e m = absurd (let g : false ≡ true = e in cc)
-obtains form.Eu l e m = absurd (let g : false ≡ true = e in cc)
-obtains form.Vc l e m = absurd (let g : false ≡ true = e in cc)
-obtains form.Vu l e m = absurd (let g : false ≡ true = e in cc)
-obtains form.Lc l e m = absurd (let g : false ≡ true = e in cc)
-obtains form.Lu l e m = absurd (let g : false ≡ true = e in cc)
-obtains form.Storage l e m = absurd (let g : false ≡ true = e in cc)
-obtains form.StorageConditional l e m = absurd (let g : false ≡ true = e in cc)
+obtains f l e =
+    one_of_three (λ f. may_place f l ≡ true → Obtains (form_word f) f l) (obtains_unplaced l) (λ m. placed (codes "RC") form.Rc l each_is_said.getmain_rc)
+    (λ m. placed (codes "RU") form.Ru l each_is_said.getmain_ru) f e
 
 -- ---- releases
 
@@ -156,19 +165,9 @@ place word f said n address None fits_n fits_address fits_sp = said n address No
 place word f said n address (Some sp) fits_n fits_address fits_sp = said n address (Some sp) (record { each = (fits_n, (fits_address, (fits_sp, tt))) })
 
 releases : (f : Form) → is_single f ≡ true → Releases (form_word f) f
-releases form.R e = place (codes "R") form.R each_is_said.freemain_r
-releases form.Rc e = place (codes "RC") form.Rc each_is_said.freemain_rc
-releases form.Ru e = place (codes "RU") form.Ru each_is_said.freemain_ru
-releases form.Vrc e = absurd (let g : false ≡ true = e in cc)
-releases form.Vru e = absurd (let g : false ≡ true = e in cc)
-releases form.Ec e = absurd (let g : false ≡ true = e in cc)
-releases form.Eu e = absurd (let g : false ≡ true = e in cc)
-releases form.Vc e = absurd (let g : false ≡ true = e in cc)
-releases form.Vu e = absurd (let g : false ≡ true = e in cc)
-releases form.Lc e = absurd (let g : false ≡ true = e in cc)
-releases form.Lu e = absurd (let g : false ≡ true = e in cc)
-releases form.Storage e = absurd (let g : false ≡ true = e in cc)
-releases form.StorageConditional e = absurd (let g : false ≡ true = e in cc)
+releases =
+    one_of_three (λ f. Releases (form_word f) f) (place (codes "R") form.R each_is_said.freemain_r) (place (codes "RC") form.Rc each_is_said.freemain_rc)
+    (place (codes "RU") form.Ru each_is_said.freemain_ru)
 
 -- ---- lines
 
@@ -222,19 +221,7 @@ word : (text : List ℕ) → is_empty text ≡ false → list_all printed text �
 word text some are = record { some = some; printed = are }
 
 form_is_word : (f : Form) → is_single f ≡ true → IsWord (form_word f)
-form_is_word form.R e = word (codes "R") refl refl
-form_is_word form.Rc e = word (codes "RC") refl refl
-form_is_word form.Ru e = word (codes "RU") refl refl
-form_is_word form.Vrc e = absurd (let g : false ≡ true = e in cc)
-form_is_word form.Vru e = absurd (let g : false ≡ true = e in cc)
-form_is_word form.Ec e = absurd (let g : false ≡ true = e in cc)
-form_is_word form.Eu e = absurd (let g : false ≡ true = e in cc)
-form_is_word form.Vc e = absurd (let g : false ≡ true = e in cc)
-form_is_word form.Vu e = absurd (let g : false ≡ true = e in cc)
-form_is_word form.Lc e = absurd (let g : false ≡ true = e in cc)
-form_is_word form.Lu e = absurd (let g : false ≡ true = e in cc)
-form_is_word form.Storage e = absurd (let g : false ≡ true = e in cc)
-form_is_word form.StorageConditional e = absurd (let g : false ≡ true = e in cc)
+form_is_word = one_of_three (λ f. IsWord (form_word f)) (word (codes "R") refl refl) (word (codes "RC") refl refl) (word (codes "RU") refl refl)
 
 -- the operands of a request for one area or of its release
 sized_field : (field : List ℕ) (f : Form) (n : ℕ) (digits rest area after : List ℕ) (sub : ℕ) (sp : Option (List ℕ)) (last : List ℕ) (l : Loc) (behind : List ℕ) → IsSized field f n digits rest → rest ≡ area ++ after
@@ -249,7 +236,7 @@ sized_field field f n digits rest area after sub sp last l behind sized whole en
 pub obtain_line : (field : List ℕ) (task : Name) (f : Form) (n : ℕ) (digits rest text after : List ℕ) (area : Name) (sub : ℕ) (sp : Option (List ℕ)) (last : List ℕ) (l : Loc) (behind : List ℕ) (ask : AskValue)
     → IsSized field f n digits rest → IsFront grammar.Name rest text after → area ≡ padded text → IsSubpoolFront after sub sp last → last ≡ loc_text l ++ behind → may_place f l ≡ true → is_remark behind ≡ true
     → ask ≡ record { least = n; most = n; start = 3; within = None; loc = l }
-    → SaysBehind (codes " GETMAIN ") field task (line.Statement task (says.Request (written.Obtain f sub ask false area)))
+    → SaysBehind (codes " GETMAIN " ++ field) task (line.Statement task (says.Request (written.Obtain f sub ask false area)))
 obtain_line field task f n digits rest text after area sub sp last l behind ask sized front is end placed may remark asks =
     to_line (codes "GETMAIN") field (form_word f) ((codes "LV=" ++ digits) ∷ (codes "A=" ++ text) ∷ (subpool_operand sp ++ loc_operand l)) behind task (obtaining f digits text sp l) _
     (obtains f l sized.form_is may digits text sp sized.fits front.alone.fits (fits_subpool after sub sp last end)) (word (codes "GETMAIN") refl refl) (form_is_word f sized.form_is)
@@ -258,7 +245,7 @@ obtain_line field task f n digits rest text after area sub sp last l behind ask 
 
 pub release_line : (field : List ℕ) (task : Name) (f : Form) (n : ℕ) (digits rest name text after : List ℕ) (offset : ℕ) (address : Location) (len sub : ℕ) (sp : Option (List ℕ)) (behind : List ℕ)
     → IsSized field f n digits rest → IsAddressFront rest name offset text after → address ≡ Named (padded name) offset → len ≡ n → IsSubpoolFront after sub sp behind → is_remark behind ≡ true
-    → SaysBehind (codes " FREEMAIN ") field task (line.Statement task (says.Request (written.Release f sub address len)))
+    → SaysBehind (codes " FREEMAIN " ++ field) task (line.Statement task (says.Request (written.Release f sub address len)))
 release_line field task f n digits rest name text after offset address len sub sp behind sized address_front is same end remark =
     to_line (codes "FREEMAIN") field (form_word f) ((codes "LV=" ++ digits) ∷ (codes "A=" ++ text) ∷ (subpool_operand sp ++ loc_operand loc.Res)) behind task (releasing f digits text sp) _
     (releases f sized.form_is digits text sp sized.fits address_front.front.alone.fits (fits_subpool after sub sp behind end)) (word (codes "FREEMAIN") refl refl) (form_is_word f sized.form_is)
@@ -271,7 +258,7 @@ pooled_field field name rest text behind pooled whole =
     pooled.whole ∙ ap (λ t. codes "CPID=" ++ (name ++ (codes ",CELL=" ++ t))) whole ∙ ap (λ t. codes "CPID=" ++ t) (sym (append_assoc name (codes ",CELL=" ++ text) behind))
 
 pub get_line : (conditional : Bool) (field : List ℕ) (task pool cell : Name) (name rest text behind : List ℕ) → IsPooled field name rest → pool ≡ padded name → IsFront grammar.Name rest text behind → cell ≡ padded text → is_remark behind ≡ true
-    → SaysBehind (get_text conditional) field task (line.Statement task (says.Request (written.Get pool conditional cell)))
+    → SaysBehind (get_text conditional ++ field) task (line.Statement task (says.Request (written.Get pool conditional cell)))
 get_line true field task pool cell name rest text behind pooled pool_is front is remark =
     to_line (codes "CPOOL") (codes "GET,C," ++ field) (codes "GET") (codes "C" ∷ (codes "CPID=" ++ name) ∷ (codes "CELL=" ++ text) ∷ []) behind task _ _
     (each_is_said.get_c name text (record { each = (pooled.fits, (front.alone.fits, tt)) })) (word (codes "CPOOL") refl refl) (word (codes "GET") refl refl)
@@ -284,7 +271,7 @@ get_line false field task pool cell name rest text behind pooled pool_is front i
     (λ i. says.Request (written.Get (pool_is i) false (is i)))
 
 pub free_line : (field : List ℕ) (task pool : Name) (cell : Location) (name rest area text behind : List ℕ) (offset : ℕ) → IsPooled field name rest → pool ≡ padded name → IsAddressFront rest area offset text behind → cell ≡ Named (padded area) offset → is_remark behind ≡ true
-    → SaysBehind (codes " CPOOL FREE,") field task (line.Statement task (says.Request (written.Free pool cell)))
+    → SaysBehind (codes " CPOOL FREE," ++ field) task (line.Statement task (says.Request (written.Free pool cell)))
 free_line field task pool cell name rest area text behind offset pooled pool_is place is remark =
     to_line (codes "CPOOL") (codes "FREE," ++ field) (codes "FREE") ((codes "CPID=" ++ name) ∷ (codes "CELL=" ++ text) ∷ []) behind task _ _
     (each_is_said.free name text (record { each = (pooled.fits, (place.front.alone.fits, tt)) })) (word (codes "CPOOL") refl refl) (word (codes "FREE") refl refl)
@@ -299,7 +286,7 @@ short_name name e =
     let c = and_true (not (is_empty name)) (nat_le (length name) 8) b.0 in
     grind (arith, nat_tests, c.1)
 
-pub return_line : (field : List ℕ) (task : Name) → (length field == 0) ≡ true → SaysBehind (codes " RETURN") field task (line.Statement task (says.Request written.Return))
+pub return_line : (field : List ℕ) (task : Name) → (length field == 0) ≡ true → SaysBehind (codes " RETURN" ++ field) task (line.Statement task (says.Request written.Return))
 return_line [] task none text named is short =
     let long : length (text ++ codes " RETURN ") ≡ length text + 8 = length-append text (codes " RETURN ") in
     let small : length text ≤ 8 = short_name text named in
@@ -309,7 +296,7 @@ return_line [] task none text named is short =
 return_line (b ∷ field) task none text named is short = absurd (let zero : suc (length field) ≡ 0 = nat_same (suc (length field)) 0 none in omega arith)
 
 pub put_line : (field : List ℕ) (task : Name) (to : Location) (bytes : List ℕ) (name text rest after value behind : List ℕ) (offset : ℕ) → IsAddressFront field name offset text rest → to ≡ Named (padded name) offset → rest ≡ 44 ∷ after
-    → IsFront (grammar.Bytes 100) after value behind → bytes ≡ hex_bytes (quoted value) → is_remark behind ≡ true → SaysBehind (codes " PUT ") field task (line.Statement task (says.Request (written.Put to bytes)))
+    → IsFront (grammar.Bytes 100) after value behind → bytes ≡ hex_bytes (quoted value) → is_remark behind ≡ true → SaysBehind (codes " PUT " ++ field) task (line.Statement task (says.Request (written.Put to bytes)))
 put_line field task to bytes name text rest after value behind offset place is comma value_front said remark =
     to_line (codes "PUT") field text (value ∷ []) behind task _ _ (each_is_said.put text value place.front.alone value_front.alone) (word (codes "PUT") refl refl) place.front.alone.fits.operand.word
     (place.front.whole ∙ ap (λ t. text ++ t) (comma ∙ ap (λ t. 44 ∷ t) value_front.whole) ∙ sym (append_assoc text (44 ∷ value) behind)) remark
@@ -319,33 +306,28 @@ pub some_bytes : (text value rest : List ℕ) → IsFront (grammar.Bytes 100) te
 some_bytes text value rest front = record { are = front.alone.fits.of_kind; few = grind (arith, nat_tests, front.alone.fits.within) }
 
 pub show_line : (field : List ℕ) (task : Name) (from : Location) (len n : ℕ) (name text rest after digits behind : List ℕ) (offset : ℕ) → IsAddressFront field name offset text rest → from ≡ Named (padded name) offset → rest ≡ 44 ∷ after
-    → IsNumberFront 1 4096 after n digits behind → len ≡ n → is_remark behind ≡ true → SaysBehind (codes " SHOW ") field task (line.Statement task (says.Request (written.Show from len)))
+    → IsNumberFront 1 4096 after n digits behind → len ≡ n → is_remark behind ≡ true → SaysBehind (codes " SHOW " ++ field) task (line.Statement task (says.Request (written.Show from len)))
 show_line field task from len n name text rest after digits behind offset place is comma count same remark =
     to_line (codes "SHOW") field text (digits ∷ []) behind task _ _ (each_is_said.show text digits place.front.alone count.front.alone) (word (codes "SHOW") refl refl) place.front.alone.fits.operand.word
     (place.front.whole ∙ ap (λ t. text ++ t) (comma ∙ ap (λ t. 44 ∷ t) count.front.whole) ∙ sym (append_assoc text (44 ∷ digits) behind)) remark
     (λ i. says.Request (written.Show ((is ∙ place.location_is) i) ((same ∙ count.value) i)))
 
 pub where_line : (field : List ℕ) (task area : Name) (text behind : List ℕ) → IsFront grammar.Name field text behind → area ≡ padded text → is_remark behind ≡ true
-    → SaysBehind (codes " WHERE ") field task (line.Statement task (says.Where area))
+    → SaysBehind (codes " WHERE " ++ field) task (line.Statement task (says.Where area))
 where_line field task area text behind front is remark =
     to_line (codes "WHERE") field text [] behind task _ _ (each_is_said.where_is text front.alone) (word (codes "WHERE") refl refl) front.alone.fits.operand.word front.whole remark (λ i. says.Where (is i))
 
-pub report_line : (field : List ℕ) (task : Name) → is_remark field ≡ true → SaysBehind (codes " REPORT SP") field task (line.Statement task says.ReportSubpools)
+pub report_line : (field : List ℕ) (task : Name) → is_remark field ≡ true → SaysBehind (codes " REPORT SP" ++ field) task (line.Statement task says.ReportSubpools)
 report_line field task remark =
     to_line (codes "REPORT") (codes "SP" ++ field) (codes "SP") [] field task _ _ each_is_said.report_sp (word (codes "REPORT") refl refl) (word (codes "SP") refl refl) refl remark refl
 
--- what a head says that is known
-pub of_head : {X : Type 0} (o : Option X) (h known : Head) (field : List ℕ) (task : Name) (l : Line) → h ≡ known → MatchOption o (Unit {0}) (λ _. SaysBehind (head_text known) field task l)
-    → MatchOption o (Unit {0}) (λ _. SaysBehind (head_text h) field task l)
-of_head o h known field task l is said = subst (λ h. MatchOption o (Unit {0}) (λ _. SaysBehind (head_text h) field task l)) (sym is) said
-
-pub at_most : (most n : ℕ) → n ≤ most → nat_lt most n ≡ false
-at_most most n h = grind (arith, nat_tests)
+-- what a text says that is known
+pub of_text : {X : Type 0} {text known : List ℕ} (o : Option X) (task : Name) (l : Line) → text ≡ known → IfSome o (λ _. SaysBehind known task l) → IfSome o (λ _. SaysBehind text task l)
+of_text o task l is said = subst (λ t. IfSome o (λ _. SaysBehind t task l)) (sym is) said
 
 -- the line of a task, and what stands behind its name
-pub whole_line : {X : Type 0} (o : Option X) (line task rest head field : List ℕ) (name : Name) (l : Line) → nat_lt 255 (length line) ≡ false → IsFront grammar.Name line task rest → name ≡ padded task
-    → rest ≡ head ++ field → MatchOption o (Unit {0}) (λ _. SaysBehind head field name l) → MatchOption o (Unit {0}) (λ _. LineOf false line l)
-whole_line None line task rest head field name l short front is behind said = tt
-whole_line (Some x) line task rest head field name l short front is behind said =
-    let whole : line ≡ task ++ (head ++ field) = front.whole ∙ ap (λ t. task ++ t) behind in
-    subst (λ t. LineOf false t l) (sym whole) (said task front.alone.fits.of_kind is (ap (λ t. nat_lt 255 (length t)) (sym whole) ∙ short))
+pub whole_line : {X : Type 0} (o : Option X) (line task rest : List ℕ) (name : Name) (l : Line) → nat_lt 255 (length line) ≡ false → IsFront grammar.Name line task rest → name ≡ padded task
+    → IfSome o (λ _. SaysBehind rest name l) → IfSome o (λ _. LineOf false line l)
+whole_line None line task rest name l short front is said = tt
+whole_line (Some x) line task rest name l short front is said =
+    subst (λ t. LineOf false t l) (sym front.whole) (said task front.alone.fits.of_kind is (ap (λ t. nat_lt 255 (length t)) (sym front.whole) ∙ short))

@@ -4,6 +4,7 @@ use Rattle.std.specs.Prelude.{nat_lt, filter, slice_get, if◌then◌else◌}
 use Rattle.std.specs.List.{list_all, before_first, slice_split, onto_first}
 use Rattle.std.proofs.lemmas.List.Elements.{filter-append}
 use Rattle.std.proofs.lemmas.List.Splits.{length-slice_split}
+use Rattle.std.proofs.lemmas.Bool.{not-true}
 use Rattle.mvs_model.specs.declared.line.Fault.{Fault}
 use Rattle.mvs_model.specs.declared.line.Fault.TheVariants.{TooLong, InvalidByte}
 use Rattle.mvs_model.specs.declared.line.Line.{Line}
@@ -52,13 +53,9 @@ first_word (b ∷ bs) e =
     let shape = parts (slice_split (λ b. b == 32) bs) (omega (arith, length-slice_split (λ b. b == 32) bs)) in (
       b ∷ shape.0,
       filter (λ word. not (is_empty word)) shape.1,
-      ap (filter (λ word. not (is_empty word))) (ap (λ c. if c then [] ∷ slice_split (λ b. b == 32) bs else onto_first b (slice_split (λ b. b == 32) bs)) (no (b == 32) e) ∙ ap (onto_first b) shape.2),
+      ap (filter (λ word. not (is_empty word))) (ap (λ c. if c then [] ∷ slice_split (λ b. b == 32) bs else onto_first b (slice_split (λ b. b == 32) bs)) (not-true (b == 32) e) ∙ ap (onto_first b) shape.2),
     )
   where
-    no : (c : Bool) → not c ≡ true → c ≡ false
-    no false e = refl
-    no true e = absurd (let f : false ≡ true = e in cc)
-
     parts : (l : List (List ℕ)) → 0 < length l → (p : List ℕ) × (ps : List (List ℕ)) × (l ≡ p ∷ ps)
     parts [] some = absurd (omega arith)
     parts (p ∷ ps) some = (p, ps, refl)

@@ -25,6 +25,7 @@ use Rattle.job_script.specs.Operations.{operation_text, row_with}
 use Rattle.job_script.specs.Rowed.{RowReading, FormReading, checks_behind, form_checks, as_field}
 use Rattle.job_script.specs.Said.{said_line}
 use Rattle.job_script.proofs.Taking.{first_behind, first_front}
+use Rattle.std.proofs.lemmas.Bool.{and_right}
 
 -- each row requires what its statement needs
 row_enough : (r : Row) → IsEnough (row_at r)
@@ -91,19 +92,6 @@ row_said g r task form os result given is none e =
     (e ∙ (λ i. said_line task (statement_of (row_at (is i)).meaning form (given.same i))))
 
 -- ---- forms
-
--- a field that is not empty has operands
-pub field_some : (field : List ℕ) → is_empty field ≡ false → operands_in (as_field field) ≡ parts_within 0 field
-field_some [] e = absurd (let f : true ≡ false = e in cc)
-field_some (b ∷ bs) e = refl
-
-pub no_field : (operation : List ℕ) (task : Name) → takes_form operation ≡ true → FormReading operation task [] (Err MissingOperand)
-no_field operation task t = ap (λ b. if b && (true || has_key []) then Some MissingOperand else first_of (UnknownOperation when not (is_some (row_of operation [])) ∷ row_checks [] (row_of operation []))) t
-
-pub key_for_form : (operation form : List ℕ) (task : Name) (behind : List (List ℕ)) → takes_form operation ≡ true → has_key form ≡ true → FormReading operation task (form ∷ behind) (Err MissingOperand)
-key_for_form operation form task behind t k =
-    let os = form ∷ behind in
-    λ i. if t i && (false || k i) then Some MissingOperand else first_of (UnknownOperation when not (is_some (row_of operation os)) ∷ row_checks os (row_of operation os))
 
 -- the form may be missing no more
 not_missing : (operation : List ℕ) (os : List (List ℕ)) → (takes_form operation && (is_empty os || has_key (form_in operation os))) ≡ false
@@ -184,10 +172,7 @@ pub none_missing : (operation : List ℕ) (os : List (List ℕ)) → takes_form 
 none_missing operation os e = ap (λ b. b && (is_empty os || has_key (form_in operation os))) e
 
 pub form_there : (operation form : List ℕ) (behind : List (List ℕ)) → has_key form ≡ false → (takes_form operation && (is_empty (form ∷ behind) || has_key (form_in operation (form ∷ behind)))) ≡ false
-form_there operation form behind e = ap (λ b. takes_form operation && b) e ∙ and_last (takes_form operation) where
-  and_last : (b : Bool) → (b && false) ≡ false
-  and_last true = refl
-  and_last false = refl
+form_there operation form behind e = ap (λ b. takes_form operation && b) e ∙ and_right (takes_form operation) false refl
 
 -- the operands of a field that is not empty: its form and those behind it
 pub form_parts : (field form : List ℕ) (more : Option (Bor (List ℕ))) → is_empty field ≡ false → MatchOption more (parts_within 0 field ≡ form ∷ []) (λ rest. parts_within 0 field ≡ form ∷ parts_within 0 (field_in rest.now))

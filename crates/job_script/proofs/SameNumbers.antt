@@ -7,6 +7,7 @@ use Rattle.std.proofs.lemmas.Bool.{cases_lt}
 use Rattle.std.proofs.lemmas.Bool.Decides.{nat_tests}
 use Rattle.mvs_model.specs.Reading.{is_digit, number, is_number}
 use Rattle.mvs_model.proofs.ReadingTaken.{and_true}
+use Rattle.mvs_model.proofs.Tests.{less_other, same_self}
 
 -- some digits are digits
 pub number_digits : (text : List ℕ) → is_number text ≡ true → list_all is_digit text ≡ true
@@ -37,9 +38,6 @@ below_power (b ∷ bs) e =
     let power : 10 ^ suc (length bs) ≡ 10 ^ length bs * 10 = pow-suc 10 (length bs) in
     omega arith
 
-differ : (m n : ℕ) → m < n → (m == n) ≡ false
-differ m n h = grind (arith, nat_tests)
-
 differ_back : (m n : ℕ) → n < m → (m == n) ≡ false
 differ_back m n h = grind (arith, nat_tests)
 
@@ -49,7 +47,7 @@ same_front d e p x y hx hy = elim (cases_lt d e) [
   | inl h ↦
       let more : (d + 1) * p ≤ e * p = (let l : d + 1 ≤ e = omega arith in mul-le-mul_right p l) in
       let low : d * p + x < e * p + y = omega arith in
-      differ (d * p + x) (e * p + y) low ∙ ap (λ b. b && (x == y)) (sym (differ d e h))
+      less_other (d * p + x) (e * p + y) low ∙ ap (λ b. b && (x == y)) (sym (less_other d e h))
   | inr h ↦ elim (cases_lt e d) [
     | inl g ↦
         let more : (e + 1) * p ≤ d * p = (let l : e + 1 ≤ d = omega arith in mul-le-mul_right p l) in
@@ -57,12 +55,9 @@ same_front d e p x y hx hy = elim (cases_lt d e) [
         differ_back (d * p + x) (e * p + y) low ∙ ap (λ b. b && (x == y)) (sym (differ_back d e g))
     | inr g ↦
         let same : d ≡ e = omega arith in
-        ap (λ d. d * p + x == e * p + y) same ∙ same_rest (e * p) x y ∙ ap (λ b. b && (x == y)) (sym (itself e) ∙ ap (λ d. d == e) (sym same))
+        ap (λ d. d * p + x == e * p + y) same ∙ same_rest (e * p) x y ∙ ap (λ b. b && (x == y)) (sym (same_self e) ∙ ap (λ d. d == e) (sym same))
   ]
 ] where
-  itself : (e : ℕ) → (e == e) ≡ true
-  itself e = grind (arith, nat_tests)
-
   same_rest : (q x y : ℕ) → (q + x == q + y) ≡ (x == y)
   same_rest q x y = grind (arith, nat_tests)
 

@@ -2,6 +2,7 @@
 use Rattle.std.proofs.Common.{◌≡◌, ℕ, List, [], ◌∷◌, drop, refl, sym, ap, ◌∙◌, true, false, Bool, Option, Some, Result, Ok, Err}
 use Rattle.std.specs.Prelude.{◌==◌, ◌&&◌, not, filter, slice_get, unwrap_or, bytes_eq, codes, if◌then◌else◌}
 use Rattle.std.specs.List.{list_any, slice_split}
+use Rattle.std.proofs.lemmas.Bool.{not-true}
 use Rattle.mvs_model.specs.declared.line.Fault.{Fault}
 use Rattle.mvs_model.specs.declared.line.Fault.TheVariants.{UnknownOperation, OutOfPlace}
 use Rattle.mvs_model.specs.declared.line.Line.{Line}
@@ -115,16 +116,12 @@ some_rows operation.Move = refl
 some_rows operation.Where = refl
 some_rows operation.Report = refl
 
-placed : (b : Bool) → not b ≡ true → b ≡ false
-placed true e = absurd (let f : false ≡ true = e in cc)
-placed false e = refl
-
 -- what its operation makes of a statement that stands in its place
 to_form : (first : Bool) (task : List ℕ) (o : Operation) (os : List (List ℕ)) → is_name task ≡ true → is_in_place first (operation_text o) ≡ true → first_of (statement_checks first task (operation_text o) os) ≡ first_of (form_checks (operation_text o) os)
 to_form first task o os n p =
     ap (λ b. if not b then Some UnknownOperation else first_of (drop 1 (statement_checks first task (operation_text o) os))) n
     ∙ ap (λ b. if b then Some UnknownOperation else first_of (drop 2 (statement_checks first task (operation_text o) os))) (some_rows o)
-    ∙ ap (λ b. if b then Some OutOfPlace else first_of (form_checks (operation_text o) os)) (placed (first && not (bytes_eq (operation_text o) (codes "REGION"))) p)
+    ∙ ap (λ b. if b then Some OutOfPlace else first_of (form_checks (operation_text o) os)) (not-true (first && not (bytes_eq (operation_text o) (codes "REGION"))) p)
 
 pub statement_read : (first : Bool) (line task : List ℕ) (o : Operation) (field : List ℕ) (result : Result Line Fault) → Split line task o field → is_name task ≡ true → is_in_place first (operation_text o) ≡ true
     → FormReading (operation_text o) (padded task) (operands_in (as_field field)) result → StatementReading first line result

@@ -1,7 +1,7 @@
 -- Operands, taken one after the other.
 use Rattle.std.proofs.Common.{◌≡◌, ℕ, zero, suc, ◌+◌, ◌<◌, List, [], ◌∷◌, ◌++◌, length, map, get_or, replicate, arith, refl, sym, ap, ◌∙◌, true, false, Bool, cond, Option, Some, None, length-append, append-nil}
 use Rattle.std.proofs.Math.ListN.{set, length-set}
-use Rattle.std.specs.Prelude.{◌==◌, ◌&&◌, ◌||◌, not, bytes_eq, find, filter, position, slice_get, is_some, flat_map, nat_lt, if◌then◌else◌, IfSome, MatchOption}
+use Rattle.std.specs.Prelude.{◌&&◌, ◌||◌, not, bytes_eq, find, filter, position, slice_get, is_some, flat_map, nat_lt, if◌then◌else◌, IfSome, MatchOption}
 use Rattle.std.specs.Option.{option_map}
 use Rattle.std.specs.List.{list_any, position_or_len, after_first}
 use Rattle.std.proofs.lemmas.Bool.Decides.{nat_tests}
@@ -15,6 +15,7 @@ use Rattle.mvs_model.specs.ReadingLaws.{IsTaken}
 use Rattle.mvs_model.proofs.Reading.{none_first, or_false, not_false}
 use Rattle.mvs_model.proofs.ReadingTaken.{under_key, bytes_same}
 use Rattle.job_script.specs.declared.given.Given.{Given}
+use Rattle.job_script.specs.declared.keys.TheConstants.{KEYS}
 use Rattle.std.proofs.lemmas.Option.{slice_get-get_or}
 use Rattle.job_script.specs.declared.rows.Keyword.{Keyword}
 use Rattle.job_script.specs.declared.rows.Positional.{Positional}
@@ -24,6 +25,8 @@ use Rattle.job_script.specs.Places.{place_by, place_in}
 use Rattle.job_script.specs.Parted.{field_in}
 use Rattle.job_script.proofs.KeyPlaces.{mapped_some, same_place}
 use Rattle.job_script.specs.Given.{option_now, kept, text_at, by_place, IsPlaced, IsGiven}
+use Rattle.mvs_model.proofs.Tests.{bytes_self}
+use Rattle.std.proofs.lemmas.Bool.{or_right}
 
 -- ---- places of an array
 
@@ -230,10 +233,7 @@ fault_at row left operand rest fault none here =
 -- ---- one operand more
 
 any_push : (p : List ℕ → Bool) (xs : List (List ℕ)) (x : List ℕ) → list_any p (xs ++ x ∷ []) ≡ (list_any p xs || p x)
-any_push p [] x = or_none (p x) where
-  or_none : (b : Bool) → (b || false) ≡ b
-  or_none true = refl
-  or_none false = refl
+any_push p [] x = elim (p x) as (λ b. (b || false) ≡ b) [ true ↦ refl | false ↦ refl ]
 any_push p (y ∷ xs) x = elim (p y) as (λ b. (b || list_any p (xs ++ x ∷ [])) ≡ ((b || list_any p xs) || p x)) [
   | true ↦ refl
   | false ↦ any_push p xs x
@@ -259,13 +259,6 @@ filter_push p (y ∷ xs) x = elim (p y) as (λ b. (if b then y ∷ filter p (xs 
 -- what is taken is of its kind and in its range, under its key
 pub taken_text : (g : Given) (left : List (List ℕ)) → IsGiven g left → (key text : List ℕ) → (by_place g).under key ≡ Some text → IsTaken (row_at g.row) key text
 taken_text g left given key text e = under_key (row_at g.row) left given.taken key text (sym (ap (λ b. b.under key) given.same) ∙ e)
-
-eq_itself : (b : ℕ) → (b == b) ≡ true
-eq_itself b = grind (arith, nat_tests)
-
-bytes_itself : (text : List ℕ) → bytes_eq text text ≡ true
-bytes_itself [] = refl
-bytes_itself (b ∷ bs) = λ i. eq_itself b i && bytes_itself bs i
 
 place_itself : (i : ℕ) → is_place i i ≡ true
 place_itself zero = refl
@@ -372,7 +365,7 @@ module _ (g : Given) (left : List (List ℕ)) (operand : List ℕ) (given : IsGi
       apart true q = absurd (
           let here : place_in key ≡ Some i = p ∙ ap (λ n. Some n) (one_place j i q) in
           let same : key_of operand ≡ key = same_place (key_of operand) key i place here in
-          let f : true ≡ false = sym (bytes_itself key) ∙ ap (λ k. bytes_eq k key) (sym same) ∙ f in
+          let f : true ≡ false = sym (bytes_self key) ∙ ap (λ k. bytes_eq k key) (sym same) ∙ f in
           cc
           )
       apart false q = refl
@@ -433,14 +426,11 @@ module _ (g : Given) (left : List (List ℕ)) (operand : List ℕ) (given : IsGi
           at = λ n. (ap (λ b. b.at n) given.same ∙ ap (λ xs. slice_get xs n) (sym (key_positionals e))) j;
           count = (counted ∙ ap length (sym (key_positionals e))) j;
         };
-        keyed = sym (any_push has_key left operand ∙ ap (λ b. list_any has_key left || b) e ∙ or_last (list_any has_key left));
+        keyed = sym (any_push has_key left operand ∙ ap (λ b. list_any has_key left || b) e ∙ or_right (list_any has_key left) true refl);
         plain = λ f. absurd (let g : true ≡ false = f in cc);
         taken = taken_more (row_at g.row) left operand given.taken (key_checks e kind again kind_is again_is ∙ none);
         placed = given.placed;
-      } where
-        or_last : (b : Bool) → (b || true) ≡ true
-        or_last true = refl
-        or_last false = refl
+      }
 
 -- what is known when the operands on the left of a text were taken
 pub record TakesOn (old now : Given) (field rest : List ℕ) : Type 0 where
@@ -459,12 +449,12 @@ nowhere : (n : ℕ) (o : Option ℕ) → text_at (replicate n None) o ≡ None
 nowhere n None = refl
 nowhere n (Some m) = none_kept n m
 
-pub nothing_given : (g : Given) → map as_keyword g.keywords.now ≡ (row_at g.row).keywords → g.places ≡ replicate 3 None → g.texts ≡ replicate 26 None → g.keyed ≡ false → g.count ≡ 0 → IsGiven g []
+pub nothing_given : (g : Given) → map as_keyword g.keywords.now ≡ (row_at g.row).keywords → g.places ≡ replicate 3 None → g.texts ≡ replicate KEYS None → g.keyed ≡ false → g.count ≡ 0 → IsGiven g []
 nothing_given g table p t k n = record {
   table = table;
   three = ap length p;
   keys = ap length t;
-  same = λ i. record { under = λ key. (ap (λ ts. text_at ts (place_in key)) t ∙ nowhere 26 (place_in key)) i; at = λ m. (ap (λ ps. text_at ps (Some m)) p ∙ none_kept 3 m) i; count = n i };
+  same = λ i. record { under = λ key. (ap (λ ts. text_at ts (place_in key)) t ∙ nowhere KEYS (place_in key)) i; at = λ m. (ap (λ ps. text_at ps (Some m)) p ∙ none_kept 3 m) i; count = n i };
   keyed = k;
   plain = λ _. n;
   taken = refl;

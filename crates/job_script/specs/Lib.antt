@@ -6,14 +6,12 @@ pub mod Places
 pub mod Operations
 pub mod Given
 pub mod Rules
-pub mod Taken
+pub mod Values
 pub mod Said
 pub mod Rowed
 pub mod Stated
-pub mod Frequent
+pub mod Fronts
 pub mod LineBuffers
 pub mod Areas
 pub mod Resolving
-pub mod ReplyLines
-pub mod ReportLines
 pub mod Writing

@@ -5,13 +5,13 @@ ghost use Rattle.mvs_model.specs.Grammar.{Puts, Shows, Moves, AsksWhere};
 ghost use Rattle.mvs_model.specs.Numbers.{most_shown};
 ghost use Rattle.mvs_model.specs.Reading.{statement_of};
 ghost use Rattle.job_script.specs.Given.{IsRead, by_place};
-ghost use Rattle.job_script.specs.Taken.{IsSomeBytes};
+ghost use Rattle.job_script.specs.Values.{IsSomeBytes};
 ghost use Rattle.job_script.specs.Said.{filled, said_line, Holds, IsRanged, IsNamed, IsLocated};
 
 use crate::addresses::{location, name};
 use crate::digits::bounded;
 use crate::given::Given;
-use crate::taken::bytes;
+use crate::values::bytes;
 use mvs_model::line::{Fault, Line, Statement, Written};
 use mvs_model::name::Name;
 
@@ -21,14 +21,11 @@ impl Given<'_> {
         requires read { IsRead self.now }
         requires to { Holds (IsLocated) ((by_place self.now).at 0) }
         requires bytes { Holds (IsSomeBytes) ((by_place self.now).at 1) }
-        ensures { filled line.new result ≡ said_line task (statement_of Puts [] (by_place self.now)) }
+        ensures { filled line.new result
+            ≡ said_line task (statement_of Puts [] (by_place self.now)) }
     {
-        let Some(to) = self.positional(0) else {
-            return Err(Fault::MissingOperand);
-        };
-        let Some(digits) = self.positional(1) else {
-            return Err(Fault::MissingOperand);
-        };
+        let to = self.required_at(0)?;
+        let digits = self.required_at(1)?;
         *line = Line::Statement(
             task,
             Statement::Request(Written::Put {
@@ -44,14 +41,11 @@ impl Given<'_> {
         requires read { IsRead self.now }
         requires from { Holds (IsLocated) ((by_place self.now).at 0) }
         requires len { Holds (IsRanged 1 most_shown) ((by_place self.now).at 1) }
-        ensures { filled line.new result ≡ said_line task (statement_of Shows [] (by_place self.now)) }
+        ensures { filled line.new result
+            ≡ said_line task (statement_of Shows [] (by_place self.now)) }
     {
-        let Some(from) = self.positional(0) else {
-            return Err(Fault::MissingOperand);
-        };
-        let Some(len) = self.positional(1) else {
-            return Err(Fault::MissingOperand);
-        };
+        let from = self.required_at(0)?;
+        let len = self.required_at(1)?;
         *line = Line::Statement(
             task,
             Statement::Request(Written::Show {
@@ -68,17 +62,12 @@ impl Given<'_> {
         requires to { Holds (IsLocated) ((by_place self.now).at 0) }
         requires from { Holds (IsLocated) ((by_place self.now).at 1) }
         requires len { Holds (IsRanged 1 65536) ((by_place self.now).at 2) }
-        ensures { filled line.new result ≡ said_line task (statement_of Moves [] (by_place self.now)) }
+        ensures { filled line.new result
+            ≡ said_line task (statement_of Moves [] (by_place self.now)) }
     {
-        let Some(to) = self.positional(0) else {
-            return Err(Fault::MissingOperand);
-        };
-        let Some(from) = self.positional(1) else {
-            return Err(Fault::MissingOperand);
-        };
-        let Some(len) = self.positional(2) else {
-            return Err(Fault::MissingOperand);
-        };
+        let to = self.required_at(0)?;
+        let from = self.required_at(1)?;
+        let len = self.required_at(2)?;
         *line = Line::Statement(
             task,
             Statement::Request(Written::Move {
@@ -94,11 +83,10 @@ impl Given<'_> {
     pub fn ask_where(&self, task: Name, line: &mut Line) -> Result<(), Fault>
         requires read { IsRead self.now }
         requires area { Holds (IsNamed) ((by_place self.now).at 0) }
-        ensures { filled line.new result ≡ said_line task (statement_of AsksWhere [] (by_place self.now)) }
+        ensures { filled line.new result
+            ≡ said_line task (statement_of AsksWhere [] (by_place self.now)) }
     {
-        let Some(area) = self.positional(0) else {
-            return Err(Fault::MissingOperand);
-        };
+        let area = self.required_at(0)?;
         *line = Line::Statement(task, Statement::Where(name(area)));
         Ok(())
     }

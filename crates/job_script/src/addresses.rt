@@ -79,7 +79,9 @@ pub fn is_address(text: &[u8]) -> bool
 // Whether the offset behind a name is in its range, where there is one.
 fn is_offset_in_range(text: &[u8]) -> bool
     requires { is_named text.now ≡ true }
-    ensures { result ≡ (not (list_any is_plus text.now) || is_in_range 0 33554431 (after_first is_plus text.now)) }
+    ensures { result
+        ≡ (not (list_any is_plus text.now)
+        || is_in_range 0 33554431 (after_first is_plus text.now)) }
 {
     let (_, offset) = parted(text, b'+');
     match offset {
@@ -102,8 +104,11 @@ pub fn is_address_in_range(text: &[u8]) -> bool
 // The location that a name says, with its offset.
 fn named(text: &[u8]) -> Location
     requires named { is_named text.now ≡ true }
-    requires range { (not (list_any is_plus text.now) || is_in_range 0 33554431 (after_first is_plus text.now)) ≡ true }
-    ensures { result ≡ Location.Named (padded (before_first is_plus text.now)) (number (after_first is_plus text.now)) }
+    requires range { (not (list_any is_plus text.now)
+        || is_in_range 0 33554431 (after_first is_plus text.now)) ≡ true }
+    ensures { result
+        ≡ Location.Named (padded (before_first is_plus text.now))
+        (number (after_first is_plus text.now)) }
 {
     let (area, offset) = parted(text, b'+');
     match offset {

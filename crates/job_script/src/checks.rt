@@ -43,7 +43,9 @@ fn listed(text: &[u8]) -> &[u8]
 fn is_common(one: Option<&[u8]>, other: Option<&[u8]>) -> bool
     requires one { AreNumbers (option_now one) }
     requires other { AreNumbers (option_now other) }
-    ensures { result ≡ is_shared_number (numbers_in (option_now one.entry)) (numbers_in (option_now other.entry)) }
+    ensures { result
+        ≡ is_shared_number (numbers_in (option_now one.entry))
+        (numbers_in (option_now other.entry)) }
 {
     let Some(one) = one else {
         return false;
@@ -107,7 +109,8 @@ impl Given<'_> {
     // How many items stand under a key.
     fn count_under(&self, key: Key) -> usize
         requires { IsRead self.now }
-        ensures { result ≡ length (items (unwrap_or ((by_place self.now).under (key_text key)) [])) }
+        ensures { result
+            ≡ length (items (unwrap_or ((by_place self.now).under (key_text key)) [])) }
     {
         match self.text(key) {
             None => 1,
@@ -122,7 +125,8 @@ impl Given<'_> {
         requires list { AreNumbers ((by_place self.now).under (key_text list)) }
         requires other { AreNumbers ((by_place self.now).under (key_text other)) }
         requires others { AreNumbers ((by_place self.now).under (key_text others)) }
-        ensures { result ≡ is_conflict (by_place self.now) (as_rule (Rule.Apart one list other others)) }
+        ensures { result
+            ≡ is_conflict (by_place self.now) (as_rule (Rule.Apart one list other others)) }
     {
         let one = self.text(one);
         let list = self.text(list);
@@ -165,10 +169,14 @@ impl Given<'_> {
     /// What is wrong with operands that were all taken: one is missing, or two exclude each other.
     pub fn check(&self) -> Result<(), Fault>
         requires { IsRead self.now }
-        ensures { fault_in result ≡ first_of (
-            MissingOperand when (lacks_positional (row_at self.now.row) (by_place self.now) || lacks_keyword (row_at self.now.row) (by_place self.now) || list_any (is_half (by_place self.now)) (row_at self.now.row).rules)
-            ∷ Conflicting when list_any (is_conflict (by_place self.now)) (row_at self.now.row).rules
-            ∷ []) }
+        ensures { fault_in result
+            ≡ first_of
+            (MissingOperand when
+            (lacks_positional (row_at self.now.row) (by_place self.now)
+            || lacks_keyword (row_at self.now.row) (by_place self.now)
+            || list_any (is_half (by_place self.now)) (row_at self.now.row).rules)
+            ∷ Conflicting when list_any (is_conflict (by_place self.now))
+            (row_at self.now.row).rules ∷ []) }
     {
         let rules = self.row.rules();
         if self.lacks_positional() || self.lacks_keyword() || self.has_half(rules) {

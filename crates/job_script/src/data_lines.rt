@@ -1,9 +1,9 @@
 //! The lines of bytes.
 
-ghost use Rattle.std.specs.Prelude.{◌≡◌, ◌≤◌, ◌+◌, ◌*◌, ◌/◌, ◌++◌, length, true, OnOk, OnErr, codes};
+ghost use Rattle.std.specs.Prelude.{◌≡◌, ◌≤◌, ◌+◌, ◌*◌, ◌/◌, ◌++◌, length, codes};
 ghost use Rattle.mvs_model.specs.Numbers.{line_bytes, most_shown};
 ghost use Rattle.mvs_model.specs.Texts.{data_lines, hex, line_count};
-ghost use Rattle.job_script.specs.Writing.{WritesAll, data_said};
+ghost use Rattle.job_script.specs.Writing.{Prints, data_said};
 
 use crate::print::{push_head, write_all};
 use crate::text::Text;
@@ -21,10 +21,9 @@ fn print_data_line<W: Write>(
 ) -> Result<(), Failed>
     requires head { length text.old ≤ 20 }
     requires bytes { length bytes.now ≤ line_bytes }
-    ensures bytes { WritesAll (W.contents writer.old.inner) (W.contents writer.new.inner) result (text.old ++ data_said offset bytes.now ++ codes "\n") }
+    ensures printed { Prints W.contents writer.old writer.new result
+        (text.old ++ data_said offset bytes.now ++ codes "\n") }
     ensures kept { text.new ≡ text.old }
-    ensures ok { OnOk result (writer.new.failed ≡ writer.old.failed) }
-    ensures err { OnErr result (writer.new.failed ≡ true) }
 {
     let head = text.len();
     text.push_all(b"DATA +");
@@ -45,9 +44,8 @@ pub fn print_data<W: Write>(
     bytes: &[u8],
 ) -> Result<(), Failed>
     requires { length bytes.now ≤ most_shown }
-    ensures bytes { WritesAll (W.contents writer.old.inner) (W.contents writer.new.inner) result (data_lines line_number task.now (line_count (length bytes.now)) 0 bytes.now) }
-    ensures ok { OnOk result (writer.new.failed ≡ writer.old.failed) }
-    ensures err { OnErr result (writer.new.failed ≡ true) }
+    ensures { Prints W.contents writer.old writer.new result
+        (data_lines line_number task.now (line_count (length bytes.now)) 0 bytes.now) }
 {
     let mut text = Text::new();
     push_head(&mut text, line_number, task);

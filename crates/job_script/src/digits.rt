@@ -39,7 +39,8 @@ pub fn number(text: &[u8]) -> u64
 /// The number that a text of at most ten bytes is, where it is one.
 pub fn read_number(text: &[u8]) -> Option<u64>
     requires { length text.now ≤ 10 }
-    ensures { MatchOption result (is_number text.now ≡ false) (λ value. (is_number text.now ≡ true) × (value ≡ number text.now)) }
+    ensures { MatchOption result (is_number text.now ≡ false)
+        (λ value. (is_number text.now ≡ true) × (value ≡ number text.now)) }
 {
     if text.is_empty() {
         return None;
@@ -149,7 +150,8 @@ pub fn hex_number(text: &[u8]) -> u64
 
 /// What stands between the quotes of X'..'.
 pub fn quoted(text: &[u8]) -> Option<&[u8]>
-    ensures { MatchOption result (is_quoted text.now ≡ false) (λ digits. (is_quoted text.now ≡ true) × (digits.now ≡ quoted text.now)) }
+    ensures { MatchOption result (is_quoted text.now ≡ false)
+        (λ digits. (is_quoted text.now ≡ true) × (digits.now ≡ quoted text.now)) }
 {
     if text.len() < 3 || text[0] != b'X' || text[1] != b'\'' || text[text.len() - 1] != b'\'' {
         return None;

@@ -4,7 +4,7 @@ ghost use Rattle.std.specs.Prelude.{◌≡◌, ◌<◌, [], ℕ, List, length, m
 ghost use Rattle.mvs_model.specs.Reading.{parts_within, operands_in, has_key, key_of, text_of, first_of, operand_checks, with_left};
 ghost use Rattle.job_script.specs.Kinds.{as_kind};
 ghost use Rattle.job_script.specs.Rows.{key_text, row_at, as_keyword};
-ghost use Rattle.job_script.specs.Places.{HasKeyword, key_index};
+ghost use Rattle.job_script.specs.Places.{HasKeyword};
 
 use crate::keys::{KEYS, Key};
 use crate::kinds::check;
@@ -37,7 +37,9 @@ fn place(keywords: &[Keyword], text: &[u8]) -> Option<usize>
 
 // The keyword of a table that has this key.
 fn keyword_at(keywords: &'static [Keyword], key: &[u8]) -> Option<&'static Keyword>
-    ensures { MatchOption result (find (λ k. bytes_eq k.key key.now) (map as_keyword keywords.now) ≡ None) (λ k. HasKeyword (map as_keyword keywords.now) key.now (key_index k.now.key) (as_kind k.now.kind)) }
+    ensures { MatchOption result
+        (find (λ k. bytes_eq k.key key.now) (map as_keyword keywords.now) ≡ None)
+        (λ k. HasKeyword (map as_keyword keywords.now) key.now k.now.key (as_kind k.now.kind)) }
 {
     match place(keywords, key) {
         None => None,
@@ -49,6 +51,7 @@ impl<'a> Given<'a> {
     ghost use Rattle.job_script.specs.Given.{IsGiven, IsRead, IsPlaced, Takes, by_place, option_now, field_now};
     ghost use Rattle.job_script.specs.Parted.{field_in};
     ghost use Rattle.mvs_model.specs.ReadingLaws.{IsTaken};
+    ghost use Rattle.mvs_model.specs.declared.line.Fault.TheVariants.{MissingOperand};
 
     /// No operand.
     pub fn none(row: Row) -> Given<'a>
@@ -84,7 +87,8 @@ impl<'a> Given<'a> {
 
     // Takes an operand with a key.
     fn take_keyword(&mut self, key: &[u8], text: &'a [u8]) -> Result<(), Fault>
-        ensures { (operand : List ℕ) → has_key operand ≡ true → key_of operand ≡ key.now → text_of operand ≡ text.now → Takes self.old self.new operand result }
+        ensures { (operand : List ℕ) → has_key operand ≡ true → key_of operand ≡ key.now
+            → text_of operand ≡ text.now → Takes self.old self.new operand result }
     {
         let Some(keyword) = keyword_at(self.keywords, key) else {
             return Err(Fault::InvalidOperand);
@@ -113,8 +117,11 @@ impl<'a> Given<'a> {
     pub fn take_all(&mut self, field: &'a [u8]) -> Result<(), Fault>
         requires { IsGiven self.old [] }
         ensures { MatchResult result
-            (λ _. IsGiven self.new (parts_within 0 (field_in field.now)) × (self.new.row ≡ self.old.row))
-            (λ fault. first_of (flat_map (operand_checks (row_at self.old.row)) (with_left (parts_within 0 (field_in field.now)))) ≡ Some fault) }
+            (λ _. IsGiven self.new (parts_within 0 (field_in field.now))
+            × (self.new.row ≡ self.old.row))
+            (λ fault. first_of
+            (flat_map (operand_checks (row_at self.old.row))
+            (with_left (parts_within 0 (field_in field.now)))) ≡ Some fault) }
     {
         let mut rest = field;
         'operands: loop {
@@ -133,8 +140,11 @@ impl<'a> Given<'a> {
     pub fn take_field(&mut self, field: Option<&'a [u8]>) -> Result<(), Fault>
         requires { IsGiven self.old [] }
         ensures { MatchResult result
-            (λ _. IsGiven self.new (operands_in (field_now field.entry)) × (self.new.row ≡ self.old.row))
-            (λ fault. first_of (flat_map (operand_checks (row_at self.old.row)) (with_left (operands_in (field_now field.entry)))) ≡ Some fault) }
+            (λ _. IsGiven self.new (operands_in (field_now field.entry))
+            × (self.new.row ≡ self.old.row))
+            (λ fault. first_of
+            (flat_map (operand_checks (row_at self.old.row))
+            (with_left (operands_in (field_now field.entry)))) ≡ Some fault) }
     {
         match field {
             None => Ok(()),
@@ -146,8 +156,10 @@ impl<'a> Given<'a> {
     pub fn text(&self, key: Key) -> Option<&'a [u8]>
         requires { IsRead self.now }
         ensures text { option_now result ≡ (by_place self.now).under (key_text key) }
-        ensures said { MatchOption result ((by_place self.now).under (key_text key) ≡ None) (λ text. (by_place self.now).under (key_text key) ≡ Some text.now) }
-        ensures taken { IfSome result (λ text. IsTaken (row_at self.now.row) (key_text key) text.now) }
+        ensures said { MatchOption result ((by_place self.now).under (key_text key) ≡ None)
+            (λ text. (by_place self.now).under (key_text key) ≡ Some text.now) }
+        ensures taken { IfSome result
+            (λ text. IsTaken (row_at self.now.row) (key_text key) text.now) }
     {
         self.texts[key.index()]
     }
@@ -157,9 +169,37 @@ impl<'a> Given<'a> {
         requires read { IsRead self.now }
         requires place { place < 3 }
         ensures text { option_now result ≡ (by_place self.now).at place }
-        ensures said { MatchOption result ((by_place self.now).at place ≡ None) (λ text. (by_place self.now).at place ≡ Some text.now) }
+        ensures said { MatchOption result ((by_place self.now).at place ≡ None)
+            (λ text. (by_place self.now).at place ≡ Some text.now) }
         ensures taken { IfSome result (λ text. IsPlaced (row_at self.now.row) place text.now) }
     {
         self.places[place]
+    }
+    /// The text under a key that has to be there.
+    pub fn required(&self, key: Key) -> Result<&'a [u8], Fault>
+        requires { IsRead self.now }
+        ensures { MatchResult result
+            (λ text. (by_place self.now).under (key_text key) ≡ Some text.now)
+            (λ fault. ((by_place self.now).under (key_text key) ≡ None)
+            × (fault ≡ MissingOperand)) }
+    {
+        match self.text(key) {
+            Some(text) => Ok(text),
+            None => Err(Fault::MissingOperand),
+        }
+    }
+
+    /// The positional operand that has to be at a place, counted from 0.
+    pub fn required_at(&self, place: usize) -> Result<&'a [u8], Fault>
+        requires read { IsRead self.now }
+        requires place { place < 3 }
+        ensures { MatchResult result
+            (λ text. (by_place self.now).at place ≡ Some text.now)
+            (λ fault. ((by_place self.now).at place ≡ None) × (fault ≡ MissingOperand)) }
+    {
+        match self.positional(place) {
+            Some(text) => Ok(text),
+            None => Err(Fault::MissingOperand),
+        }
     }
 }

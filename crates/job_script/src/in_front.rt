@@ -1,14 +1,24 @@
-//! What a text starts with: a number, a name, an address, bytes in quotes.
+//! What a text starts with: some bytes, a number, a name, an address, bytes in quotes. What is marked `inline(always)` answers a wide value, which a
+//! call would pass through memory.
 
-ghost use Rattle.std.specs.Prelude.{◌≡◌, ◌≤◌, ◌∷◌, ℕ, List, length, take, true, MatchOption};
+ghost use Rattle.std.specs.Prelude.{◌≡◌, ◌≢◌, ◌≤◌, ◌++◌, ℕ, List, length, take, true, MatchOption, IfSome};
 ghost use Rattle.std.specs.List.{list_all};
 ghost use Rattle.mvs_model.specs.Grammar as grammar;
 ghost use Rattle.mvs_model.specs.Reading.{is_digit, is_hex_digit, is_name_byte, number};
-ghost use Rattle.job_script.specs.Frequent.{IsAddressFront, IsFront, IsNumberFront, is_remark};
+ghost use Rattle.job_script.specs.Fronts.{IsAddressFront, IsFront, IsNumberFront, is_remark};
 
 use crate::addresses::is_name_byte;
 use crate::digits::is_hex_digit;
 use crate::is_plain;
+
+/// The text behind a front, where it begins with that.
+#[inline(always)]
+pub fn behind<'a>(text: &'a [u8], front: &[u8]) -> Option<&'a [u8]>
+    ensures { MatchOption result ((rest : List ℕ) → text.now ≢ front.now ++ rest)
+        (λ rest. text.now ≡ front.now ++ rest.now) }
+{
+    text.strip_prefix(front)
+}
 
 // How many digits a text starts with, at most ten, and the number that they write.
 fn digits_in_front(text: &[u8]) -> (usize, u64)
@@ -28,8 +38,10 @@ fn digits_in_front(text: &[u8]) -> (usize, u64)
 }
 
 /// The number that a text starts with, where it has at most ten digits and lies between two others, and the text behind it.
+#[inline(always)]
 pub fn number_in_front(least: u32, most: u32, text: &[u8]) -> Option<(u32, &[u8])>
-    ensures { MatchOption result (Unit {0}) (λ r. (digits : List ℕ) × IsNumberFront least most text.now r.0 digits r.1.now) }
+    ensures { IfSome result
+        (λ r. (digits : List ℕ) × IsNumberFront least most text.now r.0 digits r.1.now) }
 {
     let (end, value) = digits_in_front(text);
     if end == 0 || value < u64::from(least) || u64::from(most) < value {
@@ -53,7 +65,7 @@ fn name_end(text: &[u8]) -> usize
 
 /// The name that a text starts with, and the text behind it.
 pub fn name_in_front(text: &[u8]) -> Option<(&[u8], &[u8])>
-    ensures { MatchOption result (Unit {0}) (λ r. IsFront grammar.Name text.now r.0.now r.1.now) }
+    ensures { IfSome result (λ r. IsFront grammar.Name text.now r.0.now r.1.now) }
 {
     let end = name_end(text);
     if end == 0 || end > 8 || text[0].is_ascii_digit() {
@@ -62,40 +74,17 @@ pub fn name_in_front(text: &[u8]) -> Option<(&[u8], &[u8])>
     Some((&text[..end], &text[end..]))
 }
 
-// The text behind a plus sign.
-fn behind_plus(text: &[u8]) -> Option<&[u8]>
-    ensures { MatchOption result (Unit {0}) (λ rest. text.now ≡ 43 ∷ rest.now) }
-{
-    match text {
-        [b'+', rest @ ..] => Some(rest),
-        _ => None,
-    }
-}
-
 /// The name that a text starts with, the offset behind it, or 0, and the text behind both.
 pub fn address_in_front(text: &[u8]) -> Option<(&[u8], u32, &[u8])>
-    ensures { MatchOption result (Unit {0}) (λ r. (address : List ℕ) × IsAddressFront text.now r.0.now r.1 address r.2.now) }
+    ensures { IfSome result
+        (λ r. (address : List ℕ) × IsAddressFront text.now r.0.now r.1 address r.2.now) }
 {
-    let Some((area, rest)) = name_in_front(text) else {
-        return None;
-    };
-    let Some(digits) = behind_plus(rest) else {
+    let (area, rest) = name_in_front(text)?;
+    let Some(digits) = behind(rest, b"+") else {
         return Some((area, 0, rest));
     };
-    let Some((offset, rest)) = number_in_front(0, 33_554_431, digits) else {
-        return None;
-    };
+    let (offset, rest) = number_in_front(0, 33_554_431, digits)?;
     Some((area, offset, rest))
-}
-
-/// The text behind a comma.
-pub fn behind_comma(text: &[u8]) -> Option<&[u8]>
-    ensures { MatchOption result (Unit {0}) (λ rest. text.now ≡ 44 ∷ rest.now) }
-{
-    match text {
-        [b',', rest @ ..] => Some(rest),
-        _ => None,
-    }
 }
 
 // Where the hexadecimal digits end.
@@ -111,23 +100,11 @@ fn hex_end(text: &[u8]) -> usize
     text.len()
 }
 
-// The text behind an X and a quote.
-fn behind_quote(text: &[u8]) -> Option<&[u8]>
-    ensures { MatchOption result (Unit {0}) (λ rest. text.now ≡ 88 ∷ 39 ∷ rest.now) }
-{
-    match text {
-        [b'X', b'\'', rest @ ..] => Some(rest),
-        _ => None,
-    }
-}
-
 /// The bytes X'..' that a text starts with, at most a hundred of them, and the text behind.
 pub fn bytes_in_front(text: &[u8]) -> Option<(&[u8], &[u8])>
-    ensures { MatchOption result (Unit {0}) (λ r. IsFront (grammar.Bytes 100) text.now r.0.now r.1.now) }
+    ensures { IfSome result (λ r. IsFront (grammar.Bytes 100) text.now r.0.now r.1.now) }
 {
-    let Some(digits) = behind_quote(text) else {
-        return None;
-    };
+    let digits = behind(text, b"X'")?;
     let end = hex_end(digits);
     if end == 0 || end > 200 || end % 2 != 0 {
         return None;

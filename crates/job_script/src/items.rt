@@ -10,7 +10,7 @@ use crate::digits::{is_in_range, is_number, is_same_number};
 use crate::parted::parted;
 
 /// What an item of a list may be.
-#[derive(Clone, Copy, Debug, PartialEq, Eq)]
+#[derive(Clone, Copy)]
 pub enum Item {
     /// A number from the first to the second.
     Number(u32, u32),
@@ -20,7 +20,8 @@ pub enum Item {
 
 /// What stands between the parentheses of a list.
 pub fn inside(text: &[u8]) -> Option<&[u8]>
-    ensures { MatchOption result (is_list text.now ≡ false) (λ items. (is_list text.now ≡ true) × (items.now ≡ inner text.now)) }
+    ensures { MatchOption result (is_list text.now ≡ false)
+        (λ items. (is_list text.now ≡ true) × (items.now ≡ inner text.now)) }
 {
     if text.len() < 2 || text[0] != b'(' || text[text.len() - 1] != b')' {
         return None;
@@ -180,7 +181,8 @@ pub fn is_twice(item: Item, inner: &[u8]) -> bool
 pub fn is_shared(item: Item, one: &[u8], other: &[u8]) -> bool
     requires one { list_all (is_of (item_kind item)) (items_in one.now) ≡ true }
     requires other { list_all (is_of (item_kind item)) (items_in other.now) ≡ true }
-    ensures { result ≡ list_any (λ x. list_any (is_same_item item x) (items_in other.now)) (items_in one.now) }
+    ensures { result
+        ≡ list_any (λ x. list_any (is_same_item item x) (items_in other.now)) (items_in one.now) }
 {
     let mut rest = one;
     'items: loop {

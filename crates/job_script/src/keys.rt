@@ -1,14 +1,14 @@
 //! The keys of operands, in the order in which the statements bring them.
 
-ghost use Rattle.std.specs.Prelude.{◌≡◌, ◌<◌, bytes_eq};
+ghost use Rattle.std.specs.Prelude.{◌≡◌, ◌<◌, Some, bytes_eq};
 ghost use Rattle.job_script.specs.Rows.{key_text};
-ghost use Rattle.job_script.specs.Places.{key_index};
+ghost use Rattle.job_script.specs.Places.{place_in};
 
 /// How many keys there are.
 pub const KEYS: usize = 26;
 
 /// The key of an operand KEY=value.
-#[derive(Clone, Copy, Debug, PartialEq, Eq)]
+#[derive(Clone, Copy)]
 pub enum Key {
     Below,
     Above,
@@ -40,9 +40,10 @@ pub enum Key {
 
 impl Key {
     /// The place of the key among all.
+    #[tactic(auto, unfolding(crate::specs::Places::place_in, crate::specs::Places::keys))]
     pub fn index(self) -> usize
-        ensures index { result ≡ key_index self }
-        ensures within { result < 26 }
+        ensures index { place_in (key_text self) ≡ Some result }
+        ensures within { result < KEYS }
     {
         self as usize
     }

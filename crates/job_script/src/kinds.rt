@@ -13,7 +13,7 @@ use crate::parted::parted;
 use mvs_model::line::Fault;
 
 /// Words of which an operand takes one.
-#[derive(Clone, Copy, Debug, PartialEq, Eq)]
+#[derive(Clone, Copy)]
 pub enum Words {
     /// DBLWD or PAGE.
     Boundary,
@@ -28,7 +28,7 @@ pub enum Words {
 }
 
 /// What the text of an operand has to be.
-#[derive(Clone, Copy, Debug, PartialEq, Eq)]
+#[derive(Clone, Copy)]
 pub enum Kind {
     /// A number from the first to the second.
     Number(u32, u32),
@@ -54,27 +54,37 @@ pub enum Kind {
     Addresses(usize),
 }
 
+// Whether the text is one of the words for a place in storage.
+fn is_location_word(text: &[u8]) -> bool
+    ensures { result ≡ is_one_of (as_words Words.Location) text.now }
+{
+    text == b"BELOW".as_slice()
+        || text == b"24".as_slice()
+        || text == b"ANY".as_slice()
+        || text == b"31".as_slice()
+        || text == b"RES".as_slice()
+}
+
+// Whether the text is one of the words that say whether a request is conditional.
+fn is_conditional_word(text: &[u8]) -> bool
+    ensures { result ≡ is_one_of (as_words Words.Conditional) text.now }
+{
+    text == b"COND".as_slice()
+        || text == b"C".as_slice()
+        || text == b"UNCOND".as_slice()
+        || text == b"U".as_slice()
+}
+
 // Whether the text is one of the words.
 fn is_word(words: Words, text: &[u8]) -> bool
     ensures { result ≡ is_one_of (as_words words) text.now }
 {
     match words {
         Words::Boundary => text == b"DBLWD".as_slice() || text == b"PAGE".as_slice(),
-        Words::Location => {
-            text == b"BELOW".as_slice()
-                || text == b"24".as_slice()
-                || text == b"ANY".as_slice()
-                || text == b"31".as_slice()
-                || text == b"RES".as_slice()
-        }
+        Words::Location => is_location_word(text),
         Words::YesNo => text == b"YES".as_slice() || text == b"NO".as_slice(),
         Words::Residence => text == b"BELOW".as_slice() || text == b"ABOVE".as_slice(),
-        Words::Conditional => {
-            text == b"COND".as_slice()
-                || text == b"C".as_slice()
-                || text == b"UNCOND".as_slice()
-                || text == b"U".as_slice()
-        }
+        Words::Conditional => is_conditional_word(text),
     }
 }
 
@@ -259,7 +269,8 @@ fn check_number(least: u32, most: u32, text: &[u8], again: bool) -> Result<(), F
 // The same of a text of more than ten bytes, which is in no range.
 fn check_long(text: &[u8], again: bool) -> Result<(), Fault>
     requires { 10 < length text.now }
-    ensures { (least most : ℕ) → fault_in result ≡ first_of (checks_of (grammar.Number least most) again text.now) }
+    ensures { (least most : ℕ)
+        → fault_in result ≡ first_of (checks_of (grammar.Number least most) again text.now) }
 {
     if !is_number(text) {
         Err(Fault::InvalidOperand)

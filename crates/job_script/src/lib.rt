@@ -12,28 +12,25 @@ ghost use Rattle.job_script.specs.Said.{filled};
 ghost use Rattle.job_script.specs.Stated.{is_in_place, byte_checks, field_of, StatementReading};
 
 use crate::addresses::{is_name, name};
+pub use crate::answers::{print_abend, print_said};
 pub use crate::data_lines::print_data;
-use crate::frequent::read_frequent;
 pub use crate::line_buffer::{LineBuffer, Pushed};
 pub use crate::names::Names;
 use crate::operations::{Operation, read_operation};
 use crate::parted::{behind_blanks, next_word, parted};
-pub use crate::print::{
-    print_fault, print_length, print_no_name, print_not_run, print_region, print_step_end,
-    print_where,
-};
-pub use crate::replies::print_reply;
+use crate::plain::read_plain;
+pub use crate::print::{print_fault, print_region, print_step_end};
 pub use crate::report_lines::{print_map_run, print_no_subpool, print_subpool_line};
-pub use crate::resolving::{resolve, resolve_into, set_names};
+pub use crate::resolving::{resolve, set_names};
 use crate::statement::read_operands;
 use mvs_model::line::{Fault, Line};
 
 mod access;
 mod addresses;
+mod answers;
 mod checks;
 mod data_lines;
 mod digits;
-mod frequent;
 mod given;
 mod in_front;
 mod items;
@@ -43,17 +40,17 @@ mod line_buffer;
 mod names;
 mod operations;
 mod parted;
+mod plain;
 mod pools;
 mod print;
-mod replies;
 mod report_lines;
 mod resolving;
 mod rows;
 mod statement;
 mod storage_requests;
 mod subtasks;
-mod taken;
 mod text;
+mod values;
 
 /// The most bytes of a line, without its end. This project's choice.
 const LONGEST: usize = 255;
@@ -181,41 +178,23 @@ fn read_something(line: &[u8], first: bool, read: &mut Line) -> Result<(), Fault
     requires { says_nothing line.now ≡ false }
     ensures { IsReading first line.now (filled read.new result) }
 {
-    if !first && read_frequent(line, read).is_some() {
+    if !first && read_plain(line, read).is_some() {
         return Ok(());
     }
     check_bytes(line)?;
     read_statement(line, first, read)
 }
 
-// Reads a line, and answers the first fault that applies.
-fn read_into(line: &[u8], first: bool, read: &mut Line) -> Result<(), Fault>
-    ensures { IsReading first line.now (filled read.new result) }
+/// Reads a line, without its end: `read` is what it says, or the answer is the first fault that applies, and then what `read` holds is nothing that
+/// the line says. `first` says whether no statement came before it. Of a line that is too long any front of more than 255 bytes serves. What the line
+/// says is written over `read`, so that nothing of it is copied. The notation is this project's own.
+pub fn read_line(line: &[u8], first: bool, read: &mut Line) -> Result<(), Fault>
+    ensures reading { IsReading first line.now (filled read.new result) }
+    ensures in_range { IsLine first (filled read.new result) }
 {
     if says_nothing(line) {
         read_nothing(line, first, read)
     } else {
         read_something(line, first, read)
     }
-}
-
-/// What a line says, without its end, or the first fault that applies; `first` says whether no statement came before it. Of a line that is too long
-/// any front of more than 255 bytes serves. The notation is this project's own.
-pub fn read_line(line: &[u8], first: bool) -> Result<Line, Fault>
-    ensures reading { IsReading first line.now result }
-    ensures in_range { IsLine first result }
-{
-    let mut read = Line::Nothing;
-    match read_line_into(line, first, &mut read) {
-        Ok(()) => Ok(read),
-        Err(fault) => Err(fault),
-    }
-}
-
-/// The same; what the line says is written over `read`, so that nothing of it is copied. Behind a fault `read` says nothing.
-pub fn read_line_into(line: &[u8], first: bool, read: &mut Line) -> Result<(), Fault>
-    ensures reading { IsReading first line.now (filled read.new result) }
-    ensures in_range { IsLine first (filled read.new result) }
-{
-    read_into(line, first, read)
 }

@@ -8,7 +8,7 @@ ghost use Rattle.job_script.specs.Operations.{operation_text, row_with};
 use crate::rows::Row;
 
 /// The operation of a statement.
-#[derive(Clone, Copy, Debug, PartialEq, Eq)]
+#[derive(Clone, Copy)]
 pub enum Operation {
     Region,
     Getmain,
@@ -48,7 +48,8 @@ fn likely(word: &[u8]) -> Operation
 
 /// The operation that a word names.
 pub fn read_operation(word: &[u8]) -> Option<Operation>
-    ensures { MatchOption result (rows_of word.now ≡ []) (λ operation. word.now ≡ operation_text operation) }
+    ensures { MatchOption result (rows_of word.now ≡ [])
+        (λ operation. word.now ≡ operation_text operation) }
 {
     let operation = likely(word);
     if operation.is(word) {
@@ -170,7 +171,8 @@ impl Operation {
     /// The row of the operation with a form, which says nothing where the operation takes none.
     pub fn row(self, form: &[u8]) -> Option<Row>
         ensures row { row_with self form.now ≡ option_map row_at result }
-        ensures formed { IfSome result (λ row. is_empty (row_at row).forms ≡ not (takes_form (operation_text self))) }
+        ensures formed { IfSome result
+            (λ row. is_empty (row_at row).forms ≡ not (takes_form (operation_text self))) }
     {
         match self {
             Operation::Region => Some(Row::Region),

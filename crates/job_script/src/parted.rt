@@ -1,6 +1,6 @@
 //! Texts, parted at bytes.
 
-ghost use Rattle.std.specs.Prelude.{◌≡◌, ◌≤◌, ◌<◌, ◌+◌, ◌^◌, ◌==◌, ◌∷◌, [], true, false, length, drop, position, slice_get, unwrap_or, MatchOption};
+ghost use Rattle.std.specs.Prelude.{◌≡◌, ◌≤◌, ◌<◌, ◌+◌, ◌^◌, ◌==◌, ◌∷◌, [], true, false, length, drop, position, slice_get, unwrap_or, MatchOption, IfSome};
 ghost use Rattle.std.specs.List.{before_first, after_first, list_any, slice_split};
 ghost use Rattle.mvs_model.specs.Reading.{words, parts_within};
 ghost use Rattle.job_script.specs.Parted.{starts_word, field_in, ends_at, opened_after, end_from};
@@ -15,11 +15,15 @@ fn place(text: &[u8], byte: u8) -> Option<usize>
 /// What stands before the first of these bytes, and what behind it, where there is one.
 pub fn parted(text: &[u8], byte: u8) -> (&[u8], Option<&[u8]>)
     ensures before { result.0.now ≡ before_first (λ b. b == byte) text.now }
-    ensures after { MatchOption result.1 ((list_any (λ b. b == byte) text.now ≡ false) × (after_first (λ b. b == byte) text.now ≡ []))
-        (λ rest. (list_any (λ b. b == byte) text.now ≡ true) × (rest.now ≡ after_first (λ b. b == byte) text.now)) }
+    ensures after { MatchOption result.1
+        ((list_any (λ b. b == byte) text.now ≡ false)
+        × (after_first (λ b. b == byte) text.now ≡ []))
+        (λ rest. (list_any (λ b. b == byte) text.now ≡ true)
+        × (rest.now ≡ after_first (λ b. b == byte) text.now)) }
     ensures parts { MatchOption result.1 (slice_split (λ b. b == byte) text.now ≡ result.0.now ∷ [])
-        (λ rest. slice_split (λ b. b == byte) text.now ≡ result.0.now ∷ slice_split (λ b. b == byte) rest.now) }
-    ensures less { MatchOption result.1 (Unit {0}) (λ rest. length rest.now < length text.now) }
+        (λ rest. slice_split (λ b. b == byte) text.now
+        ≡ result.0.now ∷ slice_split (λ b. b == byte) rest.now) }
+    ensures less { IfSome result.1 (λ rest. length rest.now < length text.now) }
 {
     match place(text, byte) {
         None => (text, None),
@@ -93,8 +97,10 @@ fn operand_end(text: &[u8]) -> usize
 /// The first operand of the field that a text starts with, and the text behind its comma, where there is one.
 pub fn next_operand(text: &[u8]) -> (&[u8], Option<&[u8]>)
     ensures parts { MatchOption result.1 (parts_within 0 (field_in text.now) ≡ result.0.now ∷ [])
-        (λ rest. (parts_within 0 (field_in text.now) ≡ result.0.now ∷ parts_within 0 (field_in rest.now))) }
-    ensures less { MatchOption result.1 (Unit {0}) (λ rest. length rest.now < length text.now) }
+        (λ rest.
+        (parts_within 0 (field_in text.now)
+        ≡ result.0.now ∷ parts_within 0 (field_in rest.now))) }
+    ensures less { IfSome result.1 (λ rest. length rest.now < length text.now) }
 {
     let end = operand_end(text);
     if end < text.len() && text[end] == b',' {

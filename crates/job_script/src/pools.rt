@@ -33,17 +33,12 @@ impl Given<'_> {
         requires size { Holds (IsRanged 4 65536) ((by_place self.now).under (codes "CSIZE")) }
         requires count { Holds (IsRanged 1 65536) ((by_place self.now).under (codes "PCELLCT")) }
         requires more { Holds (IsRanged 1 65536) ((by_place self.now).under (codes "SCELLCT")) }
-        ensures { filled line.new result ≡ said_line task (statement_of BuildsPool [] (by_place self.now)) }
+        ensures { filled line.new result
+            ≡ said_line task (statement_of BuildsPool [] (by_place self.now)) }
     {
-        let Some(pool) = self.text(Key::Cpid) else {
-            return Err(Fault::MissingOperand);
-        };
-        let Some(size) = self.text(Key::Csize) else {
-            return Err(Fault::MissingOperand);
-        };
-        let Some(count) = self.text(Key::Pcellct) else {
-            return Err(Fault::MissingOperand);
-        };
+        let pool = self.required(Key::Cpid)?;
+        let size = self.required(Key::Csize)?;
+        let count = self.required(Key::Pcellct)?;
         let primary: CellCount = bounded(count);
         *line = Line::Statement(
             task,
@@ -64,14 +59,11 @@ impl Given<'_> {
         requires read { IsRead self.now }
         requires pool { Holds (IsNamed) ((by_place self.now).under (codes "CPID")) }
         requires cell { Holds (IsNamed) ((by_place self.now).under (codes "CELL")) }
-        ensures { filled line.new result ≡ said_line task (statement_of GetsCell [] (by_place self.now)) }
+        ensures { filled line.new result
+            ≡ said_line task (statement_of GetsCell [] (by_place self.now)) }
     {
-        let Some(pool) = self.text(Key::Cpid) else {
-            return Err(Fault::MissingOperand);
-        };
-        let Some(cell) = self.text(Key::Cell) else {
-            return Err(Fault::MissingOperand);
-        };
+        let pool = self.required(Key::Cpid)?;
+        let cell = self.required(Key::Cell)?;
         *line = Line::Statement(
             task,
             Statement::Request(Written::Get {
@@ -88,14 +80,11 @@ impl Given<'_> {
         requires read { IsRead self.now }
         requires pool { Holds (IsNamed) ((by_place self.now).under (codes "CPID")) }
         requires cell { Holds (IsLocated) ((by_place self.now).under (codes "CELL")) }
-        ensures { filled line.new result ≡ said_line task (statement_of FreesCell [] (by_place self.now)) }
+        ensures { filled line.new result
+            ≡ said_line task (statement_of FreesCell [] (by_place self.now)) }
     {
-        let Some(pool) = self.text(Key::Cpid) else {
-            return Err(Fault::MissingOperand);
-        };
-        let Some(cell) = self.text(Key::Cell) else {
-            return Err(Fault::MissingOperand);
-        };
+        let pool = self.required(Key::Cpid)?;
+        let cell = self.required(Key::Cell)?;
         *line = Line::Statement(
             task,
             Statement::Request(Written::Free {
@@ -110,11 +99,10 @@ impl Given<'_> {
     pub fn delete(&self, task: Name, line: &mut Line) -> Result<(), Fault>
         requires read { IsRead self.now }
         requires pool { Holds (IsNamed) ((by_place self.now).under (codes "CPID")) }
-        ensures { filled line.new result ≡ said_line task (statement_of DeletesPool [] (by_place self.now)) }
+        ensures { filled line.new result
+            ≡ said_line task (statement_of DeletesPool [] (by_place self.now)) }
     {
-        let Some(pool) = self.text(Key::Cpid) else {
-            return Err(Fault::MissingOperand);
-        };
+        let pool = self.required(Key::Cpid)?;
         *line = Line::Statement(
             task,
             Statement::Request(Written::Delete { pool: name(pool) }),

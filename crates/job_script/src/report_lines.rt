@@ -1,9 +1,8 @@
 //! The lines of the reports on subpools and pages, which are this project's own.
 
-ghost use Rattle.std.specs.Prelude.{◌≡◌, ◌≤◌, ◌+◌, ◌++◌, length, true, OnOk, OnErr};
-ghost use Rattle.mvs_model.specs.Texts.{map_text, no_subpool, reply_line, subpool_text};
-ghost use Rattle.job_script.specs.ReportLines.{holder_said, share_said};
-ghost use Rattle.job_script.specs.Writing.{WritesAll};
+ghost use Rattle.std.specs.Prelude.{◌≡◌, ◌≤◌, ◌+◌, ◌++◌, length, if◌then◌else◌, codes};
+ghost use Rattle.mvs_model.specs.Texts.{label_text, map_text, reply_line, subpool_text};
+ghost use Rattle.job_script.specs.Writing.{Prints};
 
 use crate::print::{print_line, push_head, write_all};
 use crate::text::Text;
@@ -16,7 +15,8 @@ use std::io::Write;
 // Puts behind a text whether a task owns a subpool or shares it.
 fn push_share(text: &mut Text, owned: bool)
     requires { length text.old ≤ 100 }
-    ensures text { text.new ≡ text.old ++ share_said owned }
+    ensures text { text.new
+        ≡ text.old ++ (if owned then codes " OWNED PLAIN " else codes " SHARED PLAIN ") }
     ensures len { length text.new ≤ length text.old + 14 }
 {
     if owned {
@@ -29,7 +29,7 @@ fn push_share(text: &mut Text, owned: bool)
 // Puts behind a text what is said of a number that a task has.
 fn push_subpool(text: &mut Text, line: &SubpoolLine)
     requires { length text.old ≤ 80 }
-    ensures text { text.new ≡ text.old ++ subpool_text line.now.number line.now.owned line.now.plain line.now.pool }
+    ensures text { text.new ≡ text.old ++ subpool_text line.now }
     ensures len { length text.new ≤ length text.old + 55 }
 {
     text.push_all(b"SP ");
@@ -47,10 +47,8 @@ pub fn print_subpool_line<W: Write>(
     task: &Name,
     line: &SubpoolLine,
 ) -> Result<(), Failed>
-    ensures bytes { WritesAll (W.contents writer.old.inner) (W.contents writer.new.inner) result
-        (reply_line line_number task.now (subpool_text line.now.number line.now.owned line.now.plain line.now.pool)) }
-    ensures ok { OnOk result (writer.new.failed ≡ writer.old.failed) }
-    ensures err { OnErr result (writer.new.failed ≡ true) }
+    ensures { Prints W.contents writer.old writer.new result
+        (reply_line line_number task.now (subpool_text line.now)) }
 {
     let mut text = Text::new();
     push_head(&mut text, line_number, task);
@@ -65,9 +63,8 @@ pub fn print_no_subpool<W: Write>(
     line_number: u32,
     task: &Name,
 ) -> Result<(), Failed>
-    ensures bytes { WritesAll (W.contents writer.old.inner) (W.contents writer.new.inner) result (reply_line line_number task.now no_subpool) }
-    ensures ok { OnOk result (writer.new.failed ≡ writer.old.failed) }
-    ensures err { OnErr result (writer.new.failed ≡ true) }
+    ensures { Prints W.contents writer.old writer.new result
+        (reply_line line_number task.now (codes "SP NONE")) }
 {
     print_line(writer, line_number, task, b"SP NONE")
 }
@@ -75,7 +72,7 @@ pub fn print_no_subpool<W: Write>(
 // Puts behind a text the subpool that pages are assigned to.
 fn push_holder(text: &mut Text, holder: &Option<(SubNo, Name)>)
     requires { length text.old ≤ 80 }
-    ensures text { text.new ≡ text.old ++ holder_said holder.now }
+    ensures text { text.new ≡ text.old ++ label_text holder.now }
     ensures len { length text.new ≤ length text.old + 40 }
 {
     match holder {
@@ -96,10 +93,8 @@ pub fn print_map_run<W: Write>(
     task: &Name,
     run: &MapRun,
 ) -> Result<(), Failed>
-    ensures bytes { WritesAll (W.contents writer.old.inner) (W.contents writer.new.inner) result
-        (reply_line line_number task.now (map_text run.now.addr run.now.len (holder_said run.now.holder))) }
-    ensures ok { OnOk result (writer.new.failed ≡ writer.old.failed) }
-    ensures err { OnErr result (writer.new.failed ≡ true) }
+    ensures { Prints W.contents writer.old writer.new result
+        (reply_line line_number task.now (map_text run.now)) }
 {
     let mut text = Text::new();
     push_head(&mut text, line_number, task);

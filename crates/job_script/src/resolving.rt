@@ -35,7 +35,8 @@ fn address(names: &Names, location: &Location) -> Option<Addr>
 
 // The place that is written, where its name is set.
 fn place(names: &Names, location: &Location, len: Length) -> Option<Place>
-    ensures { result ≡ option_map (λ a. record { addr = a; len = len }) (address_of names.now location.now) }
+    ensures { result
+        ≡ option_map (λ a. record { addr = a; len = len }) (address_of names.now location.now) }
 {
     let Some(addr) = address(names, location) else {
         return None;
@@ -52,8 +53,8 @@ fn push_places(
 ) -> bool
     requires { length places.old + length locations.now ≤ 16 }
     ensures { MatchBool result
-        (option_map (λ ps. places.old ++ ps) (places_of names.now locations.now lengths.now) ≡ Some places.new)
-        (places_of names.now locations.now lengths.now ≡ None) }
+        (option_map (λ ps. places.old ++ ps) (places_of names.now locations.now lengths.now)
+        ≡ Some places.new) (places_of names.now locations.now lengths.now ≡ None) }
 {
     let Some((location, locations)) = locations.split_first() else {
         return true;
@@ -131,7 +132,8 @@ fn set_all(names: &mut Names, areas: &[Name], places: &[Place]) -> Result<(), Ou
 /// Sets the names of a request to the places that its reply gives.
 pub fn set_names(names: &mut Names, written: &Written, reply: &Reply) -> Result<(), OutOfMemory>
     requires { Fit (names_set written.now) (places_in reply.now) }
-    ensures ok { OnOk result (names.new ≡ all_set names.old (names_set written.now) (places_in reply.now)) }
+    ensures ok { OnOk result
+        (names.new ≡ all_set names.old (names_set written.now) (places_in reply.now)) }
     ensures err { OnErr result ((names_set written.now ≢ []) × (places_in reply.now ≢ [])) }
 {
     set_all(names, names_set(written), places_in(reply))
@@ -140,7 +142,8 @@ pub fn set_names(names: &mut Names, written: &Written, reply: &Reply) -> Result<
 // A request that releases, where each name that it looks up is set.
 fn release_request(names: &Names, written: &Written, request: &mut Request) -> Option<()>
     requires { IsRelease written.now }
-    ensures { MatchOption result (resolved names.now written.now ≡ None) (λ _. resolved names.now written.now ≡ Some request.new) }
+    ensures { MatchOption result (resolved names.now written.now ≡ None)
+        (λ _. resolved names.now written.now ≡ Some request.new) }
 {
     match written {
         Written::Release {
@@ -191,7 +194,8 @@ fn release_request(names: &Names, written: &Written, request: &mut Request) -> O
 // A request that reads or writes bytes, where each name that it looks up is set.
 fn access_request(names: &Names, written: &Written, request: &mut Request) -> Option<()>
     requires { IsAccess written.now }
-    ensures { MatchOption result (resolved names.now written.now ≡ None) (λ _. resolved names.now written.now ≡ Some request.new) }
+    ensures { MatchOption result (resolved names.now written.now ≡ None)
+        (λ _. resolved names.now written.now ≡ Some request.new) }
 {
     match written {
         Written::Show { from, len } => {
@@ -281,7 +285,8 @@ fn obtain_request(written: &Written, request: &mut Request)
 // A request for a cell pool, where the name that it looks up is set.
 fn pool_request(names: &Names, written: &Written, request: &mut Request) -> Option<()>
     requires { IsOfPool written.now }
-    ensures { MatchOption result (resolved names.now written.now ≡ None) (λ _. resolved names.now written.now ≡ Some request.new) }
+    ensures { MatchOption result (resolved names.now written.now ≡ None)
+        (λ _. resolved names.now written.now ≡ Some request.new) }
 {
     match written {
         Written::Build {
@@ -321,20 +326,11 @@ fn pool_request(names: &Names, written: &Written, request: &mut Request) -> Opti
     Some(())
 }
 
-/// The request that is asked for, where each name that it looks up is set.
-pub fn resolve(names: &Names, written: &Written) -> Option<Request>
-    ensures { result ≡ resolved names.now written.now }
-{
-    let mut request = Request::Return;
-    match resolve_into(names, written, &mut request) {
-        Some(()) => Some(request),
-        None => None,
-    }
-}
-
-/// The same; the request is written over another, so that nothing of it is copied. Where a name is not set the other says nothing.
-pub fn resolve_into(names: &Names, written: &Written, request: &mut Request) -> Option<()>
-    ensures { MatchOption result (resolved names.now written.now ≡ None) (λ _. resolved names.now written.now ≡ Some request.new) }
+/// Whether each name that a request looks up is set: then `request` is what is asked for, written over another, so that nothing of it is copied.
+/// Where one is not set, what `request` holds is asked for by nobody.
+pub fn resolve(names: &Names, written: &Written, request: &mut Request) -> Option<()>
+    ensures { MatchOption result (resolved names.now written.now ≡ None)
+        (λ _. resolved names.now written.now ≡ Some request.new) }
 {
     match written {
         Written::Obtain { .. } | Written::ObtainList { .. } => {

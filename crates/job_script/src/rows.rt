@@ -10,7 +10,7 @@ use crate::kinds::{Kind, Words};
 use mvs_model::numbers::{MOST_PAGES_ABOVE, MOST_PAGES_BELOW, MOST_SHOWN};
 
 /// A keyword operand, and whether it is required.
-#[derive(Clone, Copy, Debug, PartialEq, Eq)]
+#[derive(Clone, Copy)]
 pub struct Keyword {
     pub key: Key,
     pub kind: Kind,
@@ -18,14 +18,14 @@ pub struct Keyword {
 }
 
 /// A positional operand, and whether it is required.
-#[derive(Clone, Copy, Debug, PartialEq, Eq)]
+#[derive(Clone, Copy)]
 pub struct Positional {
     pub kind: Kind,
     pub required: bool,
 }
 
 /// What holds between operands.
-#[derive(Clone, Copy, Debug, PartialEq, Eq)]
+#[derive(Clone, Copy)]
 pub enum Rule {
     /// Both keywords or neither.
     Together(Key, Key),
@@ -38,7 +38,7 @@ pub enum Rule {
 }
 
 /// A row of the table: an operation, with forms that take the same operands.
-#[derive(Clone, Copy, Debug, PartialEq, Eq)]
+#[derive(Clone, Copy)]
 pub enum Row {
     Region,
     /// R, EC and EU.

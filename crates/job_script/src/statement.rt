@@ -22,8 +22,11 @@ impl Given<'_> {
     // The line that operands say which were all taken, and of which none excludes another.
     fn fill(&self, task: Name, form: &[u8], line: &mut Line) -> Result<(), Fault>
         requires read { IsRead self.now }
-        requires apart { list_any (is_conflict (by_place self.now)) (row_at self.now.row).rules ≡ false }
-        ensures { filled line.new result ≡ said_line task (statement_of (row_at self.now.row).meaning form.now (by_place self.now)) }
+        requires apart { list_any (is_conflict (by_place self.now)) (row_at self.now.row).rules
+            ≡ false }
+        ensures { filled line.new result
+            ≡ said_line task
+            (statement_of (row_at self.now.row).meaning form.now (by_place self.now)) }
     {
         match self.row {
             Row::Region => self.region(task, line),
@@ -72,7 +75,8 @@ fn read_row(
     field: Option<&[u8]>,
     line: &mut Line,
 ) -> Result<(), Fault>
-    ensures { RowReading (row_at row) task form.now (operands_in (field_now field.entry)) (filled line.new result) }
+    ensures { RowReading (row_at row) task form.now (operands_in (field_now field.entry))
+        (filled line.new result) }
 {
     let mut given = Given::none(row);
     if let Err(fault) = given.take_field(field) {
@@ -109,7 +113,8 @@ fn read_with_form(
     line: &mut Line,
 ) -> Result<(), Fault>
     requires { takes_form (operation_text operation) ≡ true }
-    ensures { FormReading (operation_text operation) task (operands_in (as_field (field_in field.now))) (filled line.new result) }
+    ensures { FormReading (operation_text operation) task
+        (operands_in (as_field (field_in field.now))) (filled line.new result) }
 {
     if is_empty(field) {
         return Err(Fault::MissingOperand);
@@ -143,7 +148,8 @@ fn read_without_form(
     line: &mut Line,
 ) -> Result<(), Fault>
     requires { takes_form (operation_text operation) ≡ false }
-    ensures { FormReading (operation_text operation) task (operands_in (as_field (field_in field.now))) (filled line.new result) }
+    ensures { FormReading (operation_text operation) task
+        (operands_in (as_field (field_in field.now))) (filled line.new result) }
 {
     let Some(row) = operation.row(&[]) else {
         return Err(Fault::UnknownOperation);
@@ -158,7 +164,8 @@ pub fn read_operands(
     field: &[u8],
     line: &mut Line,
 ) -> Result<(), Fault>
-    ensures { FormReading (operation_text operation) task (operands_in (as_field (field_in field.now))) (filled line.new result) }
+    ensures { FormReading (operation_text operation) task
+        (operands_in (as_field (field_in field.now))) (filled line.new result) }
 {
     if operation.takes_form() {
         read_with_form(task, operation, field, line)

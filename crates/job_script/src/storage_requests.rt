@@ -1,4 +1,4 @@
-//! The statements REGION, GETMAIN, FREEMAIN and STORAGE, made of their operands.
+//! The statements REGION, GETMAIN, FREEMAIN and STORAGE, made of their operands; and the operands that other statements have too: SP, LOC, RES.
 
 ghost use Rattle.std.specs.Prelude.{◌≡◌, [], codes, if◌then◌else◌};
 ghost use Rattle.mvs_model.specs.Grammar.{IsRegion, Obtains, ObtainsList, Releases, ReleasesArea, ReleasesList};
@@ -6,7 +6,7 @@ ghost use Rattle.mvs_model.specs.Numbers.{most_pages_above, most_pages_below};
 ghost use Rattle.mvs_model.specs.Reading.{number_or, is_word, subpool, start_of, loc_of, residence_of, asking, form_of, statement_of};
 ghost use Rattle.job_script.specs.Rows.{key_text};
 ghost use Rattle.job_script.specs.Given.{IsRead, by_place};
-ghost use Rattle.job_script.specs.Taken.{IsExtent, IsNumbers, IsNames, IsLocations};
+ghost use Rattle.job_script.specs.Values.{IsExtent, IsNumbers, IsNames, IsLocations};
 ghost use Rattle.job_script.specs.Said.{filled, said_line, loc_named, Holds, IsRanged, IsNamed, IsLocated, IsByte};
 
 use crate::addresses::{location, name};
@@ -14,7 +14,7 @@ use crate::digits::bounded;
 use crate::given::Given;
 use crate::items::inside;
 use crate::keys::Key;
-use crate::taken::{byte, extent, lengths, locations, names};
+use crate::values::{byte, extent, lengths, locations, names};
 use mvs_model::bounded::{Bounded, Exponent, PagesAbove};
 use mvs_model::code::Form;
 use mvs_model::line::{Fault, Line, Statement, Written};
@@ -76,7 +76,8 @@ impl Given<'_> {
     // The power of two of the boundary that BNDRY says, or that of a doubleword (Assembler Services Reference, GETMAIN).
     fn boundary(&self) -> Exponent
         requires { IsRead self.now }
-        ensures { result ≡ (if is_word (codes "BNDRY") (codes "PAGE") (by_place self.now) then 12 else 3) }
+        ensures { result
+            ≡ (if is_word (codes "BNDRY") (codes "PAGE") (by_place self.now) then 12 else 3) }
     {
         if self.is_word(Key::Bndry, b"PAGE") {
             Exponent::new(12)
@@ -163,14 +164,15 @@ impl Given<'_> {
     // REGION.
     pub fn region(&self, task: Name, line: &mut Line) -> Result<(), Fault>
         requires read { IsRead self.now }
-        requires below { Holds (IsRanged 1 most_pages_below) ((by_place self.now).under (codes "BELOW")) }
-        requires above { Holds (IsRanged 0 most_pages_above) ((by_place self.now).under (codes "ABOVE")) }
+        requires below { Holds (IsRanged 1 most_pages_below)
+            ((by_place self.now).under (codes "BELOW")) }
+        requires above { Holds (IsRanged 0 most_pages_above)
+            ((by_place self.now).under (codes "ABOVE")) }
         requires fill { Holds (IsByte) ((by_place self.now).under (codes "FILL")) }
-        ensures { filled line.new result ≡ said_line task (statement_of IsRegion [] (by_place self.now)) }
+        ensures { filled line.new result
+            ≡ said_line task (statement_of IsRegion [] (by_place self.now)) }
     {
-        let Some(below) = self.text(Key::Below) else {
-            return Err(Fault::MissingOperand);
-        };
+        let below = self.required(Key::Below)?;
         let fill = match self.text(Key::Fill) {
             None => 0,
             Some(digits) => byte(digits),
@@ -199,14 +201,13 @@ impl Given<'_> {
         requires read { IsRead self.now }
         requires lengths { Holds IsExtent ((by_place self.now).under (key_text lengths)) }
         requires area { Holds IsNamed ((by_place self.now).under (key_text area)) }
-        ensures { filled line.new result ≡ said_line task (statement_of (Obtains (key_text lengths) (key_text area)) form.now (by_place self.now)) }
+        ensures { filled line.new result
+            ≡ said_line task
+            (statement_of (Obtains (key_text lengths) (key_text area)) form.now
+            (by_place self.now)) }
     {
-        let Some(lengths) = self.text(lengths) else {
-            return Err(Fault::MissingOperand);
-        };
-        let Some(area) = self.text(area) else {
-            return Err(Fault::MissingOperand);
-        };
+        let lengths = self.required(lengths)?;
+        let area = self.required(area)?;
         *line = Line::Statement(
             task,
             Statement::Request(Written::Obtain {
@@ -225,14 +226,11 @@ impl Given<'_> {
         requires read { IsRead self.now }
         requires lengths { Holds (IsNumbers) ((by_place self.now).under (codes "LA")) }
         requires areas { Holds (IsNames) ((by_place self.now).under (codes "A")) }
-        ensures { filled line.new result ≡ said_line task (statement_of ObtainsList form.now (by_place self.now)) }
+        ensures { filled line.new result
+            ≡ said_line task (statement_of ObtainsList form.now (by_place self.now)) }
     {
-        let Some(list) = self.text(Key::La) else {
-            return Err(Fault::MissingOperand);
-        };
-        let Some(areas) = self.text(Key::A) else {
-            return Err(Fault::MissingOperand);
-        };
+        let list = self.required(Key::La)?;
+        let areas = self.required(Key::A)?;
         *line = Line::Statement(
             task,
             Statement::Request(Written::ObtainList {
@@ -258,7 +256,10 @@ impl Given<'_> {
         requires read { IsRead self.now }
         requires len { Holds (IsRanged 1 2147483647) ((by_place self.now).under (key_text len)) }
         requires address { Holds IsLocated ((by_place self.now).under (key_text address)) }
-        ensures { filled line.new result ≡ said_line task (statement_of (Releases (key_text len) (key_text address)) form.now (by_place self.now)) }
+        ensures { filled line.new result
+            ≡ said_line task
+            (statement_of (Releases (key_text len) (key_text address)) form.now
+            (by_place self.now)) }
     {
         let number = self.subpool();
         let form = self.form(form);
@@ -290,11 +291,10 @@ impl Given<'_> {
     pub fn release_area(&self, task: Name, form: &[u8], line: &mut Line) -> Result<(), Fault>
         requires read { IsRead self.now }
         requires area { Holds (IsNamed) ((by_place self.now).under (codes "A")) }
-        ensures { filled line.new result ≡ said_line task (statement_of ReleasesArea form.now (by_place self.now)) }
+        ensures { filled line.new result
+            ≡ said_line task (statement_of ReleasesArea form.now (by_place self.now)) }
     {
-        let Some(area) = self.text(Key::A) else {
-            return Err(Fault::MissingOperand);
-        };
+        let area = self.required(Key::A)?;
         *line = Line::Statement(
             task,
             Statement::Request(Written::ReleaseArea {
@@ -311,14 +311,11 @@ impl Given<'_> {
         requires read { IsRead self.now }
         requires lengths { Holds (IsNumbers) ((by_place self.now).under (codes "LA")) }
         requires addresses { Holds (IsLocations) ((by_place self.now).under (codes "A")) }
-        ensures { filled line.new result ≡ said_line task (statement_of ReleasesList form.now (by_place self.now)) }
+        ensures { filled line.new result
+            ≡ said_line task (statement_of ReleasesList form.now (by_place self.now)) }
     {
-        let Some(list) = self.text(Key::La) else {
-            return Err(Fault::MissingOperand);
-        };
-        let Some(addresses) = self.text(Key::A) else {
-            return Err(Fault::MissingOperand);
-        };
+        let list = self.required(Key::La)?;
+        let addresses = self.required(Key::A)?;
         *line = Line::Statement(
             task,
             Statement::Request(Written::ReleaseList {

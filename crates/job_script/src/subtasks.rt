@@ -57,8 +57,10 @@ impl Given<'_> {
         requires read { IsRead self.now }
         requires one { AreGiven ((by_place self.now).under (key_text one)) }
         requires list { AreGiven ((by_place self.now).under (key_text list)) }
-        requires alone { (is_some ((by_place self.now).under (key_text one)) && is_some ((by_place self.now).under (key_text list))) ≡ false }
-        ensures { result ≡ set_of (numbers_under (key_text one) (key_text list) (by_place self.now)) }
+        requires alone { (is_some ((by_place self.now).under (key_text one))
+            && is_some ((by_place self.now).under (key_text list))) ≡ false }
+        ensures { result
+            ≡ set_of (numbers_under (key_text one) (key_text list) (by_place self.now)) }
     {
         match self.text(one) {
             Some(text) => set_in(text),
@@ -73,16 +75,19 @@ impl Given<'_> {
     pub fn attach(&self, task: Name, line: &mut Line) -> Result<(), Fault>
         requires read { IsRead self.now }
         requires name { Holds (IsNamed) ((by_place self.now).under (codes "TASK")) }
-        requires given { AreGiven ((by_place self.now).under (codes "GSPV")) × AreGiven ((by_place self.now).under (codes "GSPL")) }
-        requires shared { AreGiven ((by_place self.now).under (codes "SHSPV")) × AreGiven ((by_place self.now).under (codes "SHSPL")) }
-        requires one_given { (is_some ((by_place self.now).under (codes "GSPV")) && is_some ((by_place self.now).under (codes "GSPL"))) ≡ false }
-        requires one_shared { (is_some ((by_place self.now).under (codes "SHSPV")) && is_some ((by_place self.now).under (codes "SHSPL"))) ≡ false }
+        requires given { AreGiven ((by_place self.now).under (codes "GSPV"))
+            × AreGiven ((by_place self.now).under (codes "GSPL")) }
+        requires shared { AreGiven ((by_place self.now).under (codes "SHSPV"))
+            × AreGiven ((by_place self.now).under (codes "SHSPL")) }
+        requires one_given { (is_some ((by_place self.now).under (codes "GSPV"))
+            && is_some ((by_place self.now).under (codes "GSPL"))) ≡ false }
+        requires one_shared { (is_some ((by_place self.now).under (codes "SHSPV"))
+            && is_some ((by_place self.now).under (codes "SHSPL"))) ≡ false }
         requires apart { IsGifts (presents (by_place self.now)) }
-        ensures { filled line.new result ≡ said_line task (statement_of Attaches [] (by_place self.now)) }
+        ensures { filled line.new result
+            ≡ said_line task (statement_of Attaches [] (by_place self.now)) }
     {
-        let Some(subtask) = self.text(Key::Task) else {
-            return Err(Fault::MissingOperand);
-        };
+        let subtask = self.required(Key::Task)?;
         let given = self.set_under(Key::Gspv, Key::Gspl);
         let shared = self.set_under(Key::Shspv, Key::Shspl);
         let zero = !self.is_word(Key::Szero, b"NO");
@@ -104,11 +109,10 @@ impl Given<'_> {
     pub fn abend(&self, task: Name, line: &mut Line) -> Result<(), Fault>
         requires read { IsRead self.now }
         requires code { Holds (IsRanged 0 4095) ((by_place self.now).at 0) }
-        ensures { filled line.new result ≡ said_line task (statement_of Abends [] (by_place self.now)) }
+        ensures { filled line.new result
+            ≡ said_line task (statement_of Abends [] (by_place self.now)) }
     {
-        let Some(code) = self.positional(0) else {
-            return Err(Fault::MissingOperand);
-        };
+        let code = self.required_at(0)?;
         *line = Line::Statement(task, Statement::Request(Written::Abend(bounded(code))));
         Ok(())
     }

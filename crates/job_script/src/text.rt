@@ -176,7 +176,9 @@ impl Text {
     // The last three digits of a number.
     fn push_three(&mut self, number: u32)
         requires { length self.old + 3 ≤ 160 }
-        ensures { self.new ≡ self.old ++ (48 + number / 100 % 10) ∷ (48 + number / 10 % 10) ∷ (48 + number % 10) ∷ [] }
+        ensures { self.new
+            ≡ self.old ++ (48 + number / 100 % 10) ∷ (48 + number / 10 % 10) ∷ (48 + number % 10)
+            ∷ [] }
     {
         let at = self.len;
         self.bytes[at] = last_digit(number / 100);

@@ -1,22 +1,23 @@
 -- The lines of the map, one after another.
-use Rattle.std.proofs.Common.{◌≡◌, ◌≢◌, ◌⊎◌, ℕ, zero, suc, ◌+◌, ◌-◌, ◌*◌, ◌<◌, ◌≤◌, ◌++◌, List, [], ◌∷◌, Bool, true, false, cond, inl, inr, Option, None, Some, codes, refl, ap, sym, subst, ◌∙◌, append_assoc, append-nil, ne_eqb, arith}
+use Rattle.std.proofs.Common.{◌≡◌, ◌≢◌, ◌⊎◌, ℕ, zero, suc, ◌+◌, ◌-◌, ◌*◌, ◌<◌, ◌≤◌, ◌++◌, List, [], ◌∷◌, Bool, true, false, cond, inl, inr, Option, None, Some, refl, ap, sym, subst, ◌∙◌, append_assoc, append-nil, ne_eqb, arith}
 use Rattle.std.specs.Prelude.{◌==◌}
 use Rattle.std.proofs.lemmas.Bool.{cases_lt}
+use Rattle.std.proofs.lemmas.Grind.{flat_map-append}
+use Rattle.std.specs.List.{flat_map}
+use Rattle.std.specs.Option.{option_map, option_and_then}
 use Rattle.std.proofs.lemmas.Bool.Decides.{nat_tests}
 use Rattle.std.specs.FinMap.{get}
 use Rattle.std.specs.Io.KnownBytes.{Appends}
 use Rattle.std.proofs.KnownBytes.{Appends-nil, Appends-trans}
 use Rattle.mvs_model.specs.declared.name.Name.{Name}
 use Rattle.mvs_model.specs.declared.report.MapRun.{MapRun}
-use Rattle.mvs_model.specs.Name.{trimmed}
 use Rattle.mvs_model.specs.Owners.{Owners}
 use Rattle.mvs_model.specs.State.{State}
-use Rattle.mvs_model.specs.Texts.{hex, reply_line}
-use Rattle.mvs_model.specs.Texts as texts
-use Rattle.mvs_model.specs.Reports.{PageRun, same_subpool, with_page, page_runs, page_subpool, decimal_of, owner_text, holder_text, number_of, map_lines, map_text}
+use Rattle.mvs_model.specs.Answers.{Map}
+use Rattle.mvs_model.specs.Texts.{reply_line, map_text, answer_text}
+use Rattle.mvs_model.specs.Reports.{PageRun, same_subpool, with_page, page_runs, page_subpool, number_of, label_of, map_runs, page_map}
 use Rattle.mvs_model.specs.View.{IsBounded}
-use Rattle.request_forms.specs.Reports.{Begins, IsHolder, IsMapEnd, IsMapRun, IsPages, NoneBegins}
-use Rattle.job_script.specs.ReportLines.{holder_said}
+use Rattle.step_machine.specs.Reports.{Begins, IsHolder, IsMapEnd, IsMapRun, IsPages, NoneBegins}
 use Rattle.job_script.specs.Writing.{AppendsFront}
 use Rattle.job_script.proofs.Appending.{front_longer, front_more}
 
@@ -83,16 +84,16 @@ module _ (st : State) where
       more_pages page n ∙ ap (with_page (page_subpool st page)) (rest ∙ (λ i. run_of (c + 1) (one i) ∷ page_runs st (page + 1 + (c + 1)) m)) ∙ with_same (page_subpool st page) (c + 1) (page_runs st (page + 1 + (c + 1)) m)
       ∙ (λ i. run_of (count i) (page_subpool st page) ∷ page_runs st (at i) m)
 
--- what is said of the subpool that pages are assigned to
-holder_is : (o : Owners) (owner : Option ℕ) (label : Option (ℕ × Name)) → IsHolder o owner label → holder_said label ≡ holder_text o owner
+-- what pages are assigned to
+holder_is : (o : Owners) (owner : Option ℕ) (label : Option (ℕ × Name)) → IsHolder o owner label → label ≡ label_of o owner
 holder_is o None None is = refl
 holder_is o None (Some l) (s, e, owned, named) = absurd (let f : None ≡ Some s = e in cc)
-holder_is o (Some r) None is = sym (ap (owner_text o r) is)
+holder_is o (Some r) None is = sym (ap (option_and_then (λ t. option_map (λ n. (n, t)) (number_of o t r))) is)
 holder_is o (Some r) (Some l) (s, e, owned, named) =
     let same : s ≡ r = cc in
     let owner : get o.owner r ≡ Some l.1 = ap (get o.owner) (sym same) ∙ owned in
     let number = subst (λ x. number_of o l.1 x ≡ Some l.0) same named in
-    sym (ap (owner_text o r) owner ∙ ap (λ v. codes "SP " ++ decimal_of v ++ codes " OWNER " ++ trimmed l.1) number)
+    sym (ap (option_and_then (λ t. option_map (λ n. (n, t)) (number_of o t r))) owner ∙ ap (option_map (λ n. (n, l.1))) number)
 
 -- So many pages of a region are left, and a run begins at the first of them.
 pub record IsAt (st : State) (first end page n : ℕ) : Type 0 where
@@ -123,14 +124,14 @@ found st first end page n from at count behind low is pages none =
 module _ (number : ℕ) (st : State) (t : Name) where
   -- the lines of so many pages from one on
   abbrev pub runs_text : ℕ → ℕ → List ℕ
-  runs_text page n = map_lines number st.owners t (4096 * page) (page_runs st page n)
+  runs_text page n = flat_map (λ r. reply_line number t (map_text r)) (map_runs st.owners (4096 * page) (page_runs st page n))
 
   -- the line of a run
   abbrev pub run_text : MapRun → List ℕ
-  run_text run = reply_line number t (texts.map_text run.addr run.len (holder_said run.holder))
+  run_text run = reply_line number t (map_text run)
 
   no_text : (page n : ℕ) → n ≡ 0 → runs_text page n ≡ []
-  no_text page n is = ap (λ k. runs_text page k) is ∙ ap (map_lines number st.owners t (4096 * page)) (no_pages st page)
+  no_text page n is = ap (λ k. runs_text page k) is ∙ ap (λ runs. flat_map run_text (map_runs st.owners (4096 * page) runs)) (no_pages st page)
 
   -- one run, and what is left behind it
   one_run : (first end page n count : ℕ) (run : MapRun) → IsAt st first end page n → IsPages (page_subpool st) first end page count → run.addr ≡ 4096 * page → run.len ≡ 4096 * count → IsHolder st.owners (page_subpool st page) run.holder
@@ -148,8 +149,8 @@ module _ (number : ℕ) (st : State) (t : Name) where
           all = omega (arith, at.all, pages.ends.high);
           begins = λ some less e. pages.ends.ends (omega (arith, some, at.all)) (sym e ∙ pages.ends.alike (page + count - 1) (omega (arith, pages.ends.low)) (omega (arith, pages.ends.low)));
         },
-        ap (map_lines number st.owners t (4096 * page)) (runs ∙ (λ i. run_of (count_is i) (page_subpool st page) ∷ page_runs st (page + count_is i) (n - count)))
-            ∙ (λ i. reply_line number t (codes "MAP " ++ hex 8 (sym addr i) ++ codes " " ++ hex 8 (sym len i) ++ codes " " ++ sym (holder_is st.owners (page_subpool st page) run.holder holder) i) ++ map_lines number st.owners t (dist i) (page_runs st (page + count) (n - count))),
+        ap (λ runs. flat_map run_text (map_runs st.owners (4096 * page) runs)) (runs ∙ (λ i. run_of (count_is i) (page_subpool st page) ∷ page_runs st (page + count_is i) (n - count)))
+            ∙ (λ i. run_text (let r : MapRun = record { addr = sym addr i; len = sym len i; holder = sym (holder_is st.owners (page_subpool st page) run.holder holder) i } in r) ++ flat_map run_text (map_runs st.owners (dist i) (page_runs st (page + count) (n - count)))),
       )
 
   -- What is left of the map at an address: a run begins there, or it is the end of a region.
@@ -158,8 +159,12 @@ module _ (number : ℕ) (st : State) (t : Name) where
       (page : ℕ) × (n : ℕ) × (from ≡ 4096 * page)
       × ((IsAt st 6 (6 + st.regions.below) page n × (rest ≡ runs_text page n ++ runs_text 4096 st.regions.above)) ⊎ (IsAt st 4096 (4096 + st.regions.above) page n × (rest ≡ runs_text page n)))
 
-  left_start : IsLeft 0x6000 (map_text number st t)
-  left_start = (6, st.regions.below, refl, inl (whole st 6 st.regions.below, refl))
+  -- the whole map
+  abbrev pub map_printed : List ℕ
+  map_printed = answer_text number t (Map (page_map st))
+
+  left_start : IsLeft 0x6000 map_printed
+  left_start = (6, st.regions.below, refl, inl (whole st 6 st.regions.below, flat_map-append run_text (map_runs st.owners 0x6000 (page_runs st 6 st.regions.below)) (map_runs st.owners 0x1000000 (page_runs st 4096 st.regions.above))))
 
   -- a run, and what is left behind it
   abbrev Nexts : MapRun → List ℕ → Type 0
@@ -215,10 +220,10 @@ module _ (number : ℕ) (st : State) (t : Name) where
 
   -- What was printed so far, and what is left of the map.
   abbrev pub SoFar : Option (List ℕ) → Option (List ℕ) → ℕ → Type 0
-  SoFar a b from = (front : List ℕ) × (rest : List ℕ) × Appends a b front × (front ++ rest ≡ map_text number st t) × IsLeft from rest
+  SoFar a b from = (front : List ℕ) × (rest : List ℕ) × Appends a b front × (front ++ rest ≡ map_printed) × IsLeft from rest
 
   pub map_start : (a : Option (List ℕ)) (from : ℕ) → from ≡ 0x6000 → SoFar a a from
-  map_start a from is = ([], map_text number st t, Appends-nil a, refl, subst (λ x. IsLeft x (map_text number st t)) (sym is) left_start)
+  map_start a from is = ([], map_printed, Appends-nil a, refl, subst (λ x. IsLeft x (map_printed)) (sym is) left_start)
 
   pub map_more : (a b c : Option (List ℕ)) (from after : ℕ) (run : MapRun) → IsBounded st.regions → SoFar a b from → IsMapRun st from run → after ≡ run.addr + run.len → Appends b c (run_text run) → SoFar a c after
   map_more a b c from after run bounded (front, rest, so_far, all, left) is after_is p =
@@ -230,10 +235,10 @@ module _ (number : ℕ) (st : State) (t : Name) where
         subst (λ x. IsLeft x next.0) (sym after_is) next.2,
       )
 
-  pub map_front : (a b c : Option (List ℕ)) (from : ℕ) (run : MapRun) → IsBounded st.regions → SoFar a b from → IsMapRun st from run → AppendsFront b c (run_text run) → AppendsFront a c (map_text number st t)
+  pub map_front : (a b c : Option (List ℕ)) (from : ℕ) (run : MapRun) → IsBounded st.regions → SoFar a b from → IsMapRun st from run → AppendsFront b c (run_text run) → AppendsFront a c (map_printed)
   map_front a b c from run bounded (front, rest, so_far, all, left) is p =
       let next = left_next from rest run bounded left is in
       subst (AppendsFront a c) (append_assoc front (run_text run) next.0 ∙ ap (λ z. front ++ z) (sym next.1) ∙ all) (front_longer a c (front ++ run_text run) next.0 (front_more a b c front (run_text run) so_far p))
 
-  pub map_done : (a b : Option (List ℕ)) (from : ℕ) → IsBounded st.regions → SoFar a b from → IsMapEnd st from → Appends a b (map_text number st t)
+  pub map_done : (a b : Option (List ℕ)) (from : ℕ) → IsBounded st.regions → SoFar a b from → IsMapEnd st from → Appends a b (map_printed)
   map_done a b from bounded (front, rest, so_far, all, left) is = subst (Appends a b) (sym (append-nil front) ∙ ap (λ z. front ++ z) (sym (left_none from rest bounded left is)) ∙ all) so_far

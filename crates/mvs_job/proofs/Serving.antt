@@ -1,168 +1,146 @@
--- A statement that is served.
-use Rattle.std.proofs.Common.{◌≡◌, ℕ, ◌||◌, Bool, true, false, not, MatchBool, Option, Some, List, Result, Ok, Err, inl, inr, codes, sym, subst, refl, ap, None, ◌++◌, ◌∙◌, [], append_assoc, append-nil}
-use Rattle.std.specs.Option.{is_some}
+-- A statement is served, and what a line tells.
+use Rattle.std.proofs.Common.{◌≡◌, ℕ, List, [], ◌∷◌, ◌++◌, append-nil, Option, Some, None, Bool, true, false, Result, Ok, Err, inl, inr, ◌⊎◌, refl, sym, ap, ◌∙◌, subst}
+use Rattle.std.specs.Prelude.{◌||◌, not, OnErr, IfOk, MatchResult, is_some}
+use Rattle.std.specs.Io.KnownBytes.{Keeps}
 use Rattle.std.proofs.KnownBytes.{Appends-trans}
-use Rattle.std.specs.Io.KnownBytes.{Appends}
-use Rattle.job_script.proofs.Appending.{Appends-kept}
-use Rattle.job_script.specs.Writing.{AppendsFront}
-use Rattle.std.specs.Prelude.{OnErr}
-use Rattle.mvs_model.specs.Card.{CardValue}
+use Rattle.mvs_job.specs.Serving.{LineTells}
+use Rattle.mvs_model.specs.declared.name.Name.{Name}
 use Rattle.mvs_model.specs.declared.line.Line.{Line}
 use Rattle.mvs_model.specs.declared.line.Line.TheVariants as line
 use Rattle.mvs_model.specs.declared.line.Fault.{Fault}
-use Rattle.std.specs.FinMap.{get}
-use Rattle.mvs_model.specs.declared.name.Name.{Name}
+use Rattle.mvs_model.specs.declared.line.Statement.{Statement}
+use Rattle.mvs_model.specs.declared.line.Statement.TheVariants as says
 use Rattle.mvs_model.specs.declared.line.Written.{Written}
 use Rattle.mvs_model.specs.declared.request.Request.{Request}
 use Rattle.mvs_model.specs.declared.request.Reply.{Reply}
-use Rattle.mvs_model.specs.Place.{PlaceValue}
-use Rattle.mvs_model.specs.Steps.{Step}
-use Rattle.mvs_model.specs.declared.line.Statement.{Statement}
-use Rattle.mvs_model.specs.declared.line.Statement.TheVariants as says
-use Rattle.mvs_model.specs.Texts.{reply_line, region_text, fault_text}
-use Rattle.mvs_model.specs.State.{State}
-use Rattle.mvs_model.specs.Reports.{map_text, subpools_text}
-use Rattle.mvs_model.specs.Owners.{is_active}
-use Rattle.mvs_job.specs.declared.job.Stop.{Stop}
-use Rattle.mvs_job.specs.declared.job.Stop.TheVariants as why
-use Rattle.mvs_model.specs.Memory.{SetsName, TakesMemory}
-use Rattle.mvs_job.specs.Serving.{Performs, RunsLine, stage_of, card_said, ending}
-use Rattle.mvs_model.specs.Job.{JobValue, job_at}
+use Rattle.mvs_model.specs.declared.answer.Answer.{Answer as Short}
+use Rattle.mvs_model.specs.Answers.{Answer, Region, Event, Told}
+use Rattle.mvs_model.specs.declared.error.OutOfMemory.{OutOfMemory}
+use Rattle.mvs_model.specs.Job.{JobValue}
+use Rattle.mvs_model.specs.Lent.{lent, fallen_in}
 use Rattle.mvs_model.specs.Lines.{card_of}
-use Rattle.mvs_model.specs.Reading.{LineOf, FaultOf, IsReading}
-use Rattle.mvs_model.specs.Replies.{where_text, is_abend, reply_text}
+use Rattle.mvs_model.specs.Memory.{TakesMemory, StopsForMemory}
+use Rattle.mvs_model.specs.Reading.{LineOf, IsReading}
+use Rattle.mvs_model.specs.Replies.{is_abend, answer_of}
 use Rattle.mvs_model.specs.Resolving.{resolved, all_set, names_set, places_in}
-use Rattle.mvs_model.specs.Runs.{Stage, In, Serves, ServesLine, Follows, Faults, Does, Says, Tells, Asks, is_before}
+use Rattle.mvs_model.specs.Runs.{Any, Asks, Does, machine}
+use Rattle.mvs_model.specs.Steps.{Step}
+use Rattle.mvs_model.specs.Texts.{text_of, printing}
+use Rattle.mvs_model.specs.Walk.{Serves, ending, is_first}
+use Rattle.mvs_model.specs.Watched.{WatchedValue}
+use Rattle.mvs_model.proofs.Going.{printed_both}
+use Rattle.job_script.specs.Writing.{Prints, AppendsFront}
+use Rattle.job_script.proofs.Appending.{front_longer, front_more}
+use Rattle.mvs_job.specs.declared.walk.LineTold.{LineTold}
+use Rattle.mvs_job.specs.declared.walk.LineTold.TheVariants as told
+use Rattle.mvs_job.specs.Telling.{WalkValue, IsTold, IsLentBy, card_said, ended, events_told, lent_in}
 
 -- A request that is made, and whose names are set.
-pub made : (number : ℕ) (old : JobValue) (t : Name) (a : Written) (r : Request) (reply : Reply) (new : JobValue) → resolved old.names a ≡ Some r → Step old.state t r reply new.state → new.names ≡ all_set old.names (names_set a) (places_in reply) → new.abended ≡ (old.abended || is_abend reply) → new.former ≡ old.former
-    → Asks number old t a (resolved old.names a) (reply_text number t old a reply) new
-made number old t a r reply new is step names abended former = subst (λ o. Asks number old t a o (reply_text number t old a reply) new) (sym is) (record { reply = reply; step = step; names = names; abended = abended; former = former; text_is = refl })
-
--- A task that is not active is told so.
-pub told_inactive : (number : ℕ) (old : JobValue) (t : Name) (s : Statement) → is_active old.state.owners t ≡ false → Does number old t s (reply_line number t (codes "NOT RUN")) old
-told_inactive number old t s is = subst (λ b. MatchBool (not b) (Tells number old t (codes "NOT RUN") (reply_line number t (codes "NOT RUN")) old) (Says number old t s (reply_line number t (codes "NOT RUN")) old)) (sym is) (refl, refl)
-
--- A statement of an active task is served.
-pub does_said : (number : ℕ) (old : JobValue) (t : Name) (s : Statement) (text : List ℕ) (new : JobValue) → is_active old.state.owners t ≡ true → Says number old t s text new → Does number old t s text new
-does_said number old t s text new is says = subst (λ b. MatchBool (not b) (Tells number old t (codes "NOT RUN") text new) (Says number old t s text new)) (sym is) says
-
--- What performs one of these performs one of those, where these are those.
-pub performs_as : {X Y : Type 0} (g : X → Y) (P : List ℕ → X → Type 0) (Q : List ℕ → Y → Type 0) (B C : List ℕ → Type 0) (before after : Option (List ℕ)) (new : X) (result : Result Unit Stop)
-    → ((text : List ℕ) (x : X) → P text x → Q text (g x)) → ((text : List ℕ) → B text → C text) → Performs P B before after new result → Performs Q C before after (g new) result
-performs_as g P Q B C before after new (Ok u) f h p = (p.0, p.1, f p.0 new p.2)
-performs_as g P Q B C before after new (Err why.Write) f h (inl kept) = inl kept
-performs_as g P Q B C before after new (Err why.Write) f h (inr p) = inr (p.0, g p.1, f p.0 p.1 p.2, p.3)
-performs_as g P Q B C before after new (Err why.Memory) f h p = (p.0, p.1, h p.0 p.2)
-
--- What an active task asks is what it does.
-pub asked_does : (number : ℕ) (old : JobValue) (t : Name) (s : Statement) (a : Written) (text : List ℕ) (new : JobValue) → s ≡ says.Request a → is_active old.state.owners t ≡ true → Asks number old t a (resolved old.names a) text new → Does number old t s text new
-asked_does number old t s a text new is active asks = subst (λ s. Does number old t s text new) (sym is) (does_said number old t (says.Request a) text new active asks)
-
--- What is said of where an area lies is what its statement does.
-pub where_does : (number : ℕ) (old : JobValue) (t : Name) (s : Statement) (name : Name) (place : Option PlaceValue) → s ≡ says.Where name → is_active old.state.owners t ≡ true → place ≡ get old.names name → Does number old t s (reply_line number t (where_text place)) old
-where_does number old t s name place is active lies =
-    subst (λ s. Does number old t s (reply_line number t (where_text place)) old) (sym is)
-    (does_said number old t (says.Where name) _ old active (ap (λ o. reply_line number t (where_text o)) lies, refl))
-
--- A report is what its statement does.
-pub subpools_does : (number : ℕ) (old : JobValue) (t : Name) (s : Statement) (st : State) → st ≡ old.state → s ≡ says.ReportSubpools → is_active old.state.owners t ≡ true → Does number old t s (subpools_text number st t) old
-subpools_does number old t s st same is active = subst (λ s. Does number old t s (subpools_text number st t) old) (sym is) (does_said number old t says.ReportSubpools _ old active (ap (λ x. subpools_text number x t) same, refl))
-
-pub map_does : (number : ℕ) (old : JobValue) (t : Name) (s : Statement) (st : State) → st ≡ old.state → s ≡ says.ReportMap → is_active old.state.owners t ≡ true → Does number old t s (map_text number st t) old
-map_does number old t s st same is active = subst (λ s. Does number old t s (map_text number st t) old) (sym is) (does_said number old t says.ReportMap _ old active (ap (λ x. map_text number x t) same, refl))
-
--- Another statement is of the step that runs.
-follows_in : (number : ℕ) (job : JobValue) (t : Name) (s : Statement) (text : List ℕ) (new : JobValue) → card_said t s ≡ None → Does number job t s text new → Follows number job t s text (In new)
-follows_in number job t (says.Region below above fill residence) text new is does = absurd (let f : Some (card_of t below above fill residence) ≡ None = is in cc)
-follows_in number job t (says.Request a) text new is does = (new, refl, does)
-follows_in number job t (says.Where name) text new is does = (new, refl, does)
-follows_in number job t says.ReportSubpools text new is does = (new, refl, does)
-follows_in number job t says.ReportMap text new is does = (new, refl, does)
-
-pub serves_in : (number : ℕ) (old : Option JobValue) (job : JobValue) (t : Name) (s : Statement) (text : List ℕ) (new : JobValue) → old ≡ Some job → card_said t s ≡ None → Does number job t s text new → Serves number (stage_of old) (line.Statement t s) text (In new)
-serves_in number old job t s text new is of_step does = subst (λ o. Serves number (stage_of o) (line.Statement t s) text (In new)) (sym is) (follows_in number job t s text new of_step does)
-
--- What a line says is served.
-pub line_served : (number : ℕ) (old new : Stage) (first : Bool) (bytes : List ℕ) (read : Result Line Fault) (l : Line) (text : List ℕ) → first ≡ is_before old → IsReading first bytes read → read ≡ Ok l → Serves number old l text new → ServesLine number old bytes text new
-line_served number old new first bytes read l text same reading is serves = (l, subst (λ first. LineOf first bytes l) same (subst (IsReading first bytes) is reading), serves)
-
--- A line whose serving stops is run.
-pub runs_stopped : (before after : Option (List ℕ)) (number : ℕ) (old new : Stage) (first : Bool) (bytes : List ℕ) (read : Result Line Fault) (l : Line) (stop : Stop) → first ≡ is_before old → IsReading first bytes read → read ≡ Ok l
-    → Performs (Serves number old l) (TakesMemory old l) before after new (Err stop) → RunsLine before after number old bytes new (Err stop)
-runs_stopped before after number old new first bytes read l why.Write same reading is (inl kept) = inl kept
-runs_stopped before after number old new first bytes read l why.Write same reading is (inr h) = inr (h.0, inl (h.1, line_served number old h.1 first bytes read l h.0 same reading is h.2), h.3)
-runs_stopped before after number old new first bytes read l why.Memory same reading is h = (h.0, h.1, (l, subst (λ first. LineOf first bytes l) same (subst (IsReading first bytes) is reading), h.2))
+pub made : (old : JobValue) (t : Name) (a : Written) (r : Request) (reply : Reply) (new : JobValue) → resolved old.names a ≡ Some r → Step old.state t r reply new.state
+    → new.names ≡ all_set old.names (names_set a) (places_in reply) → new.abended ≡ (old.abended || is_abend reply) → new.former ≡ old.former
+    → Asks Any old t a (resolved old.names a) (answer_of old.state a r reply) new
+made old t a r reply new is step names abended former =
+    subst (λ o. Asks Any old t a o (answer_of old.state a r reply) new) (sym is) (record { reply = reply; step = step; meets = tt; names = names; abended = abended; former = former; told = refl })
 
 -- whether no statement came before
-pub first_is : (o : Option JobValue) (b : Bool) → is_some o ≡ not b → b ≡ is_before (stage_of o)
+pub first_is : (o : Option JobValue) (b : Bool) → is_some o ≡ not b → b ≡ is_first o
 first_is None true e = refl
 first_is None false e = absurd (let f : false ≡ true = e in cc)
 first_is (Some job) true e = absurd (let f : true ≡ false = e in cc)
 first_is (Some job) false e = refl
 
--- A line that says nothing is served.
-pub nothing_served : (number : ℕ) (old : Stage) (first : Bool) (bytes : List ℕ) (read : Result Line Fault) (l : Line) → first ≡ is_before old → IsReading first bytes read → read ≡ Ok l → l ≡ line.Nothing → ServesLine number old bytes [] old
-nothing_served number old first bytes read l same reading is nothing = line_served number old old first bytes read line.Nothing [] same reading (is ∙ ap (λ x. Ok x) nothing) (refl, refl)
+-- What a line says, as it was read.
+said_so : (first before : Bool) (bytes : List ℕ) (read : Result Line Fault) (l : Line) → first ≡ before → IsReading first bytes read → read ≡ Ok l → LineOf before bytes l
+said_so first before bytes read l same reading is = subst (λ first. LineOf first bytes l) same (subst (IsReading first bytes) is reading)
 
--- A fault that is printed.
-pub line_faults : (number : ℕ) (old : Stage) (first : Bool) (bytes : List ℕ) (read : Result Line Fault) (fault : Fault) → first ≡ is_before old → IsReading first bytes read → read ≡ Err fault → Faults number (is_before old) bytes (fault_text number fault)
-line_faults number old first bytes read fault same reading is = (fault, subst (λ first. FaultOf first bytes fault) same (subst (IsReading first bytes) is reading), refl)
+module _ (old new : WalkValue) (bytes : List ℕ) (first : Bool) (read : Result Line Fault) (same : first ≡ is_first old.step) (reading : IsReading first bytes read) where
+  -- a statement of the step
+  step_served : (t : Name) (s : Statement) (step later : JobValue) (answer : Answer) → card_said t s ≡ None → Does Any step t s answer later
+      → Serves machine old.number (Some step) (line.Statement t s) (Told old.number t answer ∷ []) (Some later)
+  step_served t (says.Region below above fill residence) step later answer is does = absurd (let f : Some (card_of t below above fill residence) ≡ None = is in cc)
+  step_served t (says.Request a) step later answer is does = (answer, later, does, refl, refl)
+  step_served t (says.Where name) step later answer is does = (answer, later, does, refl, refl)
+  step_served t says.ReportSubpools step later answer is does = (answer, later, does, refl, refl)
+  step_served t says.ReportMap step later answer is does = (answer, later, does, refl, refl)
 
--- A fault of which a front was printed.
-pub faults_in_front : (before after : Option (List ℕ)) (number : ℕ) (old new : Stage) (bytes : List ℕ) (fault : Fault) → Faults number (is_before old) bytes (fault_text number fault) → AppendsFront before after (fault_text number fault) → RunsLine before after number old bytes new (Err why.Write)
-faults_in_front before after number old new bytes fault faults front = inr (fault_text number fault, inr faults, front)
+  pub told_answered : (l : Line) (t : Name) (s : Statement) (step later : JobValue) (a : Short) → read ≡ Ok l → l ≡ line.Statement t s → card_said t s ≡ None → old.step ≡ Some step → new.step ≡ Some later
+      → Does Any step t s (lent later.state new.fallen t a) later → IsTold old bytes (told.Answered t a) new
+  told_answered l t s step later a is l_is of_step e f does = (
+    line.Statement t s,
+    said_so first (is_first old.step) bytes read (line.Statement t s) same reading (is ∙ ap (λ x. Ok x) l_is),
+    subst (λ o. Serves machine old.number old.step (line.Statement t s) (Told old.number t (lent_in o new.fallen t a) ∷ []) o) (sym f)
+        (subst (λ o. Serves machine old.number o (line.Statement t s) (Told old.number t (lent later.state new.fallen t a) ∷ []) (Some later)) (sym e) (step_served t s step later (lent later.state new.fallen t a) of_step does)),
+  )
 
--- The end of a step and the beginning of the next are one text.
-pub both_written : (before mid after : Option (List ℕ)) (first second : List ℕ) → Appends before mid first → AppendsFront mid after second → AppendsFront before after (first ++ second)
-both_written before mid after first second a f =
-    (first ++ f.0, f.1, ap (λ x. first ++ x) f.2 ∙ sym (append_assoc first f.0 f.1), Appends-trans before mid after first f.0 a f.3)
+  pub stops_at_request : (l : Line) (t : Name) (s : Statement) → read ≡ Ok l → l ≡ line.Statement t s → TakesMemory old.step (line.Statement t s) [] → StopsForMemory old.number old.step (bytes ∷ []) (ended None)
+  stops_at_request l t s is l_is takes = (line.Statement t s, said_so first (is_first old.step) bytes read (line.Statement t s) same reading (is ∙ ap (λ x. Ok x) l_is), takes)
 
-pub front_written : (before after : Option (List ℕ)) (first second : List ℕ) → AppendsFront before after first → AppendsFront before after (first ++ second)
-front_written before after first second f = (f.0, f.1 ++ second, ap (λ x. x ++ second) f.2 ∙ append_assoc f.0 f.1 second, f.3)
+-- what a line that was served or has a fault may tell
+pub line_tells : (old new : WalkValue) (bytes : List ℕ) (t : LineTold) → IsTold old bytes t new → LineTells old bytes (events_told old.number new t)
+line_tells old new bytes (told.Faulted fault) h = inr (fault, h.0, refl)
+line_tells old new bytes told.Nothing h = inl (new.step, h)
+line_tells old new bytes (told.Began end card) h = inl (new.step, h)
+line_tells old new bytes (told.Answered t a) h = inl (new.step, h)
 
--- what one call begins that another has ended
-abbrev Begun : ℕ → CardValue → Bool → List ℕ → Stage → Type 0
-Begun number card former text new = (text ≡ region_text number card) × (new ≡ In (job_at card former))
+nothing_kept : (a b : Option (List ℕ)) → AppendsFront a b [] → Keeps a b
+nothing_kept None b f = tt
+nothing_kept (Some xs) None f = absurd f.3
+nothing_kept (Some xs) (Some ys) f = f.3 ∙ ap (λ x. xs ++ x) (none f.0 f.1 f.2) ∙ append-nil xs where
+  none : (front rest : List ℕ) → [] ≡ front ++ rest → front ≡ []
+  none [] rest e = refl
+  none (b ∷ front) rest e = absurd (let f : [] ≡ b ∷ (front ++ rest) = e in cc)
 
-abbrev pub Turned : ℕ → CardValue → List ℕ → Bool → List ℕ → Stage → Type 0
-Turned number card first former text new = (text ≡ first ++ region_text number card) × (new ≡ In (job_at card former))
+-- a call that stops at a write while it prints the end of a step, for want of memory
+pub stopped_front : (w : WalkValue) (bytes : List ℕ) (events : List Event) (a b : Option (List ℕ)) → StopsForMemory w.number w.step (bytes ∷ []) events → AppendsFront a b (printing events)
+    → Keeps a b ⊎ ((all : List Event) × LineTells w bytes all × AppendsFront a b (printing all))
+stopped_front w bytes events a b h f = at w.step h.0 h.1 h.2 refl where
+  kept : events ≡ [] → Keeps a b ⊎ ((all : List Event) × LineTells w bytes all × AppendsFront a b (printing all))
+  kept e = inl (nothing_kept a b (subst (λ x. AppendsFront a b (printing x)) e f))
 
-abbrev pub Before : List ℕ → List ℕ → Type 0
-Before first text = text ≡ first
+  at : (o : Option JobValue) (l : Line) → LineOf (is_first o) bytes l → TakesMemory o l events → o ≡ w.step → Keeps a b ⊎ ((all : List Event) × LineTells w bytes all × AppendsFront a b (printing all))
+  at o (line.Statement t (says.Region below above fill residence)) is e same =
+      let card = card_of t below above fill residence in
+      let more = Told w.number t (Region card) ∷ [] in
+      let tells : LineTells w bytes (ending machine o ++ more) = subst (λ o. LineTells w bytes (ending machine o ++ more)) (sym same) (inl (_, (line.Statement t (says.Region below above fill residence), subst (λ o. LineOf (is_first o) bytes (line.Statement t (says.Region below above fill residence))) same is, (refl, refl)))) in
+      inr (ending machine o ++ more, tells, subst (λ x. AppendsFront a b (printing (x ++ more))) e (rw (printed_both events more) (front_longer a b (printing events) (printing more) f)))
+  at (Some job) (line.Statement t (says.Request r)) is h same = kept h.0
+  at None line.Nothing is h same = absurd h
+  at (Some job) line.Nothing is h same = absurd h
+  at None (line.Statement t (says.Request r)) is h same = absurd h
+  at None (line.Statement t (says.Where name)) is h same = absurd h
+  at None (line.Statement t says.ReportSubpools) is h same = absurd h
+  at None (line.Statement t says.ReportMap) is h same = absurd h
+  at (Some job) (line.Statement t (says.Where name)) is h same = absurd h
+  at (Some job) (line.Statement t says.ReportSubpools) is h same = absurd h
+  at (Some job) (line.Statement t says.ReportMap) is h same = absurd h
 
-pub turned : (before mid after : Option (List ℕ)) (number : ℕ) (card : CardValue) (former so_far : Bool) (first : List ℕ) (new : Stage) (result : Result Unit Stop) → former ≡ so_far → Appends before mid first
-    → Performs (Begun number card former) (Before []) mid after new result → Performs (Turned number card first so_far) (Before first) before after new result
-turned before mid after number card former so_far first new (Ok u) same a p =
-    (first ++ p.0, Appends-trans before mid after first p.0 a p.1, (ap (λ x. first ++ x) p.2.0, p.2.1 ∙ ap (λ b. In (job_at card b)) same))
-turned before mid after number card former so_far first new (Err why.Write) same a (inl kept) =
-    inr (first ++ region_text number card, In (job_at card so_far), (refl, refl), front_written before after first (region_text number card) (first, [], sym (append-nil first), Appends-kept before mid after first a kept))
-turned before mid after number card former so_far first new (Err why.Write) same a (inr h) =
-    inr (first ++ h.0, In (job_at card so_far), (ap (λ x. first ++ x) h.2.0, refl), both_written before mid after first h.0 a h.3)
-turned before mid after number card former so_far first new (Err why.Memory) same a h =
-    (first ++ h.0, Appends-trans before mid after first h.0 a h.1, ap (λ x. first ++ x) h.2 ∙ append-nil first)
+-- what a step serves, where it is the one that runs
+pub served_in_step : (o : Option JobValue) (step later : JobValue) (t : Name) (s : Statement) (reply : Reply) (r : Result Short OutOfMemory) → o ≡ Some step
+    → MatchResult r (λ answer. Does Any step t s (lent later.state (fallen_in reply) t answer) later) (λ _. TakesMemory (Some step) (line.Statement t s) [])
+    → IfOk r (IsLentBy later.state)
+    → MatchResult r (λ answer. (x : JobValue) × (y : JobValue) × (o ≡ Some x) × (◌≡◌ {A = Option JobValue} (Some later) (Some y)) × Does Any x t s (lent y.state (fallen_in reply) t answer) y × IsLentBy y.state answer) (λ _. TakesMemory o (line.Statement t s) [])
+served_in_step o step later t s reply (Ok answer) is does lent = (step, later, is, refl, does, lent)
+served_in_step o step later t s reply (Err e) is takes lent = subst (λ o. TakesMemory o (line.Statement t s) []) (sym is) takes
 
--- or has not ended
-pub not_turned : (before after : Option (List ℕ)) (number : ℕ) (card : CardValue) (so_far : Bool) (first : List ℕ) (new : Stage) → AppendsFront before after first → Performs (Turned number card first so_far) (Before first) before after new (Err why.Write)
-not_turned before after number card so_far first new front = inr (first ++ region_text number card, In (job_at card so_far), (refl, refl), front_written before after first (region_text number card) front)
+-- texts that are printed by two calls, one behind the other
+both_written : {W X Y E F : Type 0} (contents : W → Option (List ℕ)) (old mid new : WatchedValue W) (u : X) (result : Result Y F) (first second : List ℕ) → Prints {W = W} {X = X} {E = E} contents old mid (Ok u) first → Prints {W = W} {X = Y} {E = F} contents mid new result second
+    → Prints {W = W} {X = Y} {E = F} contents old new result (first ++ second)
+both_written contents old mid new u (Ok v) first second p q = record { bytes = Appends-trans (contents old.inner) (contents mid.inner) (contents new.inner) first second p.bytes q.bytes; ok = q.ok ∙ p.ok; err = tt }
+both_written contents old mid new u (Err e) first second p q = record { bytes = front_more (contents old.inner) (contents mid.inner) (contents new.inner) first second p.bytes q.bytes; ok = tt; err = q.err }
 
--- A REGION statement that takes memory, and a request that sets a name.
-pub region_takes : (old : Option JobValue) (t : Name) (s : Statement) (card : CardValue) (text : List ℕ) → card_said t s ≡ Some card → text ≡ ending old → TakesMemory (stage_of old) (line.Statement t s) text
-region_takes None t (says.Region below above fill residence) card text is e = e
-region_takes (Some job) t (says.Region below above fill residence) card text is e = e
-region_takes old t (says.Request a) card text is e = absurd (let f : None ≡ Some card = is in cc)
-region_takes old t (says.Where name) card text is e = absurd (let f : None ≡ Some card = is in cc)
-region_takes old t says.ReportSubpools card text is e = absurd (let f : None ≡ Some card = is in cc)
-region_takes old t says.ReportMap card text is e = absurd (let f : None ≡ Some card = is in cc)
-
-pub request_takes : (job : JobValue) (t : Name) (s : Statement) (a : Written) (text : List ℕ) → s ≡ says.Request a → (text ≡ []) × SetsName job t a → TakesMemory (In job) (line.Statement t s) text
-request_takes job t s a text is h = subst (λ s. TakesMemory (In job) (line.Statement t s) text) (sym is) h
-
--- what takes memory in the step that runs
-pub takes_in : (old : Option JobValue) (job : JobValue) (t : Name) (s : Statement) (text : List ℕ) → old ≡ Some job → TakesMemory (In job) (line.Statement t s) text → TakesMemory (stage_of old) (line.Statement t s) text
-takes_in old job t s text is h = subst (λ o. TakesMemory (stage_of o) (line.Statement t s) text) (sym is) h
+-- what is printed for events by one call, and for one more by the next
+pub then_printed : {W X Y E F : Type 0} (contents : W → Option (List ℕ)) (old mid new : WatchedValue W) (u : X) (result : Result Y F) (events : List Event) (e : Event) → Prints {W = W} {X = X} {E = E} contents old mid (Ok u) (printing events)
+    → Prints {W = W} {X = Y} {E = F} contents mid new result (text_of e) → Prints {W = W} {X = Y} {E = F} contents old new result (printing (events ++ e ∷ []))
+then_printed contents old mid new u result events e p q = rw (printed_both events (e ∷ []), append-nil (text_of e)) (both_written contents old mid new u result (printing events) (text_of e) p q)
 
 -- what holds where a result is not Ok
 pub err_of : {T E P : Type 0} (r : Result T E) → ((x : T) → r ≡ Ok x → ⊥) → OnErr r P → P
 err_of (Ok x) other h = absurd (other x refl)
 err_of (Err e) other h = h
+
+-- what holds where memory was wanting
+pub not_answered : (o new : Option JobValue) (t : Name) (s : Statement) (reply : Reply) (r : Result Short OutOfMemory) → ((x : Short) → r ≡ Ok x → ⊥)
+    → MatchResult r (λ answer. (x : JobValue) × (y : JobValue) × (o ≡ Some x) × (new ≡ Some y) × Does Any x t s (lent y.state (fallen_in reply) t answer) y × IsLentBy y.state answer) (λ _. TakesMemory o (line.Statement t s) [])
+    → TakesMemory o (line.Statement t s) []
+not_answered o new t s reply (Ok x) other h = absurd (other x refl)
+not_answered o new t s reply (Err e) other h = h

@@ -1,254 +1,235 @@
-//! A job: from the lines of a script to the printed lines.
+//! A step with the names that it has set: it serves statements, and lends what their answers speak of.
 
-ghost use Rattle.std.specs.Prelude.{◌≡◌, ◌++◌, [], List, ℕ, Bool, Some, true, IfOk, IfSome, OnOk, OnErr, IsErrOf, MatchResult};
-ghost use Rattle.std.specs.Io.KnownBytes.{Appends};
-ghost use Rattle.mvs_model.specs.Card.{IsCard};
-ghost use Rattle.mvs_model.specs.Job.{job_at};
-ghost use Rattle.mvs_model.specs.Lines.{IsStatement};
-ghost use Rattle.mvs_model.specs.Runs.{Closes, In, Serves, end_text, is_before};
-ghost use Rattle.mvs_model.specs.Memory.{TakesMemory};
-ghost use Rattle.mvs_model.specs.Texts.{region_text};
+ghost use Rattle.std.specs.Prelude.{◌≡◌, ◌≢◌, ◌||◌, ◌<◌, ◌≤◌, ◌↔◌, ℕ, List, [], ◌+◌, true, false, None, Some, IfOk, IfSome, IsSome, MatchOption, MatchResult, length, slice_get};
+ghost use Rattle.std.specs.FinMap.{get};
 ghost use Rattle.mvs_model.specs.declared.line.Line.TheVariants as line;
-ghost use Rattle.mvs_job.specs.Serving.{Performs, RunsLine, card_said, ending, has_abended, stage_of};
-ghost use Rattle.job_script.specs.Writing.{AppendsFront, WritesAll};
+ghost use Rattle.mvs_model.specs.declared.name.Name.{Name as TaskName};
+ghost use Rattle.mvs_model.specs.Card.{IsCard};
+ghost use Rattle.mvs_model.specs.Changes.{Granted};
+ghost use Rattle.mvs_model.specs.Job.{JobValue, job_at};
+ghost use Rattle.mvs_model.specs.Lent.{fallen_in, lent};
+ghost use Rattle.mvs_model.specs.Lines.{IsStatement, IsWritten};
+ghost use Rattle.mvs_model.specs.Memory.{SetsName, TakesMemory};
+ghost use Rattle.mvs_model.specs.Numbers.{most_shown, subpool_numbers};
+ghost use Rattle.mvs_model.specs.Owners.{is_active};
+ghost use Rattle.mvs_model.specs.Place.{PlaceValue};
+ghost use Rattle.mvs_model.specs.Replies as replies;
+ghost use Rattle.mvs_model.specs.Resolving.{resolved};
+ghost use Rattle.mvs_model.specs.Runs.{Any, Asks, Does};
+ghost use Rattle.mvs_model.specs.State.{State};
+ghost use Rattle.mvs_model.specs.View.{IsBounded};
+ghost use Rattle.step_machine.specs.Reports.{HasNone, IsMapEnd, IsMapRun, IsSubpoolLine};
+ghost use Rattle.mvs_job.specs.Telling.{IsLentBy, card_said};
 
-use crate::serve::Job;
-use job_script::{print_fault, print_region, print_step_end, read_line_into};
+use job_script::{Names, resolve, set_names};
+use mvs_model::answer::Answer;
 use mvs_model::card::Card;
-use mvs_model::line::{Fault, Line, Statement};
+use mvs_model::error::OutOfMemory;
+use mvs_model::line::{Statement, Written};
 use mvs_model::name::Name;
-use mvs_model::outcome::Outcome;
+use mvs_model::place::{Addr, Place};
+use mvs_model::report::{MapRun, SubpoolLine};
 use mvs_model::request::{Reply, Request};
 use mvs_model::want::Placement;
-use mvs_model::watched::{Failed, Watched};
 use std::alloc::Global;
-use std::io::Write;
+use std::marker::Model;
+use step_machine::Step;
 
-/// Why a job stops before its end.
-#[derive(Clone, Copy, Debug, PartialEq, Eq)]
-pub enum Stop {
-    Write,
-    Memory,
-}
-
-impl From<Failed> for Stop {
-    ghost use Rattle.std.specs.Prelude.{◌≡◌};
-    ghost use Rattle.mvs_job.specs.declared.job.Stop.TheVariants.{Write};
-
-    ghost from_gives = { λ _ stop. stop ≡ Write };
-
-    fn from(_failed: Failed) -> Stop
-        ensures { result ≡ Stop.Write }
-    {
-        Stop::Write
-    }
-}
-
-/// What is read, asked and answered for a line. It is kept from one line to the next, so that its places, which are long, are cleared once.
+/// A step with the names that it has set, and what became of the former steps.
 #[derive(Drop)]
-pub struct Scratch {
-    read: Line,
-    request: Request,
-    reply: Reply,
-}
-
-impl Scratch {
-    ghost use Rattle.mvs_model.specs.declared.request.Request.TheVariants as request;
-    ghost use Rattle.mvs_model.specs.declared.request.Reply.TheVariants as reply;
-
-    /// A line that says nothing, and a request that was not run.
-    pub fn new() -> Scratch
-        ensures read { result.read ≡ line.Nothing }
-        ensures request { result.request ≡ request.Return }
-        ensures reply { result.reply ≡ reply.NotRun }
-    {
-        Scratch {
-            read: Line::Nothing,
-            request: Request::Return,
-            reply: Reply::NotRun,
-        }
-    }
-}
-
-// The card of a REGION statement of a task; the other statements have none.
-fn card_said(task: &Name, statement: &Statement) -> Option<Card>
-    requires { (first : Bool) × IsStatement first task.now statement.now }
-    ensures card { result ≡ card_said task.now statement.now }
-    ensures in_range { IfSome result IsCard }
-{
-    let Statement::Region {
-        below,
-        above,
-        fill,
-        residence,
-    } = statement
-    else {
-        return None;
-    };
-    match Card::new(*task, below.get(), above.get(), *fill, *residence) {
-        Some(card) => Some(card),
-        None => unreachable!(),
-    }
-}
-
-// Ends the step that runs, if one does: its storage and its names are given up. Answers whether a task has abended so far.
-fn end_step<W: Write>(stage: &mut Option<Job>, writer: &mut Watched<W>) -> Result<bool, Failed>
-    ensures bytes { WritesAll (W.contents writer.old.inner) (W.contents writer.new.inner) result (ending stage.old) }
-    ensures so_far { IfOk result (λ former. former ≡ has_abended stage.old) }
-    ensures ok { OnOk result (writer.new.failed ≡ writer.old.failed) }
-    ensures err { OnErr result (writer.new.failed ≡ true) }
-{
-    let Some(job) = stage else {
-        return Ok(false);
-    };
-    print_step_end(writer, job.abended())?;
-    let former = job.any_abended();
-    *stage = None;
-    Ok(former)
-}
-
-// The step that runs from now on.
-fn start_step(stage: &mut Option<Job>, job: Job)
-    ensures { stage.new ≡ Some job }
-{
-    *stage = Some(job);
-}
-
-// Begins the step of a card.
-fn begin_step<W: Write>(
-    stage: &mut Option<Job>,
-    alloc: Global,
-    placement: Placement,
-    line_number: u32,
-    card: &Card,
+pub struct Job {
+    step: Step,
+    names: Names,
     former: bool,
-    writer: &mut Watched<W>,
-) -> Result<(), Stop>
-    requires { IsCard card.now }
-    ensures begun { Performs (λ text new. (text ≡ region_text line_number card.now) × (new ≡ In (job_at card.now former))) (λ text. text ≡ [])
-        (W.contents writer.old.inner) (W.contents writer.new.inner) (stage_of stage.new) result }
-    ensures ok { OnOk result (writer.new.failed ≡ writer.old.failed) }
-    ensures write { IsErrOf result Stop.Write → writer.new.failed ≡ true }
-{
-    let Ok(job) = Job::new(alloc, card, placement, former) else {
-        return Err(Stop::Memory);
-    };
-    start_step(stage, job);
-    print_region(writer, line_number, card)?;
-    Ok(())
 }
 
-// Serves a REGION statement: the step that runs ends, and that of the card begins.
-fn turn_step<W: Write>(
-    stage: &mut Option<Job>,
-    alloc: Global,
-    placement: Placement,
-    line_number: u32,
-    card: &Card,
-    writer: &mut Watched<W>,
-) -> Result<(), Stop>
-    requires { IsCard card.now }
-    ensures turned { Performs (λ text new. (text ≡ ending stage.old ++ region_text line_number card.now) × (new ≡ In (job_at card.now (has_abended stage.old)))) (λ text. text ≡ ending stage.old)
-        (W.contents writer.old.inner) (W.contents writer.new.inner) (stage_of stage.new) result }
-    ensures ok { OnOk result (writer.new.failed ≡ writer.old.failed) }
-    ensures write { IsErrOf result Stop.Write → writer.new.failed ≡ true }
-{
-    let former = end_step(stage, writer)?;
-    begin_step(stage, alloc, placement, line_number, card, former, writer)
+impl Model for Job {
+    ghost use Rattle.mvs_model.specs.Job.{JobValue};
+    ghost use Rattle.mvs_job.specs.Telling.{job_code};
+    ghost use Rattle.mvs_job.specs.Steady.{IsSteady};
+
+    ghost Value = { JobValue };
+
+    ghost coded = { job_code };
+
+    ghost view = { λ r. record { state = r.step.state; names = r.names; abended = r.step.abended; former = r.former } };
+
+    ghost invariant = { λ r. IsSteady r.step.state };
 }
 
-// Serves a statement of a task.
-fn run_statement<W: Write>(
-    stage: &mut Option<Job>,
-    alloc: Global,
-    placement: Placement,
-    line_number: u32,
-    task: &Name,
-    statement: &Statement,
-    request: &mut Request,
-    reply: &mut Reply,
-    writer: &mut Watched<W>,
-) -> Result<(), Stop>
-    requires { IsStatement (is_before (stage_of stage.old)) task.now statement.now }
-    ensures served { Performs (Serves line_number (stage_of stage.old) (line.Statement task.now statement.now)) (TakesMemory (stage_of stage.old) (line.Statement task.now statement.now)) (W.contents writer.old.inner) (W.contents writer.new.inner) (stage_of stage.new) result }
-    ensures ok { OnOk result (writer.new.failed ≡ writer.old.failed) }
-    ensures write { IsErrOf result Stop.Write → writer.new.failed ≡ true }
+// What a grant tells: its length, where the request is variable.
+fn grant_answer(written: &Written, place: &Place) -> Answer
+    ensures answer { (st : State) (fallen : List TaskName) (t : TaskName)
+        → lent st fallen t result ≡ replies.grant_answer written.now place.now }
+    ensures quiet { (p : PlaceValue) → result ≢ Answer.Data p }
 {
-    if let Some(card) = card_said(task, statement) {
-        return turn_step(stage, alloc, placement, line_number, &card, writer);
-    }
-    match stage {
-        Some(job) => job.serve(line_number, task, statement, request, reply, writer),
-        None => unreachable!(),
+    match written {
+        Written::Obtain { variable: true, .. } => Answer::Granted(place.len()),
+        _ => Answer::Rc0,
     }
 }
 
-/// Runs one line, and answers whether the job goes on after it.
-pub fn run_line<W: Write>(
-    stage: &mut Option<Job>,
-    alloc: Global,
-    placement: Placement,
-    line_number: u32,
-    line: &[u8],
-    scratch: &mut Scratch,
-    writer: &mut Watched<W>,
-) -> Result<bool, Stop>
-    ensures ran { RunsLine (W.contents writer.old.inner) (W.contents writer.new.inner) line_number (stage_of stage.old) line.now (stage_of stage.new) result }
-    ensures ok { OnOk result (writer.new.failed ≡ writer.old.failed) }
-    ensures write { IsErrOf result Stop.Write → writer.new.failed ≡ true }
+// What a request tells that read or wrote bytes: SHOW lends what it read.
+fn done_answer(request: &Request) -> Answer
+    ensures answer { (st : State) (fallen : List TaskName) (t : TaskName)
+        → lent st fallen t result ≡ replies.done_answer st request.now }
+    ensures shown { (p : PlaceValue) → result ≡ Answer.Data p
+        → (request.now ≡ Request.Show p.addr p.len) × (p.len ≤ most_shown) }
 {
-    match read_line_into(line, stage.is_none(), &mut scratch.read) {
-        Ok(()) => {}
-        Err(fault) => {
-            print_fault(writer, line_number, fault)?;
-            return Ok(false);
+    match request {
+        Request::Show { from, len } => Answer::Data(Place::new(*from, len.get())),
+        _ => Answer::Done,
+    }
+}
+
+// What the reply to a request tells.
+fn answer_of(written: &Written, request: &Request, reply: &Reply) -> Answer
+    ensures answer { (st : State) (t : TaskName)
+        → lent st (fallen_in reply.now) t result
+        ≡ replies.answer_of st written.now request.now reply.now }
+    ensures shown { (p : PlaceValue) → result ≡ Answer.Data p
+        → (request.now ≡ Request.Show p.addr p.len) × (reply.now ≡ Reply.Done)
+        × (p.len ≤ most_shown) }
+{
+    match reply {
+        Reply::NotRun => Answer::NotRun,
+        Reply::Rc0 | Reply::Listed(_) => Answer::Rc0,
+        Reply::Rc4 => Answer::Rc4,
+        Reply::Obtained(place) => grant_answer(written, place),
+        Reply::Cell(_) => Answer::Cell,
+        Reply::NoCell => Answer::NoCell,
+        Reply::Attached => Answer::Attached,
+        Reply::Ended => Answer::Ended,
+        Reply::Done => done_answer(request),
+        Reply::Abended(code, _) => Answer::Abended(*code),
+    }
+}
+
+// What WHERE tells of a name.
+fn where_answer(place: Option<Place>) -> Answer
+    ensures answer { (st : State) (fallen : List TaskName) (t : TaskName)
+        → lent st fallen t result ≡ replies.where_answer place }
+    ensures quiet { (st : State) → IsLentBy st result }
+{
+    match place {
+        Some(place) => Answer::At(place.addr()),
+        None => Answer::NoName,
+    }
+}
+
+impl Job {
+    /// A step at its start; `former` says whether a task of a former step has abended.
+    pub fn new(
+        alloc: Global,
+        card: &Card,
+        placement: Placement,
+        former: bool,
+    ) -> Result<Job, OutOfMemory>
+        requires { IsCard card.now }
+        ensures { IfOk result (λ job. job ≡ job_at card.now former) }
+    {
+        let step = Step::new(alloc, card, placement)?;
+        Ok(Job {
+            step,
+            names: Names::new(alloc),
+            former,
+        })
+    }
+
+    /// Whether a task of the step has abended.
+    pub fn abended(&self) -> bool
+        ensures { result ≡ self.now.abended }
+    {
+        self.step.abended()
+    }
+
+    /// Whether a task of this step or of a former one has abended.
+    pub fn any_abended(&self) -> bool
+        ensures { result ≡ (self.now.abended || self.now.former) }
+    {
+        self.abended() || self.former
+    }
+
+    /// The bytes of a place; None where one of them may not be read.
+    pub fn bytes(&self, place: Place) -> Option<&[u8]>
+        ensures granted { IsSome result ↔ Granted self.now.state place }
+        ensures len { IfSome result (λ part. length part.now ≡ place.len) }
+        ensures bytes { IfSome result
+            (λ part. (k : ℕ) → k < place.len
+            → slice_get part.now k ≡ get self.now.state.bytes (place.addr + k)) }
+    {
+        self.step.bytes(place)
+    }
+
+    /// The line of REPORT SP for the first number at or after `from` that the task has; None where it has none.
+    pub fn subpool_line(&self, task: &Name, from: u8) -> Option<SubpoolLine>
+        ensures { MatchOption result (HasNone self.now.state.owners task.now from subpool_numbers)
+            (IsSubpoolLine self.now.state task.now from) }
+    {
+        self.step.subpool_line(task, from)
+    }
+
+    /// The first run of REPORT MAP that begins at or after an address; None where there is none.
+    pub fn map_run(&self, from: Addr) -> Option<MapRun>
+        ensures run { MatchOption result (IsMapEnd self.now.state from)
+            (IsMapRun self.now.state from) }
+        ensures bounded { IsBounded self.now.state.regions }
+    {
+        self.step.map_run(from)
+    }
+
+    // Serves a request of an active task.
+    fn ask(
+        &mut self,
+        task: &Name,
+        written: &Written,
+        request: &mut Request,
+        reply: &mut Reply,
+    ) -> Result<Answer, OutOfMemory>
+        requires written { IsWritten written.now }
+        requires active { is_active self.old.state.owners task.now ≡ true }
+        ensures served { MatchResult result
+            (λ answer. Asks Any self.old task.now written.now (resolved self.old.names written.now)
+            (lent self.new.state (fallen_in reply.new) task.now answer) self.new)
+            (λ _. SetsName self.old task.now written.now) }
+        ensures lent { IfOk result (IsLentBy self.new.state) }
+    {
+        let Some(()) = resolve(&self.names, written, request) else {
+            return Ok(Answer::NoName);
+        };
+        self.step.request(task, request, reply);
+        let Ok(()) = set_names(&mut self.names, written, reply) else {
+            return Err(OutOfMemory);
+        };
+        Ok(answer_of(written, request, reply))
+    }
+
+    /// Serves a statement of the step, which is not REGION. The request that it asks for and the reply to that are written over
+    /// `request` and `reply`, which are long; the reply has the names of the tasks that ended with one that abended.
+    pub fn serve(
+        &mut self,
+        task: &Name,
+        statement: &Statement,
+        request: &mut Request,
+        reply: &mut Reply,
+    ) -> Result<Answer, OutOfMemory>
+        requires in_range { IsStatement false task.now statement.now }
+        requires of_step { card_said task.now statement.now ≡ None }
+        ensures served { MatchResult result
+            (λ answer. Does Any self.old task.now statement.now
+            (lent self.new.state (fallen_in reply.new) task.now answer) self.new)
+            (λ _. TakesMemory (Some self.old) (line.Statement task.now statement.now) []) }
+        ensures lent { IfOk result (IsLentBy self.new.state) }
+    {
+        if !self.step.is_active(task) {
+            return Ok(Answer::NotRun);
         }
-    }
-    match &scratch.read {
-        Line::Nothing => Ok(true),
-        Line::Statement(task, statement) => {
-            match run_statement(
-                stage,
-                alloc,
-                placement,
-                line_number,
-                task,
-                statement,
-                &mut scratch.request,
-                &mut scratch.reply,
-                writer,
-            ) {
-                Ok(()) => Ok(true),
-                Err(stop) => Err(stop),
-            }
-        }
-    }
-}
-
-/// Prints the end of a job that has no more lines, and answers how it ends.
-pub fn close<W: Write>(
-    stage: &Option<Job>,
-    line_number: u32,
-    writer: &mut Watched<W>,
-) -> Result<Outcome, Failed>
-    ensures closed { MatchResult result
-        (λ outcome. (text : List ℕ) × Appends (W.contents writer.old.inner) (W.contents writer.new.inner) text × Closes line_number (stage_of stage.now) text outcome)
-        (λ _. (text : List ℕ) × (outcome : Outcome) × Closes line_number (stage_of stage.now) text outcome × AppendsFront (W.contents writer.old.inner) (W.contents writer.new.inner) text) }
-    ensures ok { OnOk result (writer.new.failed ≡ writer.old.failed) }
-    ensures err { OnErr result (writer.new.failed ≡ true) }
-{
-    match stage {
-        None => {
-            print_fault(writer, line_number, Fault::OutOfPlace)?;
-            Ok(Outcome::ScriptFault)
-        }
-        Some(job) => {
-            print_step_end(writer, job.abended())?;
-            if job.any_abended() {
-                Ok(Outcome::SomeAbend)
-            } else {
-                Ok(Outcome::Clean)
-            }
+        match statement {
+            Statement::Request(written) => self.ask(task, written, request, reply),
+            Statement::Where(name) => Ok(where_answer(self.names.get(name))),
+            Statement::ReportSubpools => Ok(Answer::Subpools),
+            Statement::ReportMap => Ok(Answer::Map),
+            Statement::Region { .. } => unreachable!(),
         }
     }
 }

@@ -2,12 +2,15 @@
 #![tactic(auto)]
 
 mod job;
+mod printing;
 mod reports;
 mod run;
-mod serve;
 mod session;
 mod stream;
+mod walk;
 
-pub use job::Stop;
+pub use job::Job;
+pub use printing::{Stop, print_closing, print_line};
 pub use run::{RunFault, run_job};
 pub use session::Session;
+pub use walk::{Closing, LineTold, Stopped, Walk};

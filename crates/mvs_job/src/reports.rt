@@ -1,15 +1,15 @@
 //! Prints the reports on subpools and pages, which are this project's own.
 
-ghost use Rattle.std.specs.Prelude.{◌≡◌, ◌<◌, ◌≤◌, ◌+◌, ◌++◌, length, true, OnOk, OnErr};
-ghost use Rattle.mvs_model.specs.View.{IsBounded};
-ghost use Rattle.mvs_model.specs.Numbers.{subpool_numbers};
-ghost use Rattle.mvs_model.specs.Owners.{entry};
-ghost use Rattle.mvs_model.specs.Reports.{each_below, entry_line, map_text, subpools_text};
-ghost use Rattle.request_forms.specs.Reports.{IsSubpoolLine};
-ghost use Rattle.job_script.specs.Writing.{WritesAll};
+ghost use Rattle.std.specs.Prelude.{◌≡◌, ◌<◌, ◌≤◌, ◌+◌, ◌++◌, length};
+ghost use Rattle.std.specs.List.{flat_map};
+ghost use Rattle.mvs_model.specs.Answers.{Map, Subpools};
+ghost use Rattle.mvs_model.specs.Reports.{page_map, subpool_lines_of};
+ghost use Rattle.mvs_model.specs.Texts.{answer_text, reply_line, subpool_text};
+ghost use Rattle.step_machine.specs.Reports.{IsSubpoolLine};
+ghost use Rattle.job_script.specs.Writing.{Prints};
 
+use crate::job::Job;
 use job_script::{print_map_run, print_no_subpool, print_subpool_line};
-use job_step::Step;
 use mvs_model::name::Name;
 use mvs_model::numbers::BELOW_BEGINS;
 use mvs_model::place::Addr;
@@ -22,20 +22,20 @@ fn print_numbers<W: Write>(
     writer: &mut Watched<W>,
     line_number: u32,
     task: &Name,
-    step: &Step,
+    job: &Job,
     first: SubpoolLine,
 ) -> Result<(), Failed>
-    requires { IsSubpoolLine step.now.state task.now 0 first }
-    ensures bytes { WritesAll (W.contents writer.old.inner) (W.contents writer.new.inner) result (each_below subpool_numbers (λ n. entry_line line_number step.now.state task.now n (entry step.now.state.owners task.now n))) }
-    ensures ok { OnOk result (writer.new.failed ≡ writer.old.failed) }
-    ensures err { OnErr result (writer.new.failed ≡ true) }
+    requires { IsSubpoolLine job.now.state task.now 0 first }
+    ensures { Prints W.contents writer.old writer.new result
+        (flat_map (λ l. reply_line line_number task.now (subpool_text l))
+        (subpool_lines_of job.now.state task.now)) }
 {
     let mut from = 0u8;
     let mut next = Some(first);
     'lines: while let Some(line) = next {
         print_subpool_line(writer, line_number, task, &line)?;
         from = line.number.get() + 1;
-        next = step.subpool_line(task, from);
+        next = job.subpool_line(task, from);
     }
     Ok(())
 }
@@ -45,14 +45,13 @@ pub fn print_subpools<W: Write>(
     writer: &mut Watched<W>,
     line_number: u32,
     task: &Name,
-    step: &Step,
+    job: &Job,
 ) -> Result<(), Failed>
-    ensures bytes { WritesAll (W.contents writer.old.inner) (W.contents writer.new.inner) result (subpools_text line_number step.now.state task.now) }
-    ensures ok { OnOk result (writer.new.failed ≡ writer.old.failed) }
-    ensures err { OnErr result (writer.new.failed ≡ true) }
+    ensures { Prints W.contents writer.old writer.new result
+        (answer_text line_number task.now (Subpools (subpool_lines_of job.now.state task.now))) }
 {
-    match step.subpool_line(task, 0) {
-        Some(first) => print_numbers(writer, line_number, task, step, first),
+    match job.subpool_line(task, 0) {
+        Some(first) => print_numbers(writer, line_number, task, job, first),
         None => print_no_subpool(writer, line_number, task),
     }
 }
@@ -62,15 +61,13 @@ pub fn print_map<W: Write>(
     writer: &mut Watched<W>,
     line_number: u32,
     task: &Name,
-    step: &Step,
+    job: &Job,
 ) -> Result<(), Failed>
-    requires { IsBounded step.now.state.regions }
-    ensures bytes { WritesAll (W.contents writer.old.inner) (W.contents writer.new.inner) result (map_text line_number step.now.state task.now) }
-    ensures ok { OnOk result (writer.new.failed ≡ writer.old.failed) }
-    ensures err { OnErr result (writer.new.failed ≡ true) }
+    ensures { Prints W.contents writer.old writer.new result
+        (answer_text line_number task.now (Map (page_map job.now.state))) }
 {
     let mut from = Addr::new(BELOW_BEGINS);
-    'runs: while let Some(run) = step.map_run(from) {
+    'runs: while let Some(run) = job.map_run(from) {
         print_map_run(writer, line_number, task, &run)?;
         from = Addr::new(run.addr.get() + run.len);
     }

@@ -1,8 +1,8 @@
 //! The whole job, from a reader to a writer.
 
-ghost use Rattle.std.specs.Prelude.{◌≡◌, ◌≢◌, ◌+◌, ◌<◌, ◌≤◌, length, true, false, IfOk, IfErr, OnOk, IsErrOf};
+ghost use Rattle.std.specs.Prelude.{◌≡◌, ◌≢◌, ◌⊎◌, ◌+◌, ◌<◌, ◌≤◌, length, take, true, false, IfOk, IfErr, OnOk, IsErrOf};
 ghost use Rattle.std.specs.Io.KnownBytes.{IsAtEnd};
-ghost use Rattle.mvs_model.specs.Runs.{IsPrinting, IsPrintingFront};
+ghost use Rattle.mvs_model.specs.Runs.{IsAnswered, IsPrinting, IsPrintingFront};
 ghost use Rattle.mvs_model.specs.Labels.{IsLabelText};
 ghost use Rattle.mvs_model.specs.Memory.{IsPrintingBefore};
 ghost use Rattle.mvs_model.specs.Numbers.{most_script_bytes};
@@ -69,25 +69,41 @@ pub fn run_job<R: Read, W: Write>(
     requires reader { reader.old.failed ≡ false }
     requires writer { writer.old.failed ≡ false }
     // What is written is the printing of a run of the script: of what was told and what the reader has left.
-    ensures ok { IfOk result (λ outcome.
-        Exchanges (R.remaining reader.old.inner) (R.remaining reader.new.inner) (W.contents writer.old.inner) (W.contents writer.new.inner)
-        (λ told script written. (length told ≤ most_script_bytes) × IsPrinting script written outcome)) }
+    ensures ok { IfOk result
+        (λ outcome. Exchanges (R.remaining reader.old.inner) (R.remaining reader.new.inner)
+        (W.contents writer.old.inner) (W.contents writer.new.inner)
+        (λ told script written. (length told ≤ most_script_bytes)
+        × IsPrinting script written outcome)) }
     // Where a tidy script was granted in full, it is what the label machine prints, wherever the areas lie.
-    ensures tidy { IfOk result (λ outcome.
-        Exchanges (R.remaining reader.old.inner) (R.remaining reader.new.inner) (W.contents writer.old.inner) (W.contents writer.new.inner)
-        (λ told script written. IsPrinting script written outcome × (Tidy script → IsPrintingInFull script written outcome → IsLabelText script written))) }
+    ensures tidy { IfOk result
+        (λ outcome. Exchanges (R.remaining reader.old.inner) (R.remaining reader.new.inner)
+        (W.contents writer.old.inner) (W.contents writer.new.inner)
+        (λ told script written. IsPrinting script written outcome
+        × (Tidy script → IsPrintingInFull script written outcome
+        → IsLabelText script written))) }
     // All was read, or the script has a fault.
-    ensures end { IfOk result (λ outcome. outcome ≢ Outcome.ScriptFault → IsAtEnd (R.remaining reader.new.inner)) }
+    ensures end { IfOk result
+        (λ outcome. outcome ≢ Outcome.ScriptFault → IsAtEnd (R.remaining reader.new.inner)) }
     ensures healthy { OnOk result ((reader.new.failed ≡ false) × (writer.new.failed ≡ false)) }
     // Else it is a front of such a printing.
-    ensures fault { IfErr result (λ fault.
-        Exchanges (R.remaining reader.old.inner) (R.remaining reader.new.inner) (W.contents writer.old.inner) (W.contents writer.new.inner)
-        (λ told script written. (length told ≤ most_script_bytes + 1) × IsPrintingFront script written
+    ensures fault { IfErr result
+        (λ fault. Exchanges (R.remaining reader.old.inner) (R.remaining reader.new.inner)
+        (W.contents writer.old.inner) (W.contents writer.new.inner)
+        (λ told script written. (length told ≤ most_script_bytes + 1)
+        × IsPrintingFront script written
         × (fault ≡ RunFault.ReadTooLong → most_script_bytes < length told))) }
     // For want of memory it is the whole printing before the reply to a REGION statement, or to a granted request that sets a name.
-    ensures memory { IfErr result (λ fault. fault ≡ RunFault.Memory →
-        Exchanges (R.remaining reader.old.inner) (R.remaining reader.new.inner) (W.contents writer.old.inner) (W.contents writer.new.inner)
+    ensures memory { IfErr result
+        (λ fault. fault ≡ RunFault.Memory
+        → Exchanges (R.remaining reader.old.inner) (R.remaining reader.new.inner)
+        (W.contents writer.old.inner) (W.contents writer.new.inner)
         (λ told script written. IsPrintingBefore script written)) }
+    // Before a read that failed, and before the byte that is too many, all lines that have ended are answered.
+    ensures answered { IfErr result
+        (λ fault. (fault ≡ RunFault.Read) ⊎ (fault ≡ RunFault.ReadTooLong)
+        → Exchanges (R.remaining reader.old.inner) (R.remaining reader.new.inner)
+        (W.contents writer.old.inner) (W.contents writer.new.inner)
+        (λ told script written. IsAnswered (take most_script_bytes told) written)) }
     ensures read { IsErrOf result RunFault.Read → reader.new.failed ≡ true }
     ensures write { IsErrOf result RunFault.Write → writer.new.failed ≡ true }
 {

@@ -1,30 +1,27 @@
 //! A job that is told its lines one by one.
 
-ghost use Rattle.std.specs.Prelude.{◌≡◌, ◌≢◌, ◌<◌, ◌≤◌, ◌+◌, ◌^◌, ◌⊎◌, List, ℕ, true, false, OnOk, OnErr, Ok, IsErrOf, MatchResult};
-ghost use Rattle.std.specs.Io.KnownBytes.{Appends};
-ghost use Rattle.mvs_model.specs.Runs.{Closes};
-ghost use Rattle.job_script.specs.Writing.{AppendsFront};
-ghost use Rattle.mvs_job.specs.Serving.{RunsLine, stage_of};
+ghost use Rattle.std.specs.Prelude.{◌≡◌, ◌≢◌, ◌<◌, ◌≤◌, ◌+◌, ◌^◌, ◌⊎◌, ◌↔◌, ◌∷◌, [], ℕ, true, false, None, Some, Ok, IfOk, IfSome, IsSome, MatchOption, MatchResult, length, slice_get};
+ghost use Rattle.std.specs.FinMap.{get};
+ghost use Rattle.mvs_model.specs.Changes.{Granted};
+ghost use Rattle.mvs_model.specs.Job.{JobValue};
+ghost use Rattle.mvs_model.specs.Memory.{StopsForMemory};
+ghost use Rattle.mvs_model.specs.Numbers.{subpool_numbers};
+ghost use Rattle.mvs_model.specs.Runs.{machine};
+ghost use Rattle.mvs_model.specs.Walk.{Closes};
 ghost use Rattle.mvs_job.specs.Sessions.{new_session};
+ghost use Rattle.mvs_job.specs.Telling.{IsLent, IsTold, closing, ended, goes_on};
 
-use crate::job::{Scratch, Stop, close, run_line};
-use crate::serve::Job;
-use mvs_model::outcome::Outcome;
+use crate::walk::{Closing, LineTold, Stopped, Walk};
+use mvs_model::name::Name;
 use mvs_model::want::Placement;
-use mvs_model::watched::{Failed, Watched};
 use std::alloc::Global;
-use std::io::Write;
 use std::marker::Model;
 
 /// A job, from before its first line on.
 #[derive(Drop)]
 pub struct Session {
-    alloc: Global,
-    placement: Placement,
-    stage: Option<Job>,
-    number: u32,
+    walk: Walk,
     goes_on: bool,
-    scratch: Scratch,
 }
 
 impl Model for Session {
@@ -34,7 +31,7 @@ impl Model for Session {
 
     ghost coded = { session_code };
 
-    ghost view = { λ s. record { step = s.stage; number = s.number; goes_on = s.goes_on } };
+    ghost view = { λ s. record { walk = s.walk; goes_on = s.goes_on } };
 }
 
 impl Session {
@@ -43,71 +40,64 @@ impl Session {
         ensures { result ≡ new_session }
     {
         Session {
-            alloc,
-            placement,
-            stage: None,
-            number: 1,
+            walk: Walk::new(alloc, placement),
             goes_on: true,
-            scratch: Scratch::new(),
         }
     }
 
     /// Whether the job takes a line: it has not ended, and there is a number for the line behind.
     pub fn takes_line(&self) -> bool
-        ensures yes { result ≡ true → (self.now.goes_on ≡ true) × (self.now.number + 1 < 2 ^ 32) }
-        ensures no { result ≡ false → (self.now.goes_on ≡ false) ⊎ (2 ^ 32 ≤ self.now.number + 1) }
+        ensures yes { result ≡ true
+            → (self.now.goes_on ≡ true) × (self.now.walk.number + 1 < 2 ^ 32) }
+        ensures no { result ≡ false
+            → (self.now.goes_on ≡ false) ⊎ (2 ^ 32 ≤ self.now.walk.number + 1) }
     {
-        self.goes_on && self.number < u32::MAX
+        self.goes_on && self.walk.number() < u32::MAX
     }
 
-    /// Whether the job goes on: no line had a fault, and it was neither stopped nor ended.
+    /// Whether the job goes on: no line had a fault, memory was not wanting, and it was not closed.
     pub fn goes_on(&self) -> bool
         ensures { result ≡ self.now.goes_on }
     {
         self.goes_on
     }
 
-    /// Runs one line, which is told without its end, and answers whether the job goes on after it.
-    pub fn line<W: Write>(&mut self, line: &[u8], writer: &mut Watched<W>) -> Result<bool, Stop>
-        requires goes_on { self.old.goes_on ≡ true }
-        requires number { self.old.number + 1 < 2 ^ 32 }
-        ensures ran { RunsLine (W.contents writer.old.inner) (W.contents writer.new.inner) self.old.number (stage_of self.old.step)
-            line.now (stage_of self.new.step) result }
-        ensures number { self.new.number ≡ self.old.number + 1 }
-        ensures on { result ≡ Ok true → self.new.goes_on ≡ true }
-        ensures over { result ≢ Ok true → self.new.goes_on ≡ false }
-        ensures ok { OnOk result (writer.new.failed ≡ writer.old.failed) }
-        ensures write { IsErrOf result Stop.Write → writer.new.failed ≡ true }
+    /// How the job stands: the number of the next line, and what the last answer lends.
+    pub fn walk(&self) -> &Walk
+        ensures { result.now ≡ self.now.walk }
     {
-        let (alloc, placement, number) = (self.alloc, self.placement, self.number);
-        self.number += 1;
-        let ran = run_line(
-            &mut self.stage,
-            alloc,
-            placement,
-            number,
-            line,
-            &mut self.scratch,
-            writer,
-        );
-        self.goes_on = match &ran {
-            Ok(goes_on) => *goes_on,
-            Err(_) => false,
-        };
-        ran
+        &self.walk
     }
 
-    /// Prints the end of a job that has no more lines, and answers how it ends.
-    pub fn close<W: Write>(&mut self, writer: &mut Watched<W>) -> Result<Outcome, Failed>
+    /// Serves one line, which is given without its end, and answers what it tells. A fault ends the job, and so does want of memory.
+    pub fn line(&mut self, line: &[u8]) -> Result<LineTold, Stopped>
         requires goes_on { self.old.goes_on ≡ true }
-        ensures closed { MatchResult result
-            (λ outcome. (text : List ℕ) × Appends (W.contents writer.old.inner) (W.contents writer.new.inner) text × Closes self.old.number (stage_of self.old.step) text outcome)
-            (λ _. (text : List ℕ) × (outcome : Outcome) × Closes self.old.number (stage_of self.old.step) text outcome × AppendsFront (W.contents writer.old.inner) (W.contents writer.new.inner) text) }
+        requires number { self.old.walk.number + 1 < 2 ^ 32 }
+        ensures told { MatchResult result (λ told. IsTold self.old.walk line.now told self.new.walk)
+            (λ stopped. StopsForMemory self.old.walk.number self.old.walk.step (line.now ∷ [])
+            (ended stopped.ended)) }
+        ensures lent { IfOk result (IsLent self.new.walk) }
+        ensures number { self.new.walk.number ≡ self.old.walk.number + 1 }
+        ensures goes_on { self.new.goes_on ≡ goes_on result }
+    {
+        let told = self.walk.line(line);
+        self.goes_on = match &told {
+            Ok(LineTold::Faulted(_)) => false,
+            Ok(_) => true,
+            Err(_) => false,
+        };
+        told
+    }
+
+    /// Ends a job that has no more lines, and answers how it ends.
+    pub fn close(&mut self) -> Closing
+        requires { self.old.goes_on ≡ true }
+        ensures closed { Closes machine self.old.walk.number self.old.walk.step
+            (closing self.old.walk.number result.ended) result.outcome }
+        ensures walk { self.new.walk ≡ self.old.walk }
         ensures over { self.new.goes_on ≡ false }
-        ensures ok { OnOk result (writer.new.failed ≡ writer.old.failed) }
-        ensures err { OnErr result (writer.new.failed ≡ true) }
     {
         self.goes_on = false;
-        close(&self.stage, self.number, writer)
+        self.walk.close()
     }
 }

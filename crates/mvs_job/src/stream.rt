@@ -2,13 +2,13 @@
 
 ghost use Rattle.std.specs.Prelude.{◌≡◌, ◌≢◌, ◌<◌, ◌≤◌, ◌+◌, ◌^◌, ◌++◌, ◌∷◌, [], List, ℕ, Option, length, take, slice_index, true, IfOk, IfSome, OnOk, IsErrOf, MatchResult};
 ghost use Rattle.std.specs.Io.KnownBytes.{Consumes, IsAtEnd, Keeps};
-ghost use Rattle.mvs_model.specs.Runs.{Before};
-ghost use Rattle.mvs_job.specs.Serving.{RunsLine, stage_of};
+ghost use Rattle.mvs_job.specs.Serving.{RunsLine};
+ghost use Rattle.mvs_job.specs.Telling.{new_walk};
 ghost use Rattle.mvs_job.specs.Streams.{Feeds, FeedsSome, Finishes, HasBroken, HasEnded, HasGivenUp, IsUnderWay, Printed, PrintedUpTo, Progress, Takes, fault_of};
 
-use crate::job::{Scratch, Stop, close, run_line};
+use crate::printing::{Stop, print_closing, run_line};
 use crate::run::RunFault;
-use crate::serve::Job;
+use crate::walk::Walk;
 use job_script::{LineBuffer, Pushed};
 use memchr::memchr;
 use mvs_model::outcome::Outcome;
@@ -29,12 +29,9 @@ pub enum Turn {
 /// A job in the midst of its script.
 #[derive(Drop)]
 pub struct Stream {
-    alloc: Global,
-    placement: Placement,
-    stage: Option<Job>,
-    number: u32,
+    walk: Walk,
+    /// What was told of a line that has not ended.
     line: LineBuffer,
-    scratch: Scratch,
 }
 
 // What is written is passed on before a read that may wait.
@@ -46,11 +43,14 @@ fn read<R: Read, W: Write>(
     ensures room { length chunk.new ≡ length chunk.old }
     ensures bound { IfOk result (λ count. count ≤ length chunk.new) }
     ensures bytes { MatchResult result
-        (λ count. Consumes (R.remaining reader.old.inner) (R.remaining reader.new.inner) (take count chunk.new))
+        (λ count. Consumes (R.remaining reader.old.inner) (R.remaining reader.new.inner)
+        (take count chunk.new))
         (λ _. Keeps (R.remaining reader.old.inner) (R.remaining reader.new.inner)) }
-    ensures end { IfOk result (λ count. count ≡ 0 → 0 < length chunk.new → IsAtEnd (R.remaining reader.new.inner)) }
+    ensures end { IfOk result
+        (λ count. count ≡ 0 → 0 < length chunk.new → IsAtEnd (R.remaining reader.new.inner)) }
     ensures unwritten { Keeps (W.contents writer.old.inner) (W.contents writer.new.inner) }
-    ensures healthy { OnOk result ((reader.new.failed ≡ reader.old.failed) × (writer.new.failed ≡ writer.old.failed)) }
+    ensures healthy { OnOk result
+        ((reader.new.failed ≡ reader.old.failed) × (writer.new.failed ≡ writer.old.failed)) }
     ensures read { IsErrOf result RunFault.Read → reader.new.failed ≡ true }
     ensures write { IsErrOf result RunFault.Write → writer.new.failed ≡ true }
     ensures not_long { ¬ IsErrOf result RunFault.ReadTooLong }
@@ -78,64 +78,26 @@ fn fault_of(stop: Stop) -> RunFault
 impl Stream {
     /// A job before its first line.
     pub fn new(alloc: Global, placement: Placement) -> Stream
-        ensures stage { stage_of result.stage ≡ Before }
-        ensures number { result.number ≡ 1 }
+        ensures walk { result.walk ≡ new_walk }
         ensures line { result.line ≡ [] }
     {
         Stream {
-            alloc,
-            placement,
-            stage: None,
-            number: 1,
+            walk: Walk::new(alloc, placement),
             line: LineBuffer::new(),
-            scratch: Scratch::new(),
         }
-    }
-
-    // Runs a line that was told whole.
-    fn run_whole<W: Write>(&mut self, line: &[u8], writer: &mut Watched<W>) -> Result<bool, Stop>
-        requires { self.old.number + 1 < 2 ^ 32 }
-        ensures ran { RunsLine (W.contents writer.old.inner) (W.contents writer.new.inner) self.old.number (stage_of self.old.stage)
-            line.now (stage_of self.new.stage) result }
-        ensures line { self.new.line ≡ self.old.line }
-        ensures number { self.new.number ≡ self.old.number + 1 }
-        ensures ok { OnOk result (writer.new.failed ≡ writer.old.failed) }
-        ensures write { IsErrOf result Stop.Write → writer.new.failed ≡ true }
-    {
-        let (alloc, placement, number) = (self.alloc, self.placement, self.number);
-        self.number += 1;
-        run_line(
-            &mut self.stage,
-            alloc,
-            placement,
-            number,
-            line,
-            &mut self.scratch,
-            writer,
-        )
     }
 
     // Runs the line that is kept.
     fn end_line<W: Write>(&mut self, writer: &mut Watched<W>) -> Result<bool, Stop>
-        requires { self.old.number + 1 < 2 ^ 32 }
-        ensures ran { RunsLine (W.contents writer.old.inner) (W.contents writer.new.inner) self.old.number (stage_of self.old.stage)
-            self.old.line (stage_of self.new.stage) result }
+        requires { self.old.walk.number + 1 < 2 ^ 32 }
+        ensures ran { RunsLine (W.contents writer.old.inner) (W.contents writer.new.inner)
+            self.old.walk self.old.line self.new.walk result }
         ensures line { self.new.line ≡ [] }
-        ensures number { self.new.number ≡ self.old.number + 1 }
+        ensures number { self.new.walk.number ≡ self.old.walk.number + 1 }
         ensures ok { OnOk result (writer.new.failed ≡ writer.old.failed) }
         ensures write { IsErrOf result Stop.Write → writer.new.failed ≡ true }
     {
-        let (alloc, placement, number) = (self.alloc, self.placement, self.number);
-        self.number += 1;
-        let goes_on = run_line(
-            &mut self.stage,
-            alloc,
-            placement,
-            number,
-            self.line.bytes(),
-            &mut self.scratch,
-            writer,
-        );
+        let goes_on = run_line(&mut self.walk, self.line.bytes(), writer);
         self.line.clear();
         goes_on
     }
@@ -143,11 +105,11 @@ impl Stream {
     // Takes the next byte, and answers whether the job goes on.
     fn feed<W: Write>(&mut self, byte: u8, writer: &mut Watched<W>) -> Result<bool, Stop>
         requires room { length self.old.line < 256 }
-        requires number { self.old.number + 1 < 2 ^ 32 }
-        ensures bytes { Feeds (W.contents writer.old.inner) (W.contents writer.new.inner) (byte ∷ [])
-            self.old.number (stage_of self.old.stage) self.old.line self.new.number (stage_of self.new.stage) self.new.line result }
+        requires number { self.old.walk.number + 1 < 2 ^ 32 }
+        ensures bytes { Feeds (W.contents writer.old.inner) (W.contents writer.new.inner)
+            (byte ∷ []) self.old.walk self.old.line self.new.walk self.new.line result }
         ensures room { length self.new.line < 256 }
-        ensures number { self.new.number ≤ self.old.number + 1 }
+        ensures number { self.new.walk.number ≤ self.old.walk.number + 1 }
         ensures ok { OnOk result (writer.new.failed ≡ writer.old.failed) }
         ensures write { IsErrOf result Stop.Write → writer.new.failed ≡ true }
     {
@@ -161,7 +123,9 @@ impl Stream {
     // Where the first line of some bytes ends, if none is kept and it ends in them.
     fn whole_line(&self, bytes: &[u8]) -> Option<usize>
         ensures kept { IfSome result (λ end. self.now.line ≡ []) }
-        ensures end { IfSome result (λ end. (end < length bytes.now) × (slice_index bytes.now end ≡ 10) × ((k : ℕ) → k < end → slice_index bytes.now k ≢ 10)) }
+        ensures end { IfSome result
+            (λ end. (end < length bytes.now) × (slice_index bytes.now end ≡ 10)
+            × ((k : ℕ) → k < end → slice_index bytes.now k ≢ 10)) }
     {
         if self.line.bytes().is_empty() {
             memchr(b'\n', bytes)
@@ -178,17 +142,18 @@ impl Stream {
         writer: &mut Watched<W>,
     ) -> Result<Option<usize>, Stop>
         requires kept { self.old.line ≡ [] }
-        requires end { (end < length bytes.now) × (slice_index bytes.now end ≡ 10) × ((k : ℕ) → k < end → slice_index bytes.now k ≢ 10) }
-        requires number { self.old.number + 1 < 2 ^ 32 }
-        ensures bytes { FeedsSome (W.contents writer.old.inner) (W.contents writer.new.inner) bytes.now
-            self.old.number (stage_of self.old.stage) self.old.line self.new.number (stage_of self.new.stage) self.new.line result }
+        requires end { (end < length bytes.now) × (slice_index bytes.now end ≡ 10)
+            × ((k : ℕ) → k < end → slice_index bytes.now k ≢ 10) }
+        requires number { self.old.walk.number + 1 < 2 ^ 32 }
+        ensures bytes { FeedsSome (W.contents writer.old.inner) (W.contents writer.new.inner)
+            bytes.now self.old.walk self.old.line self.new.walk self.new.line result }
         ensures taken { IfOk result (λ taken. IfSome taken (λ n. n ≡ end + 1)) }
         ensures line { self.new.line ≡ [] }
-        ensures number { self.new.number ≡ self.old.number + 1 }
+        ensures number { self.new.walk.number ≡ self.old.walk.number + 1 }
         ensures ok { OnOk result (writer.new.failed ≡ writer.old.failed) }
         ensures write { IsErrOf result Stop.Write → writer.new.failed ≡ true }
     {
-        match self.run_whole(&bytes[..end], writer) {
+        match run_line(&mut self.walk, &bytes[..end], writer) {
             Ok(true) => Ok(Some(end + 1)),
             Ok(false) => Ok(None),
             Err(stop) => Err(stop),
@@ -203,12 +168,12 @@ impl Stream {
     ) -> Result<Option<usize>, Stop>
         requires some { 0 < length bytes.now }
         requires room { length self.old.line < 256 }
-        requires number { self.old.number + 1 < 2 ^ 32 }
-        ensures bytes { FeedsSome (W.contents writer.old.inner) (W.contents writer.new.inner) bytes.now
-            self.old.number (stage_of self.old.stage) self.old.line self.new.number (stage_of self.new.stage) self.new.line result }
+        requires number { self.old.walk.number + 1 < 2 ^ 32 }
+        ensures bytes { FeedsSome (W.contents writer.old.inner) (W.contents writer.new.inner)
+            bytes.now self.old.walk self.old.line self.new.walk self.new.line result }
         ensures taken { IfOk result (λ taken. IfSome taken (λ n. n ≡ 1)) }
         ensures room { length self.new.line < 256 }
-        ensures number { self.new.number ≤ self.old.number + 1 }
+        ensures number { self.new.walk.number ≤ self.old.walk.number + 1 }
         ensures ok { OnOk result (writer.new.failed ≡ writer.old.failed) }
         ensures write { IsErrOf result Stop.Write → writer.new.failed ≡ true }
     {
@@ -227,12 +192,13 @@ impl Stream {
     ) -> Result<Option<usize>, Stop>
         requires some { 0 < length bytes.now }
         requires room { length self.old.line < 256 }
-        requires number { self.old.number + 1 < 2 ^ 32 }
-        ensures bytes { FeedsSome (W.contents writer.old.inner) (W.contents writer.new.inner) bytes.now
-            self.old.number (stage_of self.old.stage) self.old.line self.new.number (stage_of self.new.stage) self.new.line result }
-        ensures taken { IfOk result (λ taken. IfSome taken (λ n. (0 < n) × (n ≤ length bytes.now))) }
+        requires number { self.old.walk.number + 1 < 2 ^ 32 }
+        ensures bytes { FeedsSome (W.contents writer.old.inner) (W.contents writer.new.inner)
+            bytes.now self.old.walk self.old.line self.new.walk self.new.line result }
+        ensures taken { IfOk result
+            (λ taken. IfSome taken (λ n. (0 < n) × (n ≤ length bytes.now))) }
         ensures room { length self.new.line < 256 }
-        ensures number { self.new.number ≤ self.old.number + 1 }
+        ensures number { self.new.walk.number ≤ self.old.walk.number + 1 }
         ensures ok { OnOk result (writer.new.failed ≡ writer.old.failed) }
         ensures write { IsErrOf result Stop.Write → writer.new.failed ≡ true }
     {
@@ -245,11 +211,11 @@ impl Stream {
     // Takes the next bytes, and answers whether the job goes on.
     fn feed_all<W: Write>(&mut self, bytes: &[u8], writer: &mut Watched<W>) -> Result<bool, Stop>
         requires room { length self.old.line < 256 }
-        requires number { self.old.number + length bytes.now < 2 ^ 32 }
+        requires number { self.old.walk.number + length bytes.now < 2 ^ 32 }
         ensures bytes { Feeds (W.contents writer.old.inner) (W.contents writer.new.inner) bytes.now
-            self.old.number (stage_of self.old.stage) self.old.line self.new.number (stage_of self.new.stage) self.new.line result }
+            self.old.walk self.old.line self.new.walk self.new.line result }
         ensures room { length self.new.line < 256 }
-        ensures number { self.new.number ≤ self.old.number + length bytes.now }
+        ensures number { self.new.walk.number ≤ self.old.walk.number + length bytes.now }
         ensures ok { OnOk result (writer.new.failed ≡ writer.old.failed) }
         ensures write { IsErrOf result Stop.Write → writer.new.failed ≡ true }
     {
@@ -264,31 +230,35 @@ impl Stream {
     }
 
     // Prints the end of a job that has no more lines.
-    fn close_job<W: Write>(&self, writer: &mut Watched<W>) -> Result<Outcome, Stop>
-        ensures closed { (start : Option (List ℕ)) (told : List ℕ) → Progress start (W.contents writer.old.inner) told self.now.number (stage_of self.now.stage) [] →
-            MatchResult result (λ outcome. Printed start (W.contents writer.new.inner) told outcome) (λ reason. PrintedUpTo reason start (W.contents writer.new.inner) told) }
+    fn close<W: Write>(&self, writer: &mut Watched<W>) -> Result<Outcome, Stop>
+        ensures closed { (start : Option (List ℕ)) (told : List ℕ)
+            → Progress start (W.contents writer.old.inner) told self.now.walk []
+            → MatchResult result
+            (λ outcome. Printed start (W.contents writer.new.inner) told outcome)
+            (λ reason. PrintedUpTo reason start (W.contents writer.new.inner) told) }
         ensures ok { OnOk result (writer.new.failed ≡ writer.old.failed) }
         ensures write { IsErrOf result Stop.Write → writer.new.failed ≡ true }
     {
-        match close(&self.stage, self.number, writer) {
-            Ok(outcome) => Ok(outcome),
+        let closing = self.walk.close();
+        match print_closing(writer, self.walk.number(), closing.ended) {
+            Ok(()) => Ok(closing.outcome),
             Err(_) => Err(Stop::Write),
         }
     }
 
     // Ends the job, after the last byte of the script.
     fn finish<W: Write>(&mut self, writer: &mut Watched<W>) -> Result<Outcome, Stop>
-        requires { self.old.number + 1 < 2 ^ 32 }
+        requires { self.old.walk.number + 1 < 2 ^ 32 }
         ensures bytes { Finishes (W.contents writer.old.inner) (W.contents writer.new.inner)
-            self.old.number (stage_of self.old.stage) self.old.line result }
+            self.old.walk self.old.line result }
         ensures ok { OnOk result (writer.new.failed ≡ writer.old.failed) }
         ensures write { IsErrOf result Stop.Write → writer.new.failed ≡ true }
     {
         if self.line.bytes().is_empty() {
-            return self.close_job(writer);
+            return self.close(writer);
         }
         match self.end_line(writer) {
-            Ok(true) => self.close_job(writer),
+            Ok(true) => self.close(writer),
             Ok(false) => Ok(Outcome::ScriptFault),
             Err(stop) => Err(stop),
         }
@@ -302,16 +272,24 @@ impl Stream {
         chunk: &mut [u8],
     ) -> Result<Turn, RunFault>
         requires room { length self.old.line < 256 }
-        requires number { self.old.number + length chunk.old + 1 < 2 ^ 32 }
+        requires number { self.old.walk.number + length chunk.old + 1 < 2 ^ 32 }
         requires chunk { 0 < length chunk.old }
-        ensures turn { (unread start : Option (List ℕ)) (count : ℕ) →
-            IsUnderWay unread (R.remaining reader.old.inner) start (W.contents writer.old.inner) count self.old.number (stage_of self.old.stage) self.old.line →
-            MatchResult result
-            (λ turn. Takes unread (R.remaining reader.new.inner) start (W.contents writer.new.inner) count (length chunk.old) self.new.number (stage_of self.new.stage) self.new.line turn)
-            (λ fault. HasBroken unread (R.remaining reader.new.inner) start (W.contents writer.new.inner) (count + length chunk.old) fault) }
-        ensures on { (n : ℕ) → result ≡ Ok (Turn.On n) → (0 < n) × (n ≤ length chunk.old) × (self.new.number ≤ self.old.number + n) × (length self.new.line < 256) }
-        ensures end { (outcome : Outcome) → result ≡ Ok (Turn.Ended outcome) → (outcome ≢ Outcome.ScriptFault) → IsAtEnd (R.remaining reader.new.inner) }
-        ensures healthy { OnOk result ((reader.new.failed ≡ reader.old.failed) × (writer.new.failed ≡ writer.old.failed)) }
+        ensures turn { (unread start : Option (List ℕ)) (count : ℕ)
+            → IsUnderWay unread (R.remaining reader.old.inner) start (W.contents writer.old.inner)
+            count self.old.walk self.old.line
+            → MatchResult result
+            (λ turn. Takes unread (R.remaining reader.new.inner) start
+            (W.contents writer.new.inner) count (length chunk.old) self.new.walk
+            self.new.line turn)
+            (λ fault. HasBroken unread (R.remaining reader.new.inner) start
+            (W.contents writer.new.inner) (count + length chunk.old) fault) }
+        ensures on { (n : ℕ) → result ≡ Ok (Turn.On n)
+            → (0 < n) × (n ≤ length chunk.old) × (self.new.walk.number ≤ self.old.walk.number + n)
+            × (length self.new.line < 256) }
+        ensures end { (outcome : Outcome) → result ≡ Ok (Turn.Ended outcome)
+            → (outcome ≢ Outcome.ScriptFault) → IsAtEnd (R.remaining reader.new.inner) }
+        ensures healthy { OnOk result
+            ((reader.new.failed ≡ reader.old.failed) × (writer.new.failed ≡ writer.old.failed)) }
         ensures read { IsErrOf result RunFault.Read → reader.new.failed ≡ true }
         ensures write { IsErrOf result RunFault.Write → writer.new.failed ≡ true }
         ensures not_long { ¬ IsErrOf result RunFault.ReadTooLong }
@@ -339,14 +317,18 @@ impl Stream {
         reader: &mut Watched<R>,
         writer: &mut Watched<W>,
     ) -> Result<Outcome, RunFault>
-        requires { self.old.number + 1 < 2 ^ 32 }
-        ensures turn { (unread start : Option (List ℕ)) (count : ℕ) →
-            IsUnderWay unread (R.remaining reader.old.inner) start (W.contents writer.old.inner) count self.old.number (stage_of self.old.stage) self.old.line →
-            MatchResult result
-            (λ outcome. HasEnded unread (R.remaining reader.new.inner) start (W.contents writer.new.inner) count outcome)
-            (λ fault. HasGivenUp unread (R.remaining reader.new.inner) start (W.contents writer.new.inner) count fault) }
+        requires { self.old.walk.number + 1 < 2 ^ 32 }
+        ensures turn { (unread start : Option (List ℕ)) (count : ℕ)
+            → IsUnderWay unread (R.remaining reader.old.inner) start (W.contents writer.old.inner)
+            count self.old.walk self.old.line
+            → MatchResult result
+            (λ outcome. HasEnded unread (R.remaining reader.new.inner) start
+            (W.contents writer.new.inner) count outcome)
+            (λ fault. HasGivenUp unread (R.remaining reader.new.inner) start
+            (W.contents writer.new.inner) count fault) }
         ensures end { OnOk result (IsAtEnd (R.remaining reader.new.inner)) }
-        ensures healthy { OnOk result ((reader.new.failed ≡ reader.old.failed) × (writer.new.failed ≡ writer.old.failed)) }
+        ensures healthy { OnOk result
+            ((reader.new.failed ≡ reader.old.failed) × (writer.new.failed ≡ writer.old.failed)) }
         ensures read { IsErrOf result RunFault.Read → reader.new.failed ≡ true }
         ensures write { IsErrOf result RunFault.Write → writer.new.failed ≡ true }
     {

@@ -1,21 +1,20 @@
 -- What a row of the table allows is read.
-use Rattle.std.proofs.Common.{◌≡◌, refl, ◌||◌, ◌&&◌, not, true, false, Bool, ℕ, zero, suc, ◌+◌, ◌-◌, ◌==◌, List, [], ◌∷◌, ◌++◌, map, length, take, drop, sym, ap, subst, ◌∙◌, arith, append_assoc, length-append}
-use Rattle.std.specs.Prelude.{Some, None, nat_le, nat_lt, is_some, bytes_eq, codes, find, flat_map, option_map, slice_get, unwrap_or, if◌then◌else◌}
+use Rattle.std.proofs.Common.{◌≡◌, refl, ◌||◌, ◌&&◌, not, true, false, Bool, ℕ, zero, suc, ◌+◌, ◌-◌, ◌==◌, List, [], ◌∷◌, ◌++◌, map, length, take, drop, sym, ap, subst, ◌∙◌, arith, append_assoc, length-append, Some, None, nat_le, nat_lt, is_some, bytes_eq, codes, find, flat_map, option_map, slice_get, unwrap_or, if◌then◌else◌, append-nil}
 use Rattle.std.specs.List.{list_all, list_any, after_first, position_or_len, AllByRecursion}
-use Rattle.std.proofs.lemmas.Bool.{and_from}
+use Rattle.std.proofs.lemmas.Bool.{and_from, and_parts, or_right, not-true, or_parts}
 use Rattle.std.proofs.lemmas.Bool.Decides.{nat_tests}
-use Rattle.std.proofs.lemmas.List.{append-nil}
-use Rattle.mvs_model.specs.declared.line.Fault.{Fault}
-use Rattle.mvs_model.specs.declared.line.Fault.TheVariants.{TooLong, InvalidByte, UnknownOperation, InvalidOperand, MissingOperand, OutOfRange, Repeated, Conflicting, OutOfPlace}
+use Rattle.std.proofs.lemmas.Grind.{common_steps}
+use Rattle.mvs_model.proofs.Types.{Fault, TooLong, InvalidByte, UnknownOperation, MissingOperand, Conflicting, OutOfPlace}
 use Rattle.mvs_model.specs.declared.line.Line.TheVariants as line
 use Rattle.mvs_model.specs.Name.{padded}
 use Rattle.mvs_model.specs.Grammar.{Kind, Keyword, Positional, Row, table, getmain_fixed, getmain_fixed_placed, getmain_variable, getmain_variable_placed, getmain_list, storage_obtain, freemain_or_whole, freemain_place, freemain_area, freemain_list, storage_release, cpool_build, cpool_get, cpool_free, cpool_delete, report}
 use Rattle.mvs_model.specs.Reading.{◌when◌, ◌>>=◌, ByKey, by_key, behind_form, checks, first_of, form_in, has, has_key, if_kind, is_conflict, is_empty, is_equals, is_for, is_half, is_name, is_of, is_one_of, is_twice, is_within, key_of, kind_of, lacks_keyword, lacks_positional, line_said, operand_checks, operands_in, positionals, repeats, row_checks, row_of, rows_of, statement_checks, statement_of, takes_form, text_of, value_of, with_left, words}
 use Rattle.mvs_model.specs.ReadingLaws.{keyed}
 use Rattle.mvs_model.specs.Spelling.{AllowedIsRead, InAnyOrder, Fits, FitPlaces, FitsKey, IsAllowed, IsCut, IsOperand, IsWord, all_operands, closes, keyword_text, line_text, said_by}
-use Rattle.mvs_model.proofs.Reading.{or_false, said_with}
-use Rattle.mvs_model.proofs.ReadingTaken.{and_true, bytes_same, twice_under, under, under_nothing}
-use Rattle.mvs_model.proofs.Spelling.{all_weaker, cut_apart, not_true, printed}
+use Rattle.mvs_model.proofs.Reading.{said_with}
+use Rattle.mvs_model.proofs.ReadingTaken.{bytes_same, twice_under, under, under_nothing}
+use Rattle.mvs_model.proofs.Spelling.{all_weaker, cut_apart, printed}
+use Rattle.mvs_model.proofs.Tests.{bytes_self, false_true, none_some, true_false}
 
 -- ---- a line by its parts
 
@@ -56,11 +55,7 @@ EachPasses row left [] = Unit {0}
 EachPasses row left (x ∷ xs) = Passes row left x × EachPasses row (left ++ (x ∷ [])) xs
 
 passes_at : (row : Row) (left same : List (List ℕ)) (x : List ℕ) (behind : List (Fault × Bool)) → same ≡ left → Passes row left x → first_of (operand_checks row (same, x) ++ behind) ≡ first_of behind
-passes_at row left same x behind e p =
-    let third : List (Fault × Bool) = OutOfRange when not (if_kind (λ kind. is_within kind (text_of x)) (kind_of row left x)) ∷ behind in
-    let second : List (Fault × Bool) = Repeated when ((has_key x && has (key_of x) left) || if_kind (λ kind. repeats kind (text_of x)) (kind_of row left x)) ∷ third in
-    ap (λ l. first_of (operand_checks row (l, x) ++ behind)) e
-    ∙ skip InvalidOperand _ second (ap not p.of_kind) ∙ skip Repeated _ third p.once ∙ skip OutOfRange _ behind (ap not p.within)
+passes_at row left same x behind h1 h2 = grind (arith, nat_tests)
 
 none_apply : (row : Row) (left os : List (List ℕ)) (behind : List (Fault × Bool)) → EachPasses row left os
     → first_of (flat_map (operand_checks row) (under (λ l. left ++ l) (with_left os)) ++ behind) ≡ first_of behind
@@ -88,23 +83,17 @@ letter_printed : (b : ℕ) → is_letter b ≡ true → printed b ≡ true
 letter_printed b e = grind (arith, nat_tests)
 
 keyed_has_key : (key text : List ℕ) → has_key (key ++ (61 ∷ text)) ≡ true
-keyed_has_key [] text = refl
-keyed_has_key (b ∷ key) text = or_true (is_equals b) (has_key (key ++ (61 ∷ text))) (keyed_has_key key text)
-  where
-    or_true : (a b : Bool) → b ≡ true → (a || b) ≡ true
-    or_true true b e = refl
-    or_true false b e = e
+keyed_has_key key text = grind (arith, common_steps, or_right)
 
 -- the first equals sign is the one behind the key
 equals_at : (key text : List ℕ) → list_all is_letter key ≡ true → position_or_len is_equals (key ++ (61 ∷ text)) ≡ length key
 equals_at [] text e = refl
 equals_at (b ∷ key) text e =
-    let a = and_true (is_letter b) (list_all is_letter key) e in
+    let a = and_parts (is_letter b) (list_all is_letter key) e in
     ap (λ t. if not t then 1 + position_or_len is_equals (key ++ (61 ∷ text)) else 0) (no_equals b a.0) ∙ ap (λ n. 1 + n) (equals_at key text a.1) ∙ omega arith
 
 taken_front : (key text : List ℕ) → take (length key) (key ++ text) ≡ key
-taken_front [] text = refl
-taken_front (b ∷ key) text = ap (λ l. b ∷ l) (taken_front key text)
+taken_front key text = grind (arith, common_steps)
 
 dropped_front : (key text : List ℕ) → drop (suc (length key)) (key ++ (61 ∷ text)) ≡ text
 dropped_front [] text = refl
@@ -114,16 +103,13 @@ key_is : (key text : List ℕ) → list_all is_letter key ≡ true → key_of (k
 key_is key text e = ap (λ n. take n (key ++ (61 ∷ text))) (equals_at key text e) ∙ taken_front key (61 ∷ text)
 
 text_is : (key text : List ℕ) → list_all is_letter key ≡ true → text_of (key ++ (61 ∷ text)) ≡ text
-text_is key text e =
-    let one : length key + 1 ≡ suc (length key) = omega arith in
-    ap (λ t. if t then after_first is_equals (key ++ (61 ∷ text)) else key ++ (61 ∷ text)) (keyed_has_key key text)
-    ∙ ap (λ n. drop (n + 1) (key ++ (61 ∷ text))) (equals_at key text e) ∙ ap (λ n. drop n (key ++ (61 ∷ text))) one ∙ dropped_front key text
+text_is key text h1 = grind (arith, nat_tests, keyed_has_key, equals_at, dropped_front)
 
 -- an operand with a key
 closes_behind : (key text : List ℕ) → list_all is_letter key ≡ true → closes 0 (key ++ (61 ∷ text)) ≡ closes 0 text
 closes_behind [] text e = refl
 closes_behind (b ∷ key) text e =
-    let a = and_true (is_letter b) (list_all is_letter key) e in
+    let a = and_parts (is_letter b) (list_all is_letter key) e in
     let comma : (b == 44) ≡ false = grind (arith, nat_tests, a.0) in
     let opens : (b == 40) ≡ false = grind (arith, nat_tests, a.0) in
     let shuts : (b == 41) ≡ false = grind (arith, nat_tests, a.0) in
@@ -132,7 +118,7 @@ closes_behind (b ∷ key) text e =
 keyword_word : (key text : List ℕ) → list_all is_letter key ≡ true → IsWord text → IsWord (key ++ (61 ∷ text))
 keyword_word [] text e is = record { some = refl; printed = is.printed }
 keyword_word (b ∷ key) text e is =
-    let a = and_true (is_letter b) (list_all is_letter key) e in
+    let a = and_parts (is_letter b) (list_all is_letter key) e in
     record { some = refl; printed = and_from (printed b) _ (letter_printed b a.0) (keyword_word key text a.1 is).printed }
 
 keyword_operand : (key text : List ℕ) → list_all is_letter key ≡ true → IsOperand text → IsOperand (key ++ (61 ∷ text))
@@ -142,7 +128,7 @@ keyword_operand key text e is = record { word = keyword_word key text e is.word;
 letters_close : (text : List ℕ) → list_all is_letter text ≡ true → closes 0 text ≡ true
 letters_close [] e = refl
 letters_close (b ∷ text) e =
-    let a = and_true (is_letter b) (list_all is_letter text) e in
+    let a = and_parts (is_letter b) (list_all is_letter text) e in
     let comma : (b == 44) ≡ false = grind (arith, nat_tests, a.0) in
     let opens : (b == 40) ≡ false = grind (arith, nat_tests, a.0) in
     let shuts : (b == 41) ≡ false = grind (arith, nat_tests, a.0) in
@@ -154,7 +140,7 @@ letters_operand text some e = record { word = record { some = some; printed = al
 letters_no_key : (text : List ℕ) → list_all is_letter text ≡ true → has_key text ≡ false
 letters_no_key [] e = refl
 letters_no_key (b ∷ text) e =
-    let a = and_true (is_letter b) (list_all is_letter text) e in
+    let a = and_parts (is_letter b) (list_all is_letter text) e in
     ap (λ t. t || has_key text) (no_equals b a.0) ∙ letters_no_key text a.1
 
 -- ---- what is found among operands
@@ -163,7 +149,7 @@ found_behind : (test : List ℕ → Bool) (xs ys : List (List ℕ)) → is_some 
 found_behind test [] ys e = refl
 found_behind test (x ∷ xs) ys e =
     (elim (test x) as (λ b. is_some (if b then Some x else find test xs) ≡ false → (if b then Some x else find test (xs ++ ys)) ≡ find test ys) [
-      | true ↦ λ e. absurd (let f : true ≡ false = e in cc)
+      | true ↦ λ e. true_false e
       | false ↦ λ e. found_behind test xs ys e
     ]) e
 
@@ -189,12 +175,7 @@ none_for key (text ∷ texts) keyless = ap (λ t. is_some (if t then Some text e
 
 under_pairs : (key : List ℕ) (pairs : List (List ℕ × List ℕ)) → Lettered pairs → value_of key (map keyword_text pairs) ≡ option_map (λ p. p.1) (find (λ p. bytes_eq p.0 key) pairs)
 under_pairs key [] are = refl
-under_pairs key (pair ∷ pairs) are =
-    ap (λ t. option_map text_of (if t then Some (keyword_text pair) else find (is_for key) (map keyword_text pairs))) (is_for_pair key pair are.0)
-    ∙ (elim (bytes_eq pair.0 key) as (λ b. option_map text_of (if b then Some (keyword_text pair) else find (is_for key) (map keyword_text pairs)) ≡ option_map (λ p. p.1) (if b then Some pair else find (λ p. bytes_eq p.0 key) pairs)) [
-      | true ↦ ap (λ t. Some t) (text_is pair.0 pair.1 are.0)
-      | false ↦ under_pairs key pairs are.1
-    ])
+under_pairs key (pair ∷ pairs) are = grind (arith, nat_tests, text_is, is_for_pair, under_pairs key pairs are.1)
 
 no_positionals : (pairs : List (List ℕ × List ℕ)) → positionals (map keyword_text pairs) ≡ []
 no_positionals [] = refl
@@ -202,16 +183,10 @@ no_positionals (pair ∷ pairs) = ap (λ t. if not t then keyword_text pair ∷ 
 
 all_positionals : (texts : List (List ℕ)) (pairs : List (List ℕ × List ℕ)) → NoKeys texts → positionals (texts ++ map keyword_text pairs) ≡ texts
 all_positionals [] pairs keyless = no_positionals pairs
-all_positionals (text ∷ texts) pairs keyless =
-    ap (λ t. if not t then text ∷ positionals (texts ++ map keyword_text pairs) else positionals (texts ++ map keyword_text pairs)) keyless.0
-    ∙ ap (λ l. text ∷ l) (all_positionals texts pairs keyless.1)
+all_positionals (text ∷ texts) pairs keyless = grind (arith, nat_tests, all_positionals texts pairs keyless.1)
 
 said_is : (places : List (List ℕ)) (pairs : List (List ℕ × List ℕ)) → NoKeys places → Lettered pairs → by_key (places ++ map keyword_text pairs) ≡ said_by places pairs
-said_is places pairs keyless are = λ i. record {
-  under = λ key. (ap (option_map text_of) (found_behind (is_for key) places (map keyword_text pairs) (none_for key places keyless)) ∙ under_pairs key pairs are) i;
-  at = λ k. slice_get (all_positionals places pairs keyless i) k;
-  count = length (all_positionals places pairs keyless i);
-}
+said_is places pairs keyless are = grind (arith, nat_tests, found_behind, none_for, under_pairs, all_positionals, under)
 
 -- ---- operands that fit pass
 
@@ -221,18 +196,14 @@ fits_kind kind text = is_of kind text && not (repeats kind text) && is_within ki
 -- an operand of a kind passes
 passes : (row : Row) (left : List (List ℕ)) (operand text : List ℕ) (kind : Kind) → text_of operand ≡ text → kind_of row left operand ≡ Some kind → Fits kind text
     → (has_key operand && has (key_of operand) left) ≡ false → Passes row left operand
-passes row left operand text kind said is fits once = record {
-  of_kind = (λ i. if_kind (λ kind. is_of kind (said i)) (is i)) ∙ fits.of_kind;
-  once = (λ i. once i || if_kind (λ kind. repeats kind (said i)) (is i)) ∙ fits.once;
-  within = (λ i. if_kind (λ kind. is_within kind (said i)) (is i)) ∙ fits.within;
-}
+passes row left operand text kind said is fits once = grind (arith, nat_tests)
 
 -- the keys of a row are letters
 key_letters : (keywords : List Keyword) (key : List ℕ) (kind : Kind) → list_all (λ k. list_all is_letter k.key) keywords ≡ true
     → option_map (λ k. k.kind) (find (λ k. bytes_eq k.key key) keywords) ≡ Some kind → list_all is_letter key ≡ true
-key_letters [] key kind letters e = absurd (let f : None ≡ Some kind = e in cc)
+key_letters [] key kind letters e = none_some e
 key_letters (k ∷ keywords) key kind letters e =
-    let a = and_true (list_all is_letter k.key) (list_all (λ k. list_all is_letter k.key) keywords) letters in
+    let a = and_parts (list_all is_letter k.key) (list_all (λ k. list_all is_letter k.key) keywords) letters in
     (elim (bytes_eq k.key key) as (λ b. bytes_eq k.key key ≡ b → option_map (λ k. k.kind) (if b then Some k else find (λ k. bytes_eq k.key key) keywords) ≡ Some kind → list_all is_letter key ≡ true) [
       | true ↦ λ same e. subst (λ key. list_all is_letter key ≡ true) (bytes_same k.key key same) a.0
       | false ↦ λ same e. key_letters keywords key kind a.1 e
@@ -244,10 +215,7 @@ lettered row (pair ∷ pairs) letters fit = (key_letters row.keywords pair.0 fit
 
 -- what is not among some operands and is not the next one's key
 not_added : (key : List ℕ) (left : List (List ℕ)) (pair : List ℕ × List ℕ) → list_all is_letter pair.0 ≡ true → has key left ≡ false → bytes_eq pair.0 key ≡ false → has key (left ++ (keyword_text pair ∷ [])) ≡ false
-not_added key left pair letters absent other =
-    has_found key (left ++ (keyword_text pair ∷ []))
-    ∙ ap is_some (found_behind (is_for key) left (keyword_text pair ∷ []) (sym (has_found key left) ∙ absent))
-    ∙ ap (λ t. is_some (if t then Some (keyword_text pair) else None)) (is_for_pair key pair letters ∙ other)
+not_added key left pair h1 h2 h3 = grind (arith, nat_tests, found_behind, has_found, is_for_pair)
 
 abbrev Absent : List (List ℕ) → List (List ℕ × List ℕ) → Type 0
 Absent left pairs = AllByRecursion (λ pair. has pair.0 left ≡ false) pairs
@@ -256,14 +224,14 @@ still_absent : (left : List (List ℕ)) (pair : List ℕ × List ℕ) (pairs : L
     → Absent left pairs → Absent (left ++ (keyword_text pair ∷ [])) pairs
 still_absent left pair [] letters once absent = tt
 still_absent left pair (next ∷ pairs) letters once absent =
-    let o = or_false (bytes_eq pair.0 next.0) (list_any (bytes_eq pair.0) (map (λ p. p.0) pairs)) once in
+    let o = or_parts (bytes_eq pair.0 next.0) (list_any (bytes_eq pair.0) (map (λ p. p.0) pairs)) once in
     (not_added next.0 left pair letters absent.0 o.0, still_absent left pair pairs letters o.1 absent.1)
 
 keys_pass : (row : Row) (left : List (List ℕ)) (pairs : List (List ℕ × List ℕ)) → Lettered pairs → AllByRecursion (FitsKey row) pairs → is_twice bytes_eq (map (λ p. p.0) pairs) ≡ false
     → Absent left pairs → EachPasses row left (map keyword_text pairs)
 keys_pass row left [] letters fit once absent = tt
 keys_pass row left (pair ∷ pairs) letters fit once absent =
-    let o = or_false (list_any (bytes_eq pair.0) (map (λ p. p.0) pairs)) (is_twice bytes_eq (map (λ p. p.0) pairs)) once in
+    let o = or_parts (list_any (bytes_eq pair.0) (map (λ p. p.0) pairs)) (is_twice bytes_eq (map (λ p. p.0) pairs)) once in
     let there = keyed_has_key pair.0 pair.1 in
     let key = key_is pair.0 pair.1 letters.0 in
     let kind : kind_of row left (keyword_text pair) ≡ keyed row pair.0 =
@@ -295,7 +263,7 @@ places_pass row left (p ∷ ps) (text ∷ texts) keys none at fit rest =
   where
     any_append : (xs : List (List ℕ)) (x : List ℕ) → list_any has_key xs ≡ false → has_key x ≡ false → list_any has_key (xs ++ (x ∷ [])) ≡ false
     any_append [] x e f = ap (λ t. t || false) f
-    any_append (y ∷ ys) x e f = let o = or_false (has_key y) (list_any has_key ys) e in ap (λ t. t || list_any has_key (ys ++ (x ∷ []))) o.0 ∙ any_append ys x o.1 f
+    any_append (y ∷ ys) x e f = let o = or_parts (has_key y) (list_any has_key ys) e in ap (λ t. t || list_any has_key (ys ++ (x ∷ []))) o.0 ∙ any_append ys x o.1 f
 
     next : (k : ℕ) → slice_get row.positional (length (left ++ (text ∷ [])) + k) ≡ slice_get ps k
     next k = ap (slice_get row.positional) (let e : length (left ++ (text ∷ [])) + k ≡ length left + suc k = omega (arith, length-append left (text ∷ [])) in e) ∙ at (suc k)
@@ -326,12 +294,12 @@ all_fit : list_all is_fit table ≡ true
 all_fit = refl
 
 passed : {X : Type 0} (test : X → Bool) (xs : List X) (k : ℕ) (x : X) → list_all test xs ≡ true → slice_get xs k ≡ Some x → test x ≡ true
-passed test [] k x all e = absurd (let f : None ≡ Some x = e in cc)
-passed test (y ∷ ys) zero x all e = ap test (let f : Some x ≡ Some y = sym e in cc) ∙ (and_true (test y) (list_all test ys) all).0
-passed test (y ∷ ys) (suc k) x all e = passed test ys k x (and_true (test y) (list_all test ys) all).1 e
+passed test [] k x all e = none_some e
+passed test (y ∷ ys) zero x all e = ap test (let f : Some x ≡ Some y = sym e in cc) ∙ (and_parts (test y) (list_all test ys) all).0
+passed test (y ∷ ys) (suc k) x all e = passed test ys k x (and_parts (test y) (list_all test ys) all).1 e
 
 held : {X : Type 0} (P : X → Type 0) (xs : List X) (k : ℕ) (x : X) → AllByRecursion P xs → slice_get xs k ≡ Some x → P x
-held P [] k x all e = absurd (let f : None ≡ Some x = e in cc)
+held P [] k x all e = none_some e
 held P (y ∷ ys) zero x all e = subst P (let f : Some y ≡ Some x = e in cc) all.0
 held P (y ∷ ys) (suc k) x all e = held P ys k x all.1 e
 
@@ -343,7 +311,7 @@ abbrev IsFound : Row → Type 0
 IsFound row = (f : List ℕ) → (is_empty row.forms || is_one_of row.forms f) ≡ true → Found row f
 
 by_form : (forms : List (List ℕ)) (f : List ℕ) (P : List ℕ → Type 0) → list_any (bytes_eq f) forms ≡ true → AllByRecursion P forms → P f
-by_form [] f P e all = absurd (let g : false ≡ true = e in cc)
+by_form [] f P e all = false_true e
 by_form (g ∷ forms) f P e all =
     (elim (bytes_eq f g) as (λ b. bytes_eq f g ≡ b → (b || list_any (bytes_eq f) forms) ≡ true → P f) [
       | true ↦ λ same e. subst P (sym (bytes_same f g same)) all.0
@@ -359,7 +327,7 @@ abbrev IsFormless : Row → Type 0
 IsFormless row = is_empty row.forms ≡ true → (f g : List ℕ) (os : ByKey) → statement_of row.meaning f os ≡ statement_of row.meaning g os
 
 other : {P : Type 0} → false ≡ true → P
-other e = absurd (let f : false ≡ true = e in cc)
+other e = false_true e
 
 each_formless : AllByRecursion IsFormless table
 each_formless = (λ e f g os. refl, (λ e. other e, (λ e. other e, (λ e. other e, (λ e. other e, (λ e. other e, (λ e. other e, (λ e. other e, (λ e. other e, (λ e. other e, (λ e. other e, (λ e. other e, (λ e. other e, (λ e. other e, (λ e. other e, (λ e. other e, (λ e f g os. refl, (λ e f g os. refl, (λ e f g os. refl, (λ e f g os. refl, (λ e f g os. refl, (λ e f g os. refl, (λ e f g os. refl, (λ e. other e, tt))))))))))))))))))))))))
@@ -384,24 +352,22 @@ known row e =
     let t = if is_empty row.forms then not (takes_form row.operation) else takes_form row.operation in
     let f = list_all (λ f. not (is_empty f) && list_all is_letter f) row.forms in
     let k = list_all (λ k. list_all is_letter k.key) row.keywords in
-    let six = and_true (a && b && c && d && t && f) k e in
-    let five = and_true (a && b && c && d && t) f six.0 in
-    let four = and_true (a && b && c && d) t five.0 in
-    let three = and_true (a && b && c) d four.0 in
-    let two = and_true (a && b) c three.0 in
-    let one = and_true a b two.0 in
-    record { word = record { some = not_true _ one.0; printed = one.1 }; there = not_true _ two.1; field = three.1; takes = four.1; forms = five.1; keys = six.1 }
+    let six = and_parts (a && b && c && d && t && f) k e in
+    let five = and_parts (a && b && c && d && t) f six.0 in
+    let four = and_parts (a && b && c && d) t five.0 in
+    let three = and_parts (a && b && c) d four.0 in
+    let two = and_parts (a && b) c three.0 in
+    let one = and_parts a b two.0 in
+    record { word = record { some = not-true _ one.0; printed = one.1 }; there = not-true _ two.1; field = three.1; takes = four.1; forms = five.1; keys = six.1 }
 
 -- the operands behind the form
 behind : (b : Bool) (form : List ℕ) (l : List (List ℕ)) → (if b then (if b then l else form ∷ l) else drop 1 (if b then l else form ∷ l)) ≡ l
-behind true form l = refl
-behind false form l = refl
+behind b form l = grind (arith, common_steps)
 
 -- the first operand is the form, where the row has forms: it has no key, and the row is found by it
 form_checked : (b : Bool) (form : List ℕ) (l : List (List ℕ)) (takes : Bool) → (if b then not takes else takes) ≡ true → (b ≡ false → has_key form ≡ false)
     → (takes && (is_empty (if b then l else form ∷ l) || has_key (unwrap_or (slice_get (if b then l else form ∷ l) 0) []))) ≡ false
-form_checked true form l takes e letters = ap (λ t. t && (is_empty l || has_key (unwrap_or (slice_get l 0) []))) (not_true takes e)
-form_checked false form l takes e letters = ap (λ t. t && has_key form) e ∙ letters refl
+form_checked b form l takes h1 h2 = grind (arith, nat_tests)
 
 found_first : (row : Row) (b : Bool) (form : List ℕ) (l : List (List ℕ)) → is_empty row.forms ≡ b → (b || is_one_of row.forms form) ≡ true → IsFound row
     → find (λ r. is_empty r.forms || is_one_of r.forms (unwrap_or (slice_get (if b then l else form ∷ l) 0) [])) (rows_of row.operation) ≡ Some row
@@ -410,25 +376,23 @@ found_first row false form l bare e found = found form (ap (λ t. t || is_one_of
 
 said_first : (row : Row) (b : Bool) (form : List ℕ) (l : List (List ℕ)) (os : ByKey) → is_empty row.forms ≡ b → IsFormless row
     → statement_of row.meaning (unwrap_or (slice_get (if b then l else form ∷ l) 0) []) os ≡ statement_of row.meaning form os
-said_first row true form l os bare same = same bare (unwrap_or (slice_get l 0) []) form os
-said_first row false form l os bare same = refl
+said_first row b form l os h1 h2 = grind (arith, common_steps)
 
 -- the form is an operand without a key
 form_letters : (row : Row) (form : List ℕ) → Known row → is_one_of row.forms form ≡ true → (not (is_empty form) && list_all is_letter form) ≡ true
 form_letters row form is one = by_test row.forms is.forms one
   where
     by_test : (forms : List (List ℕ)) → list_all (λ f. not (is_empty f) && list_all is_letter f) forms ≡ true → list_any (bytes_eq form) forms ≡ true → (not (is_empty form) && list_all is_letter form) ≡ true
-    by_test [] all e = absurd (let g : false ≡ true = e in cc)
+    by_test [] all e = false_true e
     by_test (g ∷ forms) all e =
-        let a = and_true (not (is_empty g) && list_all is_letter g) (list_all (λ f. not (is_empty f) && list_all is_letter f) forms) all in
+        let a = and_parts (not (is_empty g) && list_all is_letter g) (list_all (λ f. not (is_empty f) && list_all is_letter f) forms) all in
         (elim (bytes_eq form g) as (λ b. bytes_eq form g ≡ b → (b || list_any (bytes_eq form) forms) ≡ true → (not (is_empty form) && list_all is_letter form) ≡ true) [
           | true ↦ λ same e. subst (λ f. (not (is_empty f) && list_all is_letter f) ≡ true) (sym (bytes_same form g same)) a.0
           | false ↦ λ same e. by_test forms a.1 e
         ]) refl e
 
 all_join : (P : List ℕ → Type 0) (xs ys : List (List ℕ)) → AllByRecursion P xs → AllByRecursion P ys → AllByRecursion P (xs ++ ys)
-all_join P [] ys all more = more
-all_join P (x ∷ xs) ys all more = (all.0, all_join P xs ys all.1 more)
+all_join P xs ys h1 h2 = grind (arith, common_steps)
 
 places_operands : (ps : List Positional) (texts : List (List ℕ)) → FitPlaces ps texts → AllByRecursion IsOperand texts
 places_operands ps [] fit = tt
@@ -440,8 +404,7 @@ pairs_operands row [] letters fit = tt
 pairs_operands row (pair ∷ pairs) letters fit = (keyword_operand pair.0 pair.1 letters.0 fit.0.2.operand, pairs_operands row pairs letters.1 fit.1)
 
 form_and : (b : Bool) (form : List ℕ) (l : List (List ℕ)) → (b ≡ false → IsOperand form) → AllByRecursion IsOperand l → AllByRecursion IsOperand (if b then l else form ∷ l)
-form_and true form l is each = each
-form_and false form l is each = (is refl, each)
+form_and b form l h1 h2 = grind (arith, common_steps)
 
 -- no check applies to the operands behind the form
 row_passes : (row : Row) (operands list : List (List ℕ)) (os : ByKey) → behind_form row operands ≡ list → by_key list ≡ os → EachPasses row [] list
@@ -475,7 +438,7 @@ module _ (first : Bool) (task : List ℕ) (row : Row) (form : List ℕ) (places 
 
   each : AllByRecursion IsOperand operands
   each =
-      form_and (is_empty row.forms) form list (λ e. let f = and_true (not (is_empty form)) (list_all is_letter form) (a_form e) in letters_operand form (not_true _ f.0) f.1)
+      form_and (is_empty row.forms) form list (λ e. let f = and_parts (not (is_empty form)) (list_all is_letter form) (a_form e) in letters_operand form (not-true _ f.0) f.1)
       (all_join IsOperand places (map keyword_text pairs) (places_operands row.positional places ok.places_fit) (pairs_operands row pairs letters ok.pairs_fit))
 
   cut : IsCut task row.operation operands (line_text task row.operation operands)
@@ -507,7 +470,7 @@ module _ (first : Bool) (task : List ℕ) (row : Row) (form : List ℕ) (places 
       skip UnknownOperation _ second (ap not named)
       ∙ skip UnknownOperation _ third is.there
       ∙ skip OutOfPlace _ fourth begins
-      ∙ skip MissingOperand _ fifth (form_checked (is_empty row.forms) form list (takes_form row.operation) is.takes (λ e. letters_no_key form (and_true (not (is_empty form)) (list_all is_letter form) (a_form e)).1))
+      ∙ skip MissingOperand _ fifth (form_checked (is_empty row.forms) form list (takes_form row.operation) is.takes (λ e. letters_no_key form (and_parts (not (is_empty form)) (list_all is_letter form) (a_form e)).1))
       ∙ (λ i. first_of (UnknownOperation when not (is_some (row_is i)) ∷ row_checks operands (row_is i)))
       ∙ row_none
 
@@ -541,39 +504,26 @@ bytes_turned (x ∷ xs) [] = refl
 bytes_turned (x ∷ xs) (y ∷ ys) = λ i. eq_turned x y i && bytes_turned xs ys i
 
 or_exchanged : (a b c : Bool) → (a || (b || c)) ≡ (b || (a || c))
-or_exchanged true true c = refl
-or_exchanged true false c = refl
-or_exchanged false b c = refl
+or_exchanged a b c = grind (arith, nat_tests)
 
 abbrev keys_of : List Pair → List (List ℕ)
 keys_of pairs = map (λ p. p.0) pairs
 
 any_exchanged : (test : List ℕ → Bool) (front : List Pair) (a b : Pair) (rest : List Pair) → list_any test (keys_of (front ++ (a ∷ b ∷ rest))) ≡ list_any test (keys_of (front ++ (b ∷ a ∷ rest)))
-any_exchanged test [] a b rest = or_exchanged (test a.0) (test b.0) (list_any test (keys_of rest))
-any_exchanged test (p ∷ front) a b rest = ap (λ t. test p.0 || t) (any_exchanged test front a b rest)
+any_exchanged test front a b rest = grind (arith, common_steps, or_exchanged)
 
 -- what the first keys have to do with each other does not depend on their order
-four_exchanged : (ab an bn n : Bool) → ((ab || an) || (bn || n)) ≡ ((ab || bn) || (an || n))
-four_exchanged true an bn n = refl
-four_exchanged false true true n = refl
-four_exchanged false true false n = refl
-four_exchanged false false true n = refl
-four_exchanged false false false n = refl
+pub four_exchanged : (ab an bn n : Bool) → ((ab || an) || (bn || n)) ≡ ((ab || bn) || (an || n))
+four_exchanged ab an bn n = grind (arith, nat_tests)
 
 twice_exchanged : (front : List Pair) (a b : Pair) (rest : List Pair) → is_twice bytes_eq (keys_of (front ++ (a ∷ b ∷ rest))) ≡ is_twice bytes_eq (keys_of (front ++ (b ∷ a ∷ rest)))
-twice_exchanged [] a b rest =
-    four_exchanged (bytes_eq a.0 b.0) (list_any (bytes_eq a.0) (keys_of rest)) (list_any (bytes_eq b.0) (keys_of rest)) (is_twice bytes_eq (keys_of rest))
-    ∙ ap (λ t. (t || list_any (bytes_eq b.0) (keys_of rest)) || (list_any (bytes_eq a.0) (keys_of rest) || is_twice bytes_eq (keys_of rest))) (bytes_turned a.0 b.0)
+twice_exchanged [] a b rest = grind (arith, nat_tests, bytes_turned, four_exchanged)
 twice_exchanged (p ∷ front) a b rest = λ i. any_exchanged (bytes_eq p.0) front a b rest i || twice_exchanged front a b rest i
 
 -- two keys are not the same
 apart : (front : List Pair) (a b : Pair) (rest : List Pair) → is_twice bytes_eq (keys_of (front ++ (a ∷ b ∷ rest))) ≡ false → bytes_eq a.0 b.0 ≡ false
-apart [] a b rest once = (or_false (bytes_eq a.0 b.0) _ (or_false (bytes_eq a.0 b.0 || list_any (bytes_eq a.0) (keys_of rest)) _ once).0).0
-apart (p ∷ front) a b rest once = apart front a b rest (or_false (list_any (bytes_eq p.0) (keys_of (front ++ (a ∷ b ∷ rest)))) _ once).1
-
-same_key : (xs : List ℕ) → bytes_eq xs xs ≡ true
-same_key [] = refl
-same_key (x ∷ xs) = and_from (x == x) _ (let e : (x == x) ≡ true = grind (arith, nat_tests) in e) (same_key xs)
+apart [] a b rest once = (or_parts (bytes_eq a.0 b.0) _ (or_parts (bytes_eq a.0 b.0 || list_any (bytes_eq a.0) (keys_of rest)) _ once).0).0
+apart (p ∷ front) a b rest once = apart front a b rest (or_parts (list_any (bytes_eq p.0) (keys_of (front ++ (a ∷ b ∷ rest)))) _ once).1
 
 found_exchanged : (key : List ℕ) (front : List Pair) (a b : Pair) (rest : List Pair) → bytes_eq a.0 b.0 ≡ false
     → find (λ p. bytes_eq p.0 key) (front ++ (a ∷ b ∷ rest)) ≡ find (λ p. bytes_eq p.0 key) (front ++ (b ∷ a ∷ rest))
@@ -583,8 +533,8 @@ found_exchanged key [] a b rest differ = by (bytes_eq a.0 key) (bytes_eq b.0 key
         → (if x then Some a else (if y then Some b else find (λ p. bytes_eq p.0 key) rest)) ≡ (if y then Some b else (if x then Some a else find (λ p. bytes_eq p.0 key) rest))
     by true true e f =
         let same : a.0 ≡ b.0 = bytes_same a.0 key e ∙ sym (bytes_same b.0 key f) in
-        let g : true ≡ false = sym (same_key b.0) ∙ ap (λ k. bytes_eq k b.0) (sym same) ∙ differ in
-        absurd (let h : true ≡ false = g in cc)
+        let g : true ≡ false = sym (bytes_self b.0) ∙ ap (λ k. bytes_eq k b.0) (sym same) ∙ differ in
+        true_false g
     by true false e f = refl
     by false true e f = refl
     by false false e f = refl
@@ -592,11 +542,7 @@ found_exchanged key (p ∷ front) a b rest differ = ap (λ o. if bytes_eq p.0 ke
 
 said_exchanged : (places : List (List ℕ)) (front : List Pair) (a b : Pair) (rest : List Pair) → bytes_eq a.0 b.0 ≡ false
     → said_by places (front ++ (a ∷ b ∷ rest)) ≡ said_by places (front ++ (b ∷ a ∷ rest))
-said_exchanged places front a b rest differ = λ i. record {
-  under = λ key. option_map (λ p. p.1) (found_exchanged key front a b rest differ i);
-  at = λ k. slice_get places k;
-  count = length places;
-}
+said_exchanged places front a b rest differ = grind (arith, nat_tests, found_exchanged, under)
 
 fit_exchanged : (row : Row) (front : List Pair) (a b : Pair) (rest : List Pair) → AllByRecursion (FitsKey row) (front ++ (a ∷ b ∷ rest)) → AllByRecursion (FitsKey row) (front ++ (b ∷ a ∷ rest))
 fit_exchanged row [] a b rest fit = (fit.1.0, (fit.0, fit.1.1))

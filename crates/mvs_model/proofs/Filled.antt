@@ -1,10 +1,9 @@
 -- Keyword operands of which some are left out: what a row of the table allows of them is read.
-use Rattle.std.proofs.Common.{◌≡◌, refl, ◌||◌, ◌&&◌, not, true, false, Bool, ℕ, List, [], ◌∷◌, map, length, sym, ap, ◌∙◌}
-use Rattle.std.specs.Prelude.{Option, None, Some, IfSome, bytes_eq, codes, find, option_map, slice_get, nat_lt, if◌then◌else◌}
+use Rattle.std.proofs.Common.{◌≡◌, refl, ◌||◌, ◌&&◌, not, true, false, Bool, ℕ, List, [], ◌∷◌, map, length, sym, ap, ◌∙◌, Option, None, Some, IfSome, bytes_eq, codes, find, option_map, slice_get, nat_lt, if◌then◌else◌}
 use Rattle.std.specs.List.{list_any, AllByRecursion}
-use Rattle.mvs_model.specs.declared.code.Form.{Form}
+use Rattle.std.proofs.lemmas.Bool.{and_parts, not-true, or_parts}
+use Rattle.mvs_model.proofs.Types.{Form, Statement}
 use Rattle.mvs_model.specs.declared.line.Line.TheVariants as line
-use Rattle.mvs_model.specs.declared.line.Statement.{Statement}
 use Rattle.mvs_model.specs.Name.{padded}
 use Rattle.mvs_model.specs.Grammar.{Row, table}
 use Rattle.mvs_model.specs.Reading.{LineOf, ByKey, form_of, is_conflict, is_empty, is_half, is_name, is_one_of, is_twice, lacks_keyword, lacks_positional, statement_of}
@@ -12,9 +11,7 @@ use Rattle.mvs_model.specs.ReadingLaws.{keyed}
 use Rattle.mvs_model.specs.Spelling.{all_operands, line_text, Fits, FitPlaces, FitsKey, said_by}
 use Rattle.mvs_model.specs.Spellings.{Operand, AllFit, in_front, filled}
 use Rattle.mvs_model.proofs.Allowed.{allowed_is_read}
-use Rattle.mvs_model.proofs.Reading.{or_false}
-use Rattle.mvs_model.proofs.ReadingTaken.{and_true, bytes_same}
-use Rattle.mvs_model.proofs.Spelling.{not_true}
+use Rattle.mvs_model.proofs.ReadingTaken.{bytes_same}
 
 abbrev keys_of : List Operand → List (List ℕ)
 keys_of os = map (λ o. o.key) os
@@ -31,7 +28,7 @@ said places os = record { under = λ key. under_key key os; at = λ k. slice_get
 -- nothing stands under a key that no operand has
 none_under : (key k : List ℕ) (os : List Operand) → bytes_eq k key ≡ true → list_any (bytes_eq k) (keys_of os) ≡ false → under_key key os ≡ None
 none_under key k [] same none = refl
-none_under key k (o ∷ os) same none = let b = or_false (bytes_eq k o.key) (list_any (bytes_eq k) (keys_of os)) none in at (bytes_eq o.key key) refl b.0 (none_under key k os same b.1) where
+none_under key k (o ∷ os) same none = let b = or_parts (bytes_eq k o.key) (list_any (bytes_eq k) (keys_of os)) none in at (bytes_eq o.key key) refl b.0 (none_under key k os same b.1) where
   at : (t : Bool) → bytes_eq o.key key ≡ t → bytes_eq k o.key ≡ false → under_key key os ≡ None → (if t then o.text else under_key key os) ≡ None
   at true e other later = absurd (let f : true ≡ false = sym same ∙ ap (bytes_eq k) (sym (bytes_same o.key key e)) ∙ other in cc)
   at false e other later = later
@@ -43,7 +40,7 @@ found key pairs = option_map (λ p. p.1) (find (λ p. bytes_eq p.0 key) pairs)
 found_is : (key : List ℕ) (os : List Operand) → is_twice bytes_eq (keys_of os) ≡ false → found key (filled os) ≡ under_key key os
 found_is key [] once = refl
 found_is key (o ∷ os) once =
-    let b = or_false (list_any (bytes_eq o.key) (keys_of os)) (is_twice bytes_eq (keys_of os)) once in
+    let b = or_parts (list_any (bytes_eq o.key) (keys_of os)) (is_twice bytes_eq (keys_of os)) once in
     at o.text (bytes_eq o.key key) refl (λ e. none_under key o.key os e b.0) (found_is key os b.1)
   where
     at : (text : Option (List ℕ)) (t : Bool) → bytes_eq o.key key ≡ t → (bytes_eq o.key key ≡ true → under_key key os ≡ None) → found key (filled os) ≡ under_key key os
@@ -62,7 +59,7 @@ has_pair k pairs = list_any (bytes_eq k) (map (λ p. p.0) pairs)
 
 none_filled : (k : List ℕ) (os : List Operand) → list_any (bytes_eq k) (keys_of os) ≡ false → has_pair k (filled os) ≡ false
 none_filled k [] none = refl
-none_filled k (o ∷ os) none = let b = or_false (bytes_eq k o.key) (list_any (bytes_eq k) (keys_of os)) none in at o.text b.0 (none_filled k os b.1) where
+none_filled k (o ∷ os) none = let b = or_parts (bytes_eq k o.key) (list_any (bytes_eq k) (keys_of os)) none in at o.text b.0 (none_filled k os b.1) where
   at : (text : Option (List ℕ)) → bytes_eq k o.key ≡ false → has_pair k (filled os) ≡ false → has_pair k (in_front o.key text (filled os)) ≡ false
   at None other later = later
   at (Some text) other later = λ i. other i || later i
@@ -74,7 +71,7 @@ is_pair_twice pairs = is_twice bytes_eq (map (λ p. p.0) pairs)
 once_filled : (os : List Operand) → is_twice bytes_eq (keys_of os) ≡ false → is_pair_twice (filled os) ≡ false
 once_filled [] once = refl
 once_filled (o ∷ os) once =
-    let b = or_false (list_any (bytes_eq o.key) (keys_of os)) (is_twice bytes_eq (keys_of os)) once in
+    let b = or_parts (list_any (bytes_eq o.key) (keys_of os)) (is_twice bytes_eq (keys_of os)) once in
     at o.text (none_filled o.key os b.0) (once_filled os b.1)
   where
     at : (text : Option (List ℕ)) → has_pair o.key (filled os) ≡ false → is_pair_twice (filled os) ≡ false → is_pair_twice (in_front o.key text (filled os)) ≡ false
@@ -108,11 +105,11 @@ pub filled_is_read : (first : Bool) (k : ℕ) (row : Row) (form : List ℕ) (pla
     → AllFit os → (task : List ℕ) → is_name task ≡ true → nat_lt 255 (length (line_text task row.operation (all_operands row form places (filled os)))) ≡ false
     → LineOf first (line_text task row.operation (all_operands row form places (filled os))) (line.Statement (padded task) statement)
 filled_is_read first k row form places os statement in_table form_is kinds suit places_fit apart placed says fit task named short =
-    let field = and_true row.has_field _ suit in
-    let once = and_true (not (is_twice bytes_eq (keys_of os))) _ field.1 in
-    let some = and_true (not (lacks_positional row (said places os))) _ once.1 in
-    let keyed = and_true (not (lacks_keyword row (said places os))) _ some.1 in
-    let is = said_is places os (not_true _ once.0) in
+    let field = and_parts row.has_field _ suit in
+    let once = and_parts (not (is_twice bytes_eq (keys_of os))) _ field.1 in
+    let some = and_parts (not (lacks_positional row (said places os))) _ once.1 in
+    let keyed = and_parts (not (lacks_keyword row (said places os))) _ some.1 in
+    let is = said_is places os (not-true _ once.0) in
     allowed_is_read first task row form places (filled os) statement named
     (record {
       in_table = (k, in_table);
@@ -120,10 +117,10 @@ filled_is_read first k row form places os statement in_table form_is kinds suit 
       form_is = form_is;
       places_fit = places_fit;
       pairs_fit = each_fits row os kinds fit.each;
-      keys_once = once_filled os (not_true _ once.0);
-      places_enough = ap (lacks_positional row) is ∙ not_true _ some.0;
-      keys_enough = ap (lacks_keyword row) is ∙ not_true _ keyed.0;
-      none_half = ap (λ s. list_any (is_half s) row.rules) is ∙ not_true _ keyed.1;
+      keys_once = once_filled os (not-true _ once.0);
+      places_enough = ap (lacks_positional row) is ∙ not-true _ some.0;
+      keys_enough = ap (lacks_keyword row) is ∙ not-true _ keyed.0;
+      none_half = ap (λ s. list_any (is_half s) row.rules) is ∙ not-true _ keyed.1;
       no_conflict = ap (λ s. list_any (is_conflict s) row.rules) is ∙ apart;
     }) placed short
     (ap (statement_of row.meaning form) is ∙ says)

@@ -1,12 +1,12 @@
 -- What a map made of a list of keys has at a key.
-use Rattle.std.proofs.Common.{◌≡◌, ℕ, zero, suc, Bool, true, false, cond, ◌&&◌, ◌||◌, List, [], ◌∷◌, map, Option, Some, None, eqb, ltb, sym, ap, refl, ◌∙◌, arith}
+use Rattle.std.proofs.Common.{◌≡◌, ℕ, zero, suc, Bool, true, false, cond, ◌&&◌, ◌||◌, List, [], ◌∷◌, map, Option, Some, None, eqb, ltb, ap, refl, ◌∙◌, arith, Ordering}
 use Rattle.std.proofs.lemmas.Bool.Decides.{nat_tests}
 use Rattle.std.proofs.lemmas.List.Folds.{list_any-append}
 use Rattle.std.specs.List.{list_any}
-use Rattle.std.specs.declared.cmp.Ordering.{Ordering}
 use Rattle.std.specs.Ordering.{eq_by_cmp}
 use Rattle.std.specs.Cmp.{IsTotalOrder}
 use Rattle.std.specs.FinMap.{FinMap, get, get-insert, get-empty, IsAntisymmetric}
+use Rattle.std.proofs.lemmas.Grind.{common_steps}
 use Rattle.mvs_model.specs.Keyed.{put_in, keyed, pairs_below}
 use Rattle.mvs_model.specs.Name.{name_cmp}
 use Rattle.mvs_model.specs.Owners.{entry_cmp}
@@ -14,13 +14,10 @@ use Rattle.mvs_model.proofs.Orders.{equal_keys, tied_pair}
 
 module _ {K X : Type 0} {R : K → K → Ordering} (o : IsTotalOrder R) (same : IsAntisymmetric R) where
   at_first : (b c : Bool) (u v : Option X) → (b ≡ true → v ≡ u) → cond b u (cond c v None) ≡ cond (b || c) v None
-  at_first true c u v h = sym (h refl)
-  at_first false c u v h = refl
+  at_first b c u v h1 = grind (arith, common_steps)
 
   without_first : (b c : Bool) (v : Option X) → (b ≡ true → v ≡ None) → cond c v None ≡ cond (b || c) v None
-  without_first true true v h = refl
-  without_first true false v h = sym (h refl)
-  without_first false c v h = refl
+  without_first b c v h1 = grind (arith, nat_tests)
 
   step : (f : K → Option X) (k : K) (v : Option X) → f k ≡ v → (m : FinMap R X) (q : K) (c : Bool) → get m q ≡ cond c (f q) None → get (put_in R k v m) q ≡ cond (eq_by_cmp R q k || c) (f q) None
   step f k None e m q c h = h ∙ without_first (eq_by_cmp R q k) c (f q) (λ t. ap f (equal_keys same q k t) ∙ e)
@@ -34,16 +31,10 @@ module _ {K X : Type 0} {R : K → K → Ordering} (o : IsTotalOrder R) (same : 
 
   -- where the function has nothing at any other key, the map is the function
   pub get-keyed_all : (ks : List K) (f : K → Option X) (q : K) → (list_any (eq_by_cmp R q) ks ≡ false → f q ≡ None) → get (keyed R ks f) q ≡ f q
-  get-keyed_all ks f q h = get-keyed ks f q ∙ by (list_any (eq_by_cmp R q) ks) h where
-    by : (b : Bool) → (b ≡ false → f q ≡ None) → cond b (f q) None ≡ f q
-    by true e = refl
-    by false e = sym (e refl)
+  get-keyed_all ks f q h1 = grind (arith, nat_tests, get-keyed)
 
 both_or : (a b c : Bool) → ((a && c) || (b && c)) ≡ ((a || b) && c)
-both_or true b true = refl
-both_or true true false = refl
-both_or true false false = refl
-both_or false b c = refl
+both_or a b c = grind (arith, nat_tests)
 
 any_with : (t : List ℕ) (m n : ℕ) (ks : List (List ℕ)) → list_any (eq_by_cmp entry_cmp (t, m)) (map (λ k. (k, n)) ks) ≡ (list_any (eq_by_cmp name_cmp t) ks && eqb m n)
 any_with t m n [] = refl

@@ -1,3 +1,6 @@
+pub mod Types
+pub mod Tests
+pub mod Below
 pub mod Requested
 pub mod CellPlaces
 pub mod Decide
@@ -72,5 +75,6 @@ pub mod ReadingLoops
 pub mod Spelling
 pub mod Allowed
 pub mod ValueTexts
+pub mod Walking
 mod Filled
 pub mod Spellings

@@ -1,28 +1,22 @@
 -- What goes from a state goes from its labels.
-use Rattle.std.proofs.Common.{◌≡◌, ℕ, ◌+◌, ◌*◌, ◌/◌, ◌<◌, Bool, true, false, cond, Option, Some, None, arith, refl, sym, ap, ◌∙◌}
-use Rattle.std.specs.Prelude.{IsSome}
+use Rattle.std.proofs.Common.{◌≡◌, ℕ, ◌+◌, ◌*◌, ◌/◌, ◌<◌, Bool, true, false, cond, Option, Some, None, arith, sym, ap, ◌∙◌, IsSome}
 use Rattle.std.specs.FinMap.{get, empty}
+use Rattle.std.proofs.lemmas.Bool.Decides.{nat_tests}
 use Rattle.mvs_model.specs.Owners.{Owners}
 use Rattle.mvs_model.specs.State.{State, Holding, plain}
 use Rattle.mvs_model.specs.Job.{JobValue}
 use Rattle.mvs_model.specs.Labels.{Labels, without}
 use Rattle.mvs_model.specs.Tidy.{Link}
+use Rattle.mvs_model.proofs.Tests.{none_some, true_false}
 
 pub still : (c : Bool) (v : Option ℕ) (b : ℕ) → cond c None v ≡ Some b → (c ≡ false) × (v ≡ Some b)
-still true v b e = absurd (let f : None ≡ Some b = e in cc)
-still false v b e = (refl, e)
+still c v b h1 = grind (arith, nat_tests)
 
 pub left_there : (c : Bool) (v : Option ℕ) → c ≡ false → IsSome v → IsSome (cond c None v)
-left_there true v e h = absurd (let f : true ≡ false = e in cc)
-left_there false v e h = h
+left_there c v h1 h2 = grind (arith, nat_tests)
 
 pub some_there : (v : Option ℕ) → IsSome v → (b : ℕ) × (v ≡ Some b)
-some_there None h = absurd (let f : false ≡ true = h in cc)
-some_there (Some b) h = (b, refl)
-
-pub there_some : (v : Option ℕ) (b : ℕ) → v ≡ Some b → IsSome v
-there_some None b e = absurd (let f : None ≡ Some b = e in cc)
-there_some (Some c) b e = refl
+some_there v h1 = grind (arith, nat_tests)
 
 -- By a test on offsets, the offsets that pass it are gone, and all else is as before.
 pub record Goes (job : JobValue) (m : Labels) (k : Link job m) (test : ℕ → ℕ → Bool) (new : State) : Type 0 where
@@ -35,10 +29,9 @@ pub record Goes (job : JobValue) (m : Labels) (k : Link job m) (test : ℕ → �
   pub pools : new.pools ≡ empty
   pub fill : new.regions.fill ≡ job.state.regions.fill
 
-module _ (job new : JobValue) (m : Labels) (k : Link job m) (test : ℕ → ℕ → Bool) (g : Goes job m k test new.state) (named : new.names ≡ job.names) (o : Owners) (owned : new.state.owners ≡ o) (a : Bool) (ended : new.abended ≡ a) where
+module _ (job new : JobValue) (m : Labels) (k : Link job m) (test : ℕ → ℕ → Bool) (g : Goes job m k test new.state) (named : new.names ≡ job.names) (o : Owners) (owned : new.state.owners ≡ o) (a : Bool) (ended : new.abended ≡ a) (behind : new.former ≡ job.former) where
   not_gone : {X : Type 0} → (c : Bool) (v : Option X) (x : X) → (c ≡ true → v ≡ None) → v ≡ Some x → c ≡ false
-  not_gone true v x h e = absurd (let f : None ≡ Some x = sym (h refl) ∙ e in cc)
-  not_gone false v x h e = refl
+  not_gone c v x h1 h2 = grind (arith, nat_tests, none_some)
 
   pub link_less : Link new (record (without m test) { owners = o; abended = a })
   link_less = record {
@@ -54,6 +47,7 @@ module _ (job new : JobValue) (m : Labels) (k : Link job m) (test : ℕ → ℕ 
     owners = owned;
     fill = g.fill ∙ k.fill;
     abended = ended;
+    former = behind ∙ k.former;
     labels = record {
       whole = k.labels.whole;
       inside = λ l i b e. k.labels.inside l i b (still (test l i) _ b e).1;
@@ -76,5 +70,5 @@ module _ (job new : JobValue) (m : Labels) (k : Link job m) (test : ℕ → ℕ 
         let w = k.all_bytes x b (g.bytes_from x b e) in
         (w.0, w.1, w.2, at (test w.0 w.1) (not_gone (test w.0 w.1) (get new.state.bytes x) b (λ t. ap (get new.state.bytes) (sym w.2) ∙ g.bytes_gone w.0 w.1 b w.3 t) e) w.3) where
           at : (c : Bool) {v : Option ℕ} → c ≡ false → v ≡ Some b → cond c None v ≡ Some b
-          at true s f = absurd (let z : true ≡ false = s in cc)
+          at true s f = true_false s
           at false s f = f

@@ -1,44 +1,26 @@
 -- Grants one after another, and the names that they set.
-use Rattle.std.proofs.Common.{◌≡◌, ℕ, ◌+◌, ◌/◌, ◌<◌, ◌≤◌, Bool, true, false, cond, List, [], ◌∷◌, map, Option, Some, None, arith, refl, sym, ap, ◌∙◌, subst}
-use Rattle.std.specs.Prelude.{◌==◌}
-use Rattle.std.specs.Option.{option_map}
+use Rattle.std.proofs.Common.{◌≡◌, ℕ, ◌+◌, ◌<◌, ◌≤◌, Bool, true, false, cond, List, [], ◌∷◌, map, Option, Some, arith, refl, sym, ap, ◌∙◌, subst, ◌==◌, option_map}
 use Rattle.std.specs.FinMap.{FinMap, get, insert, get-insert}
-use Rattle.mvs_model.specs.declared.name.Name.{Name}
-use Rattle.mvs_model.specs.declared.want.Side.TheVariants.{Below}
+use Rattle.std.proofs.lemmas.Bool.Decides.{nat_tests}
+use Rattle.mvs_model.proofs.Types.{Name, Below}
 use Rattle.mvs_model.specs.Place.{PlaceValue, place_at, round8}
 use Rattle.mvs_model.specs.Want.{WantValue, fixed_want}
 use Rattle.mvs_model.specs.Name.{name_cmp, same_name}
 use Rattle.mvs_model.specs.Owners.{Owners, SubpoolOf, Enters}
-use Rattle.mvs_model.specs.State.{State, Holding, subpool_in}
+use Rattle.mvs_model.specs.State.{State}
 use Rattle.mvs_model.specs.Changes.{GrantTo, ListGrant}
 use Rattle.mvs_model.specs.Job.{JobValue}
 use Rattle.mvs_model.specs.Resolving.{all_set}
 use Rattle.mvs_model.specs.Labels.{Labels, with_area, Grants, GrantsEach, all_named}
 use Rattle.mvs_model.specs.Tidy.{Link}
 use Rattle.mvs_model.proofs.Orders.{name_cmp_total}
-use Rattle.mvs_model.proofs.LinkGrant.{Comes, link_area, link_area_base, same_self, less_other}
+use Rattle.mvs_model.proofs.LinkGrant.{Comes, link_area, link_area_base}
+use Rattle.mvs_model.proofs.PartsFewer.{none_held}
+use Rattle.mvs_model.proofs.Tests.{less_other, same_self}
 
 -- the job in another state
 abbrev pub at_state : JobValue → State → JobValue
 at_state job st = record { state = st; names = job.names; abended = job.abended; former = job.former }
-
--- the job behind other steps is linked as well
-pub link_behind : (job : JobValue) (m : Labels) (former : Bool) → Link job m → Link (record job { former = former }) m
-link_behind job m former k = record {
-  base = k.base;
-  on_doubleword = k.on_doubleword;
-  apart = k.apart;
-  held = k.held;
-  all_held = k.all_held;
-  bytes = k.bytes;
-  all_bytes = k.all_bytes;
-  names = k.names;
-  pools = k.pools;
-  owners = k.owners;
-  fill = k.fill;
-  abended = k.abended;
-  labels = k.labels;
-}
 
 -- Labels that were there are as before.
 abbrev pub Stays : (job new : JobValue) (m mid : Labels) → Link job m → Link new mid → Type 0
@@ -51,16 +33,12 @@ Placed base len count [] (p ∷ ps) l = ⊥
 Placed base len count (n ∷ ns) [] l = ⊥
 Placed base len count (n ∷ ns) (p ∷ ps) l = (p ≡ place_at (base l) (len l)) × (l < count) × Placed base len count ns ps (l + 1)
 
-not_held : (v : Option Holding) → subpool_in v ≡ None → v ≡ None
-not_held None e = refl
-not_held (Some h) e = absurd (let f : Some h.subpool ≡ None = e in cc)
-
 -- one grant
 pub grant_one : (job : JobValue) (m : Labels) (k : Link job m) (t : Name) (number n : ℕ) (want : WantValue) (p : PlaceValue) (new : State) → GrantTo job.state t number want p new → p.len ≡ n
     → (mid : Labels) × (later : Link (at_state job new) mid) × Grants m t number n mid × Stays job (at_state job new) m mid k later × (p ≡ place_at (later.base m.count) (mid.len m.count)) × (mid.count ≡ m.count + 1) × (mid.names ≡ m.names)
 grant_one job m k t number n want p new g size = (
   record (with_area m g.subpool p.len) { owners = new.owners },
-  link_area job (at_state job new) m k g.subpool p comes refl new.owners refl refl,
+  link_area job (at_state job new) m k g.subpool p comes refl new.owners refl refl refl,
   record {
     subpool = g.subpool;
     owners = new.owners;
@@ -77,15 +55,15 @@ grant_one job m k t number n want p new g size = (
   comes = record {
     addr = g.chosen.placed.1.on_doubleword;
     len = g.chosen.length.whole;
-    free = λ d c. not_held (get job.state.held d) (g.chosen.placed.0.each d c).free;
+    free = λ d c. none_held (get job.state.held d) (g.chosen.placed.0.each d c).free;
     held = g.held;
     bytes = g.bytes;
     pools = g.pools ∙ k.pools;
     fill = ap (λ r. r.fill) g.regions;
   }
 
-  base_is : (l : ℕ) → (link_area job (at_state job new) m k g.subpool p comes refl new.owners refl refl).base l ≡ cond (l == m.count) p.addr (k.base l)
-  base_is l = link_area_base job (at_state job new) m k g.subpool p comes refl new.owners refl refl l
+  base_is : (l : ℕ) → (link_area job (at_state job new) m k g.subpool p comes refl new.owners refl refl refl).base l ≡ cond (l == m.count) p.addr (k.base l)
+  base_is l = link_area_base job (at_state job new) m k g.subpool p comes refl new.owners refl refl refl l
 
 -- what each of the places wanted has at least and at most
 abbrev pub AllFixed : List ℕ → List WantValue → Type 0
@@ -97,12 +75,6 @@ AllFixed (n ∷ ns) (w ∷ ws) = (w.least ≡ round8 n) × (w.most ≡ round8 n)
 pub fixed_all : (start : ℕ) (ns : List ℕ) → AllFixed ns (map (λ n. fixed_want n start Below) ns)
 fixed_all start [] = tt
 fixed_all start (n ∷ ns) = (refl, refl, fixed_all start ns)
-
-placed_on : (b c x y : ℕ → ℕ) (count : ℕ) (ns : List ℕ) (ps : List PlaceValue) (l : ℕ) → ((i : ℕ) → i < count → (c i ≡ b i) × (y i ≡ x i)) → (more : ℕ) → count ≤ more → Placed b x count ns ps l → Placed c y more ns ps l
-placed_on b c x y count [] [] l h more less p = tt
-placed_on b c x y count [] (q ∷ ps) l h more less p = absurd p
-placed_on b c x y count (n ∷ ns) [] l h more less p = absurd p
-placed_on b c x y count (n ∷ ns) (q ∷ ps) l h more less p = (p.0 ∙ (λ i. place_at (sym (h l p.1).0 i) (sym (h l p.1).1 i)), (let z : l < count = p.1 in omega (arith, z, less)), placed_on b c x y count ns ps (l + 1) h more less p.2)
 
 -- several grants
 pub grant_each : (t : Name) (number : ℕ) (ns : List ℕ) (wants : List WantValue) (ps : List PlaceValue) (new : State) (job : JobValue) (m : Labels) (k : Link job m) → AllFixed ns wants → ListGrant job.state t number wants ps new
@@ -159,37 +131,9 @@ agrees_all base len count (x ∷ xs) (n ∷ ns) [] l places names a p = absurd p
 agrees_all base len count (x ∷ xs) (n ∷ ns) (q ∷ ps) l places names a p = agrees_all base len count xs ns ps (l + 1) (insert places x q) (insert names x l) (agrees_one base len count places names x q l a p.0 p.1) p.2
 
 -- other names
-pub link_named : (job new : JobValue) (m : Labels) (k : Link job m) (names : FinMap name_cmp ℕ) → new.state ≡ job.state → new.abended ≡ job.abended → Agrees k.base m.len m.count new.names names → Link new (record m { names = names })
-link_named job new m k names same ended a = record {
-  base = k.base;
-  on_doubleword = k.on_doubleword;
-  apart = k.apart;
-  held = λ l i b e. ap (λ st. get st.held ((k.base l + i) / 8)) same ∙ k.held l i b e;
-  all_held = λ d h e. k.all_held d h (ap (λ st. get st.held d) (sym same) ∙ e);
-  bytes = λ l i b e. ap (λ st. get st.bytes (k.base l + i)) same ∙ k.bytes l i b e;
-  all_bytes = λ x b e. k.all_bytes x b (ap (λ st. get st.bytes x) (sym same) ∙ e);
-  names = a.place;
-  pools = ap (λ st. st.pools) same ∙ k.pools;
-  owners = ap (λ st. st.owners) same ∙ k.owners;
-  fill = ap (λ st. st.regions.fill) same ∙ k.fill;
-  abended = ended ∙ k.abended;
-  labels = record { whole = k.labels.whole; inside = k.labels.inside; named = a.low };
-}
+pub link_named : (job new : JobValue) (m : Labels) (k : Link job m) (names : FinMap name_cmp ℕ) → new.state ≡ job.state → new.abended ≡ job.abended → new.former ≡ job.former → Agrees k.base m.len m.count new.names names → Link new (record m { names = names })
+link_named job new m k names same ended behind a = grind (arith, nat_tests)
 
 -- other owners, and the same storage
-pub link_owners : (job new : JobValue) (m : Labels) (k : Link job m) (o : Owners) (a : Bool) → new.state.held ≡ job.state.held → new.state.bytes ≡ job.state.bytes → new.state.pools ≡ job.state.pools → new.state.regions ≡ job.state.regions → new.state.owners ≡ o → new.names ≡ job.names → new.abended ≡ a → Link new (record m { owners = o; abended = a })
-link_owners job new m k o a held bytes pools regions owners named ended = record {
-  base = k.base;
-  on_doubleword = k.on_doubleword;
-  apart = k.apart;
-  held = λ l i b e. ap (λ x. get x ((k.base l + i) / 8)) held ∙ k.held l i b e;
-  all_held = λ d h e. k.all_held d h (ap (λ x. get x d) (sym held) ∙ e);
-  bytes = λ l i b e. ap (λ x. get x (k.base l + i)) bytes ∙ k.bytes l i b e;
-  all_bytes = λ x b e. k.all_bytes x b (ap (λ y. get y x) (sym bytes) ∙ e);
-  names = λ name. ap (λ x. get x name) named ∙ k.names name;
-  pools = pools ∙ k.pools;
-  owners = owners;
-  fill = ap (λ r. r.fill) regions ∙ k.fill;
-  abended = ended;
-  labels = record { whole = k.labels.whole; inside = k.labels.inside; named = k.labels.named };
-}
+pub link_owners : (job new : JobValue) (m : Labels) (k : Link job m) (o : Owners) (a : Bool) → new.state.held ≡ job.state.held → new.state.bytes ≡ job.state.bytes → new.state.pools ≡ job.state.pools → new.state.regions ≡ job.state.regions → new.state.owners ≡ o → new.names ≡ job.names → new.abended ≡ a → new.former ≡ job.former → Link new (record m { owners = o; abended = a })
+link_owners job new m k o a held bytes pools regions owners named ended behind = grind (arith, nat_tests)

@@ -1,17 +1,18 @@
 -- Bytes that are written in a place of an area.
-use Rattle.std.proofs.Common.{◌≡◌, ℕ, ◌+◌, ◌-◌, ◌/◌, ◌<◌, ◌≤◌, Bool, true, false, cond, Option, Some, arith, refl, sym, ap, ◌∙◌, subst}
-use Rattle.std.specs.Prelude.{IsSome}
+use Rattle.std.proofs.Common.{◌≡◌, ℕ, ◌+◌, ◌-◌, ◌/◌, ◌<◌, ◌≤◌, Bool, true, false, cond, Option, Some, arith, refl, sym, ap, ◌∙◌, subst, IsSome}
 use Rattle.std.specs.FinMap.{get}
+use Rattle.std.proofs.lemmas.Bool.Decides.{nat_tests}
 use Rattle.mvs_model.specs.Storage.{has_address}
 use Rattle.mvs_model.specs.Changes.{Writes}
 use Rattle.mvs_model.specs.Job.{JobValue}
 use Rattle.mvs_model.specs.Labels.{Labels, Spot, has_offset, is_there, with_bytes}
 use Rattle.mvs_model.specs.Tidy.{Link}
-use Rattle.mvs_model.proofs.Spots.{offset_is, offset_yes, address_is, there_at, span_of, has_same}
+use Rattle.mvs_model.proofs.Spots.{offset_is, offset_yes, there_at, span_of, has_same}
+use Rattle.mvs_model.proofs.CellPlaces.{has_is}
 
 module _ (job new : JobValue) (m : Labels) (k : Link job m) (q : Spot) (there : is_there m q ≡ true) (f value : ℕ → Option ℕ)
     (same : (j : ℕ) → j < q.place.len → value (k.base q.label + q.place.addr + j) ≡ f j) (some : (j : ℕ) → j < q.place.len → IsSome (f j))
-    (w : Writes job.state (span_of job m k q) value new.state) (named : new.names ≡ job.names) (ended : new.abended ≡ job.abended) where
+    (w : Writes job.state (span_of job m k q) value new.state) (named : new.names ≡ job.names) (ended : new.abended ≡ job.abended) (behind : new.former ≡ job.former) where
   byte_at : Bool → ℕ → ℕ → Option ℕ
   byte_at c l i = cond c (f (i - q.place.addr)) (m.byte l i)
 
@@ -23,8 +24,7 @@ module _ (job new : JobValue) (m : Labels) (k : Link job m) (q : Spot) (there : 
 
   still_there : (c : Bool) (l i : ℕ) → has_offset q l i ≡ c → IsSome (m.byte l i) → IsSome (byte_at c l i)
   unfolding byte_at
-  still_there true l i t h = let o = offset_is q l i t in let low : q.place.addr ≤ i = o.1 in let high : i < q.place.addr + q.place.len = o.2 in some (i - q.place.addr) (omega (arith, low, high))
-  still_there false l i t h = h
+  still_there c l i h1 h2 = grind (arith, nat_tests, offset_is)
 
   bytes_at : (c : Bool) (l i b : ℕ) → has_offset q l i ≡ c → byte_at c l i ≡ Some b → get new.state.bytes (k.base l + i) ≡ Some b
   unfolding byte_at
@@ -44,8 +44,8 @@ module _ (job new : JobValue) (m : Labels) (k : Link job m) (q : Spot) (there : 
   all_bytes a b e = at (has_address (span_of job m k q) a) refl (sym (w.bytes a) ∙ e) where
     at : (c : Bool) → has_address (span_of job m k q) a ≡ c → cond c (value a) (get job.state.bytes a) ≡ Some b → (l : ℕ) × (i : ℕ) × BytesFrom (has_offset q l i) a b l i
     at true t g =
-        let low : k.base q.label + q.place.addr ≤ a = (address_is (span_of job m k q) a t).0 in
-        let high : a < k.base q.label + q.place.addr + q.place.len = (address_is (span_of job m k q) a t).1 in (
+        let low : k.base q.label + q.place.addr ≤ a = (has_is (span_of job m k q) a t).0 in
+        let high : a < k.base q.label + q.place.addr + q.place.len = (has_is (span_of job m k q) a t).1 in (
           q.label,
           a - k.base q.label,
           subst (λ c. BytesFrom c a b q.label (a - k.base q.label)) (sym (offset_yes q q.label (a - k.base q.label) refl (omega (arith, low)) (omega (arith, low, high))))
@@ -70,6 +70,7 @@ module _ (job new : JobValue) (m : Labels) (k : Link job m) (q : Spot) (there : 
     owners = w.owners ∙ k.owners;
     fill = ap (λ r. r.fill) w.regions ∙ k.fill;
     abended = ended ∙ k.abended;
+    former = behind ∙ k.former;
     labels = record {
       whole = k.labels.whole;
       inside = λ l i b e. let u = was_there (has_offset q l i) l i b refl e in k.labels.inside l i u.0 u.1;

@@ -1,9 +1,6 @@
 -- For each change that is asked of a finite map there is a map with this change.
-use Rattle.std.proofs.Common.{◌≡◌, ℕ, zero, suc, ◌<◌, Bool, true, false, cond, List, Option, Some, None, eqb, ltb, arith, refl, sym, ap, ◌∙◌}
-use Rattle.std.specs.Prelude.{not}
+use Rattle.std.proofs.Common.{◌≡◌, ℕ, zero, suc, ◌<◌, Bool, true, false, cond, List, Option, Some, None, eqb, ltb, arith, refl, sym, ap, ◌∙◌, not, Ordering, nat_cmp}
 use Rattle.std.proofs.lemmas.Bool.Decides.{nat_tests}
-use Rattle.std.specs.declared.cmp.Ordering.{Ordering}
-use Rattle.std.specs.Ordering.{nat_cmp}
 use Rattle.std.specs.Cmp.{nat_cmp_total}
 use Rattle.std.specs.FinMap.{FinMap, get, insert, remove, retain_keys, get-insert, get-remove, get-retain_keys, IsAntisymmetric}
 use Rattle.mvs_model.specs.Finite.{Changes, Keeps, kept}
@@ -27,8 +24,7 @@ put_if false m k v = m
 
 get-put_if : {X : Type 0} → (b : Bool) (m : FinMap nat_cmp X) (k : ℕ) (v : Option X) (q : ℕ) → get (put_if b m k v) q ≡ cond b (cond (eqb q k) v (get m q)) (get m q)
 unfolding put_if
-get-put_if true m k v q = get-put v m k q
-get-put_if false m k v q = refl
+get-put_if b m k v q = grind (arith, nat_tests, get-put)
 
 filled : {X : Type 0} → FinMap nat_cmp X → (ℕ → Bool) → (ℕ → Option X) → ℕ → FinMap nat_cmp X
 filled m test f zero = m

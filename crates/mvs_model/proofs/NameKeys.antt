@@ -1,14 +1,13 @@
 -- Names lie as the numbers that their bytes spell.
-use Rattle.std.specs.Prelude.{◌&&◌, nat_eq}
 use Rattle.std.specs.Cmp.Lexicographic.{pointwise}
 use Rattle.std.proofs.lemmas.Bool.Decides.{nat_tests}
-use Rattle.std.proofs.Common.{Bool, true, false, ◌≡◌, ℕ, suc, ◌+◌, ◌*◌, ◌<◌, ◌^◌, List, [], ◌∷◌, length, refl, sym, ap, ◌∙◌, arith}
-use Rattle.std.specs.declared.cmp.Ordering.{Ordering}
-use Rattle.std.specs.declared.cmp.Ordering.TheVariants.{Less, Equal, Greater}
-use Rattle.std.specs.Ordering.{nat_cmp, ordering_then, MatchOrdering}
+use Rattle.std.proofs.Common.{◌≡◌, ℕ, suc, ◌+◌, ◌*◌, ◌<◌, ◌^◌, List, [], ◌∷◌, length, refl, sym, ap, ◌∙◌, arith, ◌&&◌, nat_eq, Ordering, Less, Equal, Greater, nat_cmp, w64}
+use Rattle.std.specs.Ordering.{ordering_then, MatchOrdering}
 use Rattle.std.specs.Cmp.{ranks, nat_cmp_is}
 use Rattle.std.specs.Cmp.Lexicographic.{slice_cmp}
-use Rattle.std.specs.Int.{w64, from_be_bytes}
+use Rattle.std.specs.Int.{from_be_bytes}
+use Rattle.std.proofs.Math.Bool.{and-true, and_assoc}
+use Rattle.std.proofs.lemmas.Grind.{common_steps}
 use Rattle.mvs_model.specs.Name.{AreBytes}
 
 -- the number that the bytes spell behind another
@@ -43,16 +42,7 @@ settles n (x ∷ xs) (y ∷ ys) e bx by = at (nat_cmp x y) (ranks x y) (settles 
   at Greater h same = nat_cmp_is _ _ Greater (rises (n * 256 + y) (n * 256 + x) ys xs (sym long) (behind y ys by) (behind x xs bx) (omega (arith, h, by 0)))
 
 eight : (bs : List ℕ) → length bs ≡ 8 → from_be_bytes w64 bs ≡ spelled 0 bs
-eight [] e = absurd (omega arith)
-eight (a ∷ []) e = absurd (omega arith)
-eight (a ∷ b ∷ []) e = absurd (omega arith)
-eight (a ∷ b ∷ c ∷ []) e = absurd (omega arith)
-eight (a ∷ b ∷ c ∷ d ∷ []) e = absurd (omega arith)
-eight (a ∷ b ∷ c ∷ d ∷ f ∷ []) e = absurd (omega arith)
-eight (a ∷ b ∷ c ∷ d ∷ f ∷ g ∷ []) e = absurd (omega arith)
-eight (a ∷ b ∷ c ∷ d ∷ f ∷ g ∷ h ∷ []) e = absurd (omega arith)
-eight (a ∷ b ∷ c ∷ d ∷ f ∷ g ∷ h ∷ i ∷ []) e = omega arith
-eight (a ∷ b ∷ c ∷ d ∷ f ∷ g ∷ h ∷ i ∷ j ∷ more) e = absurd (omega arith)
+eight bs h1 = grind (arith, common_steps)
 
 pub names_lie : (xs ys : List ℕ) → length xs ≡ 8 → length ys ≡ 8 → AreBytes xs → AreBytes ys → nat_cmp (from_be_bytes w64 xs) (from_be_bytes w64 ys) ≡ slice_cmp nat_cmp xs ys
 names_lie xs ys ex ey bx by = rw (eight xs ex, eight ys ey) (sym (settles 0 xs ys (ex ∙ sym ey) bx by))
@@ -61,16 +51,8 @@ names_lie xs ys ex ey bx by = rw (eight xs ex, eight ys ey) (sym (settles 0 xs y
 same_front : (m n x y : ℕ) → x < 256 → y < 256 → nat_eq (m * 256 + x) (n * 256 + y) ≡ (nat_eq m n && nat_eq x y)
 same_front m n x y lx ly = grind (arith, nat_tests)
 
-and_last : (a : Bool) → a ≡ (a && true)
-and_last true = refl
-and_last false = refl
-
-and_assoc : (a b c : Bool) → ((a && b) && c) ≡ (a && (b && c))
-and_assoc true b c = refl
-and_assoc false b c = refl
-
 same_spelled : (m n : ℕ) (xs ys : List ℕ) → length xs ≡ length ys → AreBytes xs → AreBytes ys → nat_eq (spelled m xs) (spelled n ys) ≡ (nat_eq m n && pointwise nat_eq xs ys)
-same_spelled m n [] [] e bx by = and_last (nat_eq m n)
+same_spelled m n [] [] e bx by = sym (and-true (nat_eq m n))
 same_spelled m n [] (y ∷ ys) e bx by = absurd (omega arith)
 same_spelled m n (x ∷ xs) [] e bx by = absurd (omega arith)
 same_spelled m n (x ∷ xs) (y ∷ ys) e bx by =

@@ -1,10 +1,9 @@
 -- Texts of names and their padding.
-use Rattle.std.proofs.Common.{◌≡◌, ◌≢◌, ℕ, ◌+◌, ◌-◌, ◌<◌, ◌≤◌, List, length, get_or, arith, ◌∙◌, sym, inl, inr}
-use Rattle.std.proofs.lemmas.Bool.{cases_lt}
+use Rattle.std.proofs.Common.{◌≡◌, ℕ, ◌-◌, ◌<◌, ◌≤◌, List, length, get_or, arith, ◌∙◌}
 use Rattle.std.proofs.Math.ListN.{get_or-append}
 use Rattle.std.proofs.Math.Seq.{get_or-append_right}
 use Rattle.std.proofs.lemmas.List.{get_or-replicate}
-use Rattle.std.proofs.lemmas.List.Elements.{All-get_or}
+use Rattle.std.proofs.lemmas.Bool.Decides.{nat_tests}
 use Rattle.mvs_model.specs.Name.{IsNameText, IsName, padded}
 
 -- a byte of the text, and a byte behind it
@@ -15,10 +14,4 @@ byte_behind : (text : List ℕ) (k : ℕ) → length text ≤ k → k < 8 → ge
 byte_behind text k l h = get_or-append_right text _ k 0 l ∙ get_or-replicate (8 - length text) (k - length text) 32 0 (omega arith)
 
 pub padded_is_name : (text : List ℕ) → IsNameText text → IsName (padded text)
-padded_is_name text t = record {
-  begins = rw (byte_in text 0 t.some) (All-get_or (λ b. b ≢ 32) text 0 0 t.some t.no_blank);
-  ends = λ k l blank. elim (cases_lt k (length text)) [
-    | inl h ↦ absurd (All-get_or (λ b. b ≢ 32) text k 0 h t.no_blank (let e : get_or text k 0 ≡ 32 = sym (byte_in text k h) ∙ blank in e))
-    | inr h ↦ byte_behind text (k + 1) (omega arith) (omega arith)
-  ];
-}
+padded_is_name text t = grind (arith, nat_tests, byte_in, byte_behind)

@@ -1,22 +1,19 @@
 -- The changes of tasks, tables and owners have one result.
-use Rattle.std.proofs.Common.{◌≡◌, ℕ, zero, suc, ◌<◌, inl, inr, Bool, true, false, cond, List, [], ◌∷◌, Option, Some, None, arith, refl, sym, ap, ◌∙◌, subst}
-use Rattle.std.specs.Prelude.{is_some, IsSome, MatchOption}
-use Rattle.std.specs.List.{Contains, AllByRecursion}
+use Rattle.std.proofs.Common.{◌≡◌, ℕ, zero, suc, ◌<◌, inl, inr, Bool, true, false, cond, List, [], ◌∷◌, Some, arith, refl, sym, ap, ◌∙◌, subst, Contains, Less}
+use Rattle.std.specs.List.{AllByRecursion}
 use Rattle.std.specs.List.Sorted.{IsStrictlySortedBy}
-use Rattle.std.proofs.lemmas.Bool.{cases_lt}
 use Rattle.std.proofs.lemmas.Map.Keys.{sorted_head}
-use Rattle.std.specs.declared.cmp.Ordering.{Ordering}
-use Rattle.std.specs.declared.cmp.Ordering.TheVariants.{Less, Equal, Greater}
-use Rattle.std.specs.Ordering.{ordering_reverse}
 use Rattle.std.specs.Cmp.{nat_cmp_total}
 use Rattle.std.specs.FinMap.{get, same_map, nat_cmp-IsAntisymmetric}
-use Rattle.mvs_model.specs.declared.name.Name.{Name}
-use Rattle.mvs_model.specs.declared.want.Residence.{Residence}
+use Rattle.std.proofs.lemmas.Bool.Decides.{nat_tests}
+use Rattle.std.proofs.lemmas.Grind.{common_steps}
+use Rattle.mvs_model.proofs.Types.{Name, Residence}
 use Rattle.mvs_model.specs.Name.{name_cmp}
 use Rattle.mvs_model.specs.Gifts.{GiftsValue, shares}
-use Rattle.mvs_model.specs.Owners.{Owners, entry, IsSpare, SubpoolOf, Binds, Enters, EntersBelow, none, passed, entered, handed, is_given, Attach, IsFallen, Ends}
+use Rattle.mvs_model.specs.Owners.{Owners, SubpoolOf, Enters, EntersBelow, none, passed, entered, handed, is_given, Attach, IsFallen, Ends}
 use Rattle.mvs_model.proofs.Orders.{name_cmp_total, name_cmp-IsAntisymmetric, entry_cmp_total, entry_cmp-IsAntisymmetric}
 use Rattle.mvs_model.proofs.Elements.{later, first_or_later}
+use Rattle.mvs_model.proofs.Tests.{false_true, true_false}
 
 same_owners : (a b : Owners) → ((t : Name) → get a.tasks t ≡ get b.tasks t) → ((e : Name × ℕ) → get a.table e ≡ get b.table e) → ((s : ℕ) → get a.owner s ≡ get b.owner s) → a ≡ b
 same_owners a b tasks table owner = λ i. record {
@@ -25,31 +22,14 @@ same_owners a b tasks table owner = λ i. record {
   owner = same_map nat_cmp_total nat_cmp-IsAntisymmetric a.owner b.owner owner i;
 }
 
--- the least spare number
-spare_most : (o : Owners) (r s : ℕ) → IsSpare o r → IsSpare o s → s < r → ⊥
-spare_most o r s a b l = let f : IsSome (get o.owner s) = a.least s l in let g : false ≡ true = ap is_some (sym b.spare) ∙ f in cc
-
-one_spare : (o : Owners) (r s : ℕ) → IsSpare o r → IsSpare o s → r ≡ s
-one_spare o r s a b = elim (cases_lt s r) [
-  | inl l ↦ absurd (spare_most o r s a b l)
-  | inr h ↦ elim (cases_lt r s) [ inl l ↦ absurd (spare_most o s r b a l) | inr g ↦ omega (arith, h, g) ]
-]
-
 pub one_subpool : (o : Owners) (t : Name) (number r s : ℕ) → SubpoolOf o t number r → SubpoolOf o t number s → r ≡ s
-one_subpool o t number r s a b = at (entry o t number) a b where
-  at : (v : Option ℕ) → MatchOption v (IsSpare o r) (λ x. r ≡ x) → MatchOption v (IsSpare o s) (λ x. s ≡ x) → r ≡ s
-  at None a b = one_spare o r s a b
-  at (Some x) a b = a ∙ sym b
+one_subpool o t number r s a b = grind (arith, nat_tests)
 
 pub one_enters : (old : Owners) (t : Name) (number s : ℕ) (a b : Owners) → Enters old t number s a → Enters old t number s b → a ≡ b
-one_enters old t number s a b x y = at (entry old t number) x y where
-  at : (v : Option ℕ) → MatchOption v (Binds old t number s a) (λ _. a ≡ old) → MatchOption v (Binds old t number s b) (λ _. b ≡ old) → a ≡ b
-  at None x y = same_owners a b (λ q. ap (λ m. get m q) (x.tasks ∙ sym y.tasks)) (λ e. x.table e ∙ sym (y.table e)) (λ r. x.owner r ∙ sym (y.owner r))
-  at (Some r) x y = x ∙ sym y
+one_enters old t number s a b x y = grind (arith, nat_tests, same_owners)
 
 no_bool : {P : Type 0} (b : Bool) → b ≡ true → b ≡ false → P
-no_bool true e f = absurd (let g : true ≡ false = f in cc)
-no_bool false e f = absurd (let g : false ≡ true = e in cc)
+no_bool b h1 h2 = grind (arith, nat_tests, false_true, true_false)
 
 pub one_below : (old : Owners) (t : Name) (wanted : ℕ → Bool) (n : ℕ) (a b : Owners) → EntersBelow old t wanted n a → EntersBelow old t wanted n b → a ≡ b
 one_below old t wanted zero a b none none = refl
@@ -71,18 +51,10 @@ one_attach old mother name gifts residence a b x y =
 
 -- strictly rising lists of the same names
 all_contained : (P : Name → Type 0) (x : Name) (names : List Name) → AllByRecursion P names → Contains names x → P x
-all_contained P x [] h c = absurd (let l : c.0 < 0 = c.1 in omega (arith, l))
-all_contained P x (y ∷ names) h c = elim (first_or_later x y names c) [ inl e ↦ subst P e h.0 | inr r ↦ all_contained P x names h.1 r ]
+all_contained P x names h1 h2 = grind (arith, common_steps, first_or_later)
 
 not_both : (x y : Name) → name_cmp x y ≡ Less → name_cmp y x ≡ Less → ⊥
-not_both x y e f = let g : Less ≡ Greater = sym e ∙ name_cmp_total.antisymm x y ∙ ap ordering_reverse f in at g where
-  is_less : Ordering → Bool
-  is_less Less = true
-  is_less Equal = false
-  is_less Greater = false
-
-  at : Less ≡ Greater → ⊥
-  at g = let h : true ≡ false = ap is_less g in cc
+not_both x y e f = grind (arith, nat_tests, name_cmp_total)
 
 empty_has : (x : Name) → Contains [] x → ⊥
 empty_has x c = let l : c.0 < 0 = c.1 in omega (arith, l)

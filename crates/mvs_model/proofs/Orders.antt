@@ -1,13 +1,11 @@
 -- The orders of names and of entries are total, and what they call equal is the same.
-use Rattle.std.proofs.Common.{◌≡◌, ◌≢◌, ℕ, Bool, true, false, List, eqb, ap, arith, refl, sym, ◌∙◌}
-use Rattle.std.specs.Prelude.{◌&&◌, ◌==◌}
+use Rattle.std.proofs.Common.{◌≡◌, ◌≢◌, ℕ, true, false, List, eqb, ap, arith, sym, ◌∙◌, ◌&&◌, ◌==◌, Ordering, Equal, nat_cmp, is_eq}
 use Rattle.std.proofs.lemmas.Bool.Decides.{nat_tests}
 use Rattle.std.proofs.lemmas.Cmp.{then_total, on_total, nat_list_cmp_total, tied_itself}
-use Rattle.std.specs.declared.cmp.Ordering.{Ordering}
-use Rattle.std.specs.declared.cmp.Ordering.TheVariants.{Less, Equal, Greater}
-use Rattle.std.specs.Ordering.{nat_cmp, eq_by_cmp, is_eq, ordering_then}
+use Rattle.std.specs.Ordering.{eq_by_cmp, ordering_then}
 use Rattle.std.specs.Cmp.{IsTotalOrder, nat_cmp_total, Equal-is, eq_by_cmp_equiv}
 use Rattle.std.specs.FinMap.{IsAntisymmetric, nat_cmp-IsAntisymmetric, slice_cmp-IsAntisymmetric}
+use Rattle.std.proofs.lemmas.Bool.{false_from_ne_true}
 use Rattle.mvs_model.specs.Name.{name_cmp, same_name}
 use Rattle.mvs_model.specs.Owners.{entry_cmp}
 
@@ -43,9 +41,7 @@ pub same_name_sym : (a b : List ℕ) → same_name a b ≡ same_name b a
 same_name_sym a b = (eq_by_cmp_equiv name_cmp_total).symm a b
 
 pub tied_pair : (a : Ordering) (m n : ℕ) → is_eq (ordering_then a (nat_cmp m n)) ≡ (is_eq a && eqb m n)
-tied_pair Less m n = refl
-tied_pair Equal m n = grind (arith, nat_tests)
-tied_pair Greater m n = refl
+tied_pair a m n = grind (arith, nat_tests)
 
 -- two entries are the same where their names and their numbers are
 pub same_entry_is : (e d : List ℕ × ℕ) → eq_by_cmp entry_cmp e d ≡ (same_name e.0 d.0 && (e.1 == d.1))
@@ -56,7 +52,4 @@ pub differs : (m n : List ℕ) → same_name m n ≡ false → m ≢ n
 differs m n f e = let g : true ≡ false = sym (same_name_self n) ∙ ap (λ x. same_name x n) (sym e) ∙ f in cc
 
 pub told : (m n : List ℕ) → m ≢ n → same_name m n ≡ false
-told m n ne = at (same_name m n) (same_name_is m n) where
-  at : (b : Bool) → (b ≡ true → m ≡ n) → b ≡ false
-  at true is = absurd (ne (is refl))
-  at false is = refl
+told m n ne = false_from_ne_true (same_name m n) (λ e. ne (same_name_is m n e))

@@ -1,23 +1,18 @@
 -- In every state of a run what is held has an owner.
-use Rattle.std.proofs.Common.{◌≡◌, ℕ, zero, suc, ◌<◌, ◌≤◌, ◌⊎◌, inl, inr, Bool, true, false, cond, List, Option, Some, None, refl, sym, ap, ◌∙◌, subst, arith}
+use Rattle.std.proofs.Common.{◌≡◌, ℕ, zero, suc, ◌<◌, ◌≤◌, ◌⊎◌, inl, inr, Bool, true, false, cond, List, Option, Some, None, refl, sym, ap, ◌∙◌, subst, arith, nat_lt, MatchOption, IsSome, is_some, not, ◌&&◌, ◌||◌, ◌==◌, nat_cmp, MatchBool, eqb-true, ltb-true}
 use Rattle.std.proofs.lemmas.Bool.Decides.{nat_tests}
-use Rattle.std.specs.Prelude.{nat_le, nat_lt, if◌then◌else◌, MatchOption, IsSome, is_some, not, ◌&&◌, ◌||◌, ◌==◌}
-use Rattle.std.specs.Ordering.{nat_cmp}
-use Rattle.std.specs.FinMap.{get, get-empty, contains_key, len}
+use Rattle.std.specs.FinMap.{get, get-empty, contains_key}
 use Rattle.std.specs.FinSet as set
-use Rattle.std.specs.Bool.{MatchBool}
-use Rattle.mvs_model.specs.declared.code.Code.{Code}
-use Rattle.mvs_model.specs.declared.name.Name.{Name}
-use Rattle.mvs_model.specs.declared.request.Request.TheVariants.{Obtain}
-use Rattle.mvs_model.specs.declared.request.Reply.TheVariants.{Abended, NotRun, Obtained, Rc4}
+use Rattle.std.proofs.lemmas.Bool.{and_parts, or_right, not-true}
+use Rattle.std.proofs.lemmas.Grind.{common_steps}
+use Rattle.mvs_model.proofs.Types.{Code, Name, Obtain, Abended, NotRun, Obtained, Rc4}
 use Rattle.mvs_model.specs.Card.{CardValue}
-use Rattle.mvs_model.specs.Finite.{Changes, any_below, has, kept}
+use Rattle.mvs_model.specs.Finite.{Changes, has}
 use Rattle.mvs_model.specs.Gifts.{GiftsValue, gives, has_bit, shares}
 use Rattle.mvs_model.specs.Name.{name_cmp, same_name}
-use Rattle.mvs_model.specs.Owners.{Binds, Ends, Enters, EntersBelow, IsSpare, Owners, SubpoolOf, Task, attach_refusal, ends_with, entered, entry, entry_cmp, gives_shared, goes, handed, is_active, is_given, keeper, none, passed}
+use Rattle.mvs_model.specs.Owners.{Binds, Ends, Enters, EntersBelow, IsSpare, Owners, SubpoolOf, Task, attach_refusal, ends_with, entered, entry, entry_cmp, handed, is_active, is_given, keeper, none, passed}
 use Rattle.mvs_model.specs.Changes.{Drops, Extends, GrantTo, ShortOf, with_part}
-use Rattle.mvs_model.specs.Codes.{bad_subpool, family, is_conditional, not_owned, short, task_in_use, too_many_tasks}
-use Rattle.mvs_model.specs.Numbers.{most_tasks}
+use Rattle.mvs_model.specs.Codes.{bad_subpool, family, is_conditional, short}
 use Rattle.mvs_model.specs.Place.{PlaceValue}
 use Rattle.mvs_model.specs.Pools.{Pool}
 use Rattle.mvs_model.specs.Sparing.{GrantsSpare, OwnerStays, Spares}
@@ -25,57 +20,28 @@ use Rattle.mvs_model.specs.Steps.{Abends, Acts, Fails, Refuses, is_invalid, new_
 use Rattle.mvs_model.specs.Want.{want_of}
 use Rattle.mvs_model.specs.Storage.{covers}
 use Rattle.mvs_model.specs.Start.{start}
-use Rattle.mvs_model.specs.State.{State, Holding, plain, pooled}
+use Rattle.mvs_model.specs.State.{State, Holding, plain}
 use Rattle.mvs_model.specs.Subpool.{is_subpool_number}
 use Rattle.mvs_model.specs.WellFormed.{HasOwners, Owned}
 use Rattle.mvs_model.specs.Laws.{KeptWellFormed}
-use Rattle.mvs_model.specs.Runs.{Before, In}
-use Rattle.mvs_model.proofs.Going.{pages_kept, runs_keep, start_sized}
+use Rattle.mvs_model.proofs.Going.{pages_kept, running_keeps, start_sized}
 use Rattle.mvs_model.proofs.Kept.{Closed, IsAsker, enters_tasks}
-use Rattle.mvs_model.proofs.LinkFree.{some_below}
 use Rattle.mvs_model.proofs.Orders.{same_name_is, same_name_self}
 use Rattle.mvs_model.proofs.PartsApart.{StaysApart, apart_closed, start_apart}
-use Rattle.mvs_model.proofs.PartsFreed.{kept_from, kept_is}
 use Rattle.mvs_model.proofs.PoolPut.{put_here}
+use Rattle.mvs_model.proofs.Below.{below_some, some_below}
+use Rattle.mvs_model.proofs.Tests.{kept_is, none_some, some_none, true_false, same_self}
 
 -- ---- a change at keys that pass a test
 
 cases : {X : Type 0} (b : Bool) (v o : Option X) (x : X) → cond b v o ≡ Some x → ((b ≡ true) × (v ≡ Some x)) ⊎ ((b ≡ false) × (o ≡ Some x))
-cases true v o x e = inl (refl, e)
-cases false v o x e = inr (refl, e)
+cases b v o x h1 = grind (arith, common_steps)
 
 some_is : {X : Type 0} (o : Option X) (x : X) → o ≡ Some x → IsSome o
 some_is o x e = ap is_some e
 
 changed_some : {X : Type 0} (b : Bool) (x : X) (o : Option X) → IsSome o → IsSome (cond b (Some x) o)
-changed_some true x o h = refl
-changed_some false x o h = h
-
-both : (a b : Bool) → (a && b) ≡ true → (a ≡ true) × (b ≡ true)
-both true b e = (refl, e)
-both false b e = absurd (let f : false ≡ true = e in cc)
-
-neither : (a b : Bool) → not (a || b) ≡ true → (a ≡ false) × (b ≡ false)
-neither true b e = absurd (let f : false ≡ true = e in cc)
-neither false true e = absurd (let f : false ≡ true = e in cc)
-neither false false e = (refl, refl)
-
-not_so : (b : Bool) → not b ≡ true → b ≡ false
-not_so true e = absurd (let f : false ≡ true = e in cc)
-not_so false e = refl
-
-same_number : (a b : ℕ) → (a == b) ≡ true → a ≡ b
-same_number a b e = grind (arith, nat_tests)
-
-equal_self : (a : ℕ) → (a == a) ≡ true
-equal_self a = grind (arith, nat_tests)
-
-below_is : (n : ℕ) → nat_lt n 128 ≡ true → n < 128
-below_is n e = grind (arith, nat_tests)
-
-or_second : (a b : Bool) → b ≡ true → (a || b) ≡ true
-or_second true b e = refl
-or_second false b e = e
+changed_some b x o h1 = grind (arith, common_steps)
 
 -- ---- a task enters a subpool
 
@@ -88,10 +54,7 @@ record Entered (o : Owners) (s : ℕ) (new : Owners) : Type 0 where
 
 module _ (o : Owners) (t : Name) (number s : ℕ) (new : Owners) (asks : IsAsker o t number) (own : Owned o) where
   new_entry : Binds o t number s new → (u : Name) (n r : ℕ) → entry new u n ≡ Some r → ((u ≡ t) × (n ≡ number) × (r ≡ s)) ⊎ (entry o u n ≡ Some r)
-  new_entry b u n r e = elim (cases (same_name u t && (n == number)) (Some s) (entry o u n) r (sym (b.table (u, n)) ∙ e)) [
-    | inl h ↦ let k = both (same_name u t) (n == number) h.0 in inl (same_name_is u t k.0, same_number n number k.1, (let f : Some s ≡ Some r = h.1 in cc))
-    | inr h ↦ inr h.1
-  ]
+  new_entry b u n r e = grind (arith, nat_tests, cases, same_name_is)
 
   bound : entry o t number ≡ None → Binds o t number s new → Entered o s new
   bound fresh b = record {
@@ -106,7 +69,7 @@ module _ (o : Owners) (t : Name) (number s : ℕ) (new : Owners) (asks : IsAsker
     still = still;
   } where
     owner : IsSome (get new.owner s)
-    owner = some_is (get new.owner s) t (b.owner s ∙ ap (λ c. cond c (Some t) (get o.owner s)) (equal_self s))
+    owner = some_is (get new.owner s) t (b.owner s ∙ ap (λ c. cond c (Some t) (get o.owner s)) (same_self s))
 
     still : (r : ℕ) → IsSome (get o.owner r) → IsSome (get new.owner r)
     still r h = ap is_some (b.owner r) ∙ changed_some (r == s) t (get o.owner r) h
@@ -115,15 +78,15 @@ module _ (o : Owners) (t : Name) (number s : ℕ) (new : Owners) (asks : IsAsker
     owned u r e = elim (cases (r == s) (Some t) (get o.owner r) u (sym (b.owner r) ∙ e)) [
       | inl h ↦
           let is_t : t ≡ u = (let f : Some t ≡ Some u = h.1 in cc) in
-          (number, ap (λ x. entry new x number) (sym is_t) ∙ b.table (t, number) ∙ (λ i. cond (same_name_self t i && equal_self number i) (Some s) (entry o t number)) ∙ ap (λ x. Some x) (sym (same_number r s h.0)))
+          (number, ap (λ x. entry new x number) (sym is_t) ∙ b.table (t, number) ∙ (λ i. cond (same_name_self t i && same_self number i) (Some s) (entry o t number)) ∙ ap (λ x. Some x) (sym (eqb-true r s h.0)))
       | inr h ↦ let n = own.owned u r h.1 in (n.0, b.table (u, n.0) ∙ other u r n.0 n.1 (same_name u t && (n.0 == number)) refl)
     ] where
       other : (u : Name) (r n : ℕ) → entry o u n ≡ Some r → (c : Bool) → (same_name u t && (n == number)) ≡ c → cond c (Some s) (entry o u n) ≡ Some r
       other u r n f false c = f
       other u r n f true c =
-          let k = both (same_name u t) (n == number) c in
-          let is_none : entry o u n ≡ None = (λ i. entry o (same_name_is u t k.0 i) (same_number n number k.1 i)) ∙ fresh in
-          absurd (let g : Some r ≡ None = sym f ∙ is_none in cc)
+          let k = and_parts (same_name u t) (n == number) c in
+          let is_none : entry o u n ≡ None = (λ i. entry o (same_name_is u t k.0 i) (eqb-true n number k.1 i)) ∙ fresh in
+          some_none (sym f ∙ is_none)
 
   enters_owned : SubpoolOf o t number s → Enters o t number s new → Entered o s new
   enters_owned of enters = at (entry o t number) refl of enters where
@@ -139,31 +102,11 @@ module _ (o : Owners) (t : Name) (number s : ℕ) (new : Owners) (asks : IsAsker
 -- ---- tasks end
 
 module _ (o : Owners) (t : Name) (fallen : List Name) (new : Owners) (ends : Ends o t fallen new) (own : Owned o) where
-  left_entry : (u : Name) (n s : ℕ) → entry new u n ≡ Some s → (entry o u n ≡ Some s) × ((goes t fallen u ≡ false) × (ends_with o t fallen s ≡ false))
-  left_entry u n s e =
-      let k = kept_is (λ s. not (goes t fallen u || ends_with o t fallen s)) (entry o u n) s (sym (ends.table (u, n)) ∙ e) in
-      (k.0, neither (goes t fallen u) (ends_with o t fallen s) k.1)
-
   ends_still : (s : ℕ) → IsSome (get o.owner s) → ends_with o t fallen s ≡ false → IsSome (get new.owner s)
-  ends_still s h e = ap is_some (ends.owner s) ∙ at (get o.owner s) h e where
-    at : (v : Option Name) → IsSome v → has (goes t fallen) v ≡ false → IsSome (kept (λ x. not (goes t fallen x)) v)
-    at None h e = h
-    at (Some x) h e = ap (λ c. is_some (cond (not c) (Some x) None)) e
+  ends_still s h e = grind (arith, nat_tests)
 
   ends_owned : Owned new
-  ends_owned = record {
-    owned = λ u s e.
-        let k = kept_is (λ x. not (goes t fallen x)) (get o.owner s) u (sym (ends.owner s) ∙ e) in
-        let n = own.owned u s k.0 in
-        let stays : goes t fallen u ≡ false = not_so (goes t fallen u) k.1 in
-        (n.0, ends.table (u, n.0) ∙ kept_from (λ s. not (goes t fallen u || ends_with o t fallen s)) (entry o u n.0) s n.1 ((λ i. not (stays i || has (goes t fallen) (k.0 i))) ∙ ap not stays));
-    has_owner = λ u n s e. let l = left_entry u n s e in ends_still s (own.has_owner u n s l.0) l.1.1;
-    active = λ u n s e. let l = left_entry u n s e in ap is_some (ends.tasks u) ∙ at u (get o.tasks u) l.1.0 (own.active u n s l.0);
-    numbers = λ u n s e. own.numbers u n s (left_entry u n s e).0;
-  } where
-    at : (u : Name) (v : Option Task) → goes t fallen u ≡ false → is_some v ≡ true → is_some (kept (λ _. not (goes t fallen u)) v) ≡ true
-    at u None e h = h
-    at u (Some x) e h = ap (λ c. is_some (cond (not c) (Some x) None)) e
+  ends_owned = grind (arith, nat_tests)
 
 -- ---- a subtask is attached
 
@@ -184,28 +127,14 @@ made o t wanted (suc n) new active low (entered s {now = now} before e of enters
     let k = enters_owned now t n s new (record { active = ap (λ x. contains_key x t) m.tasks ∙ active; valid = task_number n (omega (arith, low)) }) m.owned of enters in
     record { owned = k.owned; tasks = k.tasks ∙ m.tasks; still = λ r h. k.still r (m.still r h) }
 
-found_below : (test : ℕ → Bool) (n : ℕ) → any_below test n ≡ true → (k : ℕ) × (k < n) × (test k ≡ true)
-unfolding any_below
-found_below test zero e = absurd (let f : false ≡ true = e in cc)
-found_below test (suc n) e = at (test n) refl e (found_below test n) where
-  at : (c : Bool) → test n ≡ c → (c || any_below test n) ≡ true → (any_below test n ≡ true → (k : ℕ) × (k < n) × (test k ≡ true)) → (k : ℕ) × (k < suc n) × (test k ≡ true)
-  at true f g more = (n, omega arith, f)
-  at false f g more = let k = more g in (k.0, (let l : k.0 < n = k.1 in omega arith), k.2)
-
 has_is : (o : Option ℕ) (s : ℕ) → has (λ r. r == s) o ≡ true → o ≡ Some s
-has_is None s e = absurd (let f : false ≡ true = e in cc)
-has_is (Some r) s e = ap (λ x. Some x) (same_number r s e)
+has_is o s h1 = grind (arith, nat_tests)
 
 module _ (o : Owners) (mother name : Name) (gifts : GiftsValue) (new : Owners) (ready : Owners) (table : (t : Name) (n : ℕ) → entry new t n ≡ handed ready mother name gifts t n) (owner : Changes (get ready.owner) (is_given ready mother gifts) (Some name) (get new.owner))
     (tasks : (x : Name) → is_active new x ≡ (same_name name x || is_active ready x)) (fresh : is_active ready name ≡ false) (own : Owned ready) where
   -- what a task has after the gifts it or the mother had before
   had : (t : Name) (n s : ℕ) → entry new t n ≡ Some s → (((t ≡ name) × (entry ready mother n ≡ Some s)) ⊎ (entry ready t n ≡ Some s))
-  had t n s e = at (same_name t name) refl (gives gifts n || shares gifts n) (same_name t mother && gives gifts n) (sym (table t n) ∙ e) where
-    at : (a : Bool) → same_name t name ≡ a → (b c : Bool) → cond a (cond b (entry ready mother n) None) (cond c None (entry ready t n)) ≡ Some s → (((t ≡ name) × (entry ready mother n ≡ Some s)) ⊎ (entry ready t n ≡ Some s))
-    at true is true c f = inl (same_name_is t name is, f)
-    at true is false c f = absurd (let g : None ≡ Some s = f in cc)
-    at false is b true f = absurd (let g : None ≡ Some s = f in cc)
-    at false is b false f = inr f
+  had t n s e = grind (arith, nat_tests, same_name_is)
 
   -- the subtask has what is given
   given_entry : (n s : ℕ) → gives gifts n ≡ true → entry ready mother n ≡ Some s → entry new name n ≡ Some s
@@ -215,15 +144,15 @@ module _ (o : Owners) (mother name : Name) (gifts : GiftsValue) (new : Owners) (
   kept_entry : (t : Name) (n s : ℕ) → entry ready t n ≡ Some s → is_given ready mother gifts s ≡ false → entry new t n ≡ Some s
   kept_entry t n s e out = table t n ∙ at (same_name t name) refl (same_name t mother && gives gifts n) refl where
     at : (a : Bool) → same_name t name ≡ a → (c : Bool) → (same_name t mother && gives gifts n) ≡ c → cond a (cond (gives gifts n || shares gifts n) (entry ready mother n) None) (cond c None (entry ready t n)) ≡ Some s
-    at true is c f = absurd (let g : true ≡ false = sym (own.active t n s e) ∙ ap (is_active ready) (same_name_is t name is) ∙ fresh in cc)
+    at true is c f = true_false (sym (own.active t n s e) ∙ ap (is_active ready) (same_name_is t name is) ∙ fresh)
     at false is false f = e
     at false is true f =
-        let k = both (same_name t mother) (gives gifts n) f in
-        let low = both (nat_lt n 128) (has_bit gifts.given n) k.1 in
+        let k = and_parts (same_name t mother) (gives gifts n) f in
+        let low = and_parts (nat_lt n 128) (has_bit gifts.given n) k.1 in
         let there : entry ready mother n ≡ Some s = ap (λ x. entry ready x n) (sym (same_name_is t mother k.0)) ∙ e in
         let given : is_given ready mother gifts s ≡ true =
-        some_below (λ n. gives gifts n && has (λ r. r == s) (entry ready mother n)) 128 n (below_is n low.0) ((λ i. k.1 i && has (λ r. r == s) (there i)) ∙ equal_self s) in
-        absurd (let g : true ≡ false = sym given ∙ out in cc)
+        some_below (λ n. gives gifts n && has (λ r. r == s) (entry ready mother n)) 128 n (ltb-true n 128 low.0) ((λ i. k.1 i && has (λ r. r == s) (there i)) ∙ same_self s) in
+        true_false (sym given ∙ out)
 
   attach_still : (s : ℕ) → IsSome (get ready.owner s) → IsSome (get new.owner s)
   attach_still s h = ap is_some (owner s) ∙ changed_some (is_given ready mother gifts s) name (get ready.owner s) h
@@ -233,15 +162,15 @@ module _ (o : Owners) (mother name : Name) (gifts : GiftsValue) (new : Owners) (
     owned = λ t s e. elim (cases (is_given ready mother gifts s) (Some name) (get ready.owner s) t (sym (owner s) ∙ e)) [
       | inl h ↦
           let is_t : name ≡ t = (let f : Some name ≡ Some t = h.1 in cc) in
-          let k = found_below (λ n. gives gifts n && has (λ r. r == s) (entry ready mother n)) 128 h.0 in
-          let g = both (gives gifts k.0) (has (λ r. r == s) (entry ready mother k.0)) k.2 in
+          let k = below_some (λ n. gives gifts n && has (λ r. r == s) (entry ready mother n)) 128 h.0 in
+          let g = and_parts (gives gifts k.0) (has (λ r. r == s) (entry ready mother k.0)) k.2 in
           (k.0, subst (λ x. entry new x k.0 ≡ Some s) is_t (given_entry k.0 s g.0 (has_is (entry ready mother k.0) s g.1)))
       | inr h ↦ let n = own.owned t s h.1 in (n.0, kept_entry t n.0 s n.1 h.0)
     ];
     has_owner = λ t n s e. attach_still s (elim (had t n s e) [ inl h ↦ own.has_owner mother n s h.1 | inr h ↦ own.has_owner t n s h ]);
     active = λ t n s e. tasks t ∙ (elim (had t n s e) [
       | inl h ↦ ap (λ c. c || is_active ready t) (ap (same_name name) h.0 ∙ same_name_self name)
-      | inr h ↦ or_second (same_name name t) (is_active ready t) (own.active t n s h)
+      | inr h ↦ or_right (same_name name t) (is_active ready t) (own.active t n s h)
     ]);
     numbers = λ t n s e. elim (had t n s e) [ inl h ↦ own.numbers mother n s h.1 | inr h ↦ own.numbers t n s h ];
   }
@@ -276,31 +205,16 @@ module _ (old new : State) (k : HasOwners old) where
   same_pools e name pool f = sym (ap (λ m. get m name) e) ∙ f
 
   less_held : (test : ℕ → Bool) → Changes (get old.held) test None (get new.held) → (d : ℕ) (h : Holding) → get new.held d ≡ Some h → get old.held d ≡ Some h
-  less_held test changes d h e = elim (cases (test d) None (get old.held d) h (sym (changes d) ∙ e)) [ inl f ↦ absurd (let g : None ≡ Some h = f.1 in cc) | inr f ↦ f.1 ]
+  less_held test changes d h e = elim (cases (test d) None (get old.held d) h (sym (changes d) ∙ e)) [ inl f ↦ none_some f.1 | inr f ↦ f.1 ]
 
   -- a pool is put in another's place
   put_pool : (name : Name) (pool : Pool) → IsSome (get old.owners.owner pool.subpool) → Changes (get old.pools) (λ n. same_name n name) (Some pool) (get new.pools) → (n : Name) (q : Pool) → get new.pools n ≡ Some q → IsSome (get old.owners.owner q.subpool)
-  put_pool name pool has_one changes n q e = elim (cases (same_name n name) (Some pool) (get old.pools n) q (sym (changes n) ∙ e)) [
-    | inl f ↦ let s : pool ≡ q = (let g : Some pool ≡ Some q = f.1 in cc) in subst (λ p. IsSome (get old.owners.owner p.subpool)) s has_one
-    | inr f ↦ k.pools n q f.1
-  ]
+  put_pool name pool has_one changes n q e = grind (arith, nat_tests)
 
 -- what a pool is given more is of its subpool
 extends_owners : (old new : State) (name : Name) (pool : Pool) (count : ℕ) (p : PlaceValue) (o : Owners) → Extends old name pool count p o new → HasOwners old → Owned o → IsSome (get o.owner pool.subpool)
     → ((r : ℕ) → IsSome (get old.owners.owner r) → IsSome (get o.owner r)) → HasOwners new
-extends_owners old new name pool count p o x k owned has_one still = record {
-  owned = subst Owned (sym x.owners_are) owned;
-  held = λ d h e. there h.subpool (elim (cases (covers p d) (Some (pooled pool.subpool)) (get old.held d) h (sym (x.held d) ∙ e)) [
-    | inl f ↦ let s : pooled pool.subpool ≡ h = (let g : Some (pooled pool.subpool) ≡ Some h = f.1 in cc) in subst (λ y. IsSome (get o.owner y.subpool)) s has_one
-    | inr f ↦ still h.subpool (k.held d h f.1)
-  ]);
-  pools = λ n q e. there q.subpool (elim (cases (same_name n name) (Some (with_part pool count p)) (get old.pools n) q (sym (x.pools n) ∙ e)) [
-    | inl f ↦ let s : with_part pool count p ≡ q = (let g : Some (with_part pool count p) ≡ Some q = f.1 in cc) in subst (λ y. IsSome (get o.owner y.subpool)) s has_one
-    | inr f ↦ still q.subpool (k.pools n q f.1)
-  ]);
-} where
-  there : (r : ℕ) → IsSome (get o.owner r) → IsSome (get new.owners.owner r)
-  there r h = subst (λ y. IsSome (get y.owner r)) (sym x.owners_are) h
+extends_owners old new name pool count p o x k owned has_one still = grind (arith, nat_tests)
 
 -- a cell is taken or given back
 cell_owners : (old new : State) (name : Name) (pool : Pool) (taken : set.FinSet nat_cmp) → get old.pools name ≡ Some pool → new.held ≡ old.held → new.owners ≡ old.owners
@@ -310,22 +224,16 @@ cell_owners old new name pool taken is held owners pools k = alike old new k own
 drops_owners : (old new : State) (test : ℕ → Bool) → Drops old test new → HasOwners old → Owned new.owners → ((r : ℕ) → IsSome (get old.owners.owner r) → test r ≡ false → IsSome (get new.owners.owner r)) → HasOwners new
 drops_owners old new test g k owned still = record {
   owned = owned;
-  held = λ d h e. let f = kept_is (λ x. not (test x.subpool)) (get old.held d) h (sym (g.held d) ∙ e) in still h.subpool (k.held d h f.0) (not_so (test h.subpool) f.1);
-  pools = λ n q e. let f = kept_is (λ x. not (test x.subpool)) (get old.pools n) q (sym (g.pools n) ∙ e) in still q.subpool (k.pools n q f.0) (not_so (test q.subpool) f.1);
+  held = λ d h e. let f = kept_is (λ x. not (test x.subpool)) (get old.held d) h (sym (g.held d) ∙ e) in still h.subpool (k.held d h f.0) (not-true (test h.subpool) f.1);
+  pools = λ n q e. let f = kept_is (λ x. not (test x.subpool)) (get old.pools n) q (sym (g.pools n) ∙ e) in still q.subpool (k.pools n q f.0) (not-true (test q.subpool) f.1);
 }
 
 -- the subtask's name was no task's
 fresh_name : (o : Owners) (t name : Name) (gifts : GiftsValue) → attach_refusal o t name gifts ≡ None → is_active o name ≡ false
-fresh_name o t name gifts e = at (is_active o name) e where
-  at : (b : Bool) → (if b then Some task_in_use else (if nat_le most_tasks (len o.tasks) then Some too_many_tasks else (if gives_shared o t gifts then Some not_owned else None))) ≡ None → b ≡ false
-  at true f = absurd (let g : Some task_in_use ≡ None = f in cc)
-  at false f = refl
+fresh_name o t name gifts e = grind (arith, nat_tests)
 
 active_then : (old new : Owners) (name : Name) (task : Task) (x : Name) → Changes (get old.tasks) (same_name name) (Some task) (get new.tasks) → is_active new x ≡ (same_name name x || is_active old x)
-active_then old new name task x changes = ap is_some (changes x) ∙ at (same_name name x) where
-  at : (b : Bool) → is_some (cond b (Some task) (get old.tasks x)) ≡ (b || is_some (get old.tasks x))
-  at true = refl
-  at false = refl
+active_then old new name task x changes = grind (arith, nat_tests)
 
 owners_closed : Closed HasOwners
 owners_closed = record {
@@ -349,7 +257,7 @@ owners_closed = record {
   taken = λ old name pool c new is f g k. cell_owners old new name pool _ is g.held g.owners g.pools k;
   given = λ old name pool c new is f g k. cell_owners old new name pool _ is g.held g.owners g.pools k;
   dropped = λ old name pool new is g k. alike old new k g.owners (less_held old new k _ g.held)
-      (λ n q e. elim (cases (same_name n name) None (get old.pools n) q (sym (g.pools n) ∙ e)) [ inl f ↦ absurd (let h : None ≡ Some q = f.1 in cc) | inr f ↦ k.pools n q f.1 ]);
+      (λ n q e. elim (cases (same_name n name) None (get old.pools n) q (sym (g.pools n) ∙ e)) [ inl f ↦ none_some f.1 | inr f ↦ k.pools n q f.1 ]);
   attached = λ old t name gifts residence new active refusal g k.
       let a = g.owners in
       let m = made old.owners t (shares gifts) 128 a.ready active (omega arith) a.made k.owned in
@@ -365,13 +273,13 @@ owners_closed = record {
 start_owned : (card : CardValue) → HasOwners (start card)
 start_owned card = record {
   owned = record {
-    owned = λ t s e. absurd (let f : None ≡ Some t = sym (get-empty nat_cmp s) ∙ e in cc);
+    owned = λ t s e. none_some (sym (get-empty nat_cmp s) ∙ e);
     has_owner = λ t n s e. absurd (no_entry t n s e);
     active = λ t n s e. absurd (no_entry t n s e);
     numbers = λ t n s e. absurd (no_entry t n s e);
   };
-  held = λ d h e. absurd (let f : None ≡ Some h = sym (get-empty nat_cmp d) ∙ e in cc);
-  pools = λ n q e. absurd (let f : None ≡ Some q = sym (get-empty name_cmp n) ∙ e in cc);
+  held = λ d h e. none_some (sym (get-empty nat_cmp d) ∙ e);
+  pools = λ n q e. none_some (sym (get-empty name_cmp n) ∙ e);
 } where
   no_entry : (t : Name) (n s : ℕ) → entry (start card).owners t n ≡ Some s → ⊥
   no_entry t n s e = let f : None ≡ Some s = sym (get-empty entry_cmp (t, n)) ∙ e in absurd (cc)
@@ -379,11 +287,11 @@ start_owned card = record {
 -- In every state of a run all of it holds.
 pub well_formed : KeptWellFormed
 well_formed job is =
-    let apart = runs_keep StaysApart apart_closed (λ card is. (start_apart card, start_sized card)) 1 is.lines Before (In job) is.runs tt in
+    let apart = running_keeps StaysApart apart_closed (λ card is. (start_apart card, start_sized card)) job is in
     record {
       pages = pages_kept job is;
       apart = apart.0;
-      owners = runs_keep HasOwners owners_closed (λ card is. start_owned card) 1 is.lines Before (In job) is.runs tt;
+      owners = running_keeps HasOwners owners_closed (λ card is. start_owned card) job is;
       sized = apart.1;
     }
 

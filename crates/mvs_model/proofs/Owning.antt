@@ -1,14 +1,14 @@
 -- Each change of tasks, tables and owners that is asked for can be made.
-use Rattle.std.proofs.Common.{◌≡◌, ℕ, zero, suc, ◌+◌, ◌<◌, ◌≤◌, ◌⊎◌, inl, inr, Bool, true, false, cond, List, [], ◌∷◌, ◌++◌, map, Option, Some, None, eqb, arith, refl, sym, ap, ◌∙◌, subst}
-use Rattle.std.specs.Prelude.{not, ◌&&◌, ◌||◌, ◌==◌, is_some, IsSome, MatchOption}
+use Rattle.std.proofs.Common.{◌≡◌, ℕ, zero, suc, ◌+◌, ◌<◌, ◌≤◌, ◌⊎◌, inl, inr, Bool, true, false, cond, List, [], ◌∷◌, ◌++◌, map, Option, Some, None, eqb, arith, refl, sym, ap, ◌∙◌, subst, not, ◌&&◌, ◌||◌, ◌==◌, is_some, IsSome, MatchOption, nat_cmp}
 use Rattle.std.proofs.lemmas.Bool.Decides.{nat_tests}
 use Rattle.std.proofs.lemmas.List.Folds.{list_any-append}
 use Rattle.std.specs.List.{list_any}
-use Rattle.std.specs.Ordering.{nat_cmp, eq_by_cmp}
+use Rattle.std.specs.Ordering.{eq_by_cmp}
 use Rattle.std.specs.Cmp.{nat_cmp_total}
 use Rattle.std.specs.FinMap.{FinMap, get, insert, keys, contains_key-keys, get-insert, nat_cmp-IsAntisymmetric}
-use Rattle.mvs_model.specs.declared.name.Name.{Name}
-use Rattle.mvs_model.specs.declared.want.Residence.{Residence}
+use Rattle.std.proofs.lemmas.Bool.{or_left, or_right}
+use Rattle.std.proofs.lemmas.Grind.{common_steps}
+use Rattle.mvs_model.proofs.Types.{Name, Residence}
 use Rattle.mvs_model.specs.Name.{same_name}
 use Rattle.mvs_model.specs.Gifts.{GiftsValue, gives, shares}
 use Rattle.mvs_model.specs.Finite.{has, any_below}
@@ -19,6 +19,7 @@ use Rattle.mvs_model.proofs.Orders.{name_cmp-IsAntisymmetric, entry_cmp_total, e
 use Rattle.mvs_model.proofs.Tables.{eq_by_cmp_is}
 use Rattle.mvs_model.proofs.Keyed.{get-keyed_all}
 use Rattle.mvs_model.proofs.Made.{made_at, made_keeps}
+use Rattle.mvs_model.proofs.Tests.{false_true, none_some, true_false}
 
 -- the least number of which it holds, or of none below a bound
 least_below : (P : ℕ → Type 0) → ((k : ℕ) → Decided (P k)) → (n : ℕ) → ((k : ℕ) × P k × ((j : ℕ) → j < k → P j → ⊥)) ⊎ ((j : ℕ) → j < n → P j → ⊥)
@@ -38,11 +39,8 @@ total (x ∷ xs) = x + total xs
 
 at_most_total : (k : ℕ) (xs : List ℕ) → list_any (eq_by_cmp nat_cmp k) xs ≡ true → k ≤ total xs
 unfolding total
-at_most_total k [] h = absurd (let f : false ≡ true = h in cc)
-at_most_total k (x ∷ xs) h = at (eq_by_cmp nat_cmp k x) (eq_by_cmp_is k x) h (at_most_total k xs) where
-  at : (b : Bool) → b ≡ eqb k x → (b || list_any (eq_by_cmp nat_cmp k) xs) ≡ true → (list_any (eq_by_cmp nat_cmp k) xs ≡ true → k ≤ total xs) → k ≤ x + total xs
-  at true e f more = let g : eqb k x ≡ true = sym e in grind (arith, nat_tests)
-  at false e f more = let l : k ≤ total xs = more f in omega arith
+at_most_total k [] h = false_true h
+at_most_total k (x ∷ xs) h = grind (arith, nat_tests, total, eq_by_cmp_is, at_most_total k xs)
 
 module _ (o : Owners) where
   -- nobody owns the number behind all
@@ -53,12 +51,10 @@ module _ (o : Owners) where
     at (Some t) e = absurd (let k : s ≤ total (keys o.owner) = at_most_total s (keys o.owner) (sym (contains_key-keys o.owner s) ∙ ap is_some e) in omega arith)
 
   nobody : (v : Option Name) → Decided (v ≡ None)
-  nobody None = inl refl
-  nobody (Some t) = inr (λ e. let f : Some t ≡ None = e in cc)
+  nobody v = grind (arith, common_steps)
 
   somebody : (v : Option Name) → (v ≡ None → ⊥) → IsSome v
-  somebody None h = absurd (h refl)
-  somebody (Some t) h = refl
+  somebody v h1 = grind (arith, common_steps)
 
   -- there is a spare subpool
   pub spare_some : (s : ℕ) × IsSpare o s
@@ -121,41 +117,26 @@ module _ (ready : Owners) (mother name : Name) (gifts : GiftsValue) where
   here t n s e = sym (contains_key-keys ready.table (t, n)) ∙ ap is_some e
 
   one_there : (t : Name) (n : ℕ) (e : Name × ℕ) → eq_by_cmp entry_cmp (t, n) e ≡ true → eq_by_cmp entry_cmp (name, n) (name, e.1) ≡ true
-  one_there t n e h = same_entry_is (name, n) (name, e.1) ∙ at (same_name t e.0) (n == e.1) (sym (same_entry_is (t, n) e) ∙ h) where
-    at : (a b : Bool) → (a && b) ≡ true → (same_name name name && b) ≡ true
-    at true b g = ap (λ c. c && b) (same_name_self name) ∙ g
-    at false b g = absurd (let f : false ≡ true = g in cc)
+  one_there t n e h = grind (arith, nat_tests, same_entry_is, same_name_self)
 
   there : (t : Name) (n : ℕ) (es : List (Name × ℕ)) → list_any (eq_by_cmp entry_cmp (t, n)) es ≡ true → list_any (eq_by_cmp entry_cmp (name, n)) (map (λ e. (name, e.1)) es) ≡ true
   there t n [] h = h
-  there t n (e ∷ es) h = at (eq_by_cmp entry_cmp (t, n) e) (eq_by_cmp entry_cmp (name, n) (name, e.1)) h (one_there t n e) (there t n es) where
-    at : (a b : Bool) → (a || list_any (eq_by_cmp entry_cmp (t, n)) es) ≡ true → (a ≡ true → b ≡ true) → (list_any (eq_by_cmp entry_cmp (t, n)) es ≡ true → list_any (eq_by_cmp entry_cmp (name, n)) (map (λ e. (name, e.1)) es) ≡ true) → (b || list_any (eq_by_cmp entry_cmp (name, n)) (map (λ e. (name, e.1)) es)) ≡ true
-    at a true f g more = refl
-    at true false f g more = absurd (let k : false ≡ true = g refl in cc)
-    at false false f g more = more f
-
-  or_left : (a b : Bool) → a ≡ true → (a || b) ≡ true
-  or_left true b e = refl
-  or_left false b e = absurd (let f : false ≡ true = e in cc)
-
-  or_right : (a b : Bool) → b ≡ true → (a || b) ≡ true
-  or_right true b e = refl
-  or_right false b e = e
+  there t n (e ∷ es) h = grind (arith, nat_tests, one_there, false_true, there t n es)
 
   among_places : (t : Name) (n s : ℕ) → after (t, n) ≡ Some s → list_any (eq_by_cmp entry_cmp (t, n)) places ≡ true
   unfolding after places
   among_places t n s h = list_any-append (eq_by_cmp entry_cmp (t, n)) (keys ready.table) _ ∙ at (same_name t name) (same_name_is t name) (gives gifts n || shares gifts n) (same_name t mother && gives gifts n) h where
     at : (a : Bool) → (a ≡ true → t ≡ name) → (b c : Bool) → cond a (cond b (entry ready mother n) None) (cond c None (entry ready t n)) ≡ Some s → (list_any (eq_by_cmp entry_cmp (t, n)) (keys ready.table) || list_any (eq_by_cmp entry_cmp (t, n)) (map (λ e. (name, e.1)) (keys ready.table))) ≡ true
     at true is true c e = or_right _ _ (subst (λ x. list_any (eq_by_cmp entry_cmp (x, n)) (map (λ e. (name, e.1)) (keys ready.table)) ≡ true) (sym (is refl)) (there mother n (keys ready.table) (here mother n s e)))
-    at true is false c e = absurd (let f : None ≡ Some s = e in cc)
-    at false is b true e = absurd (let f : None ≡ Some s = e in cc)
+    at true is false c e = none_some e
+    at false is b true e = none_some e
     at false is b false e = or_left _ _ (here t n s e)
 
   nothing_else : (e : Name × ℕ) → list_any (eq_by_cmp entry_cmp e) places ≡ false → after e ≡ None
   nothing_else e h = at (after e) refl where
     at : (v : Option ℕ) → after e ≡ v → v ≡ None
     at None f = refl
-    at (Some s) f = absurd (let g : true ≡ false = sym (among_places e.0 e.1 s f) ∙ h in cc)
+    at (Some s) f = true_false (sym (among_places e.0 e.1 s f) ∙ h)
 
   table_some : (new : FinMap entry_cmp ℕ) × ((t : Name) (n : ℕ) → get new (t, n) ≡ handed ready mother name gifts t n)
   unfolding after

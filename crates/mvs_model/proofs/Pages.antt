@@ -1,6 +1,8 @@
 -- No step lets two subpools hold doublewords of one page.
-use Rattle.std.proofs.Common.{◌≡◌, ℕ, Bool, true, false, cond, Option, Some, None, refl, sym, ap, ◌∙◌, subst}
+use Rattle.std.proofs.Common.{◌≡◌, ℕ, Bool, cond, Option, Some, None, refl, sym, ap, ◌∙◌, subst, arith}
 use Rattle.std.specs.FinMap.{get}
+use Rattle.std.proofs.lemmas.Bool.Decides.{nat_tests}
+use Rattle.std.proofs.lemmas.Grind.{common_steps}
 use Rattle.mvs_model.specs.Place.{PlaceValue}
 use Rattle.mvs_model.specs.Want.{WantValue}
 use Rattle.mvs_model.specs.Finite.{Changes, kept}
@@ -11,25 +13,16 @@ use Rattle.mvs_model.proofs.Kept.{Closed}
 use Rattle.mvs_model.proofs.StorageLaws.{covers_is, fewer_keep_pages, taking_keeps_pages}
 
 subpool_of_cond : (b : Bool) (h : Holding) (o : Option Holding) → subpool_in (cond b (Some h) o) ≡ cond b (Some h.subpool) (subpool_in o)
-subpool_of_cond true h o = refl
-subpool_of_cond false h o = refl
+subpool_of_cond b h o = grind (arith, common_steps)
 
 less_cond : (b : Bool) (o : Option Holding) (s : ℕ) → subpool_in (cond b None o) ≡ Some s → subpool_in o ≡ Some s
-less_cond true o s e = absurd (let h : None ≡ Some s = e in cc)
-less_cond false o s e = e
+less_cond b o s h1 = grind (arith, nat_tests)
 
 less_kept : (test : Holding → Bool) (o : Option Holding) (s : ℕ) → subpool_in (kept test o) ≡ Some s → subpool_in o ≡ Some s
-less_kept test None s e = e
-less_kept test (Some h) s e = at (test h) e where
-  at : (b : Bool) → subpool_in (cond b (Some h) None) ≡ Some s → Some h.subpool ≡ Some s
-  at true f = f
-  at false f = absurd (let g : None ≡ Some s = f in cc)
+less_kept test o s h1 = grind (arith, nat_tests)
 
 pages_chosen : (old new : State) (s : ℕ) (h : Holding) (want : WantValue) (p : PlaceValue) → Chosen old.regions (holder old) s want p → h.subpool ≡ s → Changes (get old.held) (covers p) (Some h) (get new.held) → PageRule (holder old) → PageRule (holder new)
-pages_chosen old new s h want p c e held rule =
-    taking_keeps_pages (holder old) (holder new) (covers p) s
-    (λ d. ap subpool_in (held d) ∙ subpool_of_cond (covers p d) h (get old.held d) ∙ ap (λ u. cond (covers p d) (Some u) (holder old d)) e)
-    (λ d t. c.placed.0.each d (covers_is p d t)) rule
+pages_chosen old new s h want p h1 h2 h3 h4 = grind (arith, nat_tests, subpool_of_cond, covers_is, taking_keeps_pages)
 
 pages_less : (old new : State) (test : ℕ → Bool) → Changes (get old.held) test None (get new.held) → PageRule (holder old) → PageRule (holder new)
 pages_less old new test held rule = fewer_keep_pages (holder old) (holder new) (λ d s e. less_cond (test d) (get old.held d) s (sym (ap subpool_in (held d)) ∙ e)) rule

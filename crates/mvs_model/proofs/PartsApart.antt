@@ -1,21 +1,19 @@
 -- In every state of a run the parts of pools keep apart.
-use Rattle.std.proofs.Common.{◌≡◌, ℕ, ◌/◌, true, false, [], ◌∷◌, Option, Some, None, refl, sym, ap, ◌∙◌, arith}
-use Rattle.std.specs.Prelude.{is_some, ◌||◌}
+use Rattle.std.proofs.Common.{◌≡◌, ℕ, ◌/◌, false, [], ◌∷◌, Option, Some, None, refl, sym, ap, ◌∙◌, arith, is_some, ◌||◌, nat_cmp}
 use Rattle.std.proofs.lemmas.List.Elements.{Contains-append_right}
-use Rattle.std.specs.Ordering.{nat_cmp}
 use Rattle.std.specs.FinMap.{get, empty, keys, get-empty, contains_key}
 use Rattle.std.specs.FinSet as set
-use Rattle.mvs_model.specs.declared.name.Name.{Name}
+use Rattle.std.proofs.lemmas.Bool.Decides.{nat_tests}
+use Rattle.mvs_model.proofs.Types.{Name}
 use Rattle.mvs_model.specs.Card.{CardValue}
 use Rattle.mvs_model.specs.Finite.{has}
 use Rattle.mvs_model.specs.Name.{name_cmp}
 use Rattle.mvs_model.specs.Pools.{Pool, in_taken}
-use Rattle.mvs_model.specs.State.{State, pooled, is_plain, in_cell, granted}
+use Rattle.mvs_model.specs.State.{State, is_plain, in_cell, granted}
 use Rattle.mvs_model.specs.Start.{start}
 use Rattle.mvs_model.specs.Changes.{with_part}
 use Rattle.mvs_model.specs.Steps.{Plan, new_pool}
 use Rattle.mvs_model.specs.WellFormed.{Apart, PoolsSized}
-use Rattle.mvs_model.specs.Runs.{Before, In}
 use Rattle.mvs_model.specs.Laws.{PartsApart}
 use Rattle.mvs_model.proofs.Kept.{Closed}
 use Rattle.mvs_model.proofs.Sized.{sized_closed}
@@ -27,7 +25,8 @@ use Rattle.mvs_model.proofs.PartsDeleted.{deleted_apart}
 use Rattle.mvs_model.proofs.PartsTaken.{taken_apart}
 use Rattle.mvs_model.proofs.PartsGiven.{given_apart}
 use Rattle.mvs_model.proofs.PartsGrown.{Stands, grown_apart}
-use Rattle.mvs_model.proofs.Going.{runs_keep, start_sized}
+use Rattle.mvs_model.proofs.Going.{running_keeps, start_sized}
+use Rattle.mvs_model.proofs.Tests.{false_true, none_some, true_false}
 
 -- What stays together: the parts are apart, and the pools have sizes and counts.
 abbrev pub StaysApart : State → Type 0
@@ -35,21 +34,16 @@ StaysApart st = Apart st × PoolsSized st
 
 -- a pool of the state stands in it
 stands_there : (st : State) (name : Name) (pool : Pool) → Apart st → get st.pools name ≡ Some pool → Stands st name pool
-stands_there st name pool a e = record {
-  parts = λ part h. e;
-  taken = λ c t. e;
-  within = a.within name pool e;
-  only = λ q f. let g : Some q ≡ Some pool = sym f ∙ e in cc;
-}
+stands_there st name pool a e = grind (arith, nat_tests)
 
 -- a new one has no part yet
 no_pool : {o : Option Pool} → is_some o ≡ false → (q : Pool) → o ≡ Some q → ⊥
-no_pool e q f = absurd (let g : true ≡ false = sym (ap is_some f) ∙ e in cc)
+no_pool e q f = true_false (sym (ap is_some f) ∙ e)
 
 stands_new : (st : State) (name : Name) (s : ℕ) (plan : Plan) → contains_key st.pools name ≡ false → Stands st name (new_pool s plan)
 stands_new st name s plan fresh = record {
   parts = λ part h. absurd (omega (arith, h.1));
-  taken = λ c t. absurd (let f : false ≡ true = sym (set.contains-empty nat_cmp c) ∙ t in cc);
+  taken = λ c t. false_true (sym (set.contains-empty nat_cmp c) ∙ t);
   within = tt;
   only = λ q e. absurd (no_pool fresh q e);
 }
@@ -98,11 +92,11 @@ module _ (card : CardValue) where
     parts = λ n q part e h. absurd (no_pool_yet n q e);
     within = λ n q e. absurd (no_pool_yet n q e);
     between = λ m n p q x y ne e f hx hy. absurd (no_pool_yet m p e);
-    covered = λ d s e. absurd (let f : None ≡ Some (pooled s) = sym (none_held d) ∙ e in cc);
+    covered = λ d s e. none_some (sym (none_held d) ∙ e);
     cells = λ n q c e t. absurd (no_pool_yet n q e);
     bytes = λ a. ap is_some (get-empty nat_cmp a) ∙ sym (none_granted a);
   }
 
 -- In every state of a run the parts of pools keep apart, and there are bytes just where they may be read.
 pub parts_apart : PartsApart
-parts_apart job is = (runs_keep StaysApart apart_closed (λ card is. (start_apart card, start_sized card)) 1 is.lines Before (In job) is.runs tt).0
+parts_apart job is = (running_keeps StaysApart apart_closed (λ card is. (start_apart card, start_sized card)) job is).0

@@ -1,20 +1,21 @@
 -- Parts of pools keep apart where no pool gets a part.
-use Rattle.std.proofs.Common.{◌≡◌, ℕ, ◌/◌, Bool, true, false, cond, Option, Some, None, refl, sym, ap, ◌∙◌}
-use Rattle.std.specs.Prelude.{is_some, ◌||◌}
-use Rattle.std.specs.List.{Contains, list_any}
+use Rattle.std.proofs.Common.{◌≡◌, ℕ, Bool, true, false, cond, Option, Some, None, sym, ap, ◌∙◌, is_some, Contains, arith}
+use Rattle.std.specs.List.{list_any}
 use Rattle.std.specs.FinMap.{get, keys}
-use Rattle.mvs_model.specs.declared.name.Name.{Name}
+use Rattle.std.proofs.lemmas.Bool.Decides.{nat_tests}
+use Rattle.mvs_model.proofs.Types.{Name}
 use Rattle.mvs_model.specs.Finite.{has}
 use Rattle.mvs_model.specs.Place.{PlaceValue}
 use Rattle.mvs_model.specs.Want.{WantValue}
 use Rattle.mvs_model.specs.Storage.{IsWhole, Covers, covers, Chosen}
 use Rattle.mvs_model.specs.Pools.{Pool, Part, in_parts, in_taken}
-use Rattle.mvs_model.specs.State.{State, Holding, plain, pooled, subpool_in, holder, is_plain, in_cell, granted}
+use Rattle.mvs_model.specs.State.{State, Holding, plain, pooled, subpool_in, holder, in_cell, granted}
 use Rattle.mvs_model.specs.Changes.{GrantTo}
 use Rattle.mvs_model.specs.WellFormed.{Apart}
 use Rattle.mvs_model.proofs.StorageLaws.{covers_is}
 use Rattle.mvs_model.proofs.CellPlaces.{whole_has}
 use Rattle.mvs_model.proofs.TakenCells.{InCell}
+use Rattle.mvs_model.proofs.Tests.{false_true, none_some}
 
 -- Each doubleword that is held for pools lies in a part of one.
 abbrev pub Covered : State → Type 0
@@ -52,8 +53,7 @@ covered_same old new e back covered d s h = let c = covered d s (back d s h) in 
 
 -- what holds a doubleword that nobody holds
 pub none_held : (o : Option Holding) → subpool_in o ≡ None → o ≡ None
-none_held None e = refl
-none_held (Some h) e = absurd (let f : Some h.subpool ≡ None = e in cc)
+none_held o h1 = grind (arith, nat_tests)
 
 -- a place that is chosen is whole, and free
 pub chosen_whole : (st : State) (s : ℕ) (want : WantValue) (p : PlaceValue) → Chosen st.regions (holder st) s want p → IsWhole p
@@ -64,19 +64,11 @@ chosen_free st s want p d c e = none_held (get st.held d) (c.placed.0.each d (co
 
 -- what is held where something is changed
 pub past_change : {X : Type 0} (b : Bool) (v o : Option X) (x : X) → (b ≡ true → o ≡ None) → o ≡ Some x → cond b v o ≡ Some x
-past_change true v o x free e = absurd (let f : None ≡ Some x = sym (free refl) ∙ e in cc)
-past_change false v o x free e = e
+past_change b v o x h1 h2 = grind (arith, nat_tests, none_some)
 
 -- a grant
 grant_bytes : (old new : State) (t : Name) (number : ℕ) (want : WantValue) (p : PlaceValue) → GrantTo old t number want p new → BytesGranted old → BytesGranted new
-grant_bytes old new t number want p g bytes a =
-    let w = chosen_whole old g.subpool want p g.chosen in
-    ap is_some (g.bytes a) ∙ ap (λ b. is_some (cond b (Some old.regions.fill) (get old.bytes a))) (whole_has p a w)
-    ∙ at (covers p (a / 8)) (get old.bytes a) (get old.held (a / 8)) (in_cell old a) (bytes a)
-    ∙ sym (λ i. is_plain (g.held (a / 8) i) || cells_same old new a g.pools i) where
-      at : (b : Bool) (o : Option ℕ) (h : Option Holding) (cell : Bool) → is_some o ≡ (is_plain h || cell) → is_some (cond b (Some old.regions.fill) o) ≡ (is_plain (cond b (Some (plain g.subpool)) h) || cell)
-      at true o h cell e = refl
-      at false o h cell e = e
+grant_bytes old new t number want p h1 h2 = grind (arith, nat_tests, cells_same, chosen_whole, whole_has)
 
 pub grant_apart : (old new : State) (t : Name) (number : ℕ) (want : WantValue) (p : PlaceValue) → GrantTo old t number want p new → Apart old → Apart new
 grant_apart old new t number want p g a =
@@ -85,5 +77,5 @@ grant_apart old new t number want p g a =
     (covered_same old new g.pools (λ d s e. at (covers p d) s (get old.held d) (sym (g.held d) ∙ e)) a.covered)
     (grant_bytes old new t number want p g a.bytes) a where
       at : (b : Bool) (s : ℕ) (o : Option Holding) → cond b (Some (plain g.subpool)) o ≡ Some (pooled s) → o ≡ Some (pooled s)
-      at true s o e = absurd (let f : false ≡ true = ap (λ h. has (λ k. k.pooled) h) e in cc)
+      at true s o e = false_true (ap (λ h. has (λ k. k.pooled) h) e)
       at false s o e = e

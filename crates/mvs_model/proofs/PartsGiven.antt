@@ -1,29 +1,28 @@
 -- A cell that is given back leaves the parts of pools apart.
-use Rattle.std.proofs.Common.{◌≡◌, ℕ, ◌/◌, inl, inr, Bool, true, false, cond, Some, None, refl, sym, ap, ◌∙◌, subst}
-use Rattle.std.specs.Prelude.{is_some, not, ◌&&◌, ◌||◌}
-use Rattle.std.specs.Ordering.{nat_cmp, eq_by_cmp}
+use Rattle.std.proofs.Common.{◌≡◌, ℕ, ◌/◌, inl, inr, Bool, true, false, cond, Some, None, refl, sym, ap, ◌∙◌, subst, is_some, not, ◌&&◌, ◌||◌, nat_cmp}
+use Rattle.std.specs.Ordering.{eq_by_cmp}
 use Rattle.std.specs.Cmp.{nat_cmp_total}
 use Rattle.std.specs.FinMap.{get}
 use Rattle.std.specs.FinSet as set
-use Rattle.mvs_model.specs.declared.name.Name.{Name}
+use Rattle.std.proofs.lemmas.Bool.{false_from_ne_true, and_from, not_from_false, and_parts, not-true}
+use Rattle.mvs_model.proofs.Types.{Name}
 use Rattle.mvs_model.specs.Storage.{has_address}
 use Rattle.mvs_model.specs.Pools.{Pool, IsCellOf, cell_at}
 use Rattle.mvs_model.specs.State.{State, is_plain, in_cell}
 use Rattle.mvs_model.specs.Changes.{GivesCell}
 use Rattle.mvs_model.specs.WellFormed.{Apart}
 use Rattle.mvs_model.proofs.CellPlaces.{has_is, one_cell}
-use Rattle.mvs_model.proofs.TakenCells.{InCell, in_cell_is, same_cells, never, one_part, cell_part, cell_pooled}
+use Rattle.mvs_model.proofs.TakenCells.{InCell, in_cell_is, same_cells, one_part, cell_part, cell_pooled}
 use Rattle.mvs_model.proofs.PoolPut.{put_here, put_cases, kept_cases}
 use Rattle.mvs_model.proofs.PartsFewer.{BytesGranted}
 use Rattle.mvs_model.proofs.PartsTaken.{equal_numbers, same_number, retaken_apart}
+use Rattle.mvs_model.proofs.Tests.{true_false}
 
 both : (a b : Bool) → a ≡ false → b ≡ true → (not a && b) ≡ true
-both true b e f = absurd (let g : true ≡ false = e in cc)
-both false b e f = f
+both a b e f = and_from (not a) b (not_from_false a e) f
 
 parts_of : (a b : Bool) → (not a && b) ≡ true → (a ≡ false) × (b ≡ true)
-parts_of true b e = absurd (let g : false ≡ true = e in cc)
-parts_of false b e = (refl, e)
+parts_of a b e = let k = and_parts (not a) b e in (not-true a k.0, k.1)
 
 module _ (old new : State) (name : Name) (pool : Pool) (c : ℕ) (is : get old.pools name ≡ Some pool) (was : set.contains pool.taken c ≡ true) (g : GivesCell old name pool c new) (a : Apart old) where
   -- the cells that are still taken
@@ -52,7 +51,7 @@ module _ (old new : State) (name : Name) (pool : Pool) (c : ℕ) (is : get old.p
     | inl h ↦ let s : record pool { taken = set.remove pool.taken c } ≡ i.pool = cc in
         let t = still i.first (ap (λ q. set.contains q.taken i.first) s ∙ i.taken) in
         let e = one_taken i.first x t.1 (ap (λ q. has_address (cell_at q i.first) x) s ∙ i.inside) hc in
-        absurd (let f : true ≡ false = sym (same_number c) ∙ ap (λ y. eq_by_cmp nat_cmp y c) (sym e) ∙ t.0 in cc)
+        true_false (sym (same_number c) ∙ ap (λ y. eq_by_cmp nat_cmp y c) (sym e) ∙ t.0)
     | inr h ↦
         let p = cell_part old a i.name i.pool i.first x h.1 i.taken i.inside in
         let q = cell_part old a name pool c x is was hc in
@@ -76,7 +75,7 @@ module _ (old new : State) (name : Name) (pool : Pool) (c : ℕ) (is : get old.p
     left : has_address (cell_at pool i.first) x ≡ true → set.contains pool.taken i.first ≡ true → set.contains (set.remove pool.taken c) i.first ≡ true
     left e t =
         set.contains-remove nat_cmp_total pool.taken c i.first
-        ∙ both (eq_by_cmp nat_cmp i.first c) _ (never _ (λ s. let f : true ≡ false = sym e ∙ ap (λ y. has_address (cell_at pool y) x) (equal_numbers i.first c s) ∙ out in absurd (cc))) t
+        ∙ both (eq_by_cmp nat_cmp i.first c) _ (false_from_ne_true _ (λ s. let f : true ≡ false = sym e ∙ ap (λ y. has_address (cell_at pool y) x) (equal_numbers i.first c s) ∙ out in absurd (cc))) t
 
   not_plain : (x : ℕ) → has_address (cell_at pool c) x ≡ true → is_plain (get old.held (x / 8)) ≡ false
   not_plain x e = ap is_plain (cell_pooled old a x (record { name = name; pool = pool; first = c; is_pool = is; taken = was; inside = e }))
@@ -84,7 +83,7 @@ module _ (old new : State) (name : Name) (pool : Pool) (c : ℕ) (is : get old.p
   given_bytes : BytesGranted new
   given_bytes x =
       ap is_some (g.bytes x)
-      ∙ at (has_address (cell_at pool c) x) (not_plain x) (λ e. never (in_cell new x) (λ h. out_now x e (in_cell_is new x h))) (λ e. same_cells old new x (to x e) (back x))
+      ∙ at (has_address (cell_at pool c) x) (not_plain x) (λ e. false_from_ne_true (in_cell new x) (λ h. out_now x e (in_cell_is new x h))) (λ e. same_cells old new x (to x e) (back x))
       ∙ ap (λ m. is_plain (get m (x / 8)) || in_cell new x) (sym g.held) where
         at : (b : Bool) → (b ≡ true → is_plain (get old.held (x / 8)) ≡ false) → (b ≡ true → in_cell new x ≡ false) → (b ≡ false → in_cell new x ≡ in_cell old x)
             → is_some (cond b None (get old.bytes x)) ≡ (is_plain (get old.held (x / 8)) || in_cell new x)

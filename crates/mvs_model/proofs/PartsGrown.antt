@@ -1,23 +1,24 @@
 -- A further part of a pool misses all parts that there are.
-use Rattle.std.proofs.Common.{◌≡◌, ◌≢◌, ℕ, ◌/◌, ◌<◌, ◌≤◌, ◌⊎◌, inl, inr, Bool, true, false, cond, List, [], ◌∷◌, ◌++◌, map, Option, Some, None, refl, sym, ap, ◌∙◌, subst, arith}
-use Rattle.std.specs.Prelude.{is_some, ◌||◌}
-use Rattle.std.specs.List.{Contains, AllByRecursion}
-use Rattle.std.proofs.lemmas.List.Elements.{Contains-append_left, Contains-append_right, Contains-append_cases}
+use Rattle.std.proofs.Common.{◌≡◌, ◌≢◌, ℕ, ◌<◌, ◌≤◌, ◌⊎◌, inl, inr, Bool, true, false, cond, List, [], ◌∷◌, ◌++◌, map, Some, None, refl, sym, ap, ◌∙◌, subst, arith, Contains}
+use Rattle.std.specs.List.{AllByRecursion}
+use Rattle.std.proofs.lemmas.List.Elements.{Contains-append_left, Contains-append_cases}
 use Rattle.std.specs.FinMap.{get}
 use Rattle.std.specs.FinSet as set
-use Rattle.mvs_model.specs.declared.name.Name.{Name}
+use Rattle.std.proofs.lemmas.Bool.Decides.{nat_tests}
+use Rattle.std.proofs.lemmas.Grind.{common_steps}
+use Rattle.mvs_model.proofs.Types.{Name}
 use Rattle.mvs_model.specs.Place.{PlaceValue}
 use Rattle.mvs_model.specs.Storage.{covers, has_address}
 use Rattle.mvs_model.specs.Owners.{Owners}
-use Rattle.mvs_model.specs.Pools.{Pool, Part, part_length, IsCell, cell_at, in_parts}
-use Rattle.mvs_model.specs.State.{State, Holding, pooled, is_plain, in_cell}
+use Rattle.mvs_model.specs.Pools.{Pool, Part, IsCell, cell_at, in_parts}
+use Rattle.mvs_model.specs.State.{State, pooled}
 use Rattle.mvs_model.specs.Changes.{Misses, Disjoint, Extends, with_part}
 use Rattle.mvs_model.specs.WellFormed.{Apart, IsPart}
 use Rattle.mvs_model.proofs.StorageLaws.{covers_is, covers_from}
 use Rattle.mvs_model.proofs.Elements.{first_or_later, later}
 use Rattle.mvs_model.proofs.TakenCells.{InCell, same_cells, part_found, part_from}
 use Rattle.mvs_model.proofs.PoolPut.{put_here, put_cases, kept_cases}
-use Rattle.mvs_model.proofs.PartsFewer.{Covered, BytesGranted, chosen_whole, chosen_free, past_change}
+use Rattle.mvs_model.proofs.PartsFewer.{Covered, BytesGranted, chosen_whole, chosen_free}
 
 -- The pool stands under the name, or nothing does and it has no part and no taken cell yet.
 pub record Stands (st : State) (name : Name) (pool : Pool) : Type 0 where
@@ -28,8 +29,7 @@ pub record Stands (st : State) (name : Name) (pool : Pool) : Type 0 where
 
 -- a list without overlap, and a place that misses each of it
 all_more : (p : PlaceValue) (parts : List Part) (y : Part) → AllByRecursion (Misses p) (map (λ part. part.place) parts) → Misses p y.place → AllByRecursion (Misses p) (map (λ part. part.place) (parts ++ y ∷ []))
-all_more p [] y all m = (m, tt)
-all_more p (x ∷ parts) y all m = (all.0, all_more p parts y all.1 m)
+all_more p parts y h1 h2 = grind (arith, common_steps)
 
 disjoint_more : (parts : List Part) (y : Part) → Disjoint (map (λ part. part.place) parts) → ((x : Part) → Contains parts x → Misses x.place y.place) → Disjoint (map (λ part. part.place) (parts ++ y ∷ []))
 disjoint_more [] y d m = (tt, tt)
@@ -39,9 +39,6 @@ alone : (x y : Part) → Contains (x ∷ []) y → x ≡ y
 alone x y h = elim (first_or_later y x [] h) [ inl e ↦ e | inr m ↦ absurd (let l : m.0 < 0 = m.1 in omega arith) ]
 
 module _ (old new : State) (name : Name) (pool : Pool) (count : ℕ) (p : PlaceValue) (owners : Owners) (some : 1 ≤ count) (stands : Stands old name pool) (g : Extends old name pool count p owners new) (a : Apart old) where
-  added : Part
-  added = record { place = p; count = count }
-
   free : (d : ℕ) → covers p d ≡ true → get old.held d ≡ None
   free d e = chosen_free old pool.subpool _ p d g.chosen e
 
@@ -51,28 +48,12 @@ module _ (old new : State) (name : Name) (pool : Pool) (count : ℕ) (p : PlaceV
   cases : (n : Name) (q : Pool) → get new.pools n ≡ Some q → ((n ≡ name) × (with_part pool count p ≡ q)) ⊎ ((n ≢ name) × (get old.pools n ≡ Some q))
   cases n q e = elim (put_cases old new name (Some (with_part pool count p)) g.pools n q e) [ inl h ↦ inl (h.0, (let s : with_part pool count p ≡ q = cc in s)) | inr h ↦ inr h ]
 
-  -- what was held for a part still is
-  still_held : (d s : ℕ) → get old.held d ≡ Some (pooled s) → get new.held d ≡ Some (pooled s)
-  still_held d s e = g.held d ∙ past_change (covers p d) _ (get old.held d) (pooled s) (free d) e
-
   still_part : (q r : Pool) (part : Part) → q.subpool ≡ r.subpool → q.cell_size ≡ r.cell_size → IsPart old q part → IsPart new r part
-  still_part q r part s size i = record {
-    whole = i.whole;
-    length = i.length ∙ ap (λ n. part_length n part.count) size;
-    some = i.some;
-    held = λ d c. still_held d r.subpool (i.held d c ∙ ap (λ u. Some (pooled u)) s);
-  }
+  still_part q r part s size i = grind (arith, nat_tests)
 
   -- the new part
   added_part : IsPart new (with_part pool count p) (record { place = p; count = count })
-  added_part = record {
-    whole = chosen_whole old pool.subpool _ p g.chosen;
-    length = (let l = g.chosen.length.least in let m = g.chosen.length.most in same p.len (part_length pool.cell_size count) l m);
-    some = some;
-    held = λ d c. g.held d ∙ ap (λ b. cond b (Some (pooled pool.subpool)) (get old.held d)) (covers_from p d c);
-  } where
-    same : (m n : ℕ) → n ≤ m → m ≤ n → m ≡ n
-    same m n k l = omega arith
+  added_part = grind (arith, nat_tests, chosen_whole, covers_from)
 
   one_of : (part : Part) → Contains (pool.parts ++ record { place = p; count = count } ∷ []) part → Contains pool.parts part ⊎ (record { place = p; count = count } ≡ part)
   one_of part h = elim (Contains-append_cases pool.parts (record { place = p; count = count } ∷ []) part h) [ inl m ↦ inl m | inr m ↦ inr (alone (record { place = p; count = count }) part m) ]
@@ -109,9 +90,7 @@ module _ (old new : State) (name : Name) (pool : Pool) (count : ℕ) (p : PlaceV
   in_grown d e = let f = part_found pool d e in part_from (with_part pool count p) d f.0 (Contains-append_left pool.parts (record { place = p; count = count } ∷ []) f.0 f.1) f.2
 
   in_added : (d : ℕ) → covers p d ≡ true → in_parts (with_part pool count p) d ≡ true
-  in_added d e =
-      part_from (with_part pool count p) d (record { place = p; count = count })
-      (Contains-append_right pool.parts (record { place = p; count = count } ∷ []) (record { place = p; count = count }) (0, omega arith, refl)) (covers_is p d e)
+  in_added d h1 = grind (arith, common_steps, covers_is, part_from)
 
   abbrev Found : ℕ → ℕ → Type 0
   Found d s = (n : Name) × (q : Pool) × (get new.pools n ≡ Some q) × (q.subpool ≡ s) × (in_parts q d ≡ true)
@@ -157,16 +136,7 @@ module _ (old new : State) (name : Name) (pool : Pool) (count : ℕ) (p : PlaceV
   ]
 
   grown_bytes : BytesGranted new
-  grown_bytes x = ap (λ m. is_some (get m x)) g.bytes ∙ a.bytes x ∙ (λ i. plain_same i || cells i) where
-    cells : in_cell old x ≡ in_cell new x
-    cells = sym (same_cells old new x (to x) (back x))
-
-    at : (b : Bool) (o : Option Holding) → (b ≡ true → o ≡ None) → is_plain o ≡ is_plain (cond b (Some (pooled pool.subpool)) o)
-    at true o none = ap is_plain (none refl)
-    at false o none = refl
-
-    plain_same : is_plain (get old.held (x / 8)) ≡ is_plain (get new.held (x / 8))
-    plain_same = at (covers p (x / 8)) (get old.held (x / 8)) (free (x / 8)) ∙ ap is_plain (sym (g.held (x / 8)))
+  grown_bytes = grind (arith, nat_tests, free, to, back, same_cells)
 
   pub grown_apart : Apart new
   grown_apart = record {

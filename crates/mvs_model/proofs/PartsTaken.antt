@@ -1,13 +1,12 @@
 -- Cells that are taken and given back leave the parts of pools apart.
-use Rattle.std.proofs.Common.{◌≡◌, ℕ, ◌/◌, inl, inr, Bool, true, false, cond, eqb, map, Some, refl, sym, ap, ◌∙◌, subst, arith}
-use Rattle.std.specs.Prelude.{is_some, ◌||◌}
+use Rattle.std.proofs.Common.{◌≡◌, ℕ, ◌/◌, inl, inr, Bool, true, false, cond, eqb, map, Some, refl, sym, ap, ◌∙◌, subst, arith, is_some, ◌||◌, nat_cmp, Contains}
 use Rattle.std.proofs.lemmas.Bool.Decides.{nat_tests}
-use Rattle.std.specs.Ordering.{nat_cmp, eq_by_cmp}
+use Rattle.std.specs.Ordering.{eq_by_cmp}
 use Rattle.std.specs.Cmp.{nat_cmp_total}
-use Rattle.std.specs.List.{Contains}
 use Rattle.std.specs.FinMap.{get}
 use Rattle.std.specs.FinSet as set
-use Rattle.mvs_model.specs.declared.name.Name.{Name}
+use Rattle.std.proofs.lemmas.Bool.{or_right}
+use Rattle.mvs_model.proofs.Types.{Name}
 use Rattle.mvs_model.specs.Finite.{Changes}
 use Rattle.mvs_model.specs.Name.{same_name}
 use Rattle.mvs_model.specs.Storage.{has_address}
@@ -103,12 +102,8 @@ module _ (old new : State) (name : Name) (pool : Pool) (c : ℕ) (is : get old.p
         record { name = name; pool = _; first = i.first; is_pool = here; taken = more (ap (λ q. set.contains q.taken i.first) (sym p) ∙ i.taken); inside = ap (λ q. has_address (cell_at q i.first) x) (sym p) ∙ i.inside }
     | inr k ↦ record { name = i.name; pool = i.pool; first = i.first; is_pool = k.1; taken = i.taken; inside = i.inside }
   ] where
-    or_true : (b t : Bool) → t ≡ true → (b || t) ≡ true
-    or_true true t e = refl
-    or_true false t e = e
-
     more : set.contains pool.taken i.first ≡ true → set.contains (set.insert pool.taken c) i.first ≡ true
-    more e = set.contains-insert nat_cmp_total pool.taken c i.first ∙ or_true (eq_by_cmp nat_cmp i.first c) _ e
+    more e = set.contains-insert nat_cmp_total pool.taken c i.first ∙ or_right (eq_by_cmp nat_cmp i.first c) _ e
 
   back : (x : ℕ) → has_address (cell_at pool c) x ≡ false → InCell new x → InCell old x
   back x out i = elim (put_cases old new name (Some (record pool { taken = set.insert pool.taken c })) g.pools i.name i.pool i.is_pool) [

@@ -1,7 +1,8 @@
 -- The pools after one of them is changed.
-use Rattle.std.proofs.Common.{◌≡◌, ◌≢◌, ◌⊎◌, inl, inr, Bool, true, false, cond, Option, Some, refl, sym, ap, ◌∙◌}
+use Rattle.std.proofs.Common.{◌≡◌, ◌≢◌, ◌⊎◌, cond, Option, Some, ap, ◌∙◌, arith}
 use Rattle.std.specs.FinMap.{get}
-use Rattle.mvs_model.specs.declared.name.Name.{Name}
+use Rattle.std.proofs.lemmas.Bool.Decides.{nat_tests}
+use Rattle.mvs_model.proofs.Types.{Name}
 use Rattle.mvs_model.specs.Finite.{Changes}
 use Rattle.mvs_model.specs.Name.{same_name}
 use Rattle.mvs_model.specs.Pools.{Pool}
@@ -17,14 +18,8 @@ module _ (old new : State) (name : Name) (v : Option Pool) (changes : Changes (g
 
   -- a pool is the new one, or as before
   pub put_cases : (n : Name) (q : Pool) → get new.pools n ≡ Some q → ((n ≡ name) × (v ≡ Some q)) ⊎ ((n ≢ name) × (get old.pools n ≡ Some q))
-  put_cases n q e = at (same_name n name) refl (sym (changes n) ∙ e) where
-    at : (b : Bool) → same_name n name ≡ b → cond b v (get old.pools n) ≡ Some q → ((n ≡ name) × (v ≡ Some q)) ⊎ ((n ≢ name) × (get old.pools n ≡ Some q))
-    at true s f = inl (same_name_is n name s, f)
-    at false s f = inr (differs n name s, f)
+  put_cases n q e = grind (arith, nat_tests, differs, same_name_is)
 
   -- a pool from before is the changed one, or stands
   pub kept_cases : (n : Name) (q : Pool) → get old.pools n ≡ Some q → (n ≡ name) ⊎ ((n ≢ name) × (get new.pools n ≡ Some q))
-  kept_cases n q e = at (same_name n name) refl where
-    at : (b : Bool) → same_name n name ≡ b → (n ≡ name) ⊎ ((n ≢ name) × (get new.pools n ≡ Some q))
-    at true s = inl (same_name_is n name s)
-    at false s = inr (differs n name s, put_else n (differs n name s) ∙ e)
+  kept_cases n q e = grind (arith, nat_tests, put_else, differs, same_name_is)

@@ -1,16 +1,16 @@
 -- Each line is read or has a fault, not both, and says one thing or has one fault.
-use Rattle.std.proofs.Common.{◌≡◌, refl, ◌||◌, ◌&&◌, not, true, false, Bool, ℕ, zero, suc, List, [], ◌∷◌, ◌++◌, length, drop, sym, subst, ◌∙◌}
-use Rattle.std.specs.Prelude.{Option, Some, None, is_some, flat_map, bytes_eq, filter, find, slice_get, if◌then◌else◌, codes}
+use Rattle.std.proofs.Common.{◌≡◌, refl, ◌||◌, ◌&&◌, not, true, false, Bool, ℕ, zero, suc, List, [], ◌∷◌, ◌++◌, length, drop, sym, subst, ◌∙◌, Option, Some, None, is_some, bytes_eq, filter, find, slice_get, if◌then◌else◌, codes, arith}
 use Rattle.std.specs.List.{list_any, AllByRecursion}
-use Rattle.mvs_model.specs.declared.line.Line.{Line}
-use Rattle.mvs_model.specs.declared.line.Fault.{Fault}
-use Rattle.mvs_model.specs.declared.line.Fault.TheVariants.{MissingOperand, Conflicting}
+use Rattle.std.proofs.lemmas.Bool.{or_parts, not-false}
+use Rattle.std.proofs.lemmas.Bool.Decides.{nat_tests}
+use Rattle.mvs_model.proofs.Types.{Line, Fault, Form}
 use Rattle.mvs_model.specs.declared.line.Line.TheVariants as line
 use Rattle.mvs_model.specs.Name.{padded}
-use Rattle.mvs_model.specs.declared.code.Form.{Form}
-use Rattle.mvs_model.specs.Grammar.{Row, Together, Kind, Number, Address, Bytes, Name, Obtains, first_needs, table, region, getmain_fixed, getmain_fixed_placed, getmain_variable, getmain_variable_placed, getmain_list, storage_obtain, freemain_or_whole, freemain_place, freemain_area, freemain_list, storage_release, cpool_build, cpool_get, cpool_free, cpool_delete, attach, return_row, abend, put, show, move, where_row, report}
-use Rattle.mvs_model.specs.Reading.{LineOf, FaultOf, line_said, first_of, checks, ◌>>=◌, ByKey, by_key, positionals, lacks_positional, lacks_keyword, is_half, statement_of, release_of, row_of, behind_form, form_in, operation_in, operands_of, says_nothing, row_checks, statement_checks, task_in, is_conflict, operand_checks, with_left, ◌when◌, rows_of, form_of}
+use Rattle.mvs_model.specs.Grammar.{Row, Together, Kind, Number, Name, Obtains, first_needs, table, region, getmain_fixed, getmain_fixed_placed, getmain_variable, getmain_variable_placed, getmain_list, storage_obtain, freemain_or_whole, freemain_place, freemain_area, freemain_list, storage_release, cpool_build, cpool_get, cpool_free, cpool_delete, attach, return_row, abend, put, show, move, where_row, report}
+use Rattle.mvs_model.specs.Reading.{LineOf, FaultOf, line_said, first_of, checks, ◌>>=◌, ByKey, by_key, positionals, lacks_positional, lacks_keyword, is_half, statement_of, release_of, row_of, behind_form, form_in, operation_in, operands_of, says_nothing, row_checks, statement_checks, task_in, rows_of, form_of}
 use Rattle.mvs_model.specs.ReadingLaws.{Reading, Said, Wrong, OneReading}
+use Rattle.mvs_model.proofs.Tests.{false_true, none_some, true_false}
+pub use Rattle.std.proofs.lemmas.Bool.{or_parts as or_false, not-false as not_false}
 
 -- ---- not both, and only one
 
@@ -25,23 +25,14 @@ one_fault first bytes f g a b = let e : Some f ≡ Some g = sym a ∙ b in cc
 
 -- ---- tests
 
-pub or_false : (a b : Bool) → (a || b) ≡ false → (a ≡ false) × (b ≡ false)
-or_false true b e = absurd (let f : true ≡ false = e in cc)
-or_false false b e = (refl, e)
-
-pub not_false : (a : Bool) → not a ≡ false → a ≡ true
-not_false true e = refl
-not_false false e = absurd (let f : true ≡ false = e in cc)
-
 bind_some : {A B : Type 0} (o : Option A) (f : A → Option B) → is_some o ≡ true → ((x : A) → is_some (f x) ≡ true) → is_some (o >>= f) ≡ true
-bind_some None f e each = absurd (let g : false ≡ true = e in cc)
-bind_some (Some x) f e each = each x
+bind_some o f h1 h2 = grind (arith, nat_tests, false_true)
 
 -- ---- what a key has
 
 -- a keyword that is required is there
 there : (key : List ℕ) (os : ByKey) → not (is_some (os.under key)) ≡ false → is_some (os.under key) ≡ true
-there key os e = not_false (is_some (os.under key)) e
+there key os e = not-false (is_some (os.under key)) e
 
 -- a row's required operands are enough for its statement
 abbrev pub IsEnough : Row → Type 0
@@ -51,7 +42,7 @@ IsEnough row =
 
 -- the first element that passes, of those that pass, has what each has
 pub found_has : {X : Type 0} (P : X → Type 0) (test : X → Bool) (xs : List X) (x : X) → AllByRecursion P xs → find test xs ≡ Some x → P x
-found_has P test [] x all e = absurd (let f : None ≡ Some x = e in cc)
+found_has P test [] x all e = none_some e
 found_has P test (y ∷ ys) x all e =
     (elim (test y) as (λ b. (if b then Some y else find test ys) ≡ Some x → P x) [
       | true ↦ λ e. subst P (let f : Some y ≡ Some x = e in cc) all.0
@@ -60,36 +51,26 @@ found_has P test (y ∷ ys) x all e =
 
 pub passing_have : {X : Type 0} (P : X → Type 0) (test : X → Bool) (xs : List X) → AllByRecursion P xs → AllByRecursion P (filter test xs)
 passing_have P test [] all = all
-passing_have P test (x ∷ xs) all =
-    elim (test x) as (λ b. AllByRecursion P (if b then (x ∷ filter test xs) else filter test xs)) [
-      | true ↦ (all.0, passing_have P test xs all.1)
-      | false ↦ passing_have P test xs all.1
-    ]
+passing_have P test (x ∷ xs) all = grind (arith, nat_tests, passing_have P test xs all.1)
 
 -- ---- the rows
 
 -- two keywords that are required, and what comes behind them
 two : (one other : List ℕ) (os : ByKey) (b : Bool) → (not (is_some (os.under one)) || (not (is_some (os.under other)) || b)) ≡ false → (is_some (os.under one) ≡ true) × (is_some (os.under other) ≡ true)
-two one other os b e =
-    let f = or_false (not (is_some (os.under one))) (not (is_some (os.under other)) || b) e in
-    (there one os f.0, there other os (or_false (not (is_some (os.under other))) b f.1).0)
+two one other os b h1 = grind (arith, nat_tests, there)
 
 one_key : (key : List ℕ) (os : ByKey) (b : Bool) → (not (is_some (os.under key)) || b) ≡ false → is_some (os.under key) ≡ true
-one_key key os b e = there key os (or_false (not (is_some (os.under key))) b e).0
+one_key key os b e = there key os (or_parts (not (is_some (os.under key))) b e).0
 
 region_enough : IsEnough region
 region_enough form list p k r = let os = by_key list in bind_some (os.under (codes "BELOW")) _ (one_key (codes "BELOW") os _ k) (λ x. refl)
 
 getmain_fixed_enough : IsEnough getmain_fixed
-getmain_fixed_enough form list p k r = let os = by_key list in
-    let t = two (codes "LV") (codes "A") os _ k in
-    bind_some (os.under (codes "LV")) _ t.0 (λ n. bind_some (os.under (codes "A")) _ t.1 (λ x. refl))
+getmain_fixed_enough = grind (arith, nat_tests, bind_some, two)
 
 -- the lengths and the name of an area
 obtains_enough : (one other form : List ℕ) (os : ByKey) (b : Bool) → (not (is_some (os.under one)) || (not (is_some (os.under other)) || b)) ≡ false → is_some (statement_of (Obtains one other) form os) ≡ true
-obtains_enough one other form os b k =
-    let t = two one other os b k in
-    bind_some (os.under one) _ t.0 (λ n. bind_some (os.under other) _ t.1 (λ x. refl))
+obtains_enough one other form os b h1 = grind (arith, nat_tests, bind_some, two)
 
 fixed_placed_enough : IsEnough getmain_fixed_placed
 fixed_placed_enough form list p k r = let os = by_key list in obtains_enough (codes "LV") (codes "A") form os _ k
@@ -101,25 +82,17 @@ variable_placed_enough : IsEnough getmain_variable_placed
 variable_placed_enough form list p k r = let os = by_key list in obtains_enough (codes "LV") (codes "A") form os _ k
 
 list_enough : IsEnough getmain_list
-list_enough form list p k r = let os = by_key list in
-    let t = two (codes "LA") (codes "A") os _ k in
-    bind_some (os.under (codes "LA")) _ t.0 (λ n. bind_some (os.under (codes "A")) _ t.1 (λ x. refl))
+list_enough = grind (arith, nat_tests, bind_some, two)
 
 obtain_enough : IsEnough storage_obtain
 obtain_enough form list p k r = let os = by_key list in obtains_enough (codes "LENGTH") (codes "ADDR") form os _ k
 
 -- both keywords or neither
 release_both : (f : Form) (os : ByKey) (x y : Option (List ℕ)) → is_some x ≡ is_some y → is_some (release_of f os x y) ≡ true
-release_both f os None None e = refl
-release_both f os (Some x) (Some y) e = refl
-release_both f os None (Some y) e = absurd (let g : false ≡ true = e in cc)
-release_both f os (Some x) None e = absurd (let g : true ≡ false = e in cc)
+release_both f os x y h1 = grind (arith, nat_tests)
 
 same_by : (a b : Bool) → (((a && not b) || (b && not a)) || false) ≡ false → a ≡ b
-same_by true true e = refl
-same_by false false e = refl
-same_by true false e = absurd (let g : true ≡ false = e in cc)
-same_by false true e = absurd (let g : true ≡ false = e in cc)
+same_by a b h1 = grind (arith, nat_tests)
 
 together : (one other : List ℕ) (os : ByKey) → list_any (is_half os) (Together one other ∷ []) ≡ false → is_some (os.under one) ≡ is_some (os.under other)
 together one other os r = same_by (is_some (os.under one)) (is_some (os.under other)) r
@@ -128,37 +101,25 @@ whole_enough : IsEnough freemain_or_whole
 whole_enough form list p k r = let os = by_key list in release_both (form_of form os) os (os.under (codes "LV")) (os.under (codes "A")) (together (codes "LV") (codes "A") os r)
 
 place_enough : IsEnough freemain_place
-place_enough form list p k r = let os = by_key list in
-    let t = two (codes "LV") (codes "A") os _ k in
-    release_both (form_of form os) os (os.under (codes "LV")) (os.under (codes "A")) (t.0 ∙ sym t.1)
+place_enough = grind (arith, nat_tests, two, release_both)
 
 area_enough : IsEnough freemain_area
 area_enough form list p k r = let os = by_key list in bind_some (os.under (codes "A")) _ (one_key (codes "A") os _ k) (λ x. refl)
 
 release_list_enough : IsEnough freemain_list
-release_list_enough form list p k r = let os = by_key list in
-    let t = two (codes "LA") (codes "A") os _ k in
-    bind_some (os.under (codes "LA")) _ t.0 (λ n. bind_some (os.under (codes "A")) _ t.1 (λ x. refl))
+release_list_enough = grind (arith, nat_tests, bind_some, two)
 
 release_enough : IsEnough storage_release
-release_enough form list p k r = let os = by_key list in
-    release_both (form_of form os) os (os.under (codes "LENGTH")) (os.under (codes "ADDR")) (together (codes "LENGTH") (codes "ADDR") os r)
+release_enough = grind (arith, nat_tests, release_both, together)
 
 build_enough : IsEnough cpool_build
-build_enough form list p k r = let os = by_key list in
-    let a = or_false (not (is_some (os.under (codes "CPID")))) _ k in
-    let t = two (codes "CSIZE") (codes "PCELLCT") os _ a.1 in
-    bind_some (os.under (codes "CPID")) _ (there (codes "CPID") os a.0) (λ x. bind_some (os.under (codes "CSIZE")) _ t.0 (λ y. bind_some (os.under (codes "PCELLCT")) _ t.1 (λ z. refl)))
+build_enough = grind (arith, nat_tests, bind_some, there, two)
 
 get_enough : IsEnough cpool_get
-get_enough form list p k r = let os = by_key list in
-    let t = two (codes "CPID") (codes "CELL") os _ k in
-    bind_some (os.under (codes "CPID")) _ t.0 (λ n. bind_some (os.under (codes "CELL")) _ t.1 (λ x. refl))
+get_enough = grind (arith, nat_tests, bind_some, two)
 
 free_enough : IsEnough cpool_free
-free_enough form list p k r = let os = by_key list in
-    let t = two (codes "CPID") (codes "CELL") os _ k in
-    bind_some (os.under (codes "CPID")) _ t.0 (λ n. bind_some (os.under (codes "CELL")) _ t.1 (λ x. refl))
+free_enough = grind (arith, nat_tests, bind_some, two)
 
 delete_enough : IsEnough cpool_delete
 delete_enough form list p k r = let os = by_key list in bind_some (os.under (codes "CPID")) _ (one_key (codes "CPID") os _ k) (λ x. refl)
@@ -176,38 +137,32 @@ report_enough form list p k r = refl
 
 -- so many of them are required
 one_place : (a : Kind) (xs : List (List ℕ)) → list_any (λ p. p.required) (drop (length xs) (first_needs a ∷ [])) ≡ false → is_some (slice_get xs 0) ≡ true
-one_place a [] e = absurd (let g : true ≡ false = e in cc)
+one_place a [] e = true_false e
 one_place a (x ∷ xs) e = refl
 
 two_places : (a b : Kind) (xs : List (List ℕ)) → list_any (λ p. p.required) (drop (length xs) (first_needs a ∷ first_needs b ∷ [])) ≡ false → (is_some (slice_get xs 0) ≡ true) × (is_some (slice_get xs 1) ≡ true)
-two_places a b [] e = absurd (let g : true ≡ false = e in cc)
-two_places a b (x ∷ []) e = absurd (let g : true ≡ false = e in cc)
+two_places a b [] e = true_false e
+two_places a b (x ∷ []) e = true_false e
 two_places a b (x ∷ y ∷ xs) e = (refl, refl)
 
 three_places : (a b c : Kind) (xs : List (List ℕ)) → list_any (λ p. p.required) (drop (length xs) (first_needs a ∷ first_needs b ∷ first_needs c ∷ [])) ≡ false
     → (is_some (slice_get xs 0) ≡ true) × (is_some (slice_get xs 1) ≡ true) × (is_some (slice_get xs 2) ≡ true)
-three_places a b c [] e = absurd (let g : true ≡ false = e in cc)
-three_places a b c (x ∷ []) e = absurd (let g : true ≡ false = e in cc)
-three_places a b c (x ∷ y ∷ []) e = absurd (let g : true ≡ false = e in cc)
+three_places a b c [] e = true_false e
+three_places a b c (x ∷ []) e = true_false e
+three_places a b c (x ∷ y ∷ []) e = true_false e
 three_places a b c (x ∷ y ∷ z ∷ xs) e = (refl, refl, refl)
 
 abend_enough : IsEnough abend
 abend_enough form list p k r = bind_some (slice_get (positionals list) 0) _ (one_place (Number 0 4095) (positionals list) p) (λ x. refl)
 
 put_enough : IsEnough put
-put_enough form list p k r =
-    let t = two_places Address (Bytes 100) (positionals list) p in
-    bind_some (slice_get (positionals list) 0) _ t.0 (λ x. bind_some (slice_get (positionals list) 1) _ t.1 (λ y. refl))
+put_enough = grind (arith, nat_tests, bind_some, two_places)
 
 show_enough : IsEnough show
-show_enough form list p k r =
-    let t = two_places Address (Number 1 4096) (positionals list) p in
-    bind_some (slice_get (positionals list) 0) _ t.0 (λ x. bind_some (slice_get (positionals list) 1) _ t.1 (λ y. refl))
+show_enough = grind (arith, nat_tests, bind_some, two_places)
 
 move_enough : IsEnough move
-move_enough form list p k r =
-    let t = three_places Address Address (Number 1 65536) (positionals list) p in
-    bind_some (slice_get (positionals list) 0) _ t.0 (λ x. bind_some (slice_get (positionals list) 1) _ t.1 (λ y. bind_some (slice_get (positionals list) 2) _ t.2 (λ z. refl)))
+move_enough = grind (arith, nat_tests, bind_some, three_places)
 
 where_enough : IsEnough where_row
 where_enough form list p k r = bind_some (slice_get (positionals list) 0) _ (one_place Name (positionals list) p) (λ x. refl)
@@ -220,11 +175,7 @@ all_enough =
 
 -- what does not apply first does not apply
 pub none_first : (check : Fault × Bool) (checks : List (Fault × Bool)) → first_of (check ∷ checks) ≡ None → (check.1 ≡ false) × (first_of checks ≡ None)
-none_first check checks e =
-    (elim check.1 as (λ b. (if b then Some check.0 else first_of checks) ≡ None → (b ≡ false) × (first_of checks ≡ None)) [
-      | true ↦ λ e. absurd (let f : Some check.0 ≡ None = e in cc)
-      | false ↦ λ e. (refl, e)
-    ]) e
+none_first check checks h1 = grind (arith, nat_tests)
 
 pub none_behind : (front behind : List (Fault × Bool)) → first_of (front ++ behind) ≡ None → first_of behind ≡ None
 none_behind [] behind e = e
@@ -233,15 +184,7 @@ none_behind (check ∷ front) behind e = none_behind front behind (none_first ch
 -- the row of a statement without a fault has what it needs
 pub row_says : (form : List ℕ) (operands : List (List ℕ)) (row : Row) → IsEnough row → first_of (row_checks operands (Some row)) ≡ None
     → is_some (statement_of row.meaning form (by_key (behind_form row operands))) ≡ true
-row_says form operands row enough e =
-    let list = behind_form row operands in
-    let os = by_key list in
-    let last : List (Fault × Bool) = Conflicting when list_any (is_conflict os) row.rules ∷ [] in
-    let missing : Fault × Bool = MissingOperand when (lacks_positional row os || lacks_keyword row os || list_any (is_half os) row.rules) in
-    let tail = none_first missing last (none_behind (flat_map (operand_checks row) (with_left list)) (missing ∷ last) e) in
-    let a = or_false (lacks_positional row os || lacks_keyword row os) (list_any (is_half os) row.rules) tail.0 in
-    let b = or_false (lacks_positional row os) (lacks_keyword row os) a.0 in
-    enough form list b.0 b.1 a.1
+row_says form operands row h1 h2 = grind (arith, nat_tests, none_first, none_behind)
 
 -- so the line says something
 abbrev pub said_with : List ℕ → List ℕ → List (List ℕ) → Option Row → Option Line
@@ -250,9 +193,7 @@ said_with task form operands row =
 
 with_row : (task form : List ℕ) (operands : List (List ℕ)) (o : Option Row) → ((row : Row) → o ≡ Some row → IsEnough row) → is_some o ≡ true
     → first_of (row_checks operands o) ≡ None → is_some (said_with task form operands o) ≡ true
-with_row task form operands None known there e = absurd (let g : false ≡ true = there in cc)
-with_row task form operands (Some row) known there e =
-    bind_some (statement_of row.meaning form (by_key (behind_form row operands))) _ (row_says form operands row (known row refl) e) (λ s. refl)
+with_row task form operands o h1 h2 h3 = grind (arith, nat_tests, bind_some, there, row_says)
 
 known_row : (operation : List ℕ) (operands : List (List ℕ)) (row : Row) → row_of operation operands ≡ Some row → IsEnough row
 known_row operation operands row e = found_has IsEnough _ (rows_of operation) row (passing_have IsEnough (λ row. bytes_eq row.operation operation) table all_enough) e
@@ -263,8 +204,7 @@ FirstFails [] = Unit {0}
 FirstFails (check ∷ checks) = check.1 ≡ false
 
 pub first_fails : (checks : List (Fault × Bool)) → first_of checks ≡ None → FirstFails checks
-first_fails [] e = tt
-first_fails (check ∷ checks) e = (none_first check checks e).0
+first_fails checks h1 = grind (arith, nat_tests, none_first)
 
 pub none_later : (k : ℕ) (checks : List (Fault × Bool)) → first_of checks ≡ None → first_of (drop k checks) ≡ None
 none_later zero checks e = e
@@ -276,7 +216,7 @@ with_statement : (first : Bool) (task operation : List ℕ) (operands : List (Li
 with_statement first task operation operands e =
     let all = statement_checks first task operation operands in
     let known : not (is_some (row_of operation operands)) ≡ false = first_fails (drop 4 all) (none_later 4 all e) in
-    with_row task (form_in operation operands) operands (row_of operation operands) (known_row operation operands) (not_false (is_some (row_of operation operands)) known) (none_later 5 all e)
+    with_row task (form_in operation operands) operands (row_of operation operands) (known_row operation operands) (not-false (is_some (row_of operation operands)) known) (none_later 5 all e)
 
 -- a line without a fault says something
 says_some : (first : Bool) (bytes : List ℕ) → first_of (checks first bytes) ≡ None → is_some (line_said bytes) ≡ true
@@ -288,7 +228,7 @@ says_some first bytes e =
 
 -- what is said, and which fault applies
 said_by : (first : Bool) (bytes : List ℕ) → first_of (checks first bytes) ≡ None → (o : Option Line) → line_said bytes ≡ o → is_some o ≡ true → Reading first bytes
-said_by first bytes n None e s = absurd (let g : false ≡ true = s in cc)
+said_by first bytes n None e s = false_true s
 said_by first bytes n (Some l) e s = Said l (record { no_fault = n; says = e })
 
 read_by : (first : Bool) (bytes : List ℕ) (o : Option Fault) → first_of (checks first bytes) ≡ o → Reading first bytes

@@ -1,108 +1,62 @@
 -- What a line says is in its ranges.
-use Rattle.std.proofs.Common.{◌≡◌, ◌≢◌, ◌≤◌, ◌<◌, ◌^◌, ◌%◌, refl, ◌||◌, ◌&&◌, not, true, false, Bool, ℕ, zero, suc, List, [], ◌∷◌, ◌++◌, map, drop, length, sym, ap, subst, ◌∙◌, arith}
-use Rattle.std.specs.Prelude.{Option, Some, None, Ok, flat_map, bytes_eq, if◌then◌else◌, option_map, unwrap_or, slice_get, nat_le, ◌==◌, codes, IfSome}
+use Rattle.std.proofs.Common.{◌≡◌, ◌≢◌, ◌≤◌, ◌^◌, ◌%◌, refl, ◌||◌, ◌&&◌, not, true, false, Bool, ℕ, zero, suc, List, [], ◌∷◌, ◌++◌, map, drop, length, sym, ap, subst, ◌∙◌, arith, Option, Some, None, Ok, flat_map, bytes_eq, if◌then◌else◌, option_map, unwrap_or, slice_get, ◌==◌, codes, bit_and, bit_or, filter}
 use Rattle.std.specs.List.{list_any, list_all, AllByRecursion}
 use Rattle.std.proofs.lemmas.Bool.Decides.{nat_tests}
-use Rattle.mvs_model.specs.declared.line.Statement.{Statement}
+use Rattle.std.proofs.lemmas.Bool.{and_parts, or_parts}
+use Rattle.std.proofs.lemmas.Grind.{common_steps}
+use Rattle.mvs_model.proofs.Types.{Statement, Form, Line}
 use Rattle.mvs_model.specs.Want.{IsExponent, IsAsk}
 use Rattle.mvs_model.specs.Gifts.{IsGifts}
 use Rattle.mvs_model.specs.Lines.{IsStatement}
 use Rattle.mvs_model.specs.Grammar.{Row, region, getmain_fixed, getmain_fixed_placed, getmain_variable, getmain_variable_placed, getmain_list, storage_obtain, freemain_or_whole, freemain_place, freemain_area, freemain_list, storage_release, cpool_build, cpool_get, cpool_free, cpool_delete, attach, return_row, abend, put, show, move, where_row, report}
-use Rattle.mvs_model.specs.Reading.{first_of, operand_checks, with_left, if_kind, is_of, value_of, ◌>>=◌, statement_of, number, is_number, is_in_range, is_list, is_pair, is_pair_in_range, items, smallest, largest, is_digit, start_of, asking, is_word, is_conflict, positionals, by_key, ByKey, release_of, form_of, set_of, numbers_in, presents, has}
+use Rattle.mvs_model.specs.Reading.{first_of, operand_checks, with_left, if_kind, is_of, value_of, ◌>>=◌, statement_of, number, is_number, is_in_range, is_list, is_pair, is_pair_in_range, items, smallest, largest, asking, is_conflict, positionals, by_key, ByKey, release_of, form_of, set_of, numbers_in, presents, has}
 use Rattle.std.proofs.Common.{pow-suc}
-use Rattle.std.specs.Prelude.{bit_and, bit_or}
 use Rattle.std.proofs.lemmas.Nat.{and_comm, and_or_apart, pow_apart, or_mod}
-use Rattle.mvs_model.specs.declared.code.Form.{Form}
-use Rattle.mvs_model.specs.declared.line.Statement.TheVariants as says
 use Rattle.mvs_model.specs.Grammar.{table}
-use Rattle.std.specs.Prelude.{filter}
-use Rattle.mvs_model.specs.declared.line.Line.{Line}
 use Rattle.mvs_model.specs.declared.line.Line.TheVariants as line
-use Rattle.mvs_model.specs.declared.line.Fault.{Fault}
-use Rattle.mvs_model.specs.declared.line.Fault.TheVariants.{MissingOperand, Conflicting}
 use Rattle.mvs_model.specs.Name.{padded}
 use Rattle.mvs_model.specs.Lines.{IsLine}
-use Rattle.mvs_model.specs.Reading.{LineOf, checks, says_nothing, statement_checks, row_checks, row_of, rows_of, behind_form, form_in, task_in, operation_in, operands_of, lacks_positional, lacks_keyword, is_half, ◌when◌}
+use Rattle.mvs_model.specs.Reading.{LineOf, checks, says_nothing, statement_checks, row_checks, row_of, rows_of, behind_form, form_in, task_in, operation_in, operands_of}
 use Rattle.mvs_model.proofs.Reading.{found_has, passing_have, said_with, none_first, none_behind, none_later, first_fails}
 use Rattle.mvs_model.proofs.ReadingTaken.{none_in_front, bytes_same}
 use Rattle.mvs_model.specs.ReadingLaws.{keyed}
-use Rattle.mvs_model.proofs.ReadingTaken.{under_key, and_true, nat_same}
-use Rattle.mvs_model.proofs.Reading.{or_false}
+use Rattle.mvs_model.proofs.ReadingTaken.{under_key}
+use Rattle.mvs_model.proofs.Tests.{false_true, none_some}
 
 -- what a chain says has what its end has
 bind_has : {A B : Type 0} (P : B → Type 0) (o : Option A) (f : A → Option B) (s : B) → (o >>= f) ≡ Some s → ((x : A) → o ≡ Some x → f x ≡ Some s → P s) → P s
-bind_has P None f s e each = absurd (let g : None ≡ Some s = e in cc)
-bind_has P (Some x) f s e each = each x refl e
+bind_has P o f s h1 h2 = grind (arith, nat_tests, none_some)
 
 some_has : {B : Type 0} (P : B → Type 0) (x s : B) → Some x ≡ Some s → P x → P s
 some_has P x s e p = subst P (let g : Some x ≡ Some s = e in cc) p
 
-le_by : (a b : ℕ) → nat_le a b ≡ true → a ≤ b
-le_by a b e = grind (arith, nat_tests)
-
 -- a number in range
 pub bounds : (least most : ℕ) (text : List ℕ) → is_in_range least most text ≡ true → (least ≤ number text) × (number text ≤ most)
-bounds least most text e =
-    let a = and_true (nat_le (length text) 10 && nat_le least (number text)) (nat_le (number text) most) e in
-    let b = and_true (nat_le (length text) 10) (nat_le least (number text)) a.0 in
-    (le_by _ _ b.1, le_by _ _ a.1)
+bounds least most text h1 = grind (arith, nat_tests)
 
 -- a number is no list
 pub number_no_list : (text : List ℕ) → is_number text ≡ true → is_list text ≡ true → ⊥
-number_no_list [] e l = let g : false ≡ true = e in cc
-number_no_list (b ∷ bs) e l =
-    let d = and_true (is_digit b) (list_all is_digit bs) e in
-    let a = and_true (nat_le 48 b) (nat_le b 57) d.0 in
-    let f = and_true (nat_le 2 (length (b ∷ bs)) && ((b == 40) && true)) _ l in
-    let g = and_true (nat_le 2 (length (b ∷ bs))) ((b == 40) && true) f.0 in
-    let h = nat_same b 40 (and_true (b == 40) true g.1).0 in
-    let low : 48 ≤ b = le_by 48 b a.0 in
-    omega arith
+number_no_list text h1 h2 = grind (arith, nat_tests)
 
 -- lengths that are in order and in range
 abbrev pub Fit : List ℕ → Type 0
 Fit text = (1 ≤ smallest text) × (smallest text ≤ largest text) × (largest text ≤ 2147483647)
 
 pub fit_number : (text : List ℕ) → is_number text ≡ true → is_in_range 1 2147483647 text ≡ true → Fit text
-fit_number text n r =
-    let b = bounds 1 2147483647 text r in
-    (elim (is_list text) as (λ l. (l ≡ true → ⊥) → (1 ≤ (if l then number (unwrap_or (slice_get (items text) 1) []) else number text)) × ((if l then number (unwrap_or (slice_get (items text) 1) []) else number text) ≤ (if l then number (unwrap_or (slice_get (items text) 0) []) else number text)) × ((if l then number (unwrap_or (slice_get (items text) 0) []) else number text) ≤ 2147483647)) [
-      | true ↦ λ no_list. absurd (no_list refl)
-      | false ↦ λ no_list. (b.0, omega arith, b.1)
-    ]) (number_no_list text n)
+fit_number text h1 h2 = grind (arith, nat_tests)
 
 of_two : (xs : List (List ℕ)) → (length xs == 2) ≡ true → list_all (is_in_range 1 2147483647) xs ≡ true
     → (1 ≤ number (unwrap_or (slice_get xs 1) [])) × (number (unwrap_or (slice_get xs 0) []) ≤ 2147483647)
-of_two [] c a = absurd (let g : false ≡ true = c in cc)
-of_two (x ∷ []) c a = absurd (let g : false ≡ true = c in cc)
-of_two (x ∷ y ∷ xs) c a =
-    let f = and_true (is_in_range 1 2147483647 x) _ a in
-    let g = and_true (is_in_range 1 2147483647 y) _ f.1 in
-    ((bounds 1 2147483647 y g.0).0, (bounds 1 2147483647 x f.0).1)
+of_two [] c a = false_true c
+of_two (x ∷ []) c a = false_true c
+of_two (x ∷ y ∷ xs) c a = grind (arith, nat_tests, bounds, and_parts)
 
 pub fit_pair : (text : List ℕ) → is_pair text ≡ true → is_pair_in_range 1 2147483647 text ≡ true → Fit text
-fit_pair text p r =
-    let a = and_true (is_list text && (length (items text) == 2)) _ p in
-    let b = and_true (is_list text) (length (items text) == 2) a.0 in
-    let c = and_true (list_all (is_in_range 1 2147483647) (items text)) _ r in
-    let d = of_two (items text) b.1 c.0 in
-    let s : smallest text ≡ number (unwrap_or (slice_get (items text) 1) []) = ap (λ l. if l then number (unwrap_or (slice_get (items text) 1) []) else number text) b.0 in
-    let l : largest text ≡ number (unwrap_or (slice_get (items text) 0) []) = ap (λ l. if l then number (unwrap_or (slice_get (items text) 0) []) else number text) b.0 in
-    (subst (λ n. 1 ≤ n) (sym s) d.0, le_by _ _ c.1, subst (λ n. n ≤ 2147483647) (sym l) d.1)
+fit_pair text h1 h2 = grind (arith, nat_tests, of_two)
 
 -- either of them
 pub fit_either : (text : List ℕ) → (is_number text || is_pair text) ≡ true → (if is_list text then is_pair_in_range 1 2147483647 text else is_in_range 1 2147483647 text) ≡ true → Fit text
-fit_either text n r =
-    (elim (is_number text) as (λ b. is_number text ≡ b → (b || is_pair text) ≡ true → Fit text) [
-      | true ↦ λ e _. (elim (is_list text) as (λ l. is_list text ≡ l → (if l then is_pair_in_range 1 2147483647 text else is_in_range 1 2147483647 text) ≡ true → Fit text) [
-        | true ↦ λ l _. absurd (number_no_list text e l)
-        | false ↦ λ l r. fit_number text e r
-      ]) refl r
-      | false ↦ λ e p.
-          let l = and_true (is_list text && (length (items text) == 2)) _ p in
-          let m = and_true (is_list text) (length (items text) == 2) l.0 in
-          fit_pair text p (sym (ap (λ l. if l then is_pair_in_range 1 2147483647 text else is_in_range 1 2147483647 text) m.0) ∙ r)
-    ]) refl n
+fit_either text h1 h2 = grind (arith, nat_tests, number_no_list, fit_number, fit_pair)
 
 -- the exponents
 of_exponent : (text : List ℕ) → is_in_range 3 31 text ≡ true → IsExponent (number text)
@@ -112,27 +66,8 @@ of_exponent text r = bounds 3 31 text r
 abbrev pub AreTaken : Row → List (List ℕ) → Type 0
 AreTaken row os = first_of (flat_map (operand_checks row) (with_left os)) ≡ None
 
-start_fits : (os : List (List ℕ)) → ((text : List ℕ) → value_of (codes "STARTBDY") os ≡ Some text → IsExponent (number text)) → IsExponent (start_of (by_key os))
-start_fits os given = at (value_of (codes "STARTBDY") os) given (is_word (codes "BNDRY") (codes "PAGE") (by_key os)) where
-  at : (o : Option (List ℕ)) → ((text : List ℕ) → o ≡ Some text → IsExponent (number text)) → (page : Bool) → IsExponent (unwrap_or (option_map number o) (if page then 12 else 3))
-  at None given true = (omega arith, omega arith)
-  at None given false = (omega arith, omega arith)
-  at (Some text) given page = given text refl
-
-within_fits : (o : Option (List ℕ)) → ((text : List ℕ) → o ≡ Some text → IsExponent (number text)) → IfSome (option_map number o) IsExponent
-within_fits None given = tt
-within_fits (Some text) given = given text refl
-
 asking_fits : (n : List ℕ) (os : List (List ℕ)) → Fit n → ((text : List ℕ) → value_of (codes "STARTBDY") os ≡ Some text → IsExponent (number text)) → ((text : List ℕ) → value_of (codes "CONTBDY") os ≡ Some text → IsExponent (number text)) → IsAsk (asking n (by_key os))
-asking_fits n os fit start within = record {
-  some = fit.0;
-  ordered = fit.1;
-  short = (let m : largest n ≤ 2147483647 = fit.2 in below_31 (largest n) m);
-  start = start_fits os start;
-  within = within_fits (value_of (codes "CONTBDY") os) within;
-} where
-  below_31 : (n : ℕ) → n ≤ 2147483647 → n < 2 ^ 31
-  below_31 n m = omega arith
+asking_fits n os fit start within = grind (arith, nat_tests)
 
 -- ---- the rows
 
@@ -144,8 +79,7 @@ IsRanged row =
     → AreTaken row os → list_any (is_conflict (by_key os)) row.rules ≡ false → statement_of row.meaning form (by_key os) ≡ Some s → IsStatement first t s
 
 is_later : (first : Bool) → (first && true) ≡ false → first ≡ false
-is_later true e = e
-is_later false e = refl
+is_later first h1 = grind (arith, common_steps)
 
 none_given : (row : Row) (os : List (List ℕ)) → AreTaken row os → (key : List ℕ) → keyed row key ≡ None → (text : List ℕ) → value_of key os ≡ Some text → ⊥
 none_given row os ok key none text e =
@@ -184,18 +118,13 @@ ranged_obtain first t form os s place ok rules e =
 
 -- statements without ranges of their own
 ranged_list : IsRanged getmain_list
-ranged_list first t form os s place ok rules e =
-    bind_has (IsStatement first t) (value_of (codes "LA") os) _ s e (λ n en e. bind_has (IsStatement first t) (value_of (codes "A") os) _ s e (λ a ea e. some_has (IsStatement first t) _ s e (is_later first place, tt)))
+ranged_list = grind (arith, nat_tests, bind_has, some_has, is_later)
 
 ranged_release_list : IsRanged freemain_list
-ranged_release_list first t form os s place ok rules e =
-    bind_has (IsStatement first t) (value_of (codes "LA") os) _ s e (λ n en e. bind_has (IsStatement first t) (value_of (codes "A") os) _ s e (λ a ea e. some_has (IsStatement first t) _ s e (is_later first place, tt)))
+ranged_release_list = grind (arith, nat_tests, bind_has, some_has, is_later)
 
 released_in : (first : Bool) (t : List ℕ) (f : Form) (os : ByKey) (x y : Option (List ℕ)) (s : Statement) → first ≡ false → release_of f os x y ≡ Some s → IsStatement first t s
-released_in first t f os None None s later e = some_has (IsStatement first t) _ s e (later, tt)
-released_in first t f os (Some x) (Some y) s later e = some_has (IsStatement first t) _ s e (later, tt)
-released_in first t f os None (Some y) s later e = absurd (let g : None ≡ Some s = e in cc)
-released_in first t f os (Some x) None s later e = absurd (let g : None ≡ Some s = e in cc)
+released_in first t f os x y s h1 h2 = grind (arith, nat_tests)
 
 ranged_whole : IsRanged freemain_or_whole
 ranged_whole first t form os s place ok rules e = released_in first t (form_of form (by_key os)) (by_key os) (value_of (codes "LV") os) (value_of (codes "A") os) s (is_later first place) e
@@ -210,12 +139,10 @@ ranged_area : IsRanged freemain_area
 ranged_area first t form os s place ok rules e = bind_has (IsStatement first t) (value_of (codes "A") os) _ s e (λ a ea e. some_has (IsStatement first t) _ s e (is_later first place, tt))
 
 ranged_get : IsRanged cpool_get
-ranged_get first t form os s place ok rules e =
-    bind_has (IsStatement first t) (value_of (codes "CPID") os) _ s e (λ n en e. bind_has (IsStatement first t) (value_of (codes "CELL") os) _ s e (λ a ea e. some_has (IsStatement first t) _ s e (is_later first place, tt)))
+ranged_get = grind (arith, nat_tests, bind_has, some_has, is_later)
 
 ranged_free : IsRanged cpool_free
-ranged_free first t form os s place ok rules e =
-    bind_has (IsStatement first t) (value_of (codes "CPID") os) _ s e (λ n en e. bind_has (IsStatement first t) (value_of (codes "CELL") os) _ s e (λ a ea e. some_has (IsStatement first t) _ s e (is_later first place, tt)))
+ranged_free = grind (arith, nat_tests, bind_has, some_has, is_later)
 
 ranged_delete : IsRanged cpool_delete
 ranged_delete first t form os s place ok rules e = bind_has (IsStatement first t) (value_of (codes "CPID") os) _ s e (λ a ea e. some_has (IsStatement first t) _ s e (is_later first place, tt))
@@ -233,24 +160,18 @@ ranged_show : IsRanged show
 ranged_show first t form os s place ok rules e = bind_has (IsStatement first t) (slice_get (positionals os) 0) _ s e (λ a ea e. bind_has (IsStatement first t) (slice_get (positionals os) 1) _ s e (λ b eb e. some_has (IsStatement first t) _ s e (is_later first place, tt)))
 
 ranged_move : IsRanged move
-ranged_move first t form os s place ok rules e =
-    bind_has (IsStatement first t) (slice_get (positionals os) 0) _ s e (λ a ea e. bind_has (IsStatement first t) (slice_get (positionals os) 1) _ s e (λ b eb e. bind_has (IsStatement first t) (slice_get (positionals os) 2) _ s e (λ c ec e.
-    some_has (IsStatement first t) _ s e (is_later first place, tt))))
+ranged_move = grind (arith, nat_tests)
 
 ranged_where : IsRanged where_row
 ranged_where first t form os s place ok rules e = bind_has (IsStatement first t) (slice_get (positionals os) 0) _ s e (λ a ea e. some_has (IsStatement first t) _ s e (is_later first place))
 
 ranged_report : IsRanged report
-ranged_report first t form os s place ok rules e = at (bytes_eq form (codes "MAP")) e where
-  at : (b : Bool) → Some (if b then says.ReportMap else says.ReportSubpools) ≡ Some s → IsStatement first t s
-  at true e = some_has (IsStatement first t) _ s e (is_later first place)
-  at false e = some_has (IsStatement first t) _ s e (is_later first place)
+ranged_report = grind (arith, nat_tests)
 
 -- a number that may be left out
 number_fits : (least most other : ℕ) (o : Option (List ℕ)) → least ≤ other → other ≤ most → ((text : List ℕ) → o ≡ Some text → is_in_range least most text ≡ true)
     → (least ≤ unwrap_or (option_map number o) other) × (unwrap_or (option_map number o) other ≤ most)
-number_fits least most other None low high given = (low, high)
-number_fits least most other (Some text) low high given = bounds least most text (given text refl)
+number_fits least most other o h1 h2 h3 = grind (arith, nat_tests, bounds)
 
 ranged_region : IsRanged region
 ranged_region first t form os s place ok rules e =
@@ -272,7 +193,7 @@ ranged_build first t form os s place ok rules e =
 bit_apart : (i : ℕ) (ns : List ℕ) → list_any (◌==◌ i) ns ≡ false → bit_and (2 ^ i) (set_of ns) ≡ 0
 bit_apart i [] none = and_comm (2 ^ i) 0
 bit_apart i (n ∷ ns) none =
-    let a = or_false (i == n) (list_any (◌==◌ i) ns) none in
+    let a = or_parts (i == n) (list_any (◌==◌ i) ns) none in
     let rest : bit_and (set_of ns) (2 ^ i) ≡ 0 = and_comm (set_of ns) (2 ^ i) ∙ bit_apart i ns a.1 in
     and_comm (2 ^ i) (set_of (n ∷ ns)) ∙ and_or_apart (2 ^ i) (2 ^ n) (set_of ns) rest ∙ pow_apart n i (differ i n a.0) where
       differ : (i n : ℕ) → (i == n) ≡ false → n ≢ i
@@ -281,7 +202,7 @@ bit_apart i (n ∷ ns) none =
 pub sets_apart : (ms ns : List ℕ) → list_any (λ n. list_any (◌==◌ n) ns) ms ≡ false → bit_and (set_of ms) (set_of ns) ≡ 0
 sets_apart [] ns none = refl
 sets_apart (m ∷ ms) ns none =
-    let a = or_false (list_any (◌==◌ m) ns) (list_any (λ n. list_any (◌==◌ n) ns) ms) none in
+    let a = or_parts (list_any (◌==◌ m) ns) (list_any (λ n. list_any (◌==◌ n) ns) ms) none in
     and_or_apart (set_of ns) (2 ^ m) (set_of ms) (sets_apart ms ns a.1) ∙ bit_apart m ns a.0
 
 even_power : (n : ℕ) → 1 ≤ n → 2 ^ n % 2 ≡ 0
@@ -297,37 +218,26 @@ set_even [] all = refl
 set_even (n ∷ ns) all = or_mod (2 ^ n) (set_of ns) 1 ∙ (λ i. bit_or (even_power n all.0 i) (set_even ns all.1 i))
 
 pub some1_both : (ms ns : List ℕ) → Some1 ms → Some1 ns → Some1 (ms ++ ns)
-some1_both [] ns a b = b
-some1_both (m ∷ ms) ns a b = (a.0, some1_both ms ns a.1 b)
+some1_both ms ns h1 h2 = grind (arith, common_steps)
 
 items_some1 : (xs : List (List ℕ)) → list_all (is_in_range 1 127) xs ≡ true → Some1 (map number xs)
 items_some1 [] e = tt
-items_some1 (x ∷ xs) e = let a = and_true (is_in_range 1 127 x) (list_all (is_in_range 1 127) xs) e in ((bounds 1 127 x a.0).0, items_some1 xs a.1)
+items_some1 (x ∷ xs) e = let a = and_parts (is_in_range 1 127 x) (list_all (is_in_range 1 127) xs) e in ((bounds 1 127 x a.0).0, items_some1 xs a.1)
 
 pub one_some1 : (o : Option (List ℕ)) → ((text : List ℕ) → o ≡ Some text → (is_number text ≡ true) × (is_in_range 1 127 text ≡ true)) → Some1 (numbers_in o)
-one_some1 None given = tt
-one_some1 (Some text) given =
-    let g = given text refl in
-    (elim (is_list text) as (λ b. is_list text ≡ b → Some1 (if b then map number (items text) else number text ∷ [])) [
-      | true ↦ λ l. absurd (number_no_list text g.0 l)
-      | false ↦ λ l. ((bounds 1 127 text g.1).0, tt)
-    ]) refl
+one_some1 o h1 = grind (arith, nat_tests)
 
 pub list_some1 : (o : Option (List ℕ)) → ((text : List ℕ) → o ≡ Some text → ((is_list text && list_all is_number (items text)) ≡ true) × (list_all (is_in_range 1 127) (items text) ≡ true)) → Some1 (numbers_in o)
-list_some1 None given = tt
-list_some1 (Some text) given =
-    let g = given text refl in
-    let l = and_true (is_list text) _ g.0 in
-    subst (λ b. Some1 (if b then map number (items text) else number text ∷ [])) (sym l.0) (items_some1 (items text) g.1)
+list_some1 o h1 = grind (arith, nat_tests, items_some1)
 
 -- what ATTACH gives and shares is presents
 pub attach_presents : (os : List (List ℕ)) → AreTaken attach os → list_any (is_conflict (by_key os)) attach.rules ≡ false → IsGifts (presents (by_key os))
 attach_presents os ok rules =
     let given = some1_both (numbers_in (value_of (codes "GSPV") os)) (numbers_in (value_of (codes "GSPL") os)) (one_some1 (value_of (codes "GSPV") os) (λ text g. let u = under_key attach os ok (codes "GSPV") text g in (u.of_kind, u.within))) (list_some1 (value_of (codes "GSPL") os) (λ text g. let u = under_key attach os ok (codes "GSPL") text g in (u.of_kind, u.within))) in
     let shared = some1_both (numbers_in (value_of (codes "SHSPV") os)) (numbers_in (value_of (codes "SHSPL") os)) (one_some1 (value_of (codes "SHSPV") os) (λ text g. let u = under_key attach os ok (codes "SHSPV") text g in (u.of_kind, u.within))) (list_some1 (value_of (codes "SHSPL") os) (λ text g. let u = under_key attach os ok (codes "SHSPL") text g in (u.of_kind, u.within))) in
-    let a = or_false (has (codes "GSPV") os && has (codes "GSPL") os) _ rules in
-    let b = or_false (has (codes "SHSPV") os && has (codes "SHSPL") os) _ a.1 in
-    let c = or_false (list_any (λ n. list_any (◌==◌ n) (numbers_in (value_of (codes "SHSPV") os) ++ numbers_in (value_of (codes "SHSPL") os))) (numbers_in (value_of (codes "GSPV") os) ++ numbers_in (value_of (codes "GSPL") os))) false b.1 in
+    let a = or_parts (has (codes "GSPV") os && has (codes "GSPL") os) _ rules in
+    let b = or_parts (has (codes "SHSPV") os && has (codes "SHSPL") os) _ a.1 in
+    let c = or_parts (list_any (λ n. list_any (◌==◌ n) (numbers_in (value_of (codes "SHSPV") os) ++ numbers_in (value_of (codes "SHSPL") os))) (numbers_in (value_of (codes "GSPV") os) ++ numbers_in (value_of (codes "GSPL") os))) false b.1 in
     record {
       apart = sets_apart (numbers_in (value_of (codes "GSPV") os) ++ numbers_in (value_of (codes "GSPL") os)) (numbers_in (value_of (codes "SHSPV") os) ++ numbers_in (value_of (codes "SHSPL") os)) c.0;
       zero_not_given = set_even (numbers_in (value_of (codes "GSPV") os) ++ numbers_in (value_of (codes "GSPL") os)) given;
@@ -335,8 +245,7 @@ attach_presents os ok rules =
     }
 
 ranged_attach : IsRanged attach
-ranged_attach first t form os s place ok rules e =
-    bind_has (IsStatement first t) (value_of (codes "TASK") os) _ s e (λ task et e. some_has (IsStatement first t) _ s e (is_later first place, attach_presents os ok rules))
+ranged_attach = grind (arith, nat_tests, bind_has, some_has, is_later, attach_presents)
 
 all_ranged : AllByRecursion IsRanged table
 all_ranged =
@@ -346,11 +255,7 @@ all_ranged =
 
 pub each_passes : {X : Type 0} (test : X → Bool) (xs : List X) → AllByRecursion (λ x. test x ≡ true) (filter test xs)
 each_passes test [] = tt
-each_passes test (x ∷ xs) =
-    (elim (test x) as (λ b. test x ≡ b → AllByRecursion (λ x. test x ≡ true) (if b then (x ∷ filter test xs) else filter test xs)) [
-      | true ↦ λ t. (t, each_passes test xs)
-      | false ↦ λ t. each_passes test xs
-    ]) refl
+each_passes test (x ∷ xs) = grind (arith, nat_tests, each_passes test xs)
 
 abbrev IsRow : Row → List ℕ → Type 0
 IsRow row operation = IsRanged row × (row.operation ≡ operation)
@@ -364,15 +269,7 @@ row_found operation operands row e = (
 row_ranged : (first : Bool) (t form operation : List ℕ) (operands : List (List ℕ)) (row : Row) (s : Statement) → IsRow row operation
     → (first && not (bytes_eq operation (codes "REGION"))) ≡ false
     → first_of (row_checks operands (Some row)) ≡ None → statement_of row.meaning form (by_key (behind_form row operands)) ≡ Some s → IsStatement first t s
-row_ranged first t form operation operands row s is place e says =
-    let os = behind_form row operands in
-    let last : List (Fault × Bool) = Conflicting when list_any (is_conflict (by_key os)) row.rules ∷ [] in
-    let missing : Fault × Bool = MissingOperand when (lacks_positional row (by_key os) || lacks_keyword row (by_key os) || list_any (is_half (by_key os)) row.rules) in
-    let front : List (Fault × Bool) = flat_map (operand_checks row) (with_left os) in
-    let taken : first_of front ≡ None = none_in_front front (missing ∷ last) e in
-    let none : list_any (is_conflict (by_key os)) row.rules ≡ false = first_fails last (none_first missing last (none_behind front (missing ∷ last) e)).1 in
-    let here = subst (λ operation. (first && not (bytes_eq operation (codes "REGION"))) ≡ false) (sym is.1) place in
-    is.0 first t form os s here taken none says
+row_ranged first t form operation operands row s h1 h2 h3 h4 = grind (arith, nat_tests, first_fails, none_behind, none_first, none_in_front)
 
 statement_ranged : (first : Bool) (task operation : List ℕ) (operands : List (List ℕ)) (l : Line) → first_of (statement_checks first task operation operands) ≡ None
     → said_with task (form_in operation operands) operands (row_of operation operands) ≡ Some l → IsLine first (Ok l)
@@ -382,7 +279,7 @@ statement_ranged first task operation operands l e says =
     at place (none_later 5 all e) (row_of operation operands) refl says where
       at : (first && not (bytes_eq operation (codes "REGION"))) ≡ false → first_of (row_checks operands (row_of operation operands)) ≡ None
           → (o : Option Row) → row_of operation operands ≡ o → said_with task (form_in operation operands) operands o ≡ Some l → IsLine first (Ok l)
-      at place rest None found says = absurd (let g : None ≡ Some l = says in cc)
+      at place rest None found says = none_some says
       at place rest (Some row) found says =
           bind_has (λ l. IsLine first (Ok l)) (statement_of row.meaning (form_in operation operands) (by_key (behind_form row operands))) _ l says (λ s es e.
           some_has (λ l. IsLine first (Ok l)) _ l e (row_ranged first (padded task) (form_in operation operands) operation operands row s (row_found operation operands row found) place (ap (λ o. first_of (row_checks operands o)) (sym found) ∙ rest) es))

@@ -1,15 +1,15 @@
 -- A line that is read contains only what the table allows.
-use Rattle.std.proofs.Common.{◌≡◌, refl, ◌||◌, ◌&&◌, not, true, false, Bool, ℕ, List, [], ◌∷◌, ◌++◌, map, drop, sym, ap, subst, ◌∙◌}
-use Rattle.std.specs.Prelude.{Option, Some, None, find, flat_map, bytes_eq, if◌then◌else◌, option_map}
-use Rattle.mvs_model.specs.declared.line.Fault.{Fault}
-use Rattle.mvs_model.specs.Grammar.{Row}
-use Rattle.mvs_model.specs.Reading.{first_of, operand_checks, with_left, kind_of, if_kind, is_of, is_within, repeats, text_of, has_key, key_of, is_for, value_of, has}
-use Rattle.std.specs.Prelude.{slice_get, length, ◌==◌}
-use Rattle.std.proofs.Common.{arith}
+use Rattle.std.proofs.Common.{◌≡◌, refl, true, false, Bool, ℕ, List, [], ◌∷◌, ◌++◌, map, sym, ap, subst, ◌∙◌, Option, Some, None, find, flat_map, bytes_eq, if◌then◌else◌, option_map, eqb-true, slice_get, length, ◌==◌, arith}
+use Rattle.std.proofs.lemmas.Bool.{and_parts}
 use Rattle.std.proofs.lemmas.Bool.Decides.{nat_tests}
+use Rattle.mvs_model.proofs.Types.{Fault}
+use Rattle.mvs_model.specs.Grammar.{Row}
+use Rattle.mvs_model.specs.Reading.{first_of, operand_checks, with_left, kind_of, if_kind, is_of, is_within, text_of, has_key, key_of, is_for, value_of}
 use Rattle.std.specs.List.{list_any}
 use Rattle.mvs_model.specs.ReadingLaws.{Taken, IsTaken, keyed}
-use Rattle.mvs_model.proofs.Reading.{none_later, first_fails, none_behind, or_false, not_false}
+use Rattle.mvs_model.proofs.Reading.{none_later, first_fails, none_behind}
+use Rattle.mvs_model.proofs.Tests.{false_true, none_some}
+pub use Rattle.std.proofs.lemmas.Bool.{and_parts as and_true, eqb-true as nat_same}
 
 pub none_in_front : (front behind : List (Fault × Bool)) → first_of (front ++ behind) ≡ None → first_of front ≡ None
 none_in_front [] behind e = refl
@@ -21,18 +21,7 @@ none_in_front (check ∷ front) behind e =
 
 -- an operand that no check is against is taken
 taken_by : (row : Row) (left : List (List ℕ)) (operand : List ℕ) → first_of (operand_checks row (left, operand)) ≡ None → Taken row left operand
-taken_by row left operand e =
-    let all = operand_checks row (left, operand) in
-    let f : not (if_kind (λ kind. is_of kind (text_of operand)) (kind_of row left operand)) ≡ false = first_fails all e in
-    let g : ((has_key operand && has (key_of operand) left) || if_kind (λ kind. repeats kind (text_of operand)) (kind_of row left operand)) ≡ false = first_fails (drop 1 all) (none_later 1 all e) in
-    let h : not (if_kind (λ kind. is_within kind (text_of operand)) (kind_of row left operand)) ≡ false = first_fails (drop 2 all) (none_later 2 all e) in
-    let twice = or_false (has_key operand && has (key_of operand) left) (if_kind (λ kind. repeats kind (text_of operand)) (kind_of row left operand)) g in
-    record {
-      of_kind = not_false _ f;
-      within = not_false _ h;
-      key_once = twice.0;
-      all_once = twice.1;
-    }
+taken_by row left operand h1 = grind (arith, nat_tests, first_fails, none_later)
 
 -- the operands with more on their left
 abbrev pub Placed : Type 0
@@ -48,7 +37,7 @@ twice_under x put (p ∷ ps) = λ i. (put (x ∷ p.0), p.1) ∷ twice_under x pu
 -- the operand that is found is taken
 all_taken : (row : Row) (put : List (List ℕ) → List (List ℕ)) (os : List (List ℕ)) → first_of (flat_map (operand_checks row) (under put (with_left os))) ≡ None
     → (o : List ℕ) (test : List ℕ → Bool) → find test os ≡ Some o → (left : List (List ℕ)) × Taken row left o × (test o ≡ true)
-all_taken row put [] e o test f = absurd (let g : None ≡ Some o = f in cc)
+all_taken row put [] e o test f = none_some f
 all_taken row put (x ∷ os) e o test f =
     let behind : List (Fault × Bool) = flat_map (operand_checks row) (under put (under (λ left. x ∷ left) (with_left os))) in
     let here : first_of (operand_checks row (put [], x)) ≡ None = none_in_front (operand_checks row (put [], x)) behind e in
@@ -64,20 +53,13 @@ pub under_nothing : (ps : List Placed) → under (λ left. left) ps ≡ ps
 under_nothing [] = refl
 under_nothing (p ∷ ps) = λ i. p ∷ under_nothing ps i
 
-pub and_true : (a b : Bool) → (a && b) ≡ true → (a ≡ true) × (b ≡ true)
-and_true true b e = (refl, e)
-and_true false b e = absurd (let g : false ≡ true = e in cc)
-
-pub nat_same : (a b : ℕ) → (a == b) ≡ true → a ≡ b
-nat_same a b e = grind (arith, nat_tests)
-
 pub bytes_same : (xs ys : List ℕ) → bytes_eq xs ys ≡ true → xs ≡ ys
 bytes_same [] [] e = refl
-bytes_same [] (y ∷ ys) e = absurd (let g : false ≡ true = e in cc)
-bytes_same (x ∷ xs) [] e = absurd (let g : false ≡ true = e in cc)
+bytes_same [] (y ∷ ys) e = false_true e
+bytes_same (x ∷ xs) [] e = false_true e
 bytes_same (x ∷ xs) (y ∷ ys) e =
-    let a = and_true (x == y) (bytes_eq xs ys) e in
-    λ i. nat_same x y a.0 i ∷ bytes_same xs ys a.1 i
+    let a = and_parts (x == y) (bytes_eq xs ys) e in
+    λ i. eqb-true x y a.0 i ∷ bytes_same xs ys a.1 i
 
 -- the kind of an operand with a key
 kind_is : (row : Row) (left : List (List ℕ)) (o : List ℕ) → has_key o ≡ true → kind_of row left o ≡ keyed row (key_of o)
@@ -87,10 +69,10 @@ kind_is row left o h = ap (λ b. if b then keyed row (key_of o) else (if list_an
 pub under_key : (row : Row) (os : List (List ℕ)) → first_of (flat_map (operand_checks row) (with_left os)) ≡ None → (key text : List ℕ) → value_of key os ≡ Some text → IsTaken row key text
 under_key row os e key text v = at (find (is_for key) os) refl v where
   at : (o : Option (List ℕ)) → find (is_for key) os ≡ o → option_map text_of o ≡ Some text → IsTaken row key text
-  at None f v = absurd (let g : None ≡ Some text = v in cc)
+  at None f v = none_some v
   at (Some o) f v =
       let t = all_taken row (λ left. left) os (ap (λ ps. first_of (flat_map (operand_checks row) ps)) (under_nothing (with_left os)) ∙ e) o (is_for key) f in
-      let a = and_true (has_key o) (bytes_eq (key_of o) key) t.2 in
+      let a = and_parts (has_key o) (bytes_eq (key_of o) key) t.2 in
       let same : key_of o ≡ key = bytes_same (key_of o) key a.1 in
       let kind : kind_of row t.0 o ≡ keyed row key = kind_is row t.0 o a.0 ∙ ap (keyed row) same in
       let said : text_of o ≡ text = (let g : Some (text_of o) ≡ Some text = v in cc) in

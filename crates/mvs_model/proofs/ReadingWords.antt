@@ -1,8 +1,7 @@
 -- Blanks and remarks change nothing.
-use Rattle.std.proofs.Common.{◌≡◌, Bool, List, ℕ, [], ◌∷◌, not, sym, ◌∙◌}
-use Rattle.std.specs.Prelude.{Some, Option, unwrap_or, if◌then◌else◌}
+use Rattle.std.proofs.Common.{◌≡◌, Bool, List, ℕ, [], ◌∷◌, not, sym, ◌∙◌, Some, Option, unwrap_or, if◌then◌else◌}
 use Rattle.std.specs.List.{list_any}
-use Rattle.mvs_model.specs.declared.line.Fault.TheVariants.{TooLong, InvalidByte}
+use Rattle.mvs_model.proofs.Types.{TooLong, InvalidByte}
 use Rattle.mvs_model.specs.declared.line.Line.TheVariants as line
 use Rattle.mvs_model.specs.Reading.{checks, first_of, line_said, statement_checks, operands_in, rows_of, row_of, form_in, ◌when◌}
 use Rattle.mvs_model.specs.ReadingLaws.{SameWords, OnlyWords}

@@ -1,9 +1,8 @@
 -- The regions of a step stay, and what is granted lies in them.
-use Rattle.std.proofs.Common.{◌≡◌, ℕ, ◌∙◌, List, [], ◌∷◌, refl, subst}
+use Rattle.std.proofs.Common.{◌≡◌, ℕ, ◌∙◌, List, [], ◌∷◌, refl, subst, arith}
 use Rattle.std.specs.List.{AllByRecursion}
-use Rattle.mvs_model.specs.declared.name.Name.{Name}
-use Rattle.mvs_model.specs.declared.request.Request.{Request}
-use Rattle.mvs_model.specs.declared.request.Reply.{Reply}
+use Rattle.std.proofs.lemmas.Grind.{common_steps}
+use Rattle.mvs_model.proofs.Types.{Name, Request, Reply}
 use Rattle.mvs_model.specs.Place.{PlaceValue}
 use Rattle.mvs_model.specs.Want.{WantValue}
 use Rattle.mvs_model.specs.Storage.{Regions, InRegion}
@@ -13,19 +12,7 @@ use Rattle.mvs_model.specs.Steps.{Step}
 use Rattle.mvs_model.proofs.Kept.{Closed, HasPlan, step_keeps}
 
 regions_closed : (r : Regions) → Closed (λ st. st.regions ≡ r)
-regions_closed r = record {
-  granted = λ old t number want p new asks g e. g.regions ∙ e;
-  freed = λ old s ps new w k f e. f.regions ∙ e;
-  emptied = λ old s new k e. k.drops.regions ∙ e;
-  ended = λ old t new k e. k.drops.regions ∙ e;
-  built = λ old t name number s plan p o new fresh k asks is enters x e. x.regions ∙ e;
-  grown = λ old name pool p mid c new is x k taken e. taken.regions ∙ x.regions ∙ e;
-  taken = λ old name pool c new is f k e. k.regions ∙ e;
-  given = λ old name pool c new is f k e. k.regions ∙ e;
-  dropped = λ old name pool new is k e. k.regions ∙ e;
-  attached = λ old t name gifts residence new active is k e. k.regions ∙ e;
-  written = λ old p value new is has k e. k.regions ∙ e;
-}
+regions_closed r = grind (arith, common_steps)
 
 pub regions_stay : (old : State) (t : Name) (request : Request) (reply : Reply) (new : State) → HasPlan request → Step old t request reply new → new.regions ≡ old.regions
 regions_stay old t request reply new plan step = step_keeps (λ st. st.regions ≡ old.regions) (regions_closed old.regions) old t request reply new plan step refl

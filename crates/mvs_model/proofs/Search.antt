@@ -1,16 +1,14 @@
 -- Whether there is a place, and which: by trying every length and every address.
-use Rattle.std.proofs.Common.{◌≡◌, ℕ, ◌+◌, ◌-◌, ◌*◌, ◌/◌, ◌%◌, ◌^◌, ◌<◌, ◌≤◌, ◌⊎◌, inl, inr, Option, Some, None, arith, refl, subst}
-use Rattle.std.specs.Prelude.{IfSome}
+use Rattle.std.proofs.Common.{◌≡◌, ℕ, ◌+◌, ◌*◌, ◌/◌, ◌%◌, ◌<◌, ◌≤◌, ◌⊎◌, inl, inr, Option, Some, None, arith, refl, subst}
+use Rattle.std.proofs.lemmas.Bool.Decides.{nat_tests}
+use Rattle.std.proofs.lemmas.Grind.{common_steps}
 use Rattle.mvs_model.specs.Want.{WantValue}
-use Rattle.mvs_model.specs.declared.want.Side.{Side}
-use Rattle.mvs_model.specs.declared.want.Side.TheVariants.{Below, Either}
 use Rattle.mvs_model.specs.Place.{PlaceValue, place_at}
-use Rattle.mvs_model.specs.Storage.{Regions, LiesIn, IsBelow, Covers, MayTake, Open, Meets, Places, Chosen, NoPlace}
+use Rattle.mvs_model.specs.Storage.{Regions, LiesIn, Covers, MayTake, Open, Meets, Places, Chosen, NoPlace}
 use Rattle.mvs_model.proofs.Decide.{Decided, decided_and, decided_or, decided_implies, decided_like, decided_lt, decided_le, decided_eq, decided_some, decided_all, greatest_below}
 
 decided_none : (o : Option ℕ) → Decided (o ≡ None)
-decided_none None = inl refl
-decided_none (Some t) = inr (λ e. cc)
+decided_none o = grind (arith, common_steps)
 
 decided_only : (o : Option ℕ) (s : ℕ) → Decided ((t : ℕ) → o ≡ Some t → t ≡ s)
 decided_only None s = inl (λ t e. absurd (let h : None ≡ Some t = e in cc))
@@ -41,18 +39,8 @@ module _ (holder : ℕ → Option ℕ) (s : ℕ) where
         lies : (from to : ℕ) → Decided (LiesIn from to p)
         lies from to = decided_and (decided_le from p.addr) (decided_le (p.addr + p.len) to)
 
-decided_within : (o : Option ℕ) (p : PlaceValue) → Decided (IfSome o (λ k. p.addr / 2 ^ k ≡ (p.addr + p.len - 1) / 2 ^ k))
-decided_within None p = inl tt
-decided_within (Some k) p = decided_eq (p.addr / 2 ^ k) ((p.addr + p.len - 1) / 2 ^ k)
-
-decided_side : (side : Side) (p : PlaceValue) → Decided (side ≡ Below → IsBelow p)
-decided_side Below p = decided_like (λ h _. h) (λ h. h refl) (decided_lt p.addr 0x1000000)
-decided_side Either p = inl (λ e. absurd (let h : Either ≡ Below = e in cc))
-
 decided_meets : (want : WantValue) (p : PlaceValue) → Decided (Meets want p)
-decided_meets want p =
-    decided_like (λ h. record { on_doubleword = h.0; start = h.1.0; within = h.1.1.0; side = h.1.1.1 }) (λ m. (m.on_doubleword, (m.start, (m.within, m.side))))
-    (decided_and (decided_eq (p.addr % 8) 0) (decided_and (decided_eq (p.addr % 2 ^ want.start) 0) (decided_and (decided_within want.within p) (decided_side want.side p))))
+decided_meets want p = grind (arith, nat_tests)
 
 module _ (r : Regions) (holder : ℕ → Option ℕ) (s : ℕ) (want : WantValue) where
   pub decided_place : (n a : ℕ) → Decided (Places r holder s want n a)

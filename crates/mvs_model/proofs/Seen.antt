@@ -1,9 +1,8 @@
 -- What a store, the owners and the pools that stand in the store are as a state.
-use Rattle.std.proofs.Common.{◌≡◌, ℕ, ◌/◌, Bool, true, false, cond, Some, None, refl, sym, ap, ◌∙◌, subst}
-use Rattle.std.specs.Prelude.{◌||◌}
-use Rattle.std.specs.Option.{option_map}
+use Rattle.std.proofs.Common.{◌≡◌, ℕ, ◌/◌, Bool, true, false, cond, Some, None, refl, sym, ap, ◌∙◌, subst, ◌||◌, option_map, arith}
 use Rattle.std.specs.FinMap.{FinMap, get}
-use Rattle.mvs_model.specs.declared.name.Name.{Name}
+use Rattle.std.proofs.lemmas.Bool.Decides.{nat_tests}
+use Rattle.mvs_model.proofs.Types.{Name}
 use Rattle.mvs_model.specs.Place.{PlaceValue}
 use Rattle.mvs_model.specs.Want.{WantValue}
 use Rattle.mvs_model.specs.Name.{name_cmp}
@@ -15,7 +14,7 @@ use Rattle.mvs_model.specs.View.{in_pools, state_of}
 use Rattle.mvs_model.specs.Changes.{GrantTo}
 use Rattle.mvs_model.proofs.CellPlaces.{whole_has}
 use Rattle.mvs_model.proofs.PartsFewer.{chosen_whole}
-use Rattle.mvs_model.proofs.Stand.{Stand, held_state, bytes_state, holder_state, free_clear, pooled_held, stand_kept}
+use Rattle.mvs_model.proofs.Stand.{Stand, held_state, bytes_state, holder_state, free_clear}
 use Rattle.mvs_model.proofs.StorageLaws.{covers_is}
 
 -- what holds a doubleword, as a part of a pool or not
@@ -47,20 +46,7 @@ module _ (st new : Storage) (o after : Owners) (pools : FinMap name_cmp Pool) (i
     at false e = sym (held_state st o pools is d)
 
   bytes : (a : ℕ) → get (state_of new after pools).bytes a ≡ cond (has_address p a) (Some st.regions.fill) (get (state_of st o pools).bytes a)
-  bytes a =
-      bytes_state new after pools now a ∙ ap (λ v. cond (granted (state_of new after pools) a) v None) (g.bytes a)
-      ∙ at (covers p (a / 8)) refl (whole_has p a (chosen_whole (state_of st o pools) s want p (chosen_seen st o pools s want p is g.chosen))) where
-        at : (c : Bool) → covers p (a / 8) ≡ c → has_address p a ≡ covers p (a / 8)
-            → cond (granted (state_of new after pools) a) (cond (has_address p a) (Some st.regions.fill) (get st.bytes a)) None ≡ cond (has_address p a) (Some st.regions.fill) (get (state_of st o pools).bytes a)
-        at true e has =
-            let h : has_address p a ≡ true = has ∙ e in
-            let k : get (state_of new after pools).held (a / 8) ≡ Some (plain s) = held (a / 8) ∙ ap (λ c. cond c (Some (plain s)) (get (state_of st o pools).held (a / 8))) e in
-            let may : granted (state_of new after pools) a ≡ true = ap (λ v. is_plain v || in_cell (state_of new after pools) a) k in
-            rw (h, may) refl
-        at false e has =
-            let h : has_address p a ≡ false = has ∙ e in
-            let k : get (state_of new after pools).held (a / 8) ≡ get (state_of st o pools).held (a / 8) = held (a / 8) ∙ ap (λ c. cond c (Some (plain s)) (get (state_of st o pools).held (a / 8))) e in
-            rw (h) (ap (λ b. cond b (get st.bytes a) None) (granted_alike st new o after pools a k) ∙ sym (bytes_state st o pools is a))
+  bytes a = grind (arith, nat_tests, chosen_seen, granted_alike, held, bytes_state, chosen_whole, whole_has)
 
   -- a grant of the store is one of the machine
   pub grant_seen : (t : Name) (number : ℕ) → SubpoolOf o t number s → Enters o t number s after → GrantTo (state_of st o pools) t number want p (state_of new after pools)
@@ -74,10 +60,3 @@ module _ (st new : Storage) (o after : Owners) (pools : FinMap name_cmp Pool) (i
     owners = enters;
     pools = refl;
   }
-
-  -- and the pools stand as before
-  pub grant_stands : Stand new pools
-  grant_stands = stand_kept st new pools (λ d e. g.held d ∙ at d (covers p d) refl e) stand where
-    at : (d : ℕ) (c : Bool) → covers p d ≡ c → in_pools pools d ≡ true → cond c (Some s) (held_by st d) ≡ held_by st d
-    at d true f e = let h = pooled_held st pools stand d e in absurd (let n : None ≡ Some h.0.subpool = sym (free d f) ∙ h.1 in cc)
-    at d false f e = refl

@@ -1,13 +1,10 @@
 -- Reading and writing bytes, over a store and the owners.
-use Rattle.std.proofs.Common.{◌≡◌, ℕ, zero, suc, ◌+◌, ◌-◌, ◌*◌, ◌/◌, ◌<◌, ◌≤◌, inl, inr, Bool, true, false, cond, List, length, Option, Some, None, refl, sym, ap, ◌∙◌, arith}
-use Rattle.std.specs.Prelude.{is_some, ◌&&◌, slice_index}
-use Rattle.std.specs.Option.{option_map}
-use Rattle.std.proofs.lemmas.Bool.{cases_lt}
+use Rattle.std.proofs.Common.{◌≡◌, ℕ, ◌+◌, ◌-◌, ◌*◌, ◌/◌, ◌<◌, ◌≤◌, inl, inr, Bool, true, false, cond, List, length, Option, Some, None, refl, sym, ap, ◌∙◌, arith, is_some, slice_index, option_map}
+use Rattle.std.proofs.lemmas.Bool.{cases_lt, false_from_ne_true}
 use Rattle.std.proofs.lemmas.Bool.Decides.{nat_tests}
 use Rattle.std.proofs.lemmas.Option.{slice_get-get_or}
 use Rattle.std.specs.FinMap.{FinMap, get}
 use Rattle.mvs_model.specs.Place.{PlaceValue, place_at}
-use Rattle.mvs_model.specs.Finite.{all_below}
 use Rattle.mvs_model.specs.Storage.{Storage, holder as held_by, IsStorage, AllHeld, has_address}
 use Rattle.mvs_model.specs.Owners.{Owners}
 use Rattle.mvs_model.specs.State.{granted}
@@ -20,20 +17,8 @@ use Rattle.mvs_model.proofs.Tables.{same_maps}
 use Rattle.mvs_model.proofs.CellPlaces.{has_is}
 use Rattle.mvs_model.proofs.Seen.{held_as, granted_alike}
 use Rattle.mvs_model.proofs.Stand.{Stand, held_state, bytes_state, granted_held}
-
--- each number below a bound passes a test
-each_below : (test : ℕ → Bool) (n : ℕ) → ((i : ℕ) → i < n → test i ≡ true) → all_below test n ≡ true
-unfolding all_below
-each_below test zero h = refl
-each_below test (suc n) h = (λ i. h n (omega arith) i && all_below test n) ∙ each_below test n (λ i l. h i (omega arith))
-
-pub below_each : (test : ℕ → Bool) (n : ℕ) → all_below test n ≡ true → (i : ℕ) → i < n → test i ≡ true
-unfolding all_below
-below_each test zero e i l = absurd (omega arith)
-below_each test (suc n) e i l = at (test n) (all_below test n) refl e (λ rest low. below_each test n rest i low) where
-  at : (a b : Bool) → test n ≡ a → (a && b) ≡ true → (b ≡ true → i < n → test i ≡ true) → test i ≡ true
-  at true b is f rest = elim (cases_lt i n) [ inl low ↦ rest f low | inr high ↦ ap test (let s : i ≡ n = omega arith in s) ∙ is ]
-  at false b is f rest = absurd (let g : false ≡ true = f in cc)
+use Rattle.mvs_model.proofs.Below.{below_each, each_below}
+pub use Rattle.mvs_model.proofs.Below.{below_each}
 
 module _ (st : Storage) (o : Owners) (pools : FinMap name_cmp Pool) (is : IsStorage st) where
   -- each byte of a place may be read and written
@@ -45,10 +30,7 @@ module _ (st : Storage) (o : Owners) (pools : FinMap name_cmp Pool) (is : IsStor
       ap (granted (state_of st o pools)) (let s : a ≡ p.addr + (a - p.addr) = omega arith in s) ∙ below_each (λ i. granted (state_of st o pools) (p.addr + i)) p.len e (a - p.addr) (omega arith)
 
   pub not_granted : (p : PlaceValue) → (Granted (state_of st o pools) p → ⊥) → all_granted (state_of st o pools) p ≡ false
-  not_granted p none = at (all_granted (state_of st o pools) p) (λ e. none (granted_all p e)) where
-    at : (b : Bool) → (b ≡ true → ⊥) → b ≡ false
-    at true h = absurd (h refl)
-    at false h = refl
+  not_granted p none = false_from_ne_true (all_granted (state_of st o pools) p) (λ e. none (granted_all p e))
 
   -- then each of its doublewords is held
   pub granted_place : (p : PlaceValue) → 1 ≤ p.len → Stand st pools → Granted (state_of st o pools) p → AllHeld st p
@@ -83,10 +65,7 @@ module _ (st : Storage) (o : Owners) (pools : FinMap name_cmp Pool) (is : IsStor
 
   -- the value of a place that has the address
   same_inside : (p : PlaceValue) (a : ℕ) (v w u : Option ℕ) → (p.addr ≤ a → a < p.addr + p.len → v ≡ w) → cond (has_address p a) v u ≡ cond (has_address p a) w u
-  same_inside p a v w u h = at (has_address p a) (λ e. h (let l : p.addr ≤ a = grind (arith, nat_tests) in l) (let l : a < p.addr + p.len = grind (arith, nat_tests) in l)) where
-    at : (b : Bool) → (b ≡ true → v ≡ w) → cond b v u ≡ cond b w u
-    at true f = f refl
-    at false f = refl
+  same_inside p a v w u h = grind (arith, nat_tests)
 
   pub puts_seen : (new : Storage) (to : ℕ) (bytes : List ℕ) → IsStorage new → Granted (state_of st o pools) (place_at to (length bytes)) → new.regions ≡ st.regions → new.held ≡ st.held
       → ((a : ℕ) → get new.bytes a ≡ cond (has_address (place_at to (length bytes)) a) (Some (slice_index bytes (a - to))) (get st.bytes a))

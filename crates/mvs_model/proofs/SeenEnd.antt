@@ -1,32 +1,27 @@
 -- The end of a task, over a store and the owners.
-use Rattle.std.proofs.Common.{◌≡◌, ℕ, ◌/◌, true, false, cond, List, [], Option, Some, None, refl, sym, ap, subst}
-use Rattle.std.specs.Prelude.{not, ◌↔◌}
-use Rattle.std.specs.List.{Contains}
+use Rattle.std.proofs.Common.{◌≡◌, ℕ, ◌/◌, true, false, cond, List, [], Option, None, refl, sym, ap, subst, not, ◌↔◌, Contains, arith}
 use Rattle.std.specs.FinMap.{FinMap, get}
-use Rattle.mvs_model.specs.declared.name.Name.{Name}
+use Rattle.std.proofs.lemmas.Grind.{common_steps}
+use Rattle.mvs_model.proofs.Types.{Name, Code, Abended}
 use Rattle.mvs_model.specs.Name.{name_cmp}
 use Rattle.mvs_model.specs.Finite.{Keeps, kept, has}
 use Rattle.mvs_model.specs.Storage.{Storage, holder as held_by, IsStorage, is_one_of, ReleaseEach}
 use Rattle.mvs_model.specs.Owners.{Owners, IsFallen, ends_with, Ends}
 use Rattle.mvs_model.specs.Pools.{Pool}
 use Rattle.mvs_model.specs.View.{state_of}
-use Rattle.mvs_model.specs.declared.code.Code.{Code}
-use Rattle.mvs_model.specs.declared.request.Reply.TheVariants.{Abended}
 use Rattle.mvs_model.specs.Changes.{End, Drops}
 use Rattle.mvs_model.specs.Steps.{Abends}
 use Rattle.mvs_model.proofs.Elements.{one_of_contained, contained_one_of}
 use Rattle.mvs_model.proofs.SeenRelease.{drops_seen}
 use Rattle.mvs_model.proofs.Stand.{Stand}
-use Rattle.mvs_model.proofs.TakenCells.{same_test}
+use Rattle.mvs_model.proofs.Tests.{same_test}
 
 -- no subpool is released at first
 kept_all : {X : Type 0} (v : Option X) → v ≡ kept (λ _. true) v
-kept_all None = refl
-kept_all (Some x) = refl
+kept_all v = grind (arith, common_steps)
 
 has_none : {X : Type 0} (v : Option X) → has (λ _. false) v ≡ false
-has_none None = refl
-has_none (Some x) = refl
+has_none v = grind (arith, common_steps)
 
 pub releases_none : (st : Storage) → ReleaseEach st [] st
 releases_none st = record { regions = refl; held = λ d. kept_all (get st.held d); bytes = λ a. ap (λ b. cond b None (get st.bytes a)) (sym (has_none (held_by st (a / 8)))) }

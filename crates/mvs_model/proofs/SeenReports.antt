@@ -1,14 +1,14 @@
 -- What the reports say of a store and the owners.
-use Rattle.std.proofs.Common.{◌≡◌, ℕ, zero, suc, ◌+◌, ◌<◌, ◌≤◌, inl, inr, Bool, true, false, cond, Option, Some, None, refl, sym, ap, ◌∙◌, arith}
-use Rattle.std.specs.Prelude.{◌==◌}
+use Rattle.std.proofs.Common.{◌≡◌, ℕ, zero, suc, ◌+◌, ◌<◌, ◌≤◌, inl, inr, Bool, true, false, cond, Option, Some, None, refl, sym, ap, ◌∙◌, arith, ◌==◌}
 use Rattle.std.proofs.lemmas.Bool.{cases_lt}
 use Rattle.std.proofs.lemmas.Bool.Decides.{nat_tests}
-use Rattle.mvs_model.specs.declared.name.Name.{Name}
+use Rattle.mvs_model.proofs.Types.{Name}
 use Rattle.mvs_model.specs.Finite.{has}
 use Rattle.mvs_model.specs.Owners.{Owners, entry}
 use Rattle.mvs_model.specs.Kept.{OwnersKept}
 use Rattle.mvs_model.proofs.Keepers.{number_low}
 use Rattle.mvs_model.specs.Reports.{first_from, number_of}
+use Rattle.mvs_model.proofs.Tests.{none_some}
 
 -- the first of the values that a function has
 module _ {X : Type 0} where
@@ -37,7 +37,7 @@ module _ {X : Type 0} where
     at None e more =
         elim (cases_lt k d) [
           | inl less ↦ first_later k n f e ∙ more less
-          | inr same ↦ (let s : d ≡ k = omega arith in absurd (let g : None ≡ Some x = sym e ∙ ap f (sym s) ∙ is in cc))
+          | inr same ↦ (let s : d ≡ k = omega arith in none_some (sym e ∙ ap f (sym s) ∙ is))
         ]
 
 -- the number under which a subpool stands is the one that its owner has for it
@@ -47,7 +47,7 @@ number_kept o t n s kept is =
     (ap (λ v. cond (has (λ r. r == s) v) (Some n) None) is ∙ ap (λ b. cond b (Some n) None) (let e : (s == s) ≡ true = grind (arith, nat_tests) in e))
     (λ m y low high e. at (entry o t m) m y refl e) where
       at : (v : Option ℕ) (m y : ℕ) → entry o t m ≡ v → cond (has (λ r. r == s) v) (Some m) None ≡ Some y → y ≡ n
-      at None m y has e = absurd (let g : None ≡ Some y = e in cc)
+      at None m y has e = none_some e
       at (Some r) m y has e = by (r == s) refl e where
         by : (b : Bool) → (r == s) ≡ b → cond b (Some m) None ≡ Some y → y ≡ n
         by true same f =
@@ -55,4 +55,4 @@ number_kept o t n s kept is =
             let m_is : m ≡ n = kept.one_number t t m n s (has ∙ ap Some r_is) is in
             let y_is : m ≡ y = cc in
             sym y_is ∙ m_is
-        by false same f = absurd (let g : None ≡ Some y = f in cc)
+        by false same f = none_some f

@@ -1,18 +1,13 @@
 -- What storage is as a state at the start of a step, where there are no pools.
-use Rattle.std.proofs.Common.{◌≡◌, ℕ, Bool, true, false, cond, List, [], get_or, Option, None, refl, sym, ap, ◌∙◌}
+use Rattle.std.proofs.Common.{◌≡◌, ℕ, Bool, true, false, cond, List, [], get_or, Option, None, refl, sym, ap, ◌∙◌, option_map, nat_cmp}
 use Rattle.std.specs.List.{list_any}
-use Rattle.std.specs.Option.{option_map}
 use Rattle.std.proofs.lemmas.List.Folds.{list_any_none}
 use Rattle.std.proofs.lemmas.List.Elements.{All-from_get_or}
-use Rattle.std.specs.FinMap.{empty, keys, get-empty, nat_cmp-IsAntisymmetric}
-use Rattle.std.specs.Ordering.{nat_cmp}
-use Rattle.mvs_model.specs.declared.name.Name.{Name}
-use Rattle.mvs_model.specs.Name.{name_cmp}
-use Rattle.mvs_model.specs.Finite.{has}
+use Rattle.std.specs.FinMap.{empty, get-empty, nat_cmp-IsAntisymmetric}
+use Rattle.mvs_model.proofs.Types.{Name}
 use Rattle.mvs_model.specs.Storage.{Storage, Regions}
 use Rattle.mvs_model.specs.Owners.{Owners}
-use Rattle.mvs_model.specs.Pools.{Pool, in_parts, in_taken}
-use Rattle.mvs_model.specs.State.{in_cell, granted}
+use Rattle.mvs_model.specs.State.{granted}
 use Rattle.mvs_model.specs.Card.{CardValue}
 use Rattle.mvs_model.specs.Start.{regions_of, first_owners, start}
 use Rattle.mvs_model.specs.View.{in_pools, behind, holding, without_bytes, seen}
@@ -22,12 +17,6 @@ use Rattle.mvs_model.proofs.Made.{get-retained}
 -- without pools no doubleword lies in a part, and no address in a cell
 pub all_names : (p : Name → Bool) (names : List Name) → ((name : Name) → p name ≡ false) → list_any p names ≡ false
 all_names p names h = list_any_none p names (All-from_get_or (λ name. p name ≡ false) names [] (λ i l. h (get_or names i [])))
-
-no_parts : (d : ℕ) → in_pools empty d ≡ false
-no_parts d = all_names _ (keys (empty {X = Pool} {R = name_cmp})) (λ name. ap (has (λ pool. in_parts pool d)) (get-empty name_cmp name))
-
-no_cells : (st : Storage) (o : Owners) (a : ℕ) → in_cell (without_bytes st o empty) a ≡ false
-no_cells st o a = all_names _ (keys (empty {X = Pool} {R = name_cmp})) (λ name. ap (has (λ pool. in_taken pool a)) (get-empty name_cmp name))
 
 -- storage at the start of a step, and the state that it is
 bare : Regions → Storage

@@ -1,34 +1,23 @@
 -- Each step keeps that the pools have sizes and counts.
-use Rattle.std.proofs.Common.{◌≡◌, ◌≤◌, arith, Bool, true, false, cond, Option, Some, None, sym, ap, ◌∙◌, subst}
+use Rattle.std.proofs.Common.{◌≡◌, ◌≤◌, arith, Bool, Some, None, sym, ap, ◌∙◌}
 use Rattle.std.specs.FinMap.{get}
-use Rattle.mvs_model.specs.Finite.{Changes, Keeps, kept}
-use Rattle.mvs_model.specs.declared.name.Name.{Name}
+use Rattle.std.proofs.lemmas.Bool.Decides.{nat_tests}
+use Rattle.mvs_model.specs.Finite.{Changes, Keeps}
+use Rattle.mvs_model.proofs.Types.{Name}
 use Rattle.mvs_model.specs.Pools.{Pool}
 use Rattle.mvs_model.specs.State.{State}
 use Rattle.mvs_model.specs.WellFormed.{IsSized, PoolsSized}
 use Rattle.mvs_model.proofs.Kept.{Closed}
+use Rattle.mvs_model.proofs.Tests.{else_some, kept_is}
 
 sized_put : (old new : State) (test : Name → Bool) (pool : Pool) → Changes (get old.pools) test (Some pool) (get new.pools) → IsSized pool → PoolsSized old → PoolsSized new
-sized_put old new test pool changes sized all name q e = at (test name) (sym (changes name) ∙ e) where
-  at : (b : Bool) → cond b (Some pool) (get old.pools name) ≡ Some q → IsSized q
-  at true h = subst IsSized (let k : pool ≡ q = cc in k) sized
-  at false h = all name q h
+sized_put old new test pool h1 h2 h3 = grind (arith, nat_tests)
 
 sized_gone : (old new : State) (test : Name → Bool) → Changes (get old.pools) test None (get new.pools) → PoolsSized old → PoolsSized new
-sized_gone old new test changes all name q e = at (test name) (sym (changes name) ∙ e) where
-  at : (b : Bool) → cond b None (get old.pools name) ≡ Some q → IsSized q
-  at true h = absurd (let k : None ≡ Some q = h in cc)
-  at false h = all name q h
+sized_gone old new test changes all name q e = all name q (else_some (test name) (get old.pools name) q (sym (changes name) ∙ e))
 
 sized_kept : (old new : State) (test : Name → Pool → Bool) → Keeps (get old.pools) test (get new.pools) → PoolsSized old → PoolsSized new
-sized_kept old new test keeps all name q e = all name q (at (get old.pools name) (sym (keeps name) ∙ e)) where
-  pick : (b : Bool) (p : Pool) → cond b (Some p) None ≡ Some q → Some p ≡ Some q
-  pick true p h = h
-  pick false p h = absurd (let k : None ≡ Some q = h in cc)
-
-  at : (o : Option Pool) → kept (test name) o ≡ Some q → o ≡ Some q
-  at None h = h
-  at (Some p) h = pick (test name p) p h
+sized_kept old new test keeps all name q e = all name q (kept_is (test name) (get old.pools name) q (sym (keeps name) ∙ e)).0
 
 sized_same : (old new : State) → new.pools ≡ old.pools → PoolsSized old → PoolsSized new
 sized_same old new e all name q h = all name q (sym (ap (λ m. get m name) e) ∙ h)

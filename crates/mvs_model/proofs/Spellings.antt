@@ -1,11 +1,11 @@
 -- How each statement is written: what the table allows, row by row.
-use Rattle.std.proofs.Common.{◌≡◌, refl, ◌||◌, ◌&&◌, not, true, false, ℕ, ◌==◌, List, [], ◌∷◌, ◌++◌, map, length, ap, ◌∙◌}
-use Rattle.std.specs.Prelude.{Option, None, Some, IfSome, is_some, codes, slice_get, unwrap_or, if◌then◌else◌}
+use Rattle.std.proofs.Common.{◌≡◌, refl, ◌||◌, ◌&&◌, not, true, false, ℕ, ◌==◌, List, [], ◌∷◌, ◌++◌, map, length, ap, ◌∙◌, Option, None, Some, IfSome, is_some, codes, slice_get, unwrap_or, if◌then◌else◌, arith}
 use Rattle.std.specs.List.{list_all, list_any}
-use Rattle.std.proofs.lemmas.Bool.{and_right}
-use Rattle.mvs_model.specs.declared.code.Form.{Form}
+use Rattle.std.proofs.lemmas.Bool.{and_right, and_parts, not-true}
+use Rattle.std.proofs.lemmas.Bool.Decides.{nat_tests}
+use Rattle.std.proofs.lemmas.Grind.{common_steps}
+use Rattle.mvs_model.proofs.Types.{Form, TooLong, InvalidByte, UnknownOperation}
 use Rattle.mvs_model.specs.declared.code.Form.TheVariants as form
-use Rattle.mvs_model.specs.declared.line.Fault.TheVariants.{TooLong, InvalidByte, UnknownOperation}
 use Rattle.mvs_model.specs.declared.line.Line.TheVariants as line
 use Rattle.mvs_model.specs.declared.line.Statement.TheVariants as says
 use Rattle.mvs_model.specs.declared.line.Written.TheVariants as written
@@ -16,8 +16,7 @@ use Rattle.mvs_model.specs.Spelling.{line_text, Fits, IsOperand}
 use Rattle.mvs_model.specs.Spellings.{EachIsSaid, Says, SaysFixed, SaysPlaced, SaysVariable, SaysVariablePlaced, SaysList, SaysRelease, SaysWhole, SaysArea, SaysReleaseList, SaysGet, SaysAttach, AllFit, NotBoth, asked, fill_said, length_kind, lengths_kind, number_said, numbers_said, placed_operands, residence_said, sized_operands, start_said}
 use Rattle.mvs_model.proofs.Filled.{said, filled_is_read, filled_form_is_read}
 use Rattle.mvs_model.proofs.Reading.{said_with}
-use Rattle.mvs_model.proofs.ReadingTaken.{and_true}
-use Rattle.mvs_model.proofs.Spelling.{cut_apart, not_true}
+use Rattle.mvs_model.proofs.Spelling.{cut_apart}
 use Rattle.mvs_model.proofs.ValueTexts.{not_list}
 
 -- no keyword operands
@@ -28,7 +27,7 @@ nothing_keyed = record { each = tt }
 
 -- one number is no list
 no_list : (least most : ℕ) (n : List ℕ) → Fits (Number least most) n → is_list n ≡ false
-no_list least most n fits = let a = and_true (not (is_empty n)) (list_all is_digit n) fits.of_kind in not_list n a.1 (not_true _ a.0)
+no_list least most n fits = let a = and_parts (not (is_empty n)) (list_all is_digit n) fits.of_kind in not_list n a.1 (not-true _ a.0)
 
 largest_is : (n : List ℕ) → Fits length_kind n → largest n ≡ number n
 largest_is n fits = ap (λ t. if t then number (unwrap_or (slice_get (items n) 0) []) else number n) (no_list _ _ n fits)
@@ -38,7 +37,7 @@ smallest_is n fits = ap (λ t. if t then number (unwrap_or (slice_get (items n) 
 
 -- a largest and a smallest length are a list
 a_pair : (n : List ℕ) → Fits lengths_kind n → is_list n ≡ true
-a_pair n fits = (and_true (is_list n) _ (and_true (is_list n && (length (items n) == 2)) (list_all is_number (items n)) fits.of_kind).0).0
+a_pair n fits = (and_parts (is_list n) _ (and_parts (is_list n && (length (items n) == 2)) (list_all is_number (items n)) fits.of_kind).0).0
 
 -- ---- GETMAIN
 
@@ -117,12 +116,7 @@ got word one is no_key pool cell = filled_is_read false 13 cpool_get (codes "GET
 
 -- a number, or the numbers of a list
 numbers_are : (one all : Option (List ℕ)) → NotBoth one all → IfSome one (Fits (Number 1 127)) → IfSome all (Fits (DistinctNumbers 1 127)) → numbers_in one ++ numbers_in all ≡ numbers_said one all
-numbers_are None None not_both fits_one fits_all = refl
-numbers_are None (Some text) not_both fits_one fits_all =
-    let a = and_true (is_list text) (list_all is_number (items text)) fits_all.of_kind in
-    ap (λ t. if t then map number (items text) else number text ∷ []) a.0
-numbers_are (Some text) None not_both fits_one fits_all = ap (λ t. (if t then map number (items text) else number text ∷ []) ++ []) (no_list _ _ text fits_one)
-numbers_are (Some text) (Some other) not_both fits_one fits_all = absurd (let f : true ≡ false = not_both in cc)
+numbers_are one all h1 h2 h3 = grind (arith, nat_tests, no_list)
 
 attached : SaysAttach
 attached name gives gives_all shares shares_all zero home one other apart fit =
@@ -147,8 +141,7 @@ return_read task named short =
 
 -- the fill byte, or 00
 fill_is : (fill : Option (List ℕ)) → hex_number (unwrap_or fill []) ≡ fill_said fill
-fill_is None = refl
-fill_is (Some text) = refl
+fill_is fill = grind (arith, common_steps)
 
 -- ---- each statement
 

@@ -1,43 +1,22 @@
 -- The places of a label and their addresses.
-use Rattle.std.proofs.Common.{◌≡◌, ℕ, ◌+◌, ◌-◌, ◌<◌, ◌≤◌, Bool, true, false, Some, arith, refl, sym, ap, subst}
-use Rattle.std.specs.Prelude.{is_some, ◌==◌, ◌&&◌}
+use Rattle.std.proofs.Common.{◌≡◌, ℕ, ◌+◌, ◌-◌, ◌<◌, ◌≤◌, true, Some, arith, ap, subst, is_some, ◌==◌}
 use Rattle.std.proofs.lemmas.Bool.Decides.{nat_tests}
+use Rattle.std.proofs.lemmas.Bool.{and_from}
 use Rattle.mvs_model.specs.Place.{PlaceValue, place_at}
 use Rattle.mvs_model.specs.Storage.{has_address}
 use Rattle.mvs_model.specs.Job.{JobValue}
 use Rattle.mvs_model.specs.Labels.{Labels, Spot, has_offset, is_there}
 use Rattle.mvs_model.specs.Tidy.{Link}
-use Rattle.mvs_model.proofs.SeenAccess.{below_each}
 use Rattle.mvs_model.proofs.LinkLess.{some_there}
-
-pub same_test : (a b : Bool) → (a ≡ true → b ≡ true) → (b ≡ true → a ≡ true) → a ≡ b
-same_test true b f g = sym (f refl)
-same_test false true f g = g refl
-same_test false false f g = refl
-
-pub both : (a b : Bool) → a ≡ true → b ≡ true → (a && b) ≡ true
-both true b e f = f
-both false b e f = absurd (let g : false ≡ true = e in cc)
-
-pub first : (a b : Bool) → (a && b) ≡ true → a ≡ true
-first true b e = refl
-first false b e = e
-
-pub second : (a b : Bool) → (a && b) ≡ true → b ≡ true
-second true b e = e
-second false b e = absurd (let f : false ≡ true = e in cc)
+use Rattle.mvs_model.proofs.CellPlaces.{has_is}
+use Rattle.mvs_model.proofs.Below.{below_each}
+use Rattle.mvs_model.proofs.Tests.{same_test}
 
 pub offset_is : (q : Spot) (l i : ℕ) → has_offset q l i ≡ true → (l ≡ q.label) × (q.place.addr ≤ i) × (i < q.place.addr + q.place.len)
-offset_is q l i e =
-    let f = first (l == q.label) (has_address q.place i) e in
-    let g = second (l == q.label) (has_address q.place i) e in
-    (let x : l ≡ q.label = grind (arith, nat_tests) in x, let y : q.place.addr ≤ i = grind (arith, nat_tests) in y, let z : i < q.place.addr + q.place.len = grind (arith, nat_tests) in z)
+offset_is q l i h1 = grind (arith, nat_tests)
 
 pub offset_yes : (q : Spot) (l i : ℕ) → l ≡ q.label → q.place.addr ≤ i → i < q.place.addr + q.place.len → has_offset q l i ≡ true
-offset_yes q l i e low high = both (l == q.label) (has_address q.place i) (let x : (l == q.label) ≡ true = grind (arith, nat_tests) in x) (let y : has_address q.place i ≡ true = grind (arith, nat_tests) in y)
-
-pub address_is : (p : PlaceValue) (a : ℕ) → has_address p a ≡ true → (p.addr ≤ a) × (a < p.addr + p.len)
-address_is p a e = (let y : p.addr ≤ a = grind (arith, nat_tests) in y, let z : a < p.addr + p.len = grind (arith, nat_tests) in z)
+offset_yes q l i e low high = and_from (l == q.label) (has_address q.place i) (let x : (l == q.label) ≡ true = grind (arith, nat_tests) in x) (let y : has_address q.place i ≡ true = grind (arith, nat_tests) in y)
 
 pub address_yes : (p : PlaceValue) (a : ℕ) → p.addr ≤ a → a < p.addr + p.len → has_address p a ≡ true
 address_yes p a low high = grind (arith, nat_tests)
@@ -65,8 +44,8 @@ module _ (job : JobValue) (m : Labels) (k : Link job m) where
 
     back : has_address (span_of q) (k.base l + i) ≡ true → has_offset q l i ≡ true
     back t =
-        let low : k.base q.label + q.place.addr ≤ k.base l + i = (address_is (span_of q) (k.base l + i) t).0 in
-        let high : k.base l + i < k.base q.label + q.place.addr + q.place.len = (address_is (span_of q) (k.base l + i) t).1 in
+        let low : k.base q.label + q.place.addr ≤ k.base l + i = (has_is (span_of q) (k.base l + i) t).0 in
+        let high : k.base l + i < k.base q.label + q.place.addr + q.place.len = (has_is (span_of q) (k.base l + i) t).1 in
         let w = there_at m q h (k.base l + i - k.base q.label) (omega (arith, low)) (omega (arith, low, high)) in
         let same = k.apart l q.label i (k.base l + i - k.base q.label) b w.0 e w.1 (omega (arith, low)) in
         let at : i ≡ k.base l + i - k.base q.label = same.1 in

@@ -1,12 +1,12 @@
 -- The parts of the pools in storage, and in the state that it is.
-use Rattle.std.proofs.Common.{◌≡◌, ◌≢◌, ℕ, ◌/◌, ◌≤◌, inl, inr, Bool, true, false, cond, map, Option, Some, None, refl, sym, ap, ◌∙◌, arith}
-use Rattle.std.specs.Prelude.{is_some, ◌||◌}
-use Rattle.std.specs.List.{Contains}
-use Rattle.std.specs.Option.{option_map}
+use Rattle.std.proofs.Common.{◌≡◌, ◌≢◌, ℕ, ◌/◌, ◌≤◌, Bool, true, false, cond, map, Option, Some, None, refl, sym, ap, ◌∙◌, arith, is_some, ◌||◌, Contains, option_map}
 use Rattle.std.proofs.lemmas.Map.Views.{Contains-from_any}
 use Rattle.std.specs.FinMap.{FinMap, get, keys, contains_key-keys, nat_cmp-IsAntisymmetric}
 use Rattle.std.specs.FinSet as set
-use Rattle.mvs_model.specs.declared.name.Name.{Name}
+use Rattle.std.proofs.lemmas.Bool.{false_from_ne_true}
+use Rattle.std.proofs.lemmas.Bool.Decides.{nat_tests}
+use Rattle.std.proofs.lemmas.Grind.{common_steps}
+use Rattle.mvs_model.proofs.Types.{Name}
 use Rattle.mvs_model.specs.Name.{name_cmp}
 use Rattle.mvs_model.specs.Finite.{has}
 use Rattle.mvs_model.specs.Storage.{Storage, holder as held_by, IsStorage, IsWhole, HeldBy, Covers}
@@ -22,12 +22,13 @@ use Rattle.mvs_model.proofs.Tables.{get-table_all}
 use Rattle.mvs_model.proofs.Made.{get-retained}
 use Rattle.mvs_model.proofs.CellPlaces.{has_is, cell_inside}
 use Rattle.mvs_model.proofs.TakenCells.{in_cell_is, part_found, part_from}
+use Rattle.mvs_model.proofs.Tests.{false_true, none_some}
 
 -- a doubleword in a part of a pool
 pub pooled_found : (pools : FinMap name_cmp Pool) (d : ℕ) → in_pools pools d ≡ true → (name : Name) × (pool : Pool) × (get pools name ≡ Some pool) × (in_parts pool d ≡ true)
 pooled_found pools d e = let f = any_found (λ name. has (λ pool. in_parts pool d) (get pools name)) (keys pools) e in at f.0 (get pools f.0) refl f.2 where
   at : (name : Name) (o : Option Pool) → get pools name ≡ o → has (λ pool. in_parts pool d) o ≡ true → (n : Name) × (pool : Pool) × (get pools n ≡ Some pool) × (in_parts pool d ≡ true)
-  at name None is h = absurd (let g : false ≡ true = h in cc)
+  at name None is h = false_true h
   at name (Some pool) is h = (name, pool, is, h)
 
 pub pooled_from : (pools : FinMap name_cmp Pool) (d : ℕ) (name : Name) (pool : Pool) → get pools name ≡ Some pool → in_parts pool d ≡ true → in_pools pools d ≡ true
@@ -49,10 +50,7 @@ pub record Stand (st : Storage) (pools : FinMap name_cmp Pool) : Type 0 where
 
 module _ (st : Storage) (o : Owners) (pools : FinMap name_cmp Pool) (is : IsStorage st) where
   beyond : (d : ℕ) → behind st.regions ≤ d → held_by st d ≡ None
-  beyond d l = at (held_by st d) refl where
-    at : (v : Option ℕ) → held_by st d ≡ v → v ≡ None
-    at None e = refl
-    at (Some s) e = elim (is.inside d s e) [ inl b ↦ absurd (omega (arith, b.1)) | inr b ↦ absurd (omega (arith, b.1)) ]
+  beyond d l = grind (arith, nat_tests)
 
   pub held_state : (d : ℕ) → get (state_of st o pools).held d ≡ holding st pools d
   held_state d = get-table_all (behind st.regions) (holding st pools) (λ k l. ap (option_map (λ s. record { subpool = s; pooled = in_pools pools k })) (beyond k l)) d
@@ -62,8 +60,7 @@ module _ (st : Storage) (o : Owners) (pools : FinMap name_cmp Pool) (is : IsStor
 
   -- what holds a doubleword, with or without pools
   subpool_held : (b : Bool) (v : Option ℕ) → subpool_in (option_map (λ s. record { subpool = s; pooled = b }) v) ≡ v
-  subpool_held b None = refl
-  subpool_held b (Some s) = refl
+  subpool_held b v = grind (arith, common_steps)
 
   pub holder_state : (d : ℕ) → subpool_in (get (state_of st o pools).held d) ≡ held_by st d
   holder_state d = ap subpool_in (held_state d) ∙ subpool_held (in_pools pools d) (held_by st d)
@@ -89,8 +86,8 @@ module _ (st : Storage) (o : Owners) (pools : FinMap name_cmp Pool) (is : IsStor
     all_covered d u e = at (held_by st d) (in_pools pools d) refl refl (sym (held_state d) ∙ e) where
       at : (v : Option ℕ) (b : Bool) → held_by st d ≡ v → in_pools pools d ≡ b → option_map (λ s. record { subpool = s; pooled = b }) v ≡ Some (pooled u)
           → (name : Name) × (pool : Pool) × (get pools name ≡ Some pool) × (pool.subpool ≡ u) × (in_parts pool d ≡ true)
-      at None b ev eb f = absurd (let g : None ≡ Some (pooled u) = f in cc)
-      at (Some t) false ev eb f = absurd (let g : false ≡ true = ap (λ h. has (λ k. k.pooled) h) f in cc)
+      at None b ev eb f = none_some f
+      at (Some t) false ev eb f = false_true (ap (λ h. has (λ k. k.pooled) h) f)
       at (Some t) true ev eb f =
           let p = pooled_found pools d eb in
           let part = part_found p.1 d p.3 in
@@ -108,7 +105,7 @@ module _ (st : Storage) (o : Owners) (pools : FinMap name_cmp Pool) (is : IsStor
     plain_held : (d : ℕ) → is_plain (get (state_of st o pools).held d) ≡ true → is_some (held_by st d) ≡ true
     plain_held d e = at (held_by st d) (in_pools pools d) (ap is_plain (sym (held_state d)) ∙ e) where
       at : (v : Option ℕ) (b : Bool) → is_plain (option_map (λ s. record { subpool = s; pooled = b }) v) ≡ true → is_some v ≡ true
-      at None b f = absurd (let g : false ≡ true = f in cc)
+      at None b f = false_true f
       at (Some t) b f = refl
 
     pub granted_held : (a : ℕ) → granted (state_of st o pools) a ≡ true → is_some (held_by st (a / 8)) ≡ true
@@ -143,19 +140,4 @@ part_of_pool st pools s d name pool is e = let part = part_found pool d e in s.h
 
 -- so what is free is in no part
 pub free_clear : (st : Storage) (pools : FinMap name_cmp Pool) → Stand st pools → (d : ℕ) → held_by st d ≡ None → in_pools pools d ≡ false
-free_clear st pools s d free = at (in_pools pools d) refl where
-  at : (b : Bool) → in_pools pools d ≡ b → b ≡ false
-  at false e = refl
-  at true e = let h = pooled_held st pools s d e in absurd (let g : None ≡ Some h.0.subpool = sym free ∙ h.1 in cc)
-
--- storage that keeps the doublewords of parts keeps what stands
-pub stand_kept : (old new : Storage) (pools : FinMap name_cmp Pool) → ((d : ℕ) → in_pools pools d ≡ true → held_by new d ≡ held_by old d) → Stand old pools → Stand new pools
-stand_kept old new pools same s = record {
-  whole = s.whole;
-  length = s.length;
-  some = s.some;
-  held = λ name pool part e h d c. same d (pooled_from pools d name pool e (part_from pool d part h c)) ∙ s.held name pool part e h d c;
-  within = s.within;
-  between = s.between;
-  cells = s.cells;
-}
+free_clear st pools s d free = false_from_ne_true (in_pools pools d) (λ e. let h = pooled_held st pools s d e in none_some (sym free ∙ h.1))

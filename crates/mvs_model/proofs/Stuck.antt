@@ -1,54 +1,39 @@
 -- The machine is never stuck: each request has a step in each state.
-use Rattle.std.proofs.Common.{◌≡◌, ℕ, ◌+◌, ◌*◌, ◌/◌, ◌%◌, ◌<◌, ◌≤◌, ◌⊎◌, inl, inr, Bool, true, false, List, [], ◌∷◌, map, length, Option, Some, None, arith, refl, ap, sym, subst, ◌∙◌}
-use Rattle.std.specs.Prelude.{not, ◌&&◌, nat_le, ◌==◌}
-use Rattle.std.specs.Bool.{MatchBool}
-use Rattle.std.specs.List.{Contains, AllByRecursion, list_all}
+use Rattle.std.proofs.Common.{◌≡◌, ℕ, ◌+◌, ◌*◌, ◌%◌, ◌<◌, ◌≤◌, ◌⊎◌, inl, inr, Bool, true, false, List, [], ◌∷◌, map, length, Option, Some, None, arith, refl, ap, sym, subst, ◌∙◌, not, ◌&&◌, nat_le, ◌==◌, MatchBool, Contains}
+use Rattle.std.specs.List.{AllByRecursion, list_all}
 use Rattle.std.proofs.lemmas.Bool.Decides.{nat_tests}
 use Rattle.std.specs.FinMap.{get, insert, nat_cmp-IsAntisymmetric, contains_key, len}
 use Rattle.std.specs.FinSet as set
-use Rattle.mvs_model.specs.declared.name.Name.{Name}
-use Rattle.mvs_model.specs.declared.want.Side.{Side}
-use Rattle.mvs_model.specs.declared.want.Side.TheVariants.{Below}
-use Rattle.mvs_model.specs.declared.want.Residence.{Residence}
-use Rattle.mvs_model.specs.declared.code.Form.{Form}
-use Rattle.mvs_model.specs.declared.code.Family.TheVariants.{Located}
-use Rattle.mvs_model.specs.declared.code.Code.{Code}
-use Rattle.mvs_model.specs.declared.code.Code.TheVariants.{System, User}
-use Rattle.mvs_model.specs.declared.request.Request.{Request}
-use Rattle.mvs_model.specs.declared.request.Request.TheVariants.{Obtain, ObtainList, Release, ReleaseList, ReleaseWhole, Build, Get, Free, Delete, Attach, Return, Abend, Show, Put, Move}
-use Rattle.mvs_model.specs.declared.request.Reply.{Reply}
-use Rattle.mvs_model.specs.declared.request.Reply.TheVariants.{NotRun, Rc0, Rc4, Obtained, Listed, Cell, NoCell, Attached, Ended, Done, Abended}
+use Rattle.mvs_model.proofs.Types.{Name, Side, Below, Residence, Form, Located, Code, System, User, Request, Obtain, ObtainList, Release, ReleaseList, ReleaseWhole, Build, Get, Free, Delete, Attach, Return, Abend, Show, Put, Move, Reply, NotRun, Rc0, Rc4, Obtained, Listed, Cell, NoCell, Attached, Ended, Done, Abended}
 use Rattle.mvs_model.specs.Place.{PlaceValue, place_at, round8}
 use Rattle.mvs_model.specs.Want.{WantValue, want_of, fixed_want}
 use Rattle.mvs_model.specs.Gifts.{GiftsValue}
 use Rattle.mvs_model.specs.Storage.{Chosen, NoPlace, covers, Covers, has_address}
 use Rattle.mvs_model.specs.Owners.{Owners, is_active, keeper, subpool_meant, SubpoolOf, Ends, ends_with, attach_refusal, has_subtask}
 use Rattle.mvs_model.specs.Pools.{Pool, Part, part_want, part_length, first_cell, IsCellOf, IsFreeCell, cell_at, in_parts, in_taken}
-use Rattle.mvs_model.specs.State.{State, Holding, plain, pooled, subpool_in, holder, granted}
+use Rattle.mvs_model.specs.State.{State, Holding, plain, pooled, holder, granted}
 use Rattle.mvs_model.specs.Codes.{family, is_conditional, short, bad_subpool, bad_address, not_held}
 use Rattle.mvs_model.specs.Changes.{with_part, GrantTo, ShortOf, ListGrant, ListShort, HeldPlain, Misses, Disjoint, Frees, Drops, Empties, End, Extends, TakesCell, GivesCell, DropsPool, Writes, any_covers, any_has}
 use Rattle.mvs_model.specs.Steps.{Plan, Abends, Refuses, Fails, side_for, is_invalid, ObtainStep, ObtainListStep, whole, on_doubleword, MayRelease, ReleaseStep, EmptiesEntry, ReleaseWholeStep, new_pool, Builds, BuildStep, Gets, GetsMore, GetsNone, GetStep, FreeStep, DeleteStep, AttachCase, ReturnStep, all_granted, Accesses, bytes_from, moved_from, Acts, Step, IsRequest}
 use Rattle.mvs_model.specs.WellFormed.{PoolsSized}
-use Rattle.mvs_model.proofs.Decide.{Decided, decided_and, decided_implies, decided_like, decided_lt, decided_all, decided_some, decided_eq}
+use Rattle.mvs_model.proofs.Decide.{Decided, decided_and, decided_implies, decided_like, decided_lt, decided_all, decided_some}
 use Rattle.mvs_model.proofs.Elements.{later, first_or_later}
 use Rattle.mvs_model.proofs.Search.{chosen_or_none}
 use Rattle.mvs_model.proofs.Made.{made_values, made_changes, made_without, made_keeps, made_at, made_gone}
 use Rattle.mvs_model.proofs.Orders.{name_cmp-IsAntisymmetric}
 use Rattle.mvs_model.proofs.Falling.{fallen_some}
 use Rattle.mvs_model.proofs.Owning.{subpool_some, enters_some, ends_some, attach_some}
+use Rattle.mvs_model.proofs.CellPlaces.{has_is}
 
 -- A doubleword that a place covers, and an address in it, are below a bound.
 covers_low : (p : PlaceValue) (d : ℕ) → covers p d ≡ true → d < p.addr + p.len
 covers_low p d e = grind (arith, nat_tests)
 
-has_low : (p : PlaceValue) (a : ℕ) → has_address p a ≡ true → a < p.addr + p.len
-has_low p a e = grind (arith, nat_tests)
-
 -- a place that is chosen can be granted
 granted_some : (old : State) (t : Name) (number : ℕ) (want : WantValue) (s : ℕ) (p : PlaceValue) → SubpoolOf old.owners t number s → Chosen old.regions (holder old) s want p → (new : State) × GrantTo old t number want p new
 granted_some old t number want s p is c =
     let held = made_changes old.held (p.addr + p.len) (covers p) (plain s) (covers_low p) in
-    let bytes = made_changes old.bytes (p.addr + p.len) (has_address p) old.regions.fill (has_low p) in
+    let bytes = made_changes old.bytes (p.addr + p.len) (has_address p) old.regions.fill (λ a e. (has_is p a e).1) in
     let owners = enters_some old.owners t number s in (
       record { regions = old.regions; held = held.0; bytes = bytes.0; owners = owners.0; pools = old.pools },
       record { subpool = s; is_subpool = is; chosen = c; regions = refl; held = held.1; bytes = bytes.1; owners = owners.1; pools = refl },
@@ -110,9 +95,7 @@ round8_rises : (m n : ℕ) → m ≤ n → round8 m ≤ round8 n
 round8_rises m n l = omega arith
 
 part_whole : (size count : ℕ) → part_length size count % 8 ≡ 0
-part_whole size count = at ((count + 63) / 64) ((count * size + 7) / 8) where
-  at : (x y : ℕ) → (16 + 8 * x + 8 * y) % 8 ≡ 0
-  at x y = omega arith
+part_whole size count = grind (arith, nat_tests)
 
 -- a grant, or shortage
 area_some : (old : State) (t : Name) (number : ℕ) (want : WantValue) → want.least % 8 ≡ 0 → want.least ≤ want.most → ShortOf old t number want ⊎ ((p : PlaceValue) × (new : State) × GrantTo old t number want p new)
@@ -154,20 +137,13 @@ pooled_in : Option Holding → Option Bool
 pooled_in None = None
 pooled_in (Some h) = Some h.pooled
 
+decided_false : (b : Bool) → Decided (b ≡ false)
+decided_false b = grind (arith, nat_tests)
+
 -- whether a place may be released
 decided_is : (o : Option Holding) (s : ℕ) → Decided (o ≡ Some (plain s))
 unfolding pooled_in
-decided_is None s = inr (λ e. cc)
-decided_is (Some h) s = decided_like there back (decided_and (decided_eq h.subpool s) (decided_false h.pooled)) where
-  decided_false : (b : Bool) → Decided (b ≡ false)
-  decided_false false = inl refl
-  decided_false true = inr (λ e. let f : true ≡ false = e in cc)
-
-  there : (h.subpool ≡ s) × (h.pooled ≡ false) → Some h ≡ Some (plain s)
-  there e = λ i. Some (record { subpool = e.0 i; pooled = e.1 i })
-
-  back : Some h ≡ Some (plain s) → (h.subpool ≡ s) × (h.pooled ≡ false)
-  back e = (let u : Some h.subpool ≡ Some s = ap subpool_in e in cc, let u : Some h.pooled ≡ Some false = ap pooled_in e in cc)
+decided_is o s = grind (arith, nat_tests)
 
 decided_covers : (p : PlaceValue) (d : ℕ) → Decided (Covers p d)
 decided_covers p d = decided_and (decided_lt p.addr (8 * d + 8)) (decided_lt (8 * d) (p.addr + p.len))
@@ -221,7 +197,7 @@ extends_some old name pool count p owners c =
 
 takes_some : (old : State) (name : Name) (pool : Pool) (c : ℕ) → (new : State) × TakesCell old name pool c new
 takes_some old name pool c =
-    let bytes = made_changes old.bytes (c + pool.cell_size) (has_address (cell_at pool c)) old.regions.fill (has_low (cell_at pool c)) in (
+    let bytes = made_changes old.bytes (c + pool.cell_size) (has_address (cell_at pool c)) old.regions.fill (λ a e. (has_is (cell_at pool c) a e).1) in (
       record { regions = old.regions; held = old.held; bytes = bytes.0; owners = old.owners; pools = insert old.pools name (record pool { taken = set.insert pool.taken c }) },
       record { regions = refl; held = refl; bytes = bytes.1; owners = refl; pools = made_at old.pools name (record pool { taken = set.insert pool.taken c }) },
     )
@@ -244,7 +220,7 @@ drops_pool_some old name pool =
 
 writes_some : (old : State) (p : PlaceValue) (value : ℕ → Option ℕ) → (new : State) × Writes old p value new
 writes_some old p value =
-    let bytes = made_values old.bytes (p.addr + p.len) (has_address p) value (has_low p) in (
+    let bytes = made_values old.bytes (p.addr + p.len) (has_address p) value (λ a e. (has_is p a e).1) in (
       record { regions = old.regions; held = old.held; bytes = bytes.0; owners = old.owners; pools = old.pools },
       record { regions = refl; held = refl; bytes = bytes.1; owners = refl; pools = refl },
     )
@@ -267,10 +243,7 @@ build_some old t name number plan =
           ]
 
 decided_taken : (pool : Pool) (c : ℕ) → Decided (set.contains pool.taken c ≡ false)
-decided_taken pool c = at (set.contains pool.taken c) where
-  at : (b : Bool) → Decided (b ≡ false)
-  at true = inr (λ e. let f : true ≡ false = e in cc)
-  at false = inl refl
+decided_taken pool c = decided_false (set.contains pool.taken c)
 
 -- a cell of some parts that is not taken, or none
 FreeIn : Pool → List Part → ℕ → Type 0

@@ -1,23 +1,22 @@
 -- Sets of subpools, a bit for each.
-use Rattle.std.proofs.Common.{◌≡◌, ◌≢◌, ℕ, zero, suc, ◌+◌, ◌-◌, ◌*◌, ◌/◌, ◌%◌, ◌^◌, ◌<◌, ◌≤◌, ◌⊎◌, inl, inr, Bool, true, false, cond, eqb, List, [], ◌∷◌, length, get_or, set, replicate, max, bit_and, bit_or, w64, refl, sym, ap, ◌∙◌, arith}
-use Rattle.std.specs.Prelude.{◌||◌, ◌==◌}
+use Rattle.std.proofs.Common.{◌≡◌, ◌≢◌, ℕ, zero, suc, ◌+◌, ◌-◌, ◌*◌, ◌/◌, ◌%◌, ◌^◌, ◌<◌, ◌≤◌, ◌⊎◌, inl, inr, Bool, true, false, cond, eqb, List, [], ◌∷◌, length, get_or, set, replicate, bit_and, bit_or, w64, refl, sym, ap, ◌∙◌, arith, ◌||◌, ◌==◌, filter, nat_cmp, Less, pow-add, div-le_self}
 use Rattle.std.specs.Int.{bit_at, trailing_zeros}
-use Rattle.std.specs.List.{filter, range_with_len, AllByRecursion}
+use Rattle.std.specs.List.{range_with_len, AllByRecursion}
 use Rattle.std.specs.List.Sorted.{IsStrictlySortedBy}
-use Rattle.std.specs.Ordering.{nat_cmp}
-use Rattle.std.specs.declared.cmp.Ordering.TheVariants.{Less}
-use Rattle.std.proofs.lemmas.Bool.{cases_lt, cases_eq}
+use Rattle.std.proofs.lemmas.Bool.{cases_lt, cases_eq, or_right, or_left}
 use Rattle.std.proofs.lemmas.Bool.Decides.{nat_tests}
-use Rattle.std.proofs.lemmas.Grind.{get_or-set_at}
-use Rattle.std.proofs.lemmas.List.{get_or-set_other, get_or_past, get_or-replicate, length-replicate}
+use Rattle.std.proofs.lemmas.Grind.{get_or-set_at, common_steps}
+use Rattle.std.proofs.lemmas.List.{get_or_past, get_or-replicate, length-replicate}
 use Rattle.std.proofs.lemmas.List.Kept.{IsStrictlySortedBy-filter}
-use Rattle.std.proofs.lemmas.Nat.{pow-add, and_mask}
+use Rattle.std.proofs.lemmas.Nat.{and_mask}
 use Rattle.std.proofs.Math.Pow.{pow-lt}
 use Rattle.std.proofs.lemmas.Nat.Bits.{bit_at-zero, bit_at-lt, bit_at_above, bit_at-trailing_zeros, bit_at_or, bit_at-pow_other}
-use Rattle.std.proofs.Math.Nat.{div-div-eq-div-mul, div-le_self}
+use Rattle.std.proofs.Math.Nat.{div-div-eq-div-mul}
+use Rattle.std.proofs.Math.Bool.{or-false}
 use Rattle.mvs_model.specs.Storage.{is_one_of}
 use Rattle.mvs_model.specs.Numbers.{most_subpools}
 use Rattle.mvs_model.specs.SubpoolSet.{has_member, members, AreSubpools}
+use Rattle.mvs_model.proofs.Tests.{same_test, false_true}
 
 -- a test of the numbers in a row
 passes : (p : ℕ → Bool) (a n s : ℕ) → p s ≡ true → a ≤ s → s < a + n → is_one_of (filter p (range_with_len a n)) s ≡ true
@@ -25,50 +24,24 @@ passes p a zero s h low high = absurd (omega arith)
 passes p a (suc n) s h low high =
     at (p a) refl (cases_eq a s) (λ (d : a ≢ s). passes p (a + 1) n s h (omega (arith, d)) (let l : s < a + suc n = high in omega arith))
   where
-    or_second : (b c : Bool) → c ≡ true → (b || c) ≡ true
-    or_second true c e = refl
-    or_second false c e = e
-
-    or_first : (b c : Bool) → b ≡ true → (b || c) ≡ true
-    or_first true c e = refl
-    or_first false c e = absurd (let f : false ≡ true = e in cc)
-
     at : (b : Bool) → p a ≡ b → (a ≡ s) ⊎ (a ≢ s) → (a ≢ s → is_one_of (filter p (range_with_len (a + 1) n)) s ≡ true)
         → is_one_of (cond b (a ∷ filter p (range_with_len (a + 1) n)) (filter p (range_with_len (a + 1) n))) s ≡ true
-    at true e (inl same) rest = or_first (a == s) _ (let f : (a == s) ≡ true = grind (arith, nat_tests) in f)
-    at true e (inr d) rest = or_second (a == s) _ (rest d)
-    at false e (inl same) rest = absurd (let f : false ≡ true = sym e ∙ ap p same ∙ h in cc)
+    at true e (inl same) rest = or_left (a == s) _ (let f : (a == s) ≡ true = grind (arith, nat_tests) in f)
+    at true e (inr d) rest = or_right (a == s) _ (rest d)
+    at false e (inl same) rest = false_true (sym e ∙ ap p same ∙ h)
     at false e (inr d) rest = rest d
 
 passed : (p : ℕ → Bool) (a n s : ℕ) → is_one_of (filter p (range_with_len a n)) s ≡ true → p s ≡ true
-passed p a zero s h = absurd (let f : false ≡ true = h in cc)
-passed p a (suc n) s h = at (p a) refl h (passed p (a + 1) n s) where
-  by : (b c : Bool) → (b ≡ true → p s ≡ true) → (c ≡ true → p s ≡ true) → (b || c) ≡ true → p s ≡ true
-  by true c f g e = f refl
-  by false c f g e = g e
-
-  at : (b : Bool) → p a ≡ b → is_one_of (cond b (a ∷ filter p (range_with_len (a + 1) n)) (filter p (range_with_len (a + 1) n))) s ≡ true
-      → (is_one_of (filter p (range_with_len (a + 1) n)) s ≡ true → p s ≡ true) → p s ≡ true
-  at true e r rest = by (a == s) _ (λ f. (let same : a ≡ s = grind (arith, nat_tests) in ap p (sym same) ∙ e)) rest r
-  at false e r rest = rest r
-
-same_truth : (b c : Bool) → (b ≡ true → c ≡ true) → (c ≡ true → b ≡ true) → b ≡ c
-same_truth true c f g = sym (f refl)
-same_truth false true f g = absurd (let e : false ≡ true = g refl in cc)
-same_truth false false f g = refl
+passed p a zero s h = false_true h
+passed p a (suc n) s h = grind (arith, nat_tests, passed p (a + 1) n s)
 
 -- what is past the words is no member
 inside : (ws : List ℕ) (s : ℕ) → has_member ws s ≡ true → s < 64 * length ws
-inside ws s h = elim (cases_lt s (64 * length ws)) [
-  | inl low ↦ low
-  | inr high ↦
-      let past : get_or ws (s / 64) 0 ≡ 0 = get_or_past ws (s / 64) 0 (omega arith) in
-      let e : false ≡ true = sym (ap (λ w. eqb (bit_at w (s % 64)) 1) past ∙ ap (λ x. eqb x 1) (bit_at-zero (s % 64))) ∙ h in absurd (cc)
-]
+inside ws s h = grind (arith, nat_tests, bit_at-zero, get_or_past)
 
 pub members_is : (ws : List ℕ) (s : ℕ) → is_one_of (members ws) s ≡ has_member ws s
 unfolding members
-members_is ws s = same_truth _ (has_member ws s) (passed (has_member ws) 0 (64 * length ws) s) (λ h. passes (has_member ws) 0 (64 * length ws) s h (omega arith) (let l : s < 64 * length ws = inside ws s h in omega arith))
+members_is ws s = same_test _ (has_member ws s) (passed (has_member ws) 0 (64 * length ws) s) (λ h. passes (has_member ws) 0 (64 * length ws) s h (omega arith) (let l : s < 64 * length ws = inside ws s h in omega arith))
 
 -- the numbers in a row rise
 all_above : (x a n : ℕ) → x < a → AllByRecursion (λ y. nat_cmp x y ≡ Less) (range_with_len a n)
@@ -91,53 +64,18 @@ none_passes p a (suc n) h = ap (λ b. cond b (a ∷ filter p (range_with_len (a 
 
 pub no_members : (ws : List ℕ) (n : ℕ) → ws ≡ replicate n 0 → members ws ≡ []
 unfolding members
-no_members ws n is = none_passes (has_member ws) 0 (64 * length ws) (λ s. ap (λ w. eqb (bit_at w (s % 64)) 1) (word_is (s / 64)) ∙ ap (λ x. eqb x 1) (bit_at-zero (s % 64))) where
-  count : length ws ≡ n
-  count = ap length is ∙ length-replicate n 0
-
-  word_is : (k : ℕ) → get_or ws k 0 ≡ 0
-  word_is k = elim (cases_lt k n) [
-    | inl low ↦ ap (λ l. get_or l k 0) is ∙ get_or-replicate n k 0 0 low
-    | inr high ↦ get_or_past ws k 0 (let l : length ws ≡ n = count in omega (arith, l))
-  ]
+no_members ws n is = grind (arith, nat_tests, none_passes, bit_at-zero, get_or-replicate, get_or_past, length-replicate)
 
 -- one bit more
 pub member_more : (ws : List ℕ) (at bit s : ℕ) → at / 64 < length ws → bit_at bit (at % 64) ≡ 1 → ((i : ℕ) → (i ≡ at % 64 → ⊥) → bit_at bit i ≡ 0) →
     has_member (set ws (at / 64) (bit_or (get_or ws (at / 64) 0) bit)) s ≡ ((s == at) || has_member ws s)
-member_more ws at bit s within one others = elim (cases_eq (s / 64) (at / 64)) [
-  | inr other ↦
-      ap (λ w. eqb (bit_at w (s % 64)) 1) (get_or-set_other ws (at / 64) (s / 64) (bit_or (get_or ws (at / 64) 0) bit) 0 other)
-      ∙ ap (λ b. b || has_member ws s) (sym (let f : (s == at) ≡ false = differ (λ e. other (ap (λ x. x / 64) e)) in f))
-  | inl same ↦
-      ap (λ w. eqb (bit_at w (s % 64)) 1) (get_or-set_at ws (at / 64) (s / 64) (bit_or (get_or ws (at / 64) 0) bit) 0 same within)
-      ∙ ap (λ x. eqb x 1) (bit_at_or (get_or ws (at / 64) 0) bit (s % 64))
-      ∙ here same (cases_eq s at)
-] where
-  differ : s ≢ at → (s == at) ≡ false
-  differ d = grind (arith, nat_tests)
-
-  here : s / 64 ≡ at / 64 → (s ≡ at) ⊎ (s ≢ at) → eqb (max (bit_at (get_or ws (at / 64) 0) (s % 64)) (bit_at bit (s % 64))) 1 ≡ ((s == at) || has_member ws s)
-  here same (inl e) =
-      let set_bit : bit_at bit (s % 64) ≡ 1 = ap (λ x. bit_at bit (x % 64)) e ∙ one in
-      let two : bit_at (get_or ws (at / 64) 0) (s % 64) < 2 = bit_at-lt (get_or ws (at / 64) 0) (s % 64) in
-      let is : max (bit_at (get_or ws (at / 64) 0) (s % 64)) (bit_at bit (s % 64)) ≡ 1 = omega arith in
-      ap (λ x. eqb x 1) is ∙ ap (λ b. b || has_member ws s) (sym (let f : (s == at) ≡ true = grind (arith, nat_tests) in f))
-  here same (inr d) =
-      let place : s % 64 ≡ at % 64 → ⊥ = λ e. d (omega arith) in
-      let clear : bit_at bit (s % 64) ≡ 0 = others (s % 64) place in
-      let is : max (bit_at (get_or ws (at / 64) 0) (s % 64)) (bit_at bit (s % 64)) ≡ bit_at (get_or ws (at / 64) 0) (s % 64) = omega arith in
-      ap (λ x. eqb x 1) is ∙ ap (λ k. eqb (bit_at (get_or ws k 0) (s % 64)) 1) (sym same) ∙ ap (λ b. b || has_member ws s) (sym (differ d))
+member_more ws at bit s within one others = grind (arith, common_steps, bit_at-lt, bit_at_or, cases_eq, get_or-set_at)
 
 pub subpools_more : (ws : List ℕ) (at bit : ℕ) → at / 64 < length ws → bit_at bit (at % 64) ≡ 1 → ((i : ℕ) → (i ≡ at % 64 → ⊥) → bit_at bit i ≡ 0) → at < most_subpools → AreSubpools ws → AreSubpools (set ws (at / 64) (bit_or (get_or ws (at / 64) 0) bit))
-subpools_more ws at bit within one others low are s h = by (s == at) (λ e. (let same : s ≡ at = grind (arith, nat_tests) in same)) (sym (member_more ws at bit s within one others) ∙ h) where
-  by : (b : Bool) → (b ≡ true → s ≡ at) → (b || has_member ws s) ≡ true → s < most_subpools
-  by true same e = (let f : s ≡ at = same refl in omega (arith, low))
-  by false same e = are s e
+subpools_more ws at bit h1 h2 h3 h4 h5 = grind (arith, nat_tests, member_more)
 
 pub no_subpools : (ws : List ℕ) (n : ℕ) → ws ≡ replicate n 0 → AreSubpools ws
-no_subpools ws n is s h =
-    let e : is_one_of (members ws) s ≡ true = members_is ws s ∙ h in
-    let f : false ≡ true = sym (ap (λ xs. is_one_of xs s) (no_members ws n is)) ∙ e in absurd (cc)
+no_subpools ws n h1 = grind (arith, common_steps, members_is, no_members)
 
 -- bits of a word
 pub bit_shr : (n k i : ℕ) → bit_at (n / 2 ^ k) i ≡ bit_at n (k + i)
@@ -166,10 +104,7 @@ first_from n k z small some is =
     )
 
 pub power_bit : (at i : ℕ) → at < 64 → (i ≡ at → ⊥) → bit_at (1 * 2 ^ at % 2 ^ 64) i ≡ 0
-power_bit at i low other =
-    let small : 2 ^ at < 2 ^ 64 = pow-lt {i = at} {j = 64} low in
-    let is : 1 * 2 ^ at % 2 ^ 64 ≡ 2 ^ at = omega arith in
-    ap (λ n. bit_at n i) is ∙ bit_at-pow_other at i other
+power_bit at i h1 h2 = grind (arith, common_steps, bit_at-pow_other, pow-lt)
 
 -- the set's members by the bits of one word
 module _ (ws set : List ℕ) (is : members ws ≡ set) where
@@ -177,40 +112,27 @@ module _ (ws set : List ℕ) (is : members ws ≡ set) where
   in_set s = ap (λ xs. is_one_of xs s) (sym is) ∙ members_is ws s
 
   pub none_in_word : (from first end : ℕ) → first ≡ from / 64 * 64 → end ≡ first + 64 → ((i : ℕ) → from % 64 ≤ i → i < 64 → bit_at (get_or ws (from / 64) 0) i ≡ 0) → (s : ℕ) → from ≤ s → s < end → is_one_of set s ≡ false
-  none_in_word from first end at to none s low high =
-      let word : s / 64 ≡ from / 64 = omega arith in
-      in_set s ∙ ap (λ k. eqb (bit_at (get_or ws k 0) (s % 64)) 1) word ∙ ap (λ x. eqb x 1) (none (s % 64) (omega arith) (omega arith))
+  none_in_word from first end h1 h2 h3 s h4 h5 = grind (arith, nat_tests, in_set)
 
   -- none from one on in its word, and then words that are zero
   pub none_in_words : (from next : ℕ) → ((i : ℕ) → from % 64 ≤ i → i < 64 → bit_at (get_or ws (from / 64) 0) i ≡ 0) → ((w : ℕ) → from / 64 + 1 ≤ w → w < next → get_or ws w 0 ≡ 0) → (s : ℕ) → from ≤ s → s < 64 * next → is_one_of set s ≡ false
-  none_in_words from next none clear s low high = elim (cases_lt s (from / 64 * 64 + 64)) [
-    | inl here ↦ none_in_word from (from / 64 * 64) (from / 64 * 64 + 64) refl refl none s low here
-    | inr there ↦ in_set s ∙ ap (λ w. eqb (bit_at w (s % 64)) 1) (clear (s / 64) (omega arith) (omega arith)) ∙ ap (λ x. eqb x 1) (bit_at-zero (s % 64))
-  ]
+  none_in_words from next none clear s low high = grind (arith, nat_tests, in_set, none_in_word, bit_at-zero)
 
   pub in_word : (from first bit : ℕ) → first ≡ from / 64 * 64 → bit < 64 → bit_at (get_or ws (from / 64) 0) bit ≡ 1 → is_one_of set (first + bit) ≡ true
-  in_word from first bit at low one =
-      let word : (first + bit) / 64 ≡ from / 64 = omega arith in
-      let place : (first + bit) % 64 ≡ bit = omega arith in
-      in_set (first + bit) ∙ ap (λ k. eqb (bit_at (get_or ws k 0) ((first + bit) % 64)) 1) word ∙ ap (λ j. eqb (bit_at (get_or ws (from / 64) 0) j) 1) place ∙ ap (λ x. eqb x 1) one
+  in_word from first bit h1 h2 h3 = grind (arith, nat_tests, in_set)
 
   pub none_past : (s : ℕ) → 64 * length ws ≤ s → is_one_of set s ≡ false
   none_past s high = in_set s ∙ ap (λ w. eqb (bit_at w (s % 64)) 1) (get_or_past ws (s / 64) 0 (omega arith)) ∙ ap (λ x. eqb x 1) (bit_at-zero (s % 64))
 
   pub none_before : (from first bit : ℕ) → first ≡ from / 64 * 64 → bit < 64 → ((i : ℕ) → from % 64 ≤ i → i < bit → bit_at (get_or ws (from / 64) 0) i ≡ 0) → (s : ℕ) → from ≤ s → s < first + bit → is_one_of set s ≡ false
-  none_before from first bit at small none s low high =
-      let word : s / 64 ≡ from / 64 = omega arith in
-      in_set s ∙ ap (λ k. eqb (bit_at (get_or ws k 0) (s % 64)) 1) word ∙ ap (λ x. eqb x 1) (none (s % 64) (omega arith) (omega arith))
+  none_before from first bit h1 h2 h3 s h4 h5 = grind (arith, nat_tests, in_set)
 
 pub low_bit : (n : ℕ) → bit_and n 1 ≡ n % 2
 low_bit n = and_mask n 1
 
 -- the only member
 pub alone : (t s : ℕ) (old : List ℕ) → old ≡ [] → ((t == s) || is_one_of old t) ≡ (t == s)
-alone t s old e = ap (λ xs. (t == s) || is_one_of xs t) e ∙ at (t == s) where
-  at : (b : Bool) → (b || false) ≡ b
-  at true = refl
-  at false = refl
+alone t s old e = ap (λ xs. (t == s) || is_one_of xs t) e ∙ or-false (t == s)
 
 -- a set that no number passes has no member
 pub nobody : (xs : List ℕ) → ((s : ℕ) → 0 ≤ s → is_one_of xs s ≡ false) → xs ≡ []

@@ -1,7 +1,7 @@
 -- What a table has at a key.
-use Rattle.std.proofs.Common.{◌≡◌, ℕ, zero, suc, ◌<◌, ◌≤◌, Bool, true, false, cond, List, Option, Some, None, eqb, ltb, sym, ap, ◌∙◌, arith}
+use Rattle.std.proofs.Common.{◌≡◌, ℕ, zero, suc, ◌<◌, ◌≤◌, Bool, true, cond, List, Option, Some, None, eqb, ltb, ap, ◌∙◌, arith, nat_cmp}
 use Rattle.std.proofs.lemmas.Bool.Decides.{nat_tests}
-use Rattle.std.specs.Ordering.{nat_cmp, eq_by_cmp}
+use Rattle.std.specs.Ordering.{eq_by_cmp}
 use Rattle.std.specs.Cmp.{nat_cmp_total}
 use Rattle.std.specs.FinMap.{FinMap, get, find, get-from_entries, same_map, nat_cmp-IsAntisymmetric}
 use Rattle.mvs_model.specs.Finite.{Changes}
@@ -31,26 +31,14 @@ get-table n f k = get-from_entries nat_cmp_total (entries_below n f) k ∙ find-
 pub same_maps : {X : Type 0} → (m n : FinMap nat_cmp X) → ((k : ℕ) → get m k ≡ get n k) → m ≡ n
 same_maps m n = same_map nat_cmp_total nat_cmp-IsAntisymmetric m n
 
-pub same_tables : {X : Type 0} → (n : ℕ) (f g : ℕ → Option X) → ((k : ℕ) → k < n → f k ≡ g k) → table n f ≡ table n g
-same_tables n f g h = same_maps _ _ (λ k. let hk : k < n → f k ≡ g k = h k in get-table n f k ∙ same_at k hk ∙ sym (get-table n g k)) where
-  same_at : (k : ℕ) → (k < n → f k ≡ g k) → cond (ltb k n) (f k) None ≡ cond (ltb k n) (g k) None
-  same_at k hk = grind (arith, nat_tests)
-
 -- where the function has nothing from the bound on, the table is the function
 pub get-table_all : {X : Type 0} → (n : ℕ) (f : ℕ → Option X) → ((k : ℕ) → n ≤ k → f k ≡ None) → (k : ℕ) → get (table n f) k ≡ f k
-get-table_all n f none k = let past : n ≤ k → f k ≡ None = none k in get-table n f k ∙ at_bound past where
-  at_bound : (n ≤ k → f k ≡ None) → cond (ltb k n) (f k) None ≡ f k
-  at_bound past = grind (arith, nat_tests)
+get-table_all n f h1 k = grind (arith, nat_tests, get-table)
 
 -- a change of the function is that change of the table
 pub table_changes : {X : Type 0} → (n : ℕ) (f g : ℕ → Option X) (test : ℕ → Bool) (v : Option X) → ((k : ℕ) → test k ≡ true → k < n) → ((k : ℕ) → g k ≡ cond (test k) v (f k)) → Changes (get (table n f)) test v (get (table n g))
-table_changes n f g test v low h k = get-table n g k ∙ changed (test k) (low k) (h k) ∙ sym (ap (cond (test k) v) (get-table n f k)) where
-  changed : (b : Bool) → (b ≡ true → k < n) → g k ≡ cond b v (f k) → cond (ltb k n) (g k) None ≡ cond b v (cond (ltb k n) (f k) None)
-  changed true l e = grind (arith, nat_tests)
-  changed false l e = grind (arith, nat_tests)
+table_changes n f g test v h1 h2 = grind (arith, nat_tests, get-table)
 
 -- what a table has is what the function has, below the bound
 pub table_some : {X : Type 0} → (n : ℕ) (f : ℕ → Option X) (k : ℕ) (x : X) → get (table n f) k ≡ Some x → (k < n) × (f k ≡ Some x)
-table_some n f k x e = at (sym (get-table n f k) ∙ e) where
-  at : cond (ltb k n) (f k) None ≡ Some x → (k < n) × (f k ≡ Some x)
-  at h = grind (arith, nat_tests)
+table_some n f k x e = grind (arith, nat_tests, get-table)

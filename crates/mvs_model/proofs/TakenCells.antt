@@ -1,12 +1,12 @@
 -- The addresses in taken cells, and the parts that these lie in.
-use Rattle.std.proofs.Common.{◌≡◌, ℕ, ◌/◌, ◌<◌, ◌⊎◌, inl, inr, Bool, true, false, List, [], ◌∷◌, map, Option, Some, None, refl, sym, ap, ◌∙◌, subst, arith}
-use Rattle.std.specs.Prelude.{is_some}
-use Rattle.std.specs.List.{Contains, AllByRecursion}
+use Rattle.std.proofs.Common.{◌≡◌, ℕ, ◌/◌, ◌<◌, ◌⊎◌, inl, inr, true, List, [], ◌∷◌, map, Option, Some, None, refl, sym, ap, ◌∙◌, subst, arith, is_some, Contains}
+use Rattle.std.specs.List.{AllByRecursion}
 use Rattle.std.proofs.lemmas.Map.Views.{Contains-from_any, list_any-from_Contains}
 use Rattle.std.specs.Cmp.{eq_by_cmp_equiv, nat_cmp_total}
 use Rattle.std.specs.FinMap.{get, keys, contains_key-keys, nat_cmp-IsAntisymmetric}
 use Rattle.std.specs.FinSet as set
-use Rattle.mvs_model.specs.declared.name.Name.{Name}
+use Rattle.std.proofs.lemmas.Bool.{true_from_ne_false}
+use Rattle.mvs_model.proofs.Types.{Name}
 use Rattle.mvs_model.specs.Finite.{has}
 use Rattle.mvs_model.specs.Name.{same_name}
 use Rattle.mvs_model.specs.Place.{PlaceValue}
@@ -19,6 +19,9 @@ use Rattle.mvs_model.proofs.StorageLaws.{covers_is, covers_from}
 use Rattle.mvs_model.proofs.Orders.{same_name_is, equal_keys, differs}
 use Rattle.mvs_model.proofs.Elements.{first_or_later, any_found, any_from}
 use Rattle.mvs_model.proofs.CellPlaces.{has_is, cell_inside}
+use Rattle.mvs_model.proofs.Tests.{same_test, false_true}
+pub use Rattle.std.proofs.lemmas.Bool.{false_from_ne_true as never}
+pub use Rattle.mvs_model.proofs.Tests.{same_test}
 
 -- The address lies in a taken cell of a pool.
 pub record InCell (st : State) (a : ℕ) : Type 0 where
@@ -45,7 +48,7 @@ pub in_cell_is : (st : State) (a : ℕ) → in_cell st a ≡ true → InCell st 
 in_cell_is st a e =
     let f = any_found (λ name. has (λ pool. in_taken pool a) (get st.pools name)) (keys st.pools) e in at f.0 (get st.pools f.0) refl f.2 where
       at : (name : Name) (o : Option Pool) → get st.pools name ≡ o → has (λ pool. in_taken pool a) o ≡ true → InCell st a
-      at name None is h = absurd (let g : false ≡ true = h in cc)
+      at name None is h = false_true h
       at name (Some pool) is h = let c = taken_found pool a h in record { name = name; pool = pool; first = c.0; is_pool = is; taken = c.1; inside = c.2 }
 
 pub in_cell_from : (st : State) (a : ℕ) → InCell st a → in_cell st a ≡ true
@@ -53,16 +56,6 @@ in_cell_from st a i =
     any_from (λ name. has (λ pool. in_taken pool a) (get st.pools name)) (keys st.pools) i.name
     (Contains-from_any same_name_is i.name (keys st.pools) (sym (contains_key-keys st.pools i.name) ∙ ap is_some i.is_pool))
     (ap (has (λ pool. in_taken pool a)) i.is_pool ∙ taken_from i.pool a i.first i.taken i.inside)
-
--- two tests are one that follow from each other
-pub same_test : (a b : Bool) → (a ≡ true → b ≡ true) → (b ≡ true → a ≡ true) → a ≡ b
-same_test true b f g = sym (f refl)
-same_test false true f g = g refl
-same_test false false f g = refl
-
-pub never : (b : Bool) → (b ≡ true → ⊥) → b ≡ false
-never true h = absurd (h refl)
-never false h = refl
 
 pub same_cells : (old new : State) (a : ℕ) → (InCell old a → InCell new a) → (InCell new a → InCell old a) → in_cell new a ≡ in_cell old a
 same_cells old new a to back = same_test _ _ (λ e. in_cell_from old a (back (in_cell_is new a e))) (λ e. in_cell_from new a (to (in_cell_is old a e)))
@@ -108,7 +101,4 @@ module _ (st : State) (apart : Apart st) where
 
   -- a pool that has a doubleword is the only one
   pub one_pool : (m n : Name) (p q : Pool) (x y : Part) (d : ℕ) → get st.pools m ≡ Some p → get st.pools n ≡ Some q → Contains p.parts x → Contains q.parts y → Covers x.place d → Covers y.place d → same_name m n ≡ true
-  one_pool m n p q x y d ep eq hx hy cx cy = at (same_name m n) refl where
-    at : (b : Bool) → same_name m n ≡ b → b ≡ true
-    at true e = refl
-    at false e = absurd (apart.between m n p q x y (differs m n e) ep eq hx hy d cx cy)
+  one_pool m n p q x y d ep eq hx hy cx cy = true_from_ne_false (same_name m n) (λ e. apart.between m n p q x y (differs m n e) ep eq hx hy d cx cy)

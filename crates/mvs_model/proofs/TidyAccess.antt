@@ -1,12 +1,11 @@
 -- Reading and writing bytes on both machines, and the places that a request names.
-use Rattle.std.proofs.Common.{◌≡◌, ℕ, zero, suc, ◌+◌, ◌/◌, ◌<◌, ◌≤◌, Bool, true, false, List, [], ◌∷◌, map, Option, Some, None, arith, refl, sym, ap, ◌∙◌}
-use Rattle.std.specs.Prelude.{is_some, ◌&&◌}
-use Rattle.std.specs.List.{list_all, zip}
-use Rattle.std.specs.Option.{option_map, option_and_then, unwrap_or}
+use Rattle.std.proofs.Common.{◌≡◌, ℕ, zero, suc, ◌+◌, ◌/◌, ◌<◌, ◌≤◌, Bool, true, false, List, [], ◌∷◌, map, Option, Some, None, arith, refl, sym, ap, ◌∙◌, is_some, ◌&&◌, zip, option_map, option_and_then, unwrap_or}
+use Rattle.std.specs.List.{list_all}
 use Rattle.std.specs.FinMap.{get}
-use Rattle.mvs_model.specs.declared.name.Name.{Name}
-use Rattle.mvs_model.specs.declared.line.Location.{Location}
-use Rattle.mvs_model.specs.declared.line.Location.TheVariants.{Absolute, Named}
+use Rattle.std.proofs.lemmas.Bool.{and_right, and_from}
+use Rattle.std.proofs.lemmas.Bool.Decides.{nat_tests}
+use Rattle.std.proofs.lemmas.Grind.{common_steps}
+use Rattle.mvs_model.proofs.Types.{Name, Location, Absolute, Named}
 use Rattle.mvs_model.specs.Place.{PlaceValue, place_at, round8}
 use Rattle.mvs_model.specs.Finite.{has}
 use Rattle.mvs_model.specs.State.{is_plain, granted}
@@ -17,8 +16,8 @@ use Rattle.mvs_model.specs.Resolving.{address_of, places_of}
 use Rattle.mvs_model.specs.Labels.{Labels, Spot, spot, rounded, is_there, spot_of, spots_of, bytes_in}
 use Rattle.mvs_model.specs.Tidy.{Link, is_set, is_good}
 use Rattle.mvs_model.proofs.LinkGone.{granted_is}
-use Rattle.mvs_model.proofs.LinkFree.{each_below}
-use Rattle.mvs_model.proofs.Spots.{span_of, there_at, both}
+use Rattle.mvs_model.proofs.Spots.{span_of, there_at}
+use Rattle.mvs_model.proofs.Below.{each_below}
 
 module _ (job : JobValue) (m : Labels) (k : Link job m) where
   -- what is there may be read and written
@@ -42,10 +41,7 @@ module _ (job : JobValue) (m : Labels) (k : Link job m) where
 
   -- the addresses of names
   pub named_address : (name : Name) (n : ℕ) → address_of job.names (Named name n) ≡ option_map (λ l. k.base l + n) (get m.names name)
-  named_address name n = ap (option_map (λ p. p.addr + n)) (k.names name) ∙ at (get m.names name) where
-    at : (v : Option ℕ) → option_map (λ p. p.addr + n) (option_map (λ l. place_at (k.base l) (m.len l)) v) ≡ option_map (λ l. k.base l + n) v
-    at None = refl
-    at (Some l) = refl
+  named_address name n = grind (arith, nat_tests)
 
   -- A place that is written: its name is not set, or it has no name, or it is the same on both machines.
   pub data Found (location : Location) (n : ℕ) : Type 0 where
@@ -79,12 +75,7 @@ module _ (job : JobValue) (m : Labels) (k : Link job m) where
   joined_places n v w = option_and_then (λ a. option_map (λ ps. place_at a n ∷ ps) w) v
 
   no_rest : {X Y : Type 0} (v : Option X) (f : X → Y → Y) → option_and_then (λ x. option_map (f x) None) v ≡ None
-  no_rest None f = refl
-  no_rest (Some x) f = refl
-
-  second_false : (a b : Bool) → b ≡ false → (a && b) ≡ false
-  second_false true b e = e
-  second_false false b e = refl
+  no_rest v f = grind (arith, common_steps)
 
   pub look_all : (ls : List Location) (ns : List ℕ) → FoundAll ls ns
   look_all [] ns = all_found [] refl refl refl refl
@@ -92,13 +83,13 @@ module _ (job : JobValue) (m : Labels) (k : Link job m) where
   look_all (l ∷ ls) (n ∷ ns) = at (look l n) (look_all ls ns) where
     at : Found l n → FoundAll ls ns → FoundAll (l ∷ ls) (n ∷ ns)
     at (unset e f g) rest = some_unset (ap (λ v. joined_spots v (spots_of m ls ns)) e) (ap (λ v. joined_places n v (places_of job.names ls ns)) f) (ap (λ b. b && all_places_set ls ns) g)
-    at (nameless e f g) (some_unset u v w) = some_unset (ap (λ v. joined_spots v (spots_of m ls ns)) e) (ap (λ w. joined_places n (address_of job.names l) w) v ∙ no_rest (address_of job.names l) (λ a ps. place_at a n ∷ ps)) (second_false (is_set m l) (all_places_set ls ns) w)
-    at (nameless e f g) (some_nameless u v) = some_nameless (both (is_set m l) (all_places_set ls ns) f u) (ap (λ b. b && all_good ls ns) (g (round8 n)))
-    at (nameless e f g) (all_found qs u v w x) = some_nameless (both (is_set m l) (all_places_set ls ns) f w) (ap (λ b. b && all_good ls ns) (g (round8 n)))
+    at (nameless e f g) (some_unset u v w) = some_unset (ap (λ v. joined_spots v (spots_of m ls ns)) e) (ap (λ w. joined_places n (address_of job.names l) w) v ∙ no_rest (address_of job.names l) (λ a ps. place_at a n ∷ ps)) (and_right (is_set m l) (all_places_set ls ns) w)
+    at (nameless e f g) (some_nameless u v) = some_nameless (and_from (is_set m l) (all_places_set ls ns) f u) (ap (λ b. b && all_good ls ns) (g (round8 n)))
+    at (nameless e f g) (all_found qs u v w x) = some_nameless (and_from (is_set m l) (all_places_set ls ns) f w) (ap (λ b. b && all_good ls ns) (g (round8 n)))
     at (found q e f len g h) (some_unset u v w) =
-        some_unset (ap (λ w. joined_spots (spot_of m l n) w) u ∙ no_rest (spot_of m l n) (λ q qs. q ∷ qs)) (ap (λ w. joined_places n (address_of job.names l) w) v ∙ no_rest (address_of job.names l) (λ a ps. place_at a n ∷ ps)) (second_false (is_set m l) (all_places_set ls ns) w)
-    at (found q e f len g h) (some_nameless u v) = some_nameless (both (is_set m l) (all_places_set ls ns) g u) (second_false (is_good m l (round8 n)) (all_good ls ns) v)
+        some_unset (ap (λ w. joined_spots (spot_of m l n) w) u ∙ no_rest (spot_of m l n) (λ q qs. q ∷ qs)) (ap (λ w. joined_places n (address_of job.names l) w) v ∙ no_rest (address_of job.names l) (λ a ps. place_at a n ∷ ps)) (and_right (is_set m l) (all_places_set ls ns) w)
+    at (found q e f len g h) (some_nameless u v) = some_nameless (and_from (is_set m l) (all_places_set ls ns) g u) (and_right (is_good m l (round8 n)) (all_good ls ns) v)
     at (found q e f len g h) (all_found qs u v w x) =
         all_found (q ∷ qs) (λ i. joined_spots (e i) (u i)) ((λ i. joined_places n (f i) (v i)) ∙ ap (λ x. Some (place_at (k.base q.label + q.place.addr) x ∷ map (span_of job m k) qs)) (sym len))
-        (both (is_set m l) (all_places_set ls ns) g w)
+        (and_from (is_set m l) (all_places_set ls ns) g w)
         (λ i. (h (round8 n) ∙ ap (λ x. is_there m (spot q.label q.place.addr (round8 x))) (sym len)) i && x i)

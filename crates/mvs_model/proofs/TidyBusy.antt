@@ -1,44 +1,36 @@
 -- A return with a subtask, on the label machine.
-use Rattle.std.proofs.Common.{◌≡◌, ℕ, zero, suc, ◌+◌, ◌%◌, ◌^◌, ◌<◌, inl, inr, Bool, true, false, cond, ltb, List, [], ◌∷◌, ◌++◌, Option, Some, None, arith, refl, sym, ap, ◌∙◌, subst}
-use Rattle.std.specs.Prelude.{is_some, not, ◌&&◌, ◌||◌, ◌==◌, nat_le, codes}
-use Rattle.std.specs.List.{Contains}
+use Rattle.std.proofs.Common.{◌≡◌, ℕ, zero, suc, ◌+◌, ◌%◌, ◌^◌, ◌<◌, inl, inr, Bool, true, false, cond, ltb, [], ◌∷◌, Option, Some, None, arith, refl, sym, ap, ◌∙◌, subst, is_some, not, ◌&&◌, ◌||◌, ◌==◌, nat_le, Contains}
 use Rattle.std.specs.List.Sorted.{IsStrictlySortedBy}
 use Rattle.std.specs.Fmt.{digits}
 use Rattle.std.proofs.Math.Nat.{zero-div}
 use Rattle.std.proofs.lemmas.Bool.Decides.{nat_tests}
 use Rattle.std.proofs.lemmas.Map.Views.{Contains-from_any}
 use Rattle.std.specs.FinMap.{get, empty, insert, len, keys, contains_key-keys, get-insert, get-empty, len-insert, len-empty}
-use Rattle.mvs_model.specs.declared.name.Name.{Name}
+use Rattle.mvs_model.proofs.Types.{Name, System, User}
 use Rattle.mvs_model.specs.declared.want.Residence.TheVariants.{Below}
-use Rattle.mvs_model.specs.declared.code.Code.TheVariants.{System, User}
 use Rattle.mvs_model.specs.declared.code.Form.TheVariants as form
-use Rattle.mvs_model.specs.declared.line.Statement.{Statement}
 use Rattle.mvs_model.specs.declared.line.Statement.TheVariants as says
 use Rattle.mvs_model.specs.declared.line.Written.TheVariants as written
 use Rattle.mvs_model.specs.Name.{name_cmp, same_name}
 use Rattle.mvs_model.specs.Finite.{has, any_below, kept}
 use Rattle.mvs_model.specs.Gifts.{has_bit, gives, shares}
 use Rattle.mvs_model.specs.Owners.{Owners, Task, entry_cmp, entry, is_active, IsMother, has_subtask, owns, EntersBelow, none, passed, entered, handed, gives_shared, attach_refusal, Attach, Descends, subtask, further, IsFallen, goes, ends_with, Ends}
-use Rattle.mvs_model.specs.Texts.{reply_line, region_text, abend_lines, last_digits}
-use Rattle.mvs_model.specs.Lines.{card_of}
+use Rattle.mvs_model.specs.Answers as tells
+use Rattle.mvs_model.specs.Texts.{last_digits}
 use Rattle.mvs_model.specs.Labels.{Labels, without, Tells, Does, Abends, Attaches}
 use Rattle.mvs_model.specs.TidyExamples.{job, sub, area_x, zero_shared, fixed, BusyReturn}
 use Rattle.mvs_model.proofs.Orders.{name_cmp_total, entry_cmp_total, same_entry_is, same_name_is, same_name_sym}
 use Rattle.mvs_model.proofs.Elements.{any_from, first_or_later}
 use Rattle.mvs_model.proofs.Owning.{ends_some}
-use Rattle.mvs_model.proofs.TidyCases.{taken}
-use Rattle.mvs_model.proofs.TidyMoves.{Walks, shows, active_does, on, alone, zero_owned, moves_start, job_active, zero_subpool, zero_enters}
+use Rattle.mvs_model.proofs.TidyMoves.{shows, active_does, alone, zero_owned, moves_start, job_active, zero_subpool, zero_enters}
+use Rattle.mvs_model.proofs.Tests.{match_true, false_true, none_some}
 
 pub no_bit : (n : ℕ) → has_bit 0 n ≡ false
 no_bit n = ap (λ x. x % 2 == 1) (zero-div (2 ^ n))
 
 -- that a number is below 128 is no condition where that is known
 pub guarded : (n : ℕ) (b : Bool) → (b ≡ true → n < 128) → (ltb n 128 && b) ≡ b
-guarded n true h = let l : n < 128 = h refl in grind (arith, nat_tests)
-guarded n false h = at (ltb n 128) where
-  at : (c : Bool) → (c && false) ≡ false
-  at true = refl
-  at false = refl
+guarded n b h1 = grind (arith, nat_tests)
 
 pub never : (n : ℕ) (f : ℕ → Bool) → ((k : ℕ) → f k ≡ false) → any_below f n ≡ false
 unfolding any_below
@@ -49,7 +41,7 @@ shares_is : (n : ℕ) → shares zero_shared n ≡ (n == 0)
 shares_is n = (λ i. ltb n 128 && (no_bit n i || (n == 0))) ∙ guarded n (n == 0) (λ e. grind (arith, nat_tests))
 
 gives_none : (n : ℕ) → gives zero_shared n ≡ false
-gives_none n = ap (λ b. ltb n 128 && b) (no_bit n) ∙ guarded n false (λ e. absurd (let f : false ≡ true = e in cc))
+gives_none n = ap (λ b. ltb n 128 && b) (no_bit n) ∙ guarded n false (λ e. false_true e)
 
 -- after number 0 no number is made
 made : (n : ℕ) → EntersBelow alone job (shares zero_shared) (suc n) zero_owned
@@ -133,7 +125,7 @@ mothers m x h = at (same_name x sub) refl (sym (get-insert name_cmp_total alone.
   at true e f = let g : Some m ≡ Some job = sym h.2 ∙ sym (ap mother_of f) in (let z : m ≡ job = cc in z, same_name_is x sub e)
   at false e f =
       let was = sym (get-insert name_cmp_total empty job (record { mother = None; residence = Below }) x) ∙ f in
-      absurd (let z : None ≡ Some m = sym (none_there (same_name x job)) ∙ other (same_name x job) was in cc)
+      none_some (sym (none_there (same_name x job)) ∙ other (same_name x job) was)
 
 descends_is : (x : Name) → Descends with_sub job x → x ≡ sub
 descends_is x (subtask h) = (mothers job x h).1
@@ -161,66 +153,34 @@ busy_mid = record (without busy_1 (λ l i. ends_with busy_1.owners job (sub ∷ 
 busy_2 : Labels
 busy_2 = record busy_mid { abended = true }
 
-attach_does : Does 2 moves_start job (says.Request (written.Attach sub zero_shared Below)) (reply_line 2 job (codes "ATTACHED")) busy_1
+attach_does : Does moves_start job (says.Request (written.Attach sub zero_shared Below)) tells.Attached busy_1
 unfolding busy_1
-attach_does = active_does 2 moves_start busy_1 job (says.Request (written.Attach sub zero_shared Below)) _ job_active
-    (subst (λ r. Attaches 2 moves_start job sub zero_shared Below r (reply_line 2 job (codes "ATTACHED")) busy_1) (sym not_refused) (with_sub, attached, (refl, refl)))
+attach_does = active_does moves_start busy_1 job (says.Request (written.Attach sub zero_shared Below)) _ job_active
+    (subst (λ r. Attaches moves_start job sub zero_shared Below r tells.Attached busy_1) (sym not_refused) (with_sub, attached, (refl, refl)))
 
 job_still : is_active with_sub job ≡ true
 unfolding with_sub
 job_still = ap is_some (get-insert name_cmp_total alone.tasks sub (record { mother = Some job; residence = Below }) job ∙ get-insert name_cmp_total empty job (record { mother = None; residence = Below }) job)
 
-return_does : Does 3 busy_1 job (says.Request written.Return) (abend_lines 3 job (System 0xA03) (sub ∷ [])) busy_2
+return_does : Does busy_1 job (says.Request written.Return) (tells.Abended (System 0xA03) (sub ∷ [])) busy_2
 unfolding busy_1 busy_mid busy_2
-return_does = active_does 3 busy_1 busy_2 job (says.Request written.Return) _ job_still
-    (taken (Abends 3 busy_1 job (System 0xA03) (abend_lines 3 job (System 0xA03) (sub ∷ [])) busy_2) _ (has_subtask with_sub job) busy
-    ((sub ∷ []), busy_mid, record { owners = ended.0; is_fallen = falls; ends = ended.1; is = refl }, refl, refl))
+return_does = active_does busy_1 busy_2 job (says.Request written.Return) _ job_still
+    (match_true (Abends busy_1 job (System 0xA03) (tells.Abended (System 0xA03) (sub ∷ [])) busy_2) _ (has_subtask with_sub job) busy
+    ((sub ∷ []), busy_mid, record { owners = ended.0; is_fallen = falls; ends = ended.1; is = refl }, (refl, refl)))
 
 sub_gone : is_active ended.0 sub ≡ false
 unfolding with_sub
 sub_gone = ap is_some (ended.1.tasks sub ∙ ap (kept (λ _. not (goes job (sub ∷ []) sub))) (get-insert name_cmp_total alone.tasks sub (record { mother = Some job; residence = Below }) sub))
 
-not_run_does : Does 4 busy_2 sub (says.Request (written.Obtain form.Ru 0 (fixed 8) false area_x)) (reply_line 4 sub (codes "NOT RUN")) busy_2
+not_run_does : Does busy_2 sub (says.Request (written.Obtain form.Ru 0 (fixed 8) false area_x)) tells.NotRun busy_2
 unfolding busy_mid busy_2
-not_run_does = taken (Tells 4 sub (codes "NOT RUN") busy_2 (reply_line 4 sub (codes "NOT RUN")) busy_2) _ (not (is_active ended.0 sub)) (ap not sub_gone) (refl, refl)
+not_run_does = match_true (Tells tells.NotRun busy_2 tells.NotRun busy_2) _ (not (is_active ended.0 sub)) (ap not sub_gone) (refl, refl)
 
 has_abended : busy_2.abended ≡ true
 unfolding busy_mid busy_2
 has_abended = refl
 
-abbrev text_5 : List ℕ
-text_5 = codes "STEP ENDED RC 8\n"
-
-walk_5 : Walks 5 (Some busy_2) [] text_5
-walk_5 = ap (λ b. cond b (codes "STEP ENDED RC 8\n") (codes "STEP ENDED RC 0\n")) (sym has_abended)
-
-abbrev asks_4 : List (Name × Statement)
-asks_4 = (sub, says.Request (written.Obtain form.Ru 0 (fixed 8) false area_x)) ∷ []
-
-abbrev text_4 : List ℕ
-text_4 = reply_line 4 sub (codes "NOT RUN") ++ text_5
-
-walk_4 : Walks 4 (Some busy_2) asks_4 text_4
-walk_4 = on 4 busy_2 busy_2 sub (says.Request (written.Obtain form.Ru 0 (fixed 8) false area_x)) [] (reply_line 4 sub (codes "NOT RUN")) text_5 refl (busy_2, refl, not_run_does) walk_5
-
-abbrev asks_3 : List (Name × Statement)
-asks_3 = (job, says.Request written.Return) ∷ asks_4
-
-abbrev text_3 : List ℕ
-text_3 = abend_lines 3 job (System 0xA03) (sub ∷ []) ++ text_4
-
-walk_3 : Walks 3 (Some busy_1) asks_3 text_3
-walk_3 = on 3 busy_1 busy_2 job (says.Request written.Return) asks_4 (abend_lines 3 job (System 0xA03) (sub ∷ [])) text_4 refl (busy_2, refl, return_does) walk_4
-
-abbrev asks_2 : List (Name × Statement)
-asks_2 = (job, says.Request (written.Attach sub zero_shared Below)) ∷ asks_3
-
-abbrev text_2 : List ℕ
-text_2 = reply_line 2 job (codes "ATTACHED") ++ text_3
-
-walk_2 : Walks 2 (Some moves_start) asks_2 text_2
-walk_2 = on 2 moves_start busy_1 job (says.Request (written.Attach sub zero_shared Below)) asks_3 (reply_line 2 job (codes "ATTACHED")) text_3 refl (busy_1, refl, attach_does) walk_3
-
 pub busy_return : BusyReturn
 unfolding digits last_digits
-busy_return = shows _ _ (tt, (Some moves_start, region_text 1 (card_of job 1 0 0 Below), text_2, (refl, refl), refl, walk_2))
+busy_return = shows _ (tells.Attached ∷ tells.Abended (System 0xA03) (sub ∷ []) ∷ tells.NotRun ∷ []) busy_2 true has_abended
+    (tt, (λ _. refl), (busy_1, attach_does, (tt, (λ _. refl), (busy_2, return_does, (tt, (λ _. refl), (busy_2, not_run_does, refl))))))

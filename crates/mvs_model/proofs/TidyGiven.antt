@@ -1,6 +1,5 @@
 -- A given subpool that ends while a sibling shares it, on the label machine.
-use Rattle.std.proofs.Common.{◌≡◌, ℕ, zero, suc, ◌+◌, ◌%◌, ◌^◌, ◌<◌, ◌≤◌, ◌⊎◌, inl, inr, Bool, true, false, cond, List, [], ◌∷◌, ◌++◌, Option, Some, None, ltb, arith, refl, sym, ap, ◌∙◌, subst}
-use Rattle.std.specs.Prelude.{is_some, IsSome, not, ◌&&◌, ◌||◌, ◌==◌, nat_le, MatchOption, codes, decimal}
+use Rattle.std.proofs.Common.{◌≡◌, ℕ, zero, suc, ◌+◌, ◌%◌, ◌^◌, ◌<◌, ◌≤◌, inl, inr, Bool, true, false, cond, List, [], ◌∷◌, Option, Some, None, ltb, arith, refl, sym, ap, ◌∙◌, subst, is_some, IsSome, not, ◌&&◌, ◌||◌, ◌==◌, MatchOption, nat_cmp}
 use Rattle.std.specs.List.Sorted.{IsStrictlySortedBy}
 use Rattle.std.specs.Fmt.{digits}
 use Rattle.std.proofs.Math.Nat.{div-eq_of_lt}
@@ -8,30 +7,28 @@ use Rattle.std.proofs.Math.Pow.{pow-lt}
 use Rattle.std.proofs.lemmas.Bool.{cases_lt}
 use Rattle.std.proofs.lemmas.Bool.Decides.{nat_tests}
 use Rattle.std.specs.FinMap.{get, empty, insert, len, keys, same_map, get-insert, get-empty, len-insert, len-empty}
-use Rattle.std.specs.Ordering.{nat_cmp}
 use Rattle.std.specs.Cmp.{nat_cmp_total}
-use Rattle.mvs_model.specs.declared.name.Name.{Name}
+use Rattle.mvs_model.proofs.Types.{Name, SubpoolLine}
 use Rattle.mvs_model.specs.declared.want.Residence.TheVariants.{Below}
-use Rattle.mvs_model.specs.declared.code.Code.TheVariants.{User}
 use Rattle.mvs_model.specs.declared.code.Form.TheVariants as form
 use Rattle.mvs_model.specs.Name.{name_cmp, same_name}
 use Rattle.mvs_model.specs.Finite.{has, any_below, count_below, kept, total_below}
 use Rattle.mvs_model.specs.Gifts.{has_bit, gives, shares}
-use Rattle.mvs_model.specs.Owners.{Owners, Task, entry_cmp, entry, is_active, IsMother, has_subtask, owns, IsSpare, SubpoolOf, Binds, Enters, EntersBelow, none, passed, entered, handed, is_given, gives_shared, attach_refusal, Attach, Descends, subtask, further, IsFallen, goes, ends_with, Ends}
-use Rattle.mvs_model.specs.Texts.{reply_line, region_text, last_digits}
-use Rattle.mvs_model.specs.Reports.{each_below, or_none}
-use Rattle.mvs_model.specs.Labels.{Labels, with_area, without, bytes_there, entry_line, subpools_text, Tells, Does, Leaves, Attaches}
+use Rattle.mvs_model.specs.Owners.{Owners, Task, entry_cmp, entry, is_active, IsMother, has_subtask, owns, IsSpare, SubpoolOf, Binds, Enters, EntersBelow, none, passed, entered, handed, is_given, attach_refusal, Attach, Descends, subtask, further, IsFallen, goes, ends_with, Ends}
+use Rattle.mvs_model.specs.Answers as tells
+use Rattle.mvs_model.specs.Answers.{Answer}
+use Rattle.mvs_model.specs.Texts.{last_digits}
+use Rattle.mvs_model.specs.Reports.{each_below, line_of_entry, subpool_lines}
+use Rattle.mvs_model.specs.Labels.{Labels, with_area, without, bytes_there, Tells, Does, Leaves, Attaches}
 use Rattle.mvs_model.specs.TidyExamples.{area_x, area_y, fixed, GivenEnds, job, task_a, task_b, five_shared, five_given}
 use Rattle.mvs_model.proofs.Orders.{name_cmp_total, name_cmp-IsAntisymmetric, entry_cmp_total, same_entry_is, same_name_self, same_name_sym}
 use Rattle.mvs_model.proofs.Tables.{eq_by_cmp_is}
 use Rattle.mvs_model.proofs.Owning.{attach_some, ends_some}
 use Rattle.mvs_model.proofs.OneOwners.{one_below}
-use Rattle.mvs_model.proofs.Counting.{count_none, count_all}
-use Rattle.mvs_model.proofs.TidyMoves.{Walks, shows, active_does, on, alone, moves_start, job_active}
-use Rattle.mvs_model.proofs.TidyCases as tc
+use Rattle.mvs_model.proofs.Below.{count_none, count_all}
+use Rattle.mvs_model.proofs.TidyMoves.{shows, active_does, alone, moves_start, job_active, zero_spare}
+use Rattle.mvs_model.proofs.Tests.{match_false, false_true}
 use Rattle.mvs_model.proofs.SeenStart.{all_names}
-use Rattle.mvs_model.specs.Lines.{card_of}
-use Rattle.mvs_model.specs.declared.line.Statement.{Statement}
 use Rattle.mvs_model.specs.declared.line.Statement.TheVariants as says
 use Rattle.mvs_model.specs.declared.line.Written.TheVariants as written
 use Rattle.mvs_model.proofs.TidyBusy.{no_bit, never, guarded}
@@ -84,14 +81,8 @@ shares_b n = (λ i. ltb n 128 && (no_bit n i || (n == 0))) ∙ guarded n (n == 0
 gives_b : (n : ℕ) → gives five_given n ≡ (n == 5)
 gives_b n = ap (λ b. ltb n 128 && b) (five_bit n) ∙ guarded n (n == 5) (λ e. grind (arith, nat_tests))
 
-no_owner : (s : ℕ) → get alone.owner s ≡ None
-no_owner s = get-empty nat_cmp s
-
-spare_0 : IsSpare alone 0
-spare_0 = record { spare = no_owner 0; least = λ r l. absurd (omega (arith, l)) }
-
 subpool_1 : SubpoolOf alone job 5 0
-subpool_1 = subst (λ v. MatchOption v (IsSpare alone 0) (λ r. 0 ≡ r)) (sym (get-empty entry_cmp (job, 5))) spare_0
+subpool_1 = subst (λ v. MatchOption v (IsSpare alone 0) (λ r. 0 ≡ r)) (sym (get-empty entry_cmp (job, 5))) zero_spare
 
 enters_1 : Enters alone job 5 0 owners_1
 unfolding owners_1
@@ -103,9 +94,7 @@ enters_1 = subst (λ v. MatchOption v (Binds alone job 5 0 owners_1) (λ _. owne
 
 -- subpool 1 is made for number 0
 spare_1 : IsSpare owners_1 1
-spare_1 = record { spare = owner_1 1; least = λ r l. at r (let z : r ≡ 0 = omega (arith, l) in z) } where
-  at : (r : ℕ) → r ≡ 0 → IsSome (get owners_1.owner r)
-  at r e = ap is_some (ap (get owners_1.owner) e ∙ owner_1 0)
+spare_1 = grind (arith, nat_tests, owners_1, owner_1)
 
 subpool_a : SubpoolOf owners_1 job 0 1
 subpool_a = subst (λ v. MatchOption v (IsSpare owners_1 1) (λ r. 1 ≡ r)) (sym (entry_1 job 0)) spare_1
@@ -125,18 +114,11 @@ kept_below o t wanted n now has_all below = at (wanted n) refl where
   at false e = passed below e
   at true e = by (entry now t n) refl (has_all n e) where
     by : (v : Option ℕ) → entry now t n ≡ v → IsSome v → EntersBelow o t wanted (suc n) now
-    by None f h = absurd (let z : false ≡ true = h in cc)
+    by None f h = false_true h
     by (Some s) f h = entered s below e (subst (λ v. MatchOption v (IsSpare now s) (λ r. s ≡ r)) (sym f) refl) (subst (λ v. MatchOption v (Binds now t n s now) (λ _. now ≡ now)) (sym f) refl)
 
 a_has : (k : ℕ) → shares five_shared k ≡ true → IsSome (entry ready_a job k)
-a_has k e = ap is_some (entry_ready job k) ∙ at (k == 0) (k == 5) (sym (shares_a k) ∙ e) where
-  pick : Bool → Bool → Option ℕ
-  pick a b = cond a (Some 1) (cond b (Some 0) None)
-
-  at : (a b : Bool) → (b || a) ≡ true → is_some (pick a b) ≡ true
-  at true b e = refl
-  at false true e = refl
-  at false false e = e
+a_has k e = grind (arith, nat_tests, entry_ready, shares_a)
 
 made_a : (n : ℕ) → EntersBelow owners_1 job (shares five_shared) (suc n) ready_a
 made_a zero = entered 1 none (shares_a 0) subpool_a enters_a
@@ -153,7 +135,7 @@ ready_a_is : attach_a.1.ready ≡ ready_a
 ready_a_is = one_below owners_1 job (shares five_shared) 128 attach_a.1.ready ready_a attach_a.1.made (made_a 127)
 
 gives_a : (n : ℕ) → gives five_shared n ≡ false
-gives_a n = ap (λ b. ltb n 128 && b) (no_bit n) ∙ guarded n false (λ e. absurd (let f : false ≡ true = e in cc))
+gives_a n = ap (λ b. ltb n 128 && b) (no_bit n) ∙ guarded n false (λ e. false_true e)
 
 entry_2 : (t : Name) (n : ℕ) → entry owners_2 t n ≡ handed ready_a job task_a five_shared t n
 unfolding owners_2
@@ -164,24 +146,14 @@ abbrev both_of : ℕ → Option ℕ
 both_of n = cond (n == 0) (Some 1) (cond (n == 5) (Some 0) None)
 
 entry_2_a : (n : ℕ) → entry owners_2 task_a n ≡ both_of n
-entry_2_a n = entry_2 task_a n ∙ (λ i. cond (gives_a n i || shares_a n i) (entry_ready job n i) None) ∙ at (n == 0) (n == 5) where
-  pick : Bool → Bool → Option ℕ
-  pick a b = cond a (Some 1) (cond b (Some 0) None)
-
-  at : (a b : Bool) → cond (b || a) (pick a b) None ≡ pick a b
-  at true true = refl
-  at true false = refl
-  at false true = refl
-  at false false = refl
+entry_2_a n = grind (arith, nat_tests, entry_ready, shares_a, gives_a, entry_2)
 
 entry_2_job : (n : ℕ) → entry owners_2 job n ≡ both_of n
 entry_2_job n = entry_2 job n ∙ (λ i. cond (gives_a n i) None (entry_ready job n i))
 
 owner_2 : (s : ℕ) → get owners_2.owner s ≡ cond (s == 1) (Some job) (cond (s == 0) (Some job) None)
 unfolding owners_2
-owner_2 s =
-    attach_a.1.owner s ∙ (λ i. cond (is_given (ready_a_is i) job five_shared s) (Some task_a) (get (ready_a_is i).owner s))
-    ∙ (λ i. cond (never 128 _ (λ n. ap (λ b. b && has (λ r. r == s) (entry ready_a job n)) (gives_a n)) i) (Some task_a) (owner_ready s i))
+owner_2 s = grind (arith, nat_tests, ready_a, owner_ready, attach_a, ready_a_is, gives_a, never)
 
 -- who is active
 task_1 : (t : Name) → get owners_1.tasks t ≡ cond (same_name t job) (Some (record { mother = None; residence = Below })) None
@@ -206,7 +178,7 @@ made_b (suc n) = kept_below owners_2 job (shares five_given) n owners_2 b_has (m
 
     at : (a : Bool) → a ≡ true → is_some (pick a) ≡ true
     at true e = refl
-    at false e = absurd (let z : false ≡ true = e in cc)
+    at false e = false_true e
 
 attach_b : (o : Owners) × Attach owners_2 job task_b five_given Below o
 attach_b = attach_some owners_2 job task_b five_given Below
@@ -227,16 +199,11 @@ entry_3_a n = entry_3 task_a n ∙ entry_2_a n
 -- what JOB gives is subpool 0
 is_given_b : (s : ℕ) → is_given owners_2 job five_given s ≡ (s == 0)
 unfolding any_below
-is_given_b s = (λ i. any_below (λ n. gives five_given n && has (λ r. r == s) (entry_2_job n i)) 128) ∙ at (0 == s) (1 == s) ∙ (let z : (0 == s) ≡ (s == 0) = grind (arith, nat_tests) in z) where
-  at : (a b : Bool) → (a || false) ≡ a
-  at true b = refl
-  at false b = refl
+is_given_b s = grind (arith, nat_tests, entry_2_job)
 
 owner_3 : (s : ℕ) → get owners_3.owner s ≡ cond (s == 0) (Some task_b) (cond (s == 1) (Some job) (cond (s == 0) (Some job) None))
 unfolding owners_3
-owner_3 s =
-    attach_b.1.owner s ∙ (λ i. cond (is_given (ready_b_is i) job five_given s) (Some task_b) (get (ready_b_is i).owner s))
-    ∙ (λ i. cond (is_given_b s i) (Some task_b) (owner_2 s i))
+owner_3 s = grind (arith, nat_tests, owner_2, attach_b, ready_b_is, is_given_b)
 
 task_3 : (t : Name) → get owners_3.tasks t ≡ cond (same_name task_b t) (Some child) (cond (same_name task_a t) (Some child) (cond (same_name t job) (Some (record { mother = None; residence = Below })) None))
 unfolding owners_3
@@ -244,20 +211,7 @@ task_3 t = attach_b.1.tasks t ∙ ap (cond (same_name task_b t) (Some child)) (t
 
 -- nobody is B's subtask
 mother_3 : (x : Name) → IsMother owners_3 task_b x → ⊥
-mother_3 x h = at (same_name task_b x) (same_name task_a x) (same_name x job) (sym (task_3 x) ∙ h.1) where
-  mother_of : Option Task → Option Name
-  mother_of None = None
-  mother_of (Some task) = task.mother
-
-  no_way : {v : Option Task} → v ≡ Some h.0 → mother_of v ≡ Some job ⊎ mother_of v ≡ None → ⊥
-  no_way e (inl f) = let z : Some job ≡ Some task_b = sym f ∙ ap mother_of e ∙ h.2 in let y : job ≡ task_b = cc in let b : false ≡ true = ap (same_name task_b) y ∙ same_name_self task_b in cc
-  no_way e (inr f) = let z : None ≡ Some task_b = sym f ∙ ap mother_of e ∙ h.2 in cc
-
-  at : (a b c : Bool) → cond a (Some child) (cond b (Some child) (cond c (Some (record { mother = None; residence = Below })) None)) ≡ Some h.0 → ⊥
-  at true b c e = no_way e (inl refl)
-  at false true c e = no_way e (inl refl)
-  at false false true e = no_way e (inr refl)
-  at false false false e = no_way e (inr refl)
+mother_3 x h = grind (arith, nat_tests, task_3, same_name_self)
 
 no_descendant : (x : Name) → Descends owners_3 task_b x → ⊥
 no_descendant x (subtask h) = mother_3 x h
@@ -276,14 +230,7 @@ owners_4 = end_b.0
 
 entry_4_a : (n : ℕ) → entry owners_4 task_a n ≡ cond (n == 0) (Some 1) None
 unfolding owners_4
-entry_4_a n = end_b.1.table (task_a, n) ∙ ap (kept (λ s. not (goes task_b [] task_a || ends_with owners_3 task_b [] s))) (entry_3_a n) ∙ at (n == 0) (n == 5) where
-  keeps : ℕ → Option Name → Option ℕ
-  keeps s v = cond (not (has (goes task_b []) v)) (Some s) None
-
-  at : (a b : Bool) → kept (λ s. not (goes task_b [] task_a || ends_with owners_3 task_b [] s)) (cond a (Some 1) (cond b (Some 0) None)) ≡ cond a (Some 1) None
-  at true b = ap (keeps 1) (owner_3 1)
-  at false true = ap (keeps 0) (owner_3 0)
-  at false false = refl
+entry_4_a n = grind (arith, nat_tests, owners_3, entry_3_a, owner_3, end_b)
 
 owner_4 : (s : ℕ) → get owners_4.owner s ≡ kept (λ x. not (goes task_b [] x)) (get owners_3.owner s)
 unfolding owners_4
@@ -337,10 +284,7 @@ gone_4 i = ap (λ v. cond (has (goes task_b []) v) None (given_3.byte 0 i)) (own
 
 plain_4 : (s : ℕ) → bytes_there given_4 s ≡ 0
 unfolding total_below
-plain_4 s = ap (λ f. cond (0 == s) (count_below 8 f) 0 + 0) (λ i x. is_some (gone_4 x i)) ∙ at (0 == s) where
-  at : (b : Bool) → cond b (count_below 8 (λ x. false)) 0 + 0 ≡ 0
-  at true = (λ i. count_none 8 (λ x. false) (λ d l. refl) i + 0)
-  at false = refl
+plain_4 s = grind (arith, nat_tests, gone_4, count_none)
 
 whole_5 : (i : ℕ) → i < 4096 → is_some (given_5.byte 1 i) ≡ true
 whole_5 i l = ap (λ b. is_some (cond b (Some given_5.fill) None)) (let z : ltb i 4096 ≡ true = grind (arith, nat_tests) in z)
@@ -348,56 +292,37 @@ whole_5 i l = ap (λ b. is_some (cond b (Some given_5.fill) None)) (let z : ltb 
 -- an area of which the first place is gone, and one that is whole
 plain_5 : (s : ℕ) → bytes_there given_5 s ≡ cond (0 == s) 4096 0 + 0
 unfolding total_below
-plain_5 s = (λ i. cond (0 == s) (count_all 4096 (λ x. is_some (given_5.byte 1 x)) (λ d l. whole_5 d l) i) 0 + (cond (0 == s) (gone i) 0 + 0)) ∙ at (0 == s) where
-  gone : count_below 8 (λ x. is_some (given_4.byte 0 x)) ≡ 0
-  gone = count_none 8 (λ x. is_some (given_4.byte 0 x)) (λ d l. ap is_some (gone_4 d))
-
-  at : (b : Bool) → cond b 4096 0 + (cond b 0 0 + 0) ≡ cond b 4096 0 + 0
-  at true = refl
-  at false = refl
+plain_5 s = grind (arith, nat_tests, gone_4, whole_5, count_all, count_none)
 
 -- a line of the report
-abbrev line_text : ℕ → ℕ → Bool → ℕ → List ℕ
-line_text number n own held = reply_line number task_a (codes "SP " ++ decimal n ++ cond own (codes " OWNED PLAIN ") (codes " SHARED PLAIN ") ++ decimal held ++ codes " POOL " ++ decimal 0)
+abbrev report_line : ℕ → Bool → ℕ → List SubpoolLine
+report_line n own held = record { number = n; owned = own; plain = held; pool = 0 } ∷ []
 
-line_is : (number : ℕ) (m : Labels) (n s held : ℕ) (own : Bool) → owns m.owners task_a s ≡ own → bytes_there m s ≡ held → entry_line number m task_a n (Some s) ≡ line_text number n own held
-line_is number m n s held own e f = λ i. reply_line number task_a (codes "SP " ++ decimal n ++ cond (e i) (codes " OWNED PLAIN ") (codes " SHARED PLAIN ") ++ decimal (f i) ++ codes " POOL " ++ decimal 0)
+abbrev entry_line : Labels → ℕ → Option ℕ → List SubpoolLine
+entry_line m n v = line_of_entry m.owners (bytes_there m) (λ s. 0) task_a n v
+
+line_is : (m : Labels) (n s held : ℕ) (own : Bool) → owns m.owners task_a s ≡ own → bytes_there m s ≡ held → entry_line m n (Some s) ≡ report_line n own held
+line_is m n s held own e f = λ i. report_line n (e i) (f i)
 
 -- the lines of two numbers
-abbrev two_lines : List ℕ → List ℕ → ℕ → List ℕ
+abbrev two_lines : List SubpoolLine → List SubpoolLine → ℕ → List SubpoolLine
 two_lines zero_line five_line n = cond (n == 0) zero_line (cond (n == 5) five_line [])
 
-report_is : (number : ℕ) (m : Labels) (zero_line five_line : List ℕ) → ((n : ℕ) → entry_line number m task_a n (entry m.owners task_a n) ≡ two_lines zero_line five_line n) → subpools_text number m task_a ≡ or_none number task_a (each_below 133 (two_lines zero_line five_line))
-report_is number m zero_line five_line h = λ i. or_none number task_a (each_below 133 (λ n. h n i))
+report_is : (m : Labels) (zero_line five_line : List SubpoolLine) → ((n : ℕ) → entry_line m n (entry m.owners task_a n) ≡ two_lines zero_line five_line n) → subpool_lines m.owners (bytes_there m) (λ s. 0) task_a ≡ each_below 133 (two_lines zero_line five_line)
+report_is m zero_line five_line h = λ i. each_below 133 (λ n. h n i)
 
-is_number : (n k : ℕ) → (n == k) ≡ true → n ≡ k
-is_number n k e = grind (arith, nat_tests)
+lines_3 : (n : ℕ) → entry_line given_3 n (entry owners_3 task_a n) ≡ two_lines (report_line 0 false 0) (report_line 5 false 8) n
+lines_3 n = grind (arith, nat_tests, entry_3_a, owner_3, plain_3, line_is)
 
-lines_3 : (n : ℕ) → entry_line 5 given_3 task_a n (entry owners_3 task_a n) ≡ two_lines (line_text 5 0 false 0) (line_text 5 5 false 8) n
-lines_3 n = ap (entry_line 5 given_3 task_a n) (entry_3_a n) ∙ at (n == 0) (n == 5) (is_number n 0) (is_number n 5) where
-  at : (a b : Bool) → (a ≡ true → n ≡ 0) → (b ≡ true → n ≡ 5) → entry_line 5 given_3 task_a n (cond a (Some 1) (cond b (Some 0) None)) ≡ cond a (line_text 5 0 false 0) (cond b (line_text 5 5 false 8) [])
-  at true b e f = line_is 5 given_3 n 1 0 false (ap (has (same_name task_a)) (owner_3 1)) (plain_3 1) ∙ ap (λ n. line_text 5 n false 0) (e refl)
-  at false true e f = line_is 5 given_3 n 0 8 false (ap (has (same_name task_a)) (owner_3 0)) (plain_3 0) ∙ ap (λ n. line_text 5 n false 8) (f refl)
-  at false false e f = refl
-
-lines_4 : (n : ℕ) → entry_line 7 given_4 task_a n (entry owners_4 task_a n) ≡ two_lines (line_text 7 0 false 0) [] n
-lines_4 n = ap (entry_line 7 given_4 task_a n) (entry_4_a n) ∙ at (n == 0) (n == 5) (is_number n 0) where
-  at : (a b : Bool) → (a ≡ true → n ≡ 0) → entry_line 7 given_4 task_a n (cond a (Some 1) None) ≡ cond a (line_text 7 0 false 0) (cond b [] [])
-  at true b e = line_is 7 given_4 n 1 0 false (ap (has (same_name task_a)) (owner_4 1 ∙ ap (kept (λ x. not (goes task_b [] x))) (owner_3 1))) (plain_4 1) ∙ ap (λ n. line_text 7 n false 0) (e refl)
-  at false true e = refl
-  at false false e = refl
+lines_4 : (n : ℕ) → entry_line given_4 n (entry owners_4 task_a n) ≡ two_lines (report_line 0 false 0) [] n
+lines_4 n = grind (arith, nat_tests, owner_3, entry_4_a, owner_4, plain_4, line_is)
 
 owner_5 : (s : ℕ) → get owners_5.owner s ≡ cond (s == 0) (Some task_a) (get owners_4.owner s)
 unfolding owners_5
 owner_5 s = get-insert nat_cmp_total owners_4.owner 0 task_a s ∙ ap (λ b. cond b (Some task_a) (get owners_4.owner s)) (eq_by_cmp_is s 0)
 
-lines_5 : (n : ℕ) → entry_line 9 given_5 task_a n (entry owners_5 task_a n) ≡ two_lines (line_text 9 0 false 0) (line_text 9 5 true 4096) n
-lines_5 n = ap (entry_line 9 given_5 task_a n) (entry_5_a n) ∙ at (n == 5) (n == 0) (is_number n 5) (is_number n 0) where
-  at : (a b : Bool) → (a ≡ true → n ≡ 5) → (b ≡ true → n ≡ 0) → entry_line 9 given_5 task_a n (cond a (Some 0) (cond b (Some 1) None)) ≡ cond b (line_text 9 0 false 0) (cond a (line_text 9 5 true 4096) [])
-  at true true e f = absurd (let x : n ≡ 5 = e refl in let y : n ≡ 0 = f refl in omega (arith, x, y))
-  at true false e f = line_is 9 given_5 n 0 4096 true (ap (has (same_name task_a)) (owner_5 0)) (plain_5 0) ∙ ap (λ n. line_text 9 n true 4096) (e refl)
-  at false true e f = line_is 9 given_5 n 1 0 false (ap (has (same_name task_a)) (owner_5 1 ∙ owner_4 1 ∙ ap (kept (λ x. not (goes task_b [] x))) (owner_3 1))) (plain_5 1) ∙ ap (λ n. line_text 9 n false 0) (f refl)
-  at false false e f = refl
+lines_5 : (n : ℕ) → entry_line given_5 n (entry owners_5 task_a n) ≡ two_lines (report_line 0 false 0) (report_line 5 true 4096) n
+lines_5 n = grind (arith, nat_tests, owner_3, owner_4, entry_5_a, plain_5, line_is, owner_5)
 
 -- who may attach, and who has no subtask
 active_1 : is_active owners_1 job ≡ true
@@ -434,24 +359,10 @@ few_2 =
       not_yet = ap is_some (task_1 task_a)
 
 may_attach_a : attach_refusal owners_1 job task_a five_shared ≡ None
-may_attach_a = λ i. cond (new i) (Some (User 4009)) (cond (nat_le 32 (few_1 i)) (Some (User 4005)) (cond (given i) (Some (User 4003)) None)) where
-  new : is_active owners_1 task_a ≡ false
-  new = ap is_some (task_1 task_a)
-
-  given : gives_shared owners_1 job five_shared ≡ false
-  given = never 128 _ (λ n. ap (λ b. b && has (λ s. not (owns owners_1 job s)) (entry owners_1 job n)) (gives_a n))
+may_attach_a = grind (arith, nat_tests, owners_1, gives_a, task_1, few_1, never)
 
 may_attach_b : attach_refusal owners_2 job task_b five_given ≡ None
-may_attach_b = λ i. cond (new i) (Some (User 4009)) (cond (nat_le 32 (few_2 i)) (Some (User 4005)) (cond (given i) (Some (User 4003)) None)) where
-  new : is_active owners_2 task_b ≡ false
-  new = ap is_some (task_2 task_b)
-
-  owned : (n : ℕ) (b : Bool) → (b ≡ true → n ≡ 5) → (b && has (λ s. not (owns owners_2 job s)) (both_of n)) ≡ false
-  owned n true e = ap (λ n. has (λ s. not (owns owners_2 job s)) (both_of n)) (e refl) ∙ ap (λ v. not (has (same_name job) v)) (owner_2 0)
-  owned n false e = refl
-
-  given : gives_shared owners_2 job five_given ≡ false
-  given = never 128 _ (λ n. (λ i. gives_b n i && has (λ s. not (owns owners_2 job s)) (entry_2_job n i)) ∙ owned n (n == 5) (is_number n 5))
+may_attach_b = grind (arith, nat_tests, gives_b, owners_2, entry_2_job, owner_2, task_2, few_2, never)
 
 lone_b : has_subtask owners_3 task_b ≡ false
 lone_b = all_names _ (keys owners_3.tasks) (λ x. ap (has (λ (task : Task). has (same_name task_b) task.mother)) (task_3 x) ∙ at (same_name task_b x) (same_name task_a x) (same_name x job)) where
@@ -461,133 +372,57 @@ lone_b = all_names _ (keys owners_3.tasks) (λ x. ap (has (λ (task : Task). has
   at false false true = refl
   at false false false = refl
 
-obtain_does : Does 2 moves_start job (says.Request (written.Obtain form.Ru 5 (fixed 8) false area_x)) (reply_line 2 job (codes "RC 0")) given_1
-obtain_does = active_does 2 moves_start given_1 job (says.Request (written.Obtain form.Ru 5 (fixed 8) false area_x)) _ job_active
+obtain_does : Does moves_start job (says.Request (written.Obtain form.Ru 5 (fixed 8) false area_x)) tells.Rc0 given_1
+obtain_does = active_does moves_start given_1 job (says.Request (written.Obtain form.Ru 5 (fixed 8) false area_x)) _ job_active
     (record (with_area moves_start 0 8) { owners = owners_1 }, (record (with_area moves_start 0 8) { owners = owners_1 }, record { subpool = 0; owners = owners_1; is_subpool = subpool_1; enters = enters_1; is = refl }, refl), (refl, refl))
 
-attach_a_does : Does 3 given_1 job (says.Request (written.Attach task_a five_shared Below)) (reply_line 3 job (codes "ATTACHED")) given_2
+attach_a_does : Does given_1 job (says.Request (written.Attach task_a five_shared Below)) tells.Attached given_2
 unfolding owners_2
-attach_a_does = active_does 3 given_1 given_2 job (says.Request (written.Attach task_a five_shared Below)) _ active_1
-    (subst (λ r. Attaches 3 given_1 job task_a five_shared Below r (reply_line 3 job (codes "ATTACHED")) given_2) (sym may_attach_a) (owners_2, attach_a.1, (refl, refl)))
+attach_a_does = active_does given_1 given_2 job (says.Request (written.Attach task_a five_shared Below)) _ active_1
+    (subst (λ r. Attaches given_1 job task_a five_shared Below r tells.Attached given_2) (sym may_attach_a) (owners_2, attach_a.1, (refl, refl)))
 
-attach_b_does : Does 4 given_2 job (says.Request (written.Attach task_b five_given Below)) (reply_line 4 job (codes "ATTACHED")) given_3
+attach_b_does : Does given_2 job (says.Request (written.Attach task_b five_given Below)) tells.Attached given_3
 unfolding owners_3
-attach_b_does = active_does 4 given_2 given_3 job (says.Request (written.Attach task_b five_given Below)) _ active_2
-    (subst (λ r. Attaches 4 given_2 job task_b five_given Below r (reply_line 4 job (codes "ATTACHED")) given_3) (sym may_attach_b) (owners_3, attach_b.1, (refl, refl)))
+attach_b_does = active_does given_2 given_3 job (says.Request (written.Attach task_b five_given Below)) _ active_2
+    (subst (λ r. Attaches given_2 job task_b five_given Below r tells.Attached given_3) (sym may_attach_b) (owners_3, attach_b.1, (refl, refl)))
 
-abbrev report_3 : List ℕ
-report_3 = or_none 5 task_a (each_below 133 (two_lines (line_text 5 0 false 0) (line_text 5 5 false 8)))
+abbrev report_3 : Answer
+report_3 = tells.Subpools (each_below 133 (two_lines (report_line 0 false 0) (report_line 5 false 8)))
 
-abbrev report_4 : List ℕ
-report_4 = or_none 7 task_a (each_below 133 (two_lines (line_text 7 0 false 0) []))
+abbrev report_4 : Answer
+report_4 = tells.Subpools (each_below 133 (two_lines (report_line 0 false 0) []))
 
-abbrev report_5 : List ℕ
-report_5 = or_none 9 task_a (each_below 133 (two_lines (line_text 9 0 false 0) (line_text 9 5 true 4096)))
+abbrev report_5 : Answer
+report_5 = tells.Subpools (each_below 133 (two_lines (report_line 0 false 0) (report_line 5 true 4096)))
 
-report_3_does : Does 5 given_3 task_a says.ReportSubpools report_3 given_3
-report_3_does = active_does 5 given_3 given_3 task_a says.ReportSubpools report_3 active_3_a (sym (report_is 5 given_3 _ _ lines_3), refl)
+report_3_does : Does given_3 task_a says.ReportSubpools report_3 given_3
+report_3_does = active_does given_3 given_3 task_a says.ReportSubpools report_3 active_3_a (ap tells.Subpools (sym (report_is given_3 _ _ lines_3)), refl)
 
-return_does : Does 6 given_3 task_b (says.Request written.Return) (reply_line 6 task_b (codes "ENDED")) given_4
+return_does : Does given_3 task_b (says.Request written.Return) tells.Ended given_4
 unfolding owners_4
-return_does = active_does 6 given_3 given_4 task_b (says.Request written.Return) _ active_3_b
-    (tc.passed _ ((fallen : List Name) × (mid : Labels) × Leaves given_3 task_b fallen mid × Tells 6 task_b (codes "ENDED") mid (reply_line 6 task_b (codes "ENDED")) given_4) (has_subtask owners_3 task_b) lone_b
+return_does = active_does given_3 given_4 task_b (says.Request written.Return) _ active_3_b
+    (match_false _ ((fallen : List Name) × (mid : Labels) × Leaves given_3 task_b fallen mid × Tells tells.Ended mid tells.Ended given_4) (has_subtask owners_3 task_b) lone_b
     ([], given_4, record { owners = owners_4; is_fallen = falls_alone; ends = end_b.1; is = refl }, (refl, refl)))
 
-report_4_does : Does 7 given_4 task_a says.ReportSubpools report_4 given_4
-report_4_does = active_does 7 given_4 given_4 task_a says.ReportSubpools report_4 active_4_a (sym (report_is 7 given_4 _ _ lines_4), refl)
+report_4_does : Does given_4 task_a says.ReportSubpools report_4 given_4
+report_4_does = active_does given_4 given_4 task_a says.ReportSubpools report_4 active_4_a (ap tells.Subpools (sym (report_is given_4 _ _ lines_4)), refl)
 
-obtain_again_does : Does 8 given_4 task_a (says.Request (written.Obtain form.Rc 5 (fixed 4096) false area_y)) (reply_line 8 task_a (codes "RC 0")) given_5
-obtain_again_does = active_does 8 given_4 given_5 task_a (says.Request (written.Obtain form.Rc 5 (fixed 4096) false area_y)) _ active_4_a
+obtain_again_does : Does given_4 task_a (says.Request (written.Obtain form.Rc 5 (fixed 4096) false area_y)) tells.Rc0 given_5
+obtain_again_does = active_does given_4 given_5 task_a (says.Request (written.Obtain form.Rc 5 (fixed 4096) false area_y)) _ active_4_a
     (record (with_area given_4 0 4096) { owners = owners_5 }, (record (with_area given_4 0 4096) { owners = owners_5 }, record { subpool = 0; owners = owners_5; is_subpool = subpool_4; enters = enters_5; is = refl }, refl), (refl, refl))
 
 active_5_a : is_active owners_5 task_a ≡ true
 unfolding owners_5
 active_5_a = active_4_a
 
-report_5_does : Does 9 given_5 task_a says.ReportSubpools report_5 given_5
-report_5_does = active_does 9 given_5 given_5 task_a says.ReportSubpools report_5 active_5_a (sym (report_is 9 given_5 _ _ lines_5), refl)
-
-abbrev asks_10 : List (Name × Statement)
-asks_10 = []
-
-abbrev text_10 : List ℕ
-text_10 = codes "STEP ENDED RC 0\n"
-
-walk_10 : Walks 10 (Some given_5) asks_10 text_10
-walk_10 = refl
-
-abbrev asks_9 : List (Name × Statement)
-asks_9 = (task_a, says.ReportSubpools) ∷ asks_10
-
-abbrev text_9 : List ℕ
-text_9 = report_5 ++ text_10
-
-walk_9 : Walks 9 (Some given_5) asks_9 text_9
-walk_9 = on 9 given_5 given_5 task_a (says.ReportSubpools) asks_10 (report_5) text_10 refl (given_5, refl, report_5_does) walk_10
-
-abbrev asks_8 : List (Name × Statement)
-asks_8 = (task_a, says.Request (written.Obtain form.Rc 5 (fixed 4096) false area_y)) ∷ asks_9
-
-abbrev text_8 : List ℕ
-text_8 = reply_line 8 task_a (codes "RC 0") ++ text_9
-
-walk_8 : Walks 8 (Some given_4) asks_8 text_8
-walk_8 = on 8 given_4 given_5 task_a (says.Request (written.Obtain form.Rc 5 (fixed 4096) false area_y)) asks_9 (reply_line 8 task_a (codes "RC 0")) text_9 refl (given_5, refl, obtain_again_does) walk_9
-
-abbrev asks_7 : List (Name × Statement)
-asks_7 = (task_a, says.ReportSubpools) ∷ asks_8
-
-abbrev text_7 : List ℕ
-text_7 = report_4 ++ text_8
-
-walk_7 : Walks 7 (Some given_4) asks_7 text_7
-walk_7 = on 7 given_4 given_4 task_a (says.ReportSubpools) asks_8 (report_4) text_8 refl (given_4, refl, report_4_does) walk_8
-
-abbrev asks_6 : List (Name × Statement)
-asks_6 = (task_b, says.Request written.Return) ∷ asks_7
-
-abbrev text_6 : List ℕ
-text_6 = reply_line 6 task_b (codes "ENDED") ++ text_7
-
-walk_6 : Walks 6 (Some given_3) asks_6 text_6
-walk_6 = on 6 given_3 given_4 task_b (says.Request written.Return) asks_7 (reply_line 6 task_b (codes "ENDED")) text_7 refl (given_4, refl, return_does) walk_7
-
-abbrev asks_5 : List (Name × Statement)
-asks_5 = (task_a, says.ReportSubpools) ∷ asks_6
-
-abbrev text_5 : List ℕ
-text_5 = report_3 ++ text_6
-
-walk_5 : Walks 5 (Some given_3) asks_5 text_5
-walk_5 = on 5 given_3 given_3 task_a (says.ReportSubpools) asks_6 (report_3) text_6 refl (given_3, refl, report_3_does) walk_6
-
-abbrev asks_4 : List (Name × Statement)
-asks_4 = (job, says.Request (written.Attach task_b five_given Below)) ∷ asks_5
-
-abbrev text_4 : List ℕ
-text_4 = reply_line 4 job (codes "ATTACHED") ++ text_5
-
-walk_4 : Walks 4 (Some given_2) asks_4 text_4
-walk_4 = on 4 given_2 given_3 job (says.Request (written.Attach task_b five_given Below)) asks_5 (reply_line 4 job (codes "ATTACHED")) text_5 refl (given_3, refl, attach_b_does) walk_5
-
-abbrev asks_3 : List (Name × Statement)
-asks_3 = (job, says.Request (written.Attach task_a five_shared Below)) ∷ asks_4
-
-abbrev text_3 : List ℕ
-text_3 = reply_line 3 job (codes "ATTACHED") ++ text_4
-
-walk_3 : Walks 3 (Some given_1) asks_3 text_3
-walk_3 = on 3 given_1 given_2 job (says.Request (written.Attach task_a five_shared Below)) asks_4 (reply_line 3 job (codes "ATTACHED")) text_4 refl (given_2, refl, attach_a_does) walk_4
-
-abbrev asks_2 : List (Name × Statement)
-asks_2 = (job, says.Request (written.Obtain form.Ru 5 (fixed 8) false area_x)) ∷ asks_3
-
-abbrev text_2 : List ℕ
-text_2 = reply_line 2 job (codes "RC 0") ++ text_3
-
-walk_2 : Walks 2 (Some moves_start) asks_2 text_2
-walk_2 = on 2 moves_start given_1 job (says.Request (written.Obtain form.Ru 5 (fixed 8) false area_x)) asks_3 (reply_line 2 job (codes "RC 0")) text_3 refl (given_1, refl, obtain_does) walk_3
+report_5_does : Does given_5 task_a says.ReportSubpools report_5 given_5
+report_5_does = active_does given_5 given_5 task_a says.ReportSubpools report_5 active_5_a (ap tells.Subpools (sym (report_is given_5 _ _ lines_5)), refl)
 
 pub given_ends : GivenEnds
 unfolding digits last_digits each_below
-given_ends = shows _ _ (tt, (Some moves_start, region_text 1 (card_of job 1 0 0 Below), text_2, (refl, refl), refl, walk_2))
+given_ends = shows _
+    (tells.Rc0 ∷ tells.Attached ∷ tells.Attached ∷ report_3 ∷ tells.Ended ∷ report_4 ∷ tells.Rc0 ∷ report_5 ∷ [])
+    given_5
+    false
+    refl
+    (tt, (λ _. refl), (given_1, obtain_does, (tt, (λ _. refl), (given_2, attach_a_does, (tt, (λ _. refl), (given_3, attach_b_does, (tt, (λ _. refl), (given_3, report_3_does, (tt, (λ _. refl), (given_4, return_does, (tt, (λ _. refl), (given_4, report_4_does, (tt, (λ _. refl), (given_5, obtain_again_does, (tt, (λ _. refl), (given_5, report_5_does, refl))))))))))))))))

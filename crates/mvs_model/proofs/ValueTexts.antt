@@ -1,20 +1,20 @@
 -- Each value in range has a text that fits its kind and says the value.
-use Rattle.std.proofs.Common.{◌≡◌, refl, ◌||◌, ◌&&◌, not, true, false, Bool, ℕ, zero, suc, ◌+◌, ◌-◌, ◌*◌, ◌/◌, ◌%◌, ◌^◌, ◌<◌, ◌≤◌, ◌==◌, List, [], ◌∷◌, ◌++◌, map, length, take, drop, sym, ap, subst, ◌∙◌, inl, inr, arith, append_assoc, length-append, pow-suc, decimal}
-use Rattle.std.specs.Prelude.{nat_le, nat_lt, bytes_eq, codes, flat_map, slice_get, unwrap_or, if◌then◌else◌}
+use Rattle.std.proofs.Common.{◌≡◌, refl, ◌||◌, ◌&&◌, not, true, false, Bool, ℕ, zero, suc, ◌+◌, ◌-◌, ◌*◌, ◌/◌, ◌%◌, ◌^◌, ◌<◌, ◌≤◌, ◌==◌, List, [], ◌∷◌, ◌++◌, map, length, take, drop, sym, ap, subst, ◌∙◌, arith, append_assoc, length-append, pow-suc, decimal, nat_le, bytes_eq, codes, flat_map, slice_get, unwrap_or, if◌then◌else◌, le-leb}
 use Rattle.std.specs.List.{list_all, list_any, after_first, before_first, onto_first, position_or_len, slice_split, AllByRecursion}
-use Rattle.std.proofs.lemmas.Bool.{and_from, and_right, cases_lt}
+use Rattle.std.proofs.lemmas.Bool.{and_from, and_right, and_parts, not-true, or_right}
 use Rattle.std.proofs.lemmas.Bool.Decides.{nat_tests}
 use Rattle.std.proofs.lemmas.Fmt.{decimal_by_steps, length-decimal-le}
 use Rattle.std.proofs.lemmas.List.Splits.{slice_split-cons_no}
-use Rattle.mvs_model.specs.declared.line.Location.TheVariants.{Absolute, Named}
+use Rattle.std.proofs.lemmas.Grind.{common_steps}
+use Rattle.mvs_model.proofs.Types.{Absolute, Named}
 use Rattle.mvs_model.specs.Name.{padded}
 use Rattle.mvs_model.specs.Texts.{glyph, hex, last_digits}
 use Rattle.mvs_model.specs.Grammar.{Number, HexByte, Name, Address, Bytes, Pair, NumberOrPair, Numbers, DistinctNumbers, DistinctNames, Addresses}
 use Rattle.mvs_model.specs.Reading.{has_key, hex_bytes, is_absolute, is_address, is_address_in_range, is_in_range, is_named, is_pair, is_pair_in_range, is_twice, largest, location, smallest, hex_digit, hex_number, is_digit, is_empty, is_equals, is_hex_digit, is_list, is_name, is_name_byte, is_number, is_plus, is_quoted, items, number, quoted}
 use Rattle.mvs_model.specs.Spelling.{EachIsWritten, IsAddressText, absolute, area, within, Fits, FitsAlone, AreBetween, IsOperand, absolute_text, bytes_text, closes, joined, list_text, named_text, quoted_text}
-use Rattle.mvs_model.proofs.ReadingTaken.{and_true}
 use Rattle.mvs_model.proofs.ReadingLoops.{counted, counted_all, hex_counted, hex_counted_all}
-use Rattle.mvs_model.proofs.Spelling.{all_append, all_weaker, name_bytes, not_true, printed}
+use Rattle.mvs_model.proofs.Spelling.{all_append, all_weaker, name_bytes, printed}
+use Rattle.mvs_model.proofs.Tests.{true_false}
 
 -- ---- texts of simple bytes: printed, and none that parts or closes
 
@@ -30,13 +30,7 @@ record Simple (b : ℕ) : Type 0 where
   no_equals : is_equals b ≡ false
 
 simple_is : (b : ℕ) → simple b ≡ true → Simple b
-simple_is b e = record {
-  is_printed = grind (arith, nat_tests);
-  no_open = grind (arith, nat_tests);
-  no_close = grind (arith, nat_tests);
-  no_comma = grind (arith, nat_tests);
-  no_equals = grind (arith, nat_tests);
-}
+simple_is b e = grind (arith, nat_tests)
 
 digit_simple : (b : ℕ) → is_digit b ≡ true → simple b ≡ true
 digit_simple b e = grind (arith, nat_tests)
@@ -57,14 +51,14 @@ AllSimple text = list_all simple text ≡ true
 closes_past : (opened : ℕ) (text rest : List ℕ) → AllSimple text → closes opened (text ++ rest) ≡ closes opened rest
 closes_past opened [] rest e = refl
 closes_past opened (b ∷ text) rest e =
-    let a = and_true (simple b) (list_all simple text) e in
+    let a = and_parts (simple b) (list_all simple text) e in
     let s = simple_is b a.0 in
     (λ i. not (s.no_comma i && (opened == 0)) && closes (if s.no_open i then opened + 1 else (if s.no_close i then opened - 1 else opened)) (text ++ rest)) ∙ closes_past opened text rest a.1
 
 closes_alone : (text : List ℕ) → AllSimple text → closes 0 text ≡ true
 closes_alone [] e = refl
 closes_alone (b ∷ text) e =
-    let a = and_true (simple b) (list_all simple text) e in
+    let a = and_parts (simple b) (list_all simple text) e in
     let s = simple_is b a.0 in
     (λ i. not (s.no_comma i && (0 == 0)) && closes (if s.no_open i then 1 else (if s.no_close i then 0 - 1 else 0)) text) ∙ closes_alone text a.1
 
@@ -74,7 +68,7 @@ simple_printed text e = all_weaker simple printed (λ b f. (simple_is b f).is_pr
 simple_keyless : (text : List ℕ) → AllSimple text → has_key text ≡ false
 simple_keyless [] e = refl
 simple_keyless (b ∷ text) e =
-    let a = and_true (simple b) (list_all simple text) e in
+    let a = and_parts (simple b) (list_all simple text) e in
     ap (λ t. t || has_key text) (simple_is b a.0).no_equals ∙ simple_keyless text a.1
 
 simple_operand : (text : List ℕ) → is_empty text ≡ false → AllSimple text → IsOperand text
@@ -99,8 +93,7 @@ one_digit : (n : ℕ) → n < 10 → Writes n ((48 + n) ∷ [])
 one_digit n small = record { some = refl; digits = (let e : is_digit (48 + n) ≡ true = grind (arith, nat_tests) in and_from (is_digit (48 + n)) true e refl); value = (let e : (48 + n - 48) * 1 + 0 ≡ n = omega arith in e) }
 
 append_some : (text more : List ℕ) → is_empty text ≡ false → is_empty (text ++ more) ≡ false
-append_some [] more e = absurd (let f : true ≡ false = e in cc)
-append_some (b ∷ text) more e = refl
+append_some text more h1 = grind (arith, nat_tests)
 
 digit_more : (n : ℕ) (text : List ℕ) → 10 ≤ n → Writes (n / 10) text → Writes n (text ++ ((48 + n % 10) ∷ []))
 digit_more n text large w = record {
@@ -123,24 +116,7 @@ hex_number_behind text b = sym (hex_counted_all (text ++ (b ∷ []))) ∙ hex_co
 
 -- the glyph of a digit is one, and says it
 glyph_says : (d : ℕ) → d < 16 → (is_hex_digit (glyph d) ≡ true) × (hex_digit (glyph d) ≡ d)
-glyph_says d small =
-    elim (cases_lt d 10) [
-      | inl l ↦
-          let low : nat_lt d 10 ≡ true = grind (arith, nat_tests) in
-          let g : glyph d ≡ 48 + d = ap (λ t. if t then 48 + d else 55 + d) low in
-          let digit : is_digit (48 + d) ≡ true = grind (arith, nat_tests) in (
-            ap is_hex_digit g ∙ ap (λ t. t || (nat_le 65 (48 + d) && nat_le (48 + d) 70)) digit,
-            ap hex_digit g ∙ ap (λ t. if t then 48 + d - 48 else 48 + d - 65 + 10) digit ∙ (let e : 48 + d - 48 ≡ d = omega arith in e),
-          )
-      | inr l ↦
-          let high : nat_lt d 10 ≡ false = grind (arith, nat_tests) in
-          let g : glyph d ≡ 55 + d = ap (λ t. if t then 48 + d else 55 + d) high in
-          let digit : is_digit (55 + d) ≡ false = grind (arith, nat_tests) in
-          let letter : (nat_le 65 (55 + d) && nat_le (55 + d) 70) ≡ true = grind (arith, nat_tests) in (
-            ap is_hex_digit g ∙ ap (λ t. t || (nat_le 65 (55 + d) && nat_le (55 + d) 70)) digit ∙ letter,
-            ap hex_digit g ∙ ap (λ t. if t then 55 + d - 48 else 55 + d - 65 + 10) digit ∙ (let e : 55 + d - 65 + 10 ≡ d = omega arith in e),
-          )
-    ]
+glyph_says d h1 = grind (arith, nat_tests)
 
 -- So many hexadecimal digits that write a number.
 pub record WritesHex (k n : ℕ) (text : List ℕ) : Type 0 where
@@ -163,12 +139,10 @@ hex_writes (suc k) n small =
 -- ---- lists
 
 front_of : {X : Type 0} (xs ys : List X) → take (length xs) (xs ++ ys) ≡ xs
-front_of [] ys = refl
-front_of (x ∷ xs) ys = ap (λ l. x ∷ l) (front_of xs ys)
+front_of xs ys = grind (arith, common_steps)
 
 back_of : {X : Type 0} (xs ys : List X) → drop (length xs) (xs ++ ys) ≡ ys
-back_of [] ys = refl
-back_of (x ∷ xs) ys = back_of xs ys
+back_of xs ys = grind (arith, common_steps)
 
 abbrev EachSimple : List (List ℕ) → Type 0
 EachSimple texts = AllByRecursion AllSimple texts
@@ -176,13 +150,13 @@ EachSimple texts = AllByRecursion AllSimple texts
 comma_behind : (text rest : List ℕ) → AllSimple text → slice_split (λ b. b == 44) (text ++ (44 ∷ rest)) ≡ text ∷ slice_split (λ b. b == 44) rest
 comma_behind [] rest e = refl
 comma_behind (b ∷ text) rest e =
-    let a = and_true (simple b) (list_all simple text) e in
+    let a = and_parts (simple b) (list_all simple text) e in
     slice_split-cons_no (λ b. b == 44) b (text ++ (44 ∷ rest)) (simple_is b a.0).no_comma ∙ ap (onto_first b) (comma_behind text rest a.1)
 
 no_comma : (text : List ℕ) → AllSimple text → slice_split (λ b. b == 44) text ≡ text ∷ []
 no_comma [] e = refl
 no_comma (b ∷ text) e =
-    let a = and_true (simple b) (list_all simple text) e in
+    let a = and_parts (simple b) (list_all simple text) e in
     slice_split-cons_no (λ b. b == 44) b text (simple_is b a.0).no_comma ∙ ap (onto_first b) (no_comma text a.1)
 
 split_joined : (text : List ℕ) (texts : List (List ℕ)) → EachSimple (text ∷ texts) → slice_split (λ b. b == 44) (joined (text ∷ texts)) ≡ text ∷ texts
@@ -241,9 +215,6 @@ quoting digits e =
 
 -- ---- numbers
 
-le_true : (a b : ℕ) → a ≤ b → nat_le a b ≡ true
-le_true a b l = grind (arith, nat_tests)
-
 short_decimal : (n : ℕ) → n < 10 ^ 10 → length (decimal n) ≤ 10
 short_decimal n small = length-decimal-le 10 n (omega arith) (omega arith) (omega arith)
 
@@ -254,8 +225,8 @@ in_range : (least most n : ℕ) → least ≤ n → n ≤ most → n < 10 ^ 10 �
 in_range least most n low high small =
     let w = decimal_writes n (omega arith) in
     and_from (nat_le (length (decimal n)) 10 && nat_le least (number (decimal n))) _
-    (and_from (nat_le (length (decimal n)) 10) _ (le_true _ 10 (short_decimal n small)) (ap (nat_le least) w.value ∙ le_true least n low))
-    (ap (λ m. nat_le m most) w.value ∙ le_true n most high)
+    (and_from (nat_le (length (decimal n)) 10) _ (le-leb _ 10 (short_decimal n small)) (ap (nat_le least) w.value ∙ le-leb least n low))
+    (ap (λ m. nat_le m most) w.value ∙ le-leb n most high)
 
 decimal_simple : (n : ℕ) → n < 10 ^ 10 → AllSimple (decimal n)
 decimal_simple n small = all_weaker is_digit simple digit_simple (decimal n) (decimal_writes n (omega arith)).digits
@@ -263,10 +234,10 @@ decimal_simple n small = all_weaker is_digit simple digit_simple (decimal n) (de
 -- digits in their range, whatever zeros stand in front
 pub digits_fit : (least most : ℕ) (text : List ℕ) → is_number text ≡ true → is_in_range least most text ≡ true → FitsAlone (Number least most) text
 digits_fit least most text e range =
-    let a = and_true (not (is_empty text)) (list_all is_digit text) e in
+    let a = and_parts (not (is_empty text)) (list_all is_digit text) e in
     let s = all_weaker is_digit simple digit_simple text a.1 in
     record {
-      fits = record { of_kind = e; within = range; once = refl; operand = simple_operand text (not_true _ a.0) s };
+      fits = record { of_kind = e; within = range; once = refl; operand = simple_operand text (not-true _ a.0) s };
       no_key = simple_keyless text s;
     }
 
@@ -278,8 +249,7 @@ number_is least most n low high few =
 -- ---- a byte
 
 some_of : (text : List ℕ) (k : ℕ) → length text ≡ suc k → is_empty text ≡ false
-some_of [] k e = absurd (omega arith)
-some_of (b ∷ text) k e = refl
+some_of text k h1 = grind (arith, common_steps)
 
 byte_is : (b : ℕ) → b < 256 → FitsAlone HexByte (hex 2 b) × (hex_number (hex 2 b) ≡ b)
 byte_is b small =
@@ -312,7 +282,7 @@ absolute_is a small =
     let w = hex_writes 8 a (omega arith) in
     let q = quoting (hex 8 a) w.digits in
     let eight : (nat_le 1 (length (hex 8 a)) && nat_le (length (hex 8 a)) 8) ≡ true = ap (λ n. nat_le 1 n && nat_le n 8) w.many in
-    let range : nat_le a 0x7FFFFFFF ≡ true = le_true a 0x7FFFFFFF (omega arith) in (
+    let range : nat_le a 0x7FFFFFFF ≡ true = le-leb a 0x7FFFFFFF (omega arith) in (
       record {
         fits = record {
           of_kind = (λ i. if q.quotes i then is_absolute (q.inside i) else is_named text) ∙ and_from (nat_le 1 (length (hex 8 a)) && nat_le (length (hex 8 a)) 8) _ eight w.digits;
@@ -329,16 +299,11 @@ absolute_is a small =
 plus_at : (name text : List ℕ) → list_all is_name_byte name ≡ true → position_or_len is_plus (name ++ (43 ∷ text)) ≡ length name
 plus_at [] text e = refl
 plus_at (b ∷ name) text e =
-    let a = and_true (is_name_byte b) (list_all is_name_byte name) e in
+    let a = and_parts (is_name_byte b) (list_all is_name_byte name) e in
     ap (λ t. if not t then 1 + position_or_len is_plus (name ++ (43 ∷ text)) else 0) (name_no_plus b a.0) ∙ ap (λ n. 1 + n) (plus_at name text a.1) ∙ omega arith
 
 has_plus : (name text : List ℕ) → list_any is_plus (name ++ (43 ∷ text)) ≡ true
-has_plus [] text = refl
-has_plus (b ∷ name) text = or_right (is_plus b) _ (has_plus name text)
-  where
-    or_right : (a b : Bool) → b ≡ true → (a || b) ≡ true
-    or_right true b e = refl
-    or_right false b e = e
+has_plus name text = grind (arith, common_steps, or_right)
 
 behind_plus : (name text : List ℕ) → drop (suc (length name)) (name ++ (43 ∷ text)) ≡ text
 behind_plus [] text = refl
@@ -346,14 +311,10 @@ behind_plus (b ∷ name) text = behind_plus name text
 
 -- a name is not the beginning of X'..'
 no_quote_at : (b c : ℕ) (text : List ℕ) → list_all is_name_byte (b ∷ c ∷ text) ≡ true → ((b == 88) && ((c == 39) && true)) ≡ false
-no_quote_at b c text e =
-    let a = and_true (is_name_byte b) (list_all is_name_byte (c ∷ text)) e in
-    let d = and_true (is_name_byte c) (list_all is_name_byte text) a.1 in
-    let no : (c == 39) ≡ false = grind (arith, nat_tests, d.0) in
-    and_right (b == 88) _ (ap (λ t. t && true) no)
+no_quote_at b c text h1 = grind (arith, nat_tests)
 
 no_quote : (name text : List ℕ) → is_empty name ≡ false → list_all is_name_byte name ≡ true → bytes_eq (take 2 (name ++ (43 ∷ text))) (codes "X'") ≡ false
-no_quote [] text some e = absurd (let f : true ≡ false = some in cc)
+no_quote [] text some e = true_false some
 no_quote (b ∷ []) text some e = and_right (b == 88) false refl
 no_quote (b ∷ c ∷ name) text some e = no_quote_at b c name e
 
@@ -369,7 +330,7 @@ pub name_with : (name digits : List ℕ) → is_name name ≡ true → is_number
 name_with name digits e figures range =
     let text = name ++ (43 ∷ digits) in
     let bytes = name_bytes name e in
-    let d = and_true (not (is_empty digits)) (list_all is_digit digits) figures in
+    let d = and_parts (not (is_empty digits)) (list_all is_digit digits) figures in
     let unquoted : is_quoted text ≡ false = not_quoted (nat_le 3 (length text)) _ _ (no_quote name digits bytes.0 bytes.1) in
     let before : before_first is_plus text ≡ name = ap (λ k. take k text) (plus_at name digits bytes.1) ∙ front_of name (43 ∷ digits) in
     let one : length name + 1 ≡ suc (length name) = omega arith in
@@ -395,29 +356,25 @@ named_is name n e small =
 
 -- a name alone
 alone_unquoted : (name : List ℕ) → is_empty name ≡ false → list_all is_name_byte name ≡ true → bytes_eq (take 2 name) (codes "X'") ≡ false
-alone_unquoted [] some e = absurd (let f : true ≡ false = some in cc)
-alone_unquoted (b ∷ []) some e = and_right (b == 88) false refl
-alone_unquoted (b ∷ c ∷ name) some e = no_quote_at b c name e
+alone_unquoted name h1 h2 = grind (arith, nat_tests)
 
 no_plus : (name : List ℕ) → list_all is_name_byte name ≡ true → list_any is_plus name ≡ false
 no_plus [] e = refl
 no_plus (b ∷ name) e =
-    let a = and_true (is_name_byte b) (list_all is_name_byte name) e in
+    let a = and_parts (is_name_byte b) (list_all is_name_byte name) e in
     ap (λ t. t || list_any is_plus name) (name_no_plus b a.0) ∙ no_plus name a.1
 
 plus_nowhere : (name : List ℕ) → list_all is_name_byte name ≡ true → position_or_len is_plus name ≡ length name
 plus_nowhere [] e = refl
 plus_nowhere (b ∷ name) e =
-    let a = and_true (is_name_byte b) (list_all is_name_byte name) e in
+    let a = and_parts (is_name_byte b) (list_all is_name_byte name) e in
     ap (λ t. if not t then 1 + position_or_len is_plus name else 0) (name_no_plus b a.0) ∙ ap (λ n. 1 + n) (plus_nowhere name a.1) ∙ omega arith
 
 take_whole : (text : List ℕ) → take (length text) text ≡ text
-take_whole [] = refl
-take_whole (b ∷ text) = ap (λ l. b ∷ l) (take_whole text)
+take_whole text = grind (arith, common_steps)
 
 none_behind : (text : List ℕ) → drop (suc (length text)) text ≡ []
-none_behind [] = refl
-none_behind (b ∷ text) = none_behind text
+none_behind text = grind (arith, common_steps)
 
 pub name_alone : (name : List ℕ) → is_name name ≡ true → FitsAlone Address name × (location name ≡ Named (padded name) 0)
 name_alone name e =
@@ -468,7 +425,7 @@ digits_of (b ∷ bytes) small =
 pub bytes_fit : (most : ℕ) (digits : List ℕ) → list_all is_hex_digit digits ≡ true → is_empty digits ≡ false → (length digits % 2 == 0) ≡ true → length digits ≤ 2 * most → FitsAlone (Bytes most) (quoted_text digits)
 bytes_fit most digits are some even few =
     let q = quoting digits are in
-    let room : nat_le (length digits) (2 * most) ≡ true = le_true _ (2 * most) few in
+    let room : nat_le (length digits) (2 * most) ≡ true = le-leb _ (2 * most) few in
     record {
       fits = record {
         of_kind = (λ i. q.quotes i && not (is_empty (q.inside i)) && (length (q.inside i) % 2 == 0) && list_all is_hex_digit (q.inside i)) ∙ (λ i. not (some i) && even i && are i);
@@ -481,7 +438,7 @@ bytes_fit most digits are some even few =
 
 bytes_are : (most : ℕ) (bytes : List ℕ) → is_empty bytes ≡ false → length bytes ≤ most → AllByRecursion (λ b. b < 256) bytes
     → FitsAlone (Bytes most) (bytes_text bytes) × (hex_bytes (quoted (bytes_text bytes)) ≡ bytes)
-bytes_are most [] some few small = absurd (let f : true ≡ false = some in cc)
+bytes_are most [] some few small = true_false some
 bytes_are most (b ∷ bytes) some few small =
     let digits = flat_map (hex 2) (b ∷ bytes) in
     let d = digits_of (b ∷ bytes) small in
@@ -506,7 +463,7 @@ pair_is least most large small low ordered high few =
     let least_is : smallest text ≡ small = (λ i. if is.list i then number (unwrap_or (slice_get (is.items_are i) 1) []) else number text) ∙ v.value in
     let pair : is_pair text ≡ true = (λ i. is.list i && (length (is.items_are i) == 2) && list_all is_number (is.items_are i)) ∙ a in
     let range : is_pair_in_range least most text ≡ true =
-    (λ i. list_all (is_in_range least most) (is.items_are i) && nat_le (least_is i) (most_is i)) ∙ and_from (list_all (is_in_range least most) (decimal large ∷ decimal small ∷ [])) _ b (le_true small large ordered) in (
+    (λ i. list_all (is_in_range least most) (is.items_are i) && nat_le (least_is i) (most_is i)) ∙ and_from (list_all (is_in_range least most) (decimal large ∷ decimal small ∷ [])) _ b (le-leb small large ordered) in (
       record { of_kind = pair; within = range; once = refl; operand = is.operand },
       record { of_kind = pair; within = ap (λ t. if t then is_pair_in_range least most text else is_in_range least most text) is.list ∙ range; once = refl; operand = is.operand },
       most_is,
@@ -514,11 +471,7 @@ pair_is least most large small low ordered high few =
     )
 
 pub not_list : (text : List ℕ) → list_all is_digit text ≡ true → is_empty text ≡ false → is_list text ≡ false
-not_list [] e some = absurd (let f : true ≡ false = some in cc)
-not_list (b ∷ text) e some =
-    let a = and_true (is_digit b) (list_all is_digit text) e in
-    let no : (b == 40) ≡ false = grind (arith, nat_tests, a.0) in
-    not_quoted (nat_le 2 (suc (length text))) ((b == 40) && true) _ (ap (λ t. t && true) no)
+not_list text h1 h2 = grind (arith, nat_tests)
 
 one_length : (least most n : ℕ) → least ≤ n → n ≤ most → most < 10 ^ 10 → Fits (NumberOrPair least most) (decimal n) × (largest (decimal n) ≡ n) × (smallest (decimal n) ≡ n)
 one_length least most n low high few =
@@ -562,11 +515,11 @@ decimals least most (n ∷ numbers) few are =
 
 numbers_are : (count least most : ℕ) (numbers : List ℕ) → is_empty numbers ≡ false → length numbers ≤ count → AreBetween least most numbers → most < 10 ^ 10
     → Fits (Numbers count least most) (list_text (map decimal numbers)) × (map number (items (list_text (map decimal numbers))) ≡ numbers)
-numbers_are count least most [] some room are few = absurd (let f : true ≡ false = some in cc)
+numbers_are count least most [] some room are few = true_false some
 numbers_are count least most (n ∷ numbers) some room are few =
     let d = decimals least most (n ∷ numbers) few are in
     let is = lists (decimal n) (map decimal numbers) d.each_simple in
-    let fits : nat_le (length (map decimal (n ∷ numbers))) count ≡ true = ap (λ k. nat_le k count) d.many ∙ le_true _ count room in (
+    let fits : nat_le (length (map decimal (n ∷ numbers))) count ≡ true = ap (λ k. nat_le k count) d.many ∙ le-leb _ count room in (
       record {
         of_kind = (λ i. is.list i && list_all is_number (is.items_are i)) ∙ d.each_number;
         within = (λ i. nat_le (length (is.items_are i)) count && list_all (is_in_range least most) (is.items_are i)) ∙ and_from (nat_le (length (map decimal (n ∷ numbers))) count) _ fits d.each_within;
@@ -578,7 +531,7 @@ numbers_are count least most (n ∷ numbers) some room are few =
 
 distinct_are : (least most : ℕ) (numbers : List ℕ) → is_empty numbers ≡ false → AreBetween least most numbers → most < 10 ^ 10 → is_twice ◌==◌ numbers ≡ false
     → Fits (DistinctNumbers least most) (list_text (map decimal numbers)) × (map number (items (list_text (map decimal numbers))) ≡ numbers)
-distinct_are least most [] some are few once = absurd (let f : true ≡ false = some in cc)
+distinct_are least most [] some are few once = true_false some
 distinct_are least most (n ∷ numbers) some are few once =
     let d = decimals least most (n ∷ numbers) few are in
     let is = lists (decimal n) (map decimal numbers) d.each_simple in
@@ -602,12 +555,12 @@ each_name (text ∷ texts) are = and_from (is_name text) _ are.0 (each_name text
 
 names_are : (count : ℕ) (texts : List (List ℕ)) → is_empty texts ≡ false → length texts ≤ count → AllByRecursion (λ text. is_name text ≡ true) texts → is_twice bytes_eq texts ≡ false
     → Fits (DistinctNames count) (list_text texts) × (items (list_text texts) ≡ texts)
-names_are count [] some room are once = absurd (let f : true ≡ false = some in cc)
+names_are count [] some room are once = true_false some
 names_are count (text ∷ texts) some room are once =
     let is = lists text texts (names_simple (text ∷ texts) are) in (
       record {
         of_kind = (λ i. is.list i && list_all is_name (is.items_are i)) ∙ each_name (text ∷ texts) are;
-        within = ap (λ l. nat_le (length l) count) is.items_are ∙ le_true _ count room;
+        within = ap (λ l. nat_le (length l) count) is.items_are ∙ le-leb _ count room;
         once = ap (is_twice bytes_eq) is.items_are ∙ once;
         operand = is.operand;
       },
@@ -643,13 +596,13 @@ address_texts (text ∷ texts) are =
 
 addresses_are : (count : ℕ) (texts : List (List ℕ)) → is_empty texts ≡ false → length texts ≤ count → AllByRecursion IsAddressText texts
     → Fits (Addresses count) (list_text texts) × (items (list_text texts) ≡ texts)
-addresses_are count [] some room are = absurd (let f : true ≡ false = some in cc)
+addresses_are count [] some room are = true_false some
 addresses_are count (text ∷ texts) some room are =
     let each = address_texts (text ∷ texts) are in
     let is = lists text texts each.each_simple in (
       record {
         of_kind = (λ i. is.list i && list_all is_address (is.items_are i)) ∙ each.each_address;
-        within = (λ i. nat_le (length (is.items_are i)) count && list_all is_address_in_range (is.items_are i)) ∙ and_from (nat_le (length (text ∷ texts)) count) _ (le_true _ count room) each.each_within;
+        within = (λ i. nat_le (length (is.items_are i)) count && list_all is_address_in_range (is.items_are i)) ∙ and_from (nat_le (length (text ∷ texts)) count) _ (le-leb _ count room) each.each_within;
         once = refl;
         operand = is.operand;
       },

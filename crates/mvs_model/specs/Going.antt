@@ -1,23 +1,25 @@
--- How a run of a script goes on from a line.
-use Rattle.std.specs.Prelude.{ℕ, List, ◌++◌}
-use Rattle.mvs_model.specs.declared.outcome.Outcome.{Outcome}
+-- How far a run of a script has come.
+use Rattle.std.specs.Prelude.{◌≡◌, ℕ, ◌+◌, List, ◌++◌, length, Option, Some, None}
+use Rattle.mvs_model.specs.Answers.{Event}
 use Rattle.mvs_model.specs.State.{State}
 use Rattle.mvs_model.specs.WellFormed.{PoolsSized}
-use Rattle.mvs_model.specs.Runs.{Stage, Before, In, Prints}
-use Rattle.mvs_model.specs.Memory.{PrintsBefore}
+use Rattle.mvs_model.specs.Job.{JobValue}
+use Rattle.mvs_model.specs.Walk.{Leads}
+use Rattle.mvs_model.specs.Runs.{machine}
 
 -- of the state of a step, where a job is in one
-abbrev pub Holds : (State → Type 0) → Stage → Type 0
-Holds P Before = Unit {0}
-Holds P (In job) = P job.state
+abbrev pub Holds : (State → Type 0) → Option JobValue → Type 0
+Holds P None = Unit {0}
+Holds P (Some job) = P job.state
 
 -- The cells of each pool have some size, and its parts some cells.
-abbrev pub Sized : Stage → Type 0
-Sized stage = Holds PoolsSized stage
+abbrev pub Sized : Option JobValue → Type 0
+Sized step = Holds PoolsSized step
 
--- With this text printed, a run of all the lines may stand at this number and stage, with these lines left: however the
--- lines left go on, that is how the whole goes on.
-pub record Reaches (all : List (List ℕ)) (text : List ℕ) (number : ℕ) (stage : Stage) (left : List (List ℕ)) : Type 0 where
-  pub on : (rest : List ℕ) (outcome : Outcome) → Prints number stage left rest outcome → Prints 1 Before all (text ++ rest) outcome
-  pub before : (rest : List ℕ) → PrintsBefore number stage left rest → PrintsBefore 1 Before all (text ++ rest)
-  pub sized : Sized stage
+-- With these events told, a run of all the lines may stand before the line of this number, in this step or before the first, with
+-- these lines left.
+pub record Reaches (all : List (List ℕ)) (events : List Event) (number : ℕ) (step : Option JobValue) (left : List (List ℕ)) : Type 0 where
+  pub served : List (List ℕ)
+  pub lines : all ≡ served ++ left
+  pub counted : number ≡ 1 + length served
+  pub leads : Leads machine 1 None served events step

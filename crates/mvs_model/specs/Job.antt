@@ -1,5 +1,5 @@
 -- A step as it stands between two lines.
-use Rattle.std.specs.Prelude.{Bool, false, ◌||◌}
+use Rattle.std.specs.Prelude.{Bool, false}
 use Rattle.std.specs.FinMap.{FinMap, empty}
 use Rattle.mvs_model.specs.Place.{PlaceValue}
 use Rattle.mvs_model.specs.Card.{CardValue}
@@ -18,11 +18,3 @@ pub record JobValue : Type 0 where
 -- the step that begins with a card, behind steps of which a task has abended or not
 abbrev pub job_at : CardValue → Bool → JobValue
 job_at card former = record { state = start card; names = empty; abended = false; former = former }
-
--- the first step
-abbrev pub first_job : CardValue → JobValue
-first_job card = job_at card false
-
--- the step behind one that ends
-abbrev pub next_job : JobValue → CardValue → JobValue
-next_job old card = job_at card (old.abended || old.former)

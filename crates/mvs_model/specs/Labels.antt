@@ -1,5 +1,5 @@
--- The label machine: areas without addresses, each granted in full. What it prints depends on no place.
-use Rattle.std.specs.Prelude.{◌≡◌, ◌⊎◌, ℕ, zero, suc, ◌+◌, ◌-◌, Bool, true, false, not, ◌&&◌, ◌==◌, nat_lt, List, [], ◌∷◌, ◌++◌, length, map, Option, Some, None, is_some, slice_get, if◌then◌else◌, MatchOption}
+-- The label machine: areas without addresses, each granted in full. What it answers depends on no place.
+use Rattle.std.specs.Prelude.{◌≡◌, ℕ, zero, suc, ◌+◌, ◌-◌, Bool, true, false, not, ◌&&◌, ◌==◌, nat_lt, List, [], ◌∷◌, length, map, Option, Some, None, is_some, slice_get, if◌then◌else◌, MatchOption}
 use Rattle.std.specs.Bool.{MatchBool}
 use Rattle.std.specs.List.{list_all, list_any}
 use Rattle.std.specs.Option.{option_map, option_and_then, unwrap_or}
@@ -9,15 +9,13 @@ use Rattle.mvs_model.specs.declared.code.Form.{Form}
 use Rattle.mvs_model.specs.declared.code.Code.{Code}
 use Rattle.mvs_model.specs.declared.code.Code.TheVariants.{User}
 use Rattle.mvs_model.specs.declared.want.Residence.{Residence}
-use Rattle.mvs_model.specs.declared.line.Line.{Line}
-use Rattle.mvs_model.specs.declared.line.Line.TheVariants as line
 use Rattle.mvs_model.specs.declared.line.Statement.{Statement}
 use Rattle.mvs_model.specs.declared.line.Statement.TheVariants as says
 use Rattle.mvs_model.specs.declared.line.Location.{Location}
 use Rattle.mvs_model.specs.declared.line.Location.TheVariants.{Absolute, Named}
 use Rattle.mvs_model.specs.declared.line.Written.{Written}
 use Rattle.mvs_model.specs.declared.line.Written.TheVariants as written
-use Rattle.mvs_model.specs.declared.line.Fault.TheVariants.{OutOfPlace}
+use Rattle.mvs_model.specs.declared.outcome.Outcome.{Outcome}
 use Rattle.mvs_model.specs.Place.{PlaceValue, place_at, round8}
 use Rattle.mvs_model.specs.Gifts.{GiftsValue}
 use Rattle.mvs_model.specs.Card.{CardValue}
@@ -28,16 +26,16 @@ use Rattle.mvs_model.specs.Owners.{Owners, is_active, keeper, subpool_meant, Sub
 use Rattle.mvs_model.specs.Start.{first_owners}
 use Rattle.mvs_model.specs.Codes.{family, is_conditional, bad_subpool, bad_address, not_held, whole_of_zero, active_subtask, no_access}
 use Rattle.mvs_model.specs.Steps.{is_invalid, on_doubleword, whole}
-use Rattle.mvs_model.specs.Texts.{reply_line, abend_lines, data_lines, line_count, region_text, fault_text, rc_0, rc_4, attached, ended, no_name, not_run, ok, step_ended}
-use Rattle.mvs_model.specs.Reports.{line_of_entry, subpools_lines}
-use Rattle.mvs_model.specs.Lines.{lines_of, card_of}
-use Rattle.mvs_model.specs.Reading.{LineOf}
-use Rattle.mvs_model.specs.Replies.{grant_text}
-use Rattle.mvs_model.specs.Runs.{Faults}
+use Rattle.mvs_model.specs.Answers.{Answer, NotRun, NoName, Rc0, Rc4, Attached, Ended, Done, Data, Abended, Subpools, Event}
+use Rattle.mvs_model.specs.Texts.{printing}
+use Rattle.mvs_model.specs.Reports.{subpool_lines}
+use Rattle.mvs_model.specs.Lines.{lines_of}
+use Rattle.mvs_model.specs.Replies.{grant_answer}
+use Rattle.mvs_model.specs.Walk.{Machine, Walks, JobEnds}
 
 -- The areas granted so far, under the labels below the count: each one's subpool, its length, and the byte at each offset,
--- none once it is freed and none outside of the area. The tasks with what they own, the label of each name that is set, and
--- whether a task has abended.
+-- none once it is freed and none outside of the area. The tasks with what they own, the label of each name that is set, whether
+-- a task has abended, and whether one of a former step has.
 pub record Labels : Type 0 where
   pub fill : ℕ
   pub count : ℕ
@@ -47,6 +45,7 @@ pub record Labels : Type 0 where
   pub owners : Owners
   pub names : FinMap name_cmp ℕ
   pub abended : Bool
+  pub former : Bool
 
 -- A place in an area: the area's label, and the offsets.
 pub record Spot : Type 0 where
@@ -97,9 +96,9 @@ spots_of m (location ∷ locations) (n ∷ lengths) = option_and_then (λ q. opt
 abbrev pub area_of : Labels → Name → Option Spot
 area_of m name = option_map (λ l. spot l 0 (m.len l)) (get m.names name)
 
--- A line is printed, and the labels are then these.
-abbrev pub Tells : ℕ → Name → List ℕ → Labels → List ℕ → Labels → Type 0
-Tells number t told after text new = (text ≡ reply_line number t told) × (new ≡ after)
+-- This is answered, and the labels are then these.
+abbrev pub Tells : Answer → Labels → Answer → Labels → Type 0
+Tells told after answer new = (answer ≡ told) × (new ≡ after)
 
 -- the labels without the bytes at the offsets that pass a test
 abbrev pub without : Labels → (ℕ → ℕ → Bool) → Labels
@@ -113,14 +112,14 @@ pub record Leaves (old : Labels) (t : Name) (fallen : List Name) (new : Labels) 
   pub is : new ≡ record (without old (λ l i. ends_with old.owners t fallen (old.subpool l))) { owners = owners }
 
 -- An abend, by a code.
-abbrev pub Abends : ℕ → Labels → Name → Code → List ℕ → Labels → Type 0
-Abends number old t code text new =
-    (fallen : List Name) × (mid : Labels) × Leaves old t fallen mid × (text ≡ abend_lines number t code fallen) × (new ≡ record mid { abended = true })
+abbrev pub Abends : Labels → Name → Code → Answer → Labels → Type 0
+Abends old t code answer new =
+    (fallen : List Name) × (mid : Labels) × Leaves old t fallen mid × Tells (Abended code fallen) (record mid { abended = true }) answer new
 
 -- A conditional request is answered 4, and an unconditional one abends.
-abbrev pub Fails : Bool → ℕ → Labels → Name → Code → List ℕ → Labels → Type 0
-Fails true number old t code text new = Tells number t rc_4 old text new
-Fails false number old t code text new = Abends number old t code text new
+abbrev pub Fails : Bool → Labels → Name → Code → Answer → Labels → Type 0
+Fails true old t code answer new = Tells Rc4 old answer new
+Fails false old t code answer new = Abends old t code answer new
 
 -- the labels with one more area of a subpool, all of fill bytes
 abbrev pub with_area : Labels → ℕ → ℕ → Labels
@@ -151,11 +150,12 @@ all_named names (name ∷ more) [] l = names
 all_named names (name ∷ more) (n ∷ lengths) l = all_named (insert names name l) more lengths (l + 1)
 
 -- An invalid subpool number abends; else all is granted, and the names are set.
-abbrev pub Obtains : ℕ → Labels → Name → Form → ℕ → List ℕ → List Name → List ℕ → List ℕ → Labels → Type 0
-Obtains number old t form n lengths areas told text new =
+abbrev pub Obtains : Labels → Name → Form → ℕ → List ℕ → List Name → Answer → Answer → Labels → Type 0
+Obtains old t form n lengths areas told answer new =
     MatchBool (is_invalid n)
-    (Abends number old t (bad_subpool (family form) true) text new)
-    ((mid : Labels) × GrantsEach old (keeper old.owners t n) n lengths mid × Tells number t told (record mid { names = all_named mid.names areas lengths old.count }) text new)
+    (Abends old t (bad_subpool (family form) true) answer new)
+    ((mid : Labels) × GrantsEach old (keeper old.owners t n) n lengths mid
+    × Tells told (record mid { names = all_named mid.names areas lengths old.count }) answer new)
 
 -- whether the places may be released from what the task has under a number
 abbrev pub may_free : Labels → Option ℕ → List Spot → Bool
@@ -163,36 +163,36 @@ may_free m s qs = has (λ s. list_all (is_held m s) qs) s && not (some_meet qs)
 
 -- An invalid subpool number abends, then an offset that is not on a doubleword; places that are not all held are a failure;
 -- else all are gone.
-abbrev pub Releases : ℕ → Labels → Name → Form → ℕ → List Spot → List ℕ → Labels → Type 0
-Releases number old t form n qs text new =
+abbrev pub Releases : Labels → Name → Form → ℕ → List Spot → Answer → Labels → Type 0
+Releases old t form n qs answer new =
     MatchBool (is_invalid n)
-    (Abends number old t (bad_subpool (family form) false) text new)
+    (Abends old t (bad_subpool (family form) false) answer new)
     (MatchBool (not (list_all (λ q. on_doubleword q.place) qs))
-    (Abends number old t (bad_address (family form)) text new)
+    (Abends old t (bad_address (family form)) answer new)
     (MatchBool (not (may_free old (subpool_meant old.owners t n) (map rounded qs)))
-    (Fails (is_conditional form) number old t (not_held (family form)) text new)
-    (Tells number t rc_0 (without old (λ l i. list_any (λ q. has_offset q l i) (map rounded qs))) text new)))
+    (Fails (is_conditional form) old t (not_held (family form)) answer new)
+    (Tells Rc0 (without old (λ l i. list_any (λ q. has_offset q l i) (map rounded qs))) answer new)))
 
 -- All of a subpool is gone; subpool 0 may not be released so.
-abbrev pub Empties : ℕ → Labels → Name → Form → ℕ → List ℕ → Labels → Type 0
-Empties number old t form n text new =
+abbrev pub Empties : Labels → Name → Form → ℕ → Answer → Labels → Type 0
+Empties old t form n answer new =
     MatchBool (is_invalid n)
-    (Abends number old t (bad_subpool (family form) false) text new)
+    (Abends old t (bad_subpool (family form) false) answer new)
     (MatchBool (n == 0)
-    (Abends number old t whole_of_zero text new)
-    (Tells number t rc_0 (without old (λ l i. has (λ s. old.subpool l == s) (subpool_meant old.owners t n))) text new))
+    (Abends old t whole_of_zero answer new)
+    (Tells Rc0 (without old (λ l i. has (λ s. old.subpool l == s) (subpool_meant old.owners t n))) answer new))
 
 -- what becomes of ATTACH, by the code that refuses it
-abbrev pub Attaches : ℕ → Labels → Name → Name → GiftsValue → Residence → Option Code → List ℕ → Labels → Type 0
-Attaches number old t name gifts residence (Some code) text new = Abends number old t code text new
-Attaches number old t name gifts residence None text new = (o : Owners) × Attach old.owners t name gifts residence o × Tells number t attached (record old { owners = o }) text new
+abbrev pub Attaches : Labels → Name → Name → GiftsValue → Residence → Option Code → Answer → Labels → Type 0
+Attaches old t name gifts residence (Some code) answer new = Abends old t code answer new
+Attaches old t name gifts residence None answer new = (o : Owners) × Attach old.owners t name gifts residence o × Tells Attached (record old { owners = o }) answer new
 
 -- A return ends the task; with an active subtask it abends.
-abbrev pub Returns : ℕ → Labels → Name → List ℕ → Labels → Type 0
-Returns number old t text new =
+abbrev pub Returns : Labels → Name → Answer → Labels → Type 0
+Returns old t answer new =
     MatchBool (has_subtask old.owners t)
-    (Abends number old t active_subtask text new)
-    ((fallen : List Name) × (mid : Labels) × Leaves old t fallen mid × Tells number t ended mid text new)
+    (Abends old t active_subtask answer new)
+    ((fallen : List Name) × (mid : Labels) × Leaves old t fallen mid × Tells Ended mid answer new)
 
 -- the bytes of an area from an offset on
 unfoldable pub bytes_in : Labels → ℕ → ℕ → ℕ → List ℕ
@@ -204,100 +204,76 @@ abbrev pub with_bytes : Labels → Spot → (ℕ → Option ℕ) → Labels
 with_bytes m q f = record m { byte = λ l i. if has_offset q l i then f (i - q.place.addr) else m.byte l i }
 
 -- An access abends where an offset is gone or outside of its area.
-abbrev pub Accesses : ℕ → Labels → Name → Bool → Type 0 → List ℕ → Labels → Type 0
-Accesses number old t allowed done text new = MatchBool (not allowed) (Abends number old t no_access text new) done
+abbrev pub Accesses : Labels → Name → Bool → Type 0 → Answer → Labels → Type 0
+Accesses old t allowed done answer new = MatchBool (not allowed) (Abends old t no_access answer new) done
 
 -- what a request may do: where a name in it is not set, it says so
-abbrev pub Asks : ℕ → Labels → Name → Written → List ℕ → Labels → Type 0
-Asks number old t (written.Obtain form n ask variable area) text new =
-    Obtains number old t form n (ask.most ∷ []) (area ∷ []) (grant_text (written.Obtain form n ask variable area) (place_at 0 (round8 ask.most))) text new
-Asks number old t (written.ObtainList form n lengths start areas) text new = Obtains number old t form n lengths areas rc_0 text new
-Asks number old t (written.Release form n location len) text new =
-    MatchOption (spots_of old (location ∷ []) (len ∷ [])) (Tells number t no_name old text new) (λ qs. Releases number old t form n qs text new)
-Asks number old t (written.ReleaseArea form n area) text new =
-    MatchOption (area_of old area) (Tells number t no_name old text new) (λ q. Releases number old t form n (q ∷ []) text new)
-Asks number old t (written.ReleaseList form n locations lengths) text new =
-    MatchOption (spots_of old locations lengths) (Tells number t no_name old text new) (λ qs. Releases number old t form n qs text new)
-Asks number old t (written.ReleaseWhole form n) text new = Empties number old t form n text new
-Asks number old t (written.Build pool n size primary secondary loc) text new = ⊥
-Asks number old t (written.Get pool conditional cell) text new = ⊥
-Asks number old t (written.Free pool cell) text new = ⊥
-Asks number old t (written.Delete pool) text new = ⊥
-Asks number old t (written.Attach name gifts residence) text new = Attaches number old t name gifts residence (attach_refusal old.owners t name gifts) text new
-Asks number old t written.Return text new = Returns number old t text new
-Asks number old t (written.Abend n) text new = Abends number old t (User n) text new
-Asks number old t (written.Show location n) text new =
-    MatchOption (spot_of old location n) (Tells number t no_name old text new)
-    (λ q. Accesses number old t (is_there old q) ((text ≡ data_lines number t (line_count n) 0 (bytes_in old q.label q.place.addr n)) × (new ≡ old)) text new)
-Asks number old t (written.Put location bytes) text new =
-    MatchOption (spot_of old location (length bytes)) (Tells number t no_name old text new)
-    (λ q. Accesses number old t (is_there old q) (Tells number t ok (with_bytes old q (slice_get bytes)) text new) text new)
-Asks number old t (written.Move to from n) text new =
-    MatchOption (spot_of old to n) (Tells number t no_name old text new)
-    (λ q. MatchOption (spot_of old from n) (Tells number t no_name old text new)
-    (λ r. Accesses number old t (is_there old q && is_there old r) (Tells number t ok (with_bytes old q (λ i. old.byte r.label (r.place.addr + i))) text new) text new))
+abbrev pub Asks : Labels → Name → Written → Answer → Labels → Type 0
+Asks old t (written.Obtain form n ask variable area) answer new =
+    Obtains old t form n (ask.most ∷ []) (area ∷ []) (grant_answer (written.Obtain form n ask variable area) (place_at 0 (round8 ask.most))) answer new
+Asks old t (written.ObtainList form n lengths start areas) answer new = Obtains old t form n lengths areas Rc0 answer new
+Asks old t (written.Release form n location len) answer new =
+    MatchOption (spots_of old (location ∷ []) (len ∷ [])) (Tells NoName old answer new) (λ qs. Releases old t form n qs answer new)
+Asks old t (written.ReleaseArea form n area) answer new =
+    MatchOption (area_of old area) (Tells NoName old answer new) (λ q. Releases old t form n (q ∷ []) answer new)
+Asks old t (written.ReleaseList form n locations lengths) answer new =
+    MatchOption (spots_of old locations lengths) (Tells NoName old answer new) (λ qs. Releases old t form n qs answer new)
+Asks old t (written.ReleaseWhole form n) answer new = Empties old t form n answer new
+Asks old t (written.Build pool n size primary secondary loc) answer new = ⊥
+Asks old t (written.Get pool conditional cell) answer new = ⊥
+Asks old t (written.Free pool cell) answer new = ⊥
+Asks old t (written.Delete pool) answer new = ⊥
+Asks old t (written.Attach name gifts residence) answer new = Attaches old t name gifts residence (attach_refusal old.owners t name gifts) answer new
+Asks old t written.Return answer new = Returns old t answer new
+Asks old t (written.Abend n) answer new = Abends old t (User n) answer new
+Asks old t (written.Show location n) answer new =
+    MatchOption (spot_of old location n) (Tells NoName old answer new)
+    (λ q. Accesses old t (is_there old q) (Tells (Data (bytes_in old q.label q.place.addr n)) old answer new) answer new)
+Asks old t (written.Put location bytes) answer new =
+    MatchOption (spot_of old location (length bytes)) (Tells NoName old answer new)
+    (λ q. Accesses old t (is_there old q) (Tells Done (with_bytes old q (slice_get bytes)) answer new) answer new)
+Asks old t (written.Move to from n) answer new =
+    MatchOption (spot_of old to n) (Tells NoName old answer new)
+    (λ q. MatchOption (spot_of old from n) (Tells NoName old answer new)
+    (λ r. Accesses old t (is_there old q && is_there old r) (Tells Done (with_bytes old q (λ i. old.byte r.label (r.place.addr + i))) answer new) answer new))
 
 -- how many bytes of a subpool's areas are there
 abbrev pub bytes_there : Labels → ℕ → ℕ
 bytes_there m s = total_below m.count (λ l. if m.subpool l == s then count_below (m.len l) (λ i. is_some (m.byte l i)) else 0)
 
--- REPORT SP: no subpool has bytes in pools
-abbrev pub entry_line : ℕ → Labels → Name → ℕ → Option ℕ → List ℕ
-entry_line number m t n s = line_of_entry number m.owners (bytes_there m) (λ s. 0) t n s
+-- What a statement of an active task does, where it is tidy. REPORT SP: no subpool has bytes in pools.
+abbrev pub Says : Labels → Name → Statement → Answer → Labels → Type 0
+Says old t (says.Region below above fill residence) answer new = ⊥
+Says old t (says.Request a) answer new = Asks old t a answer new
+Says old t (says.Where name) answer new = MatchOption (get old.names name) (Tells NoName old answer new) (λ l. ⊥)
+Says old t says.ReportSubpools answer new = Tells (Subpools (subpool_lines old.owners (bytes_there old) (λ s. 0) t)) old answer new
+Says old t says.ReportMap answer new = ⊥
 
-abbrev pub subpools_text : ℕ → Labels → Name → List ℕ
-subpools_text number m t = subpools_lines number m.owners (bytes_there m) (λ s. 0) t
-
--- what a statement of an active task does, where it is tidy
-abbrev pub Says : ℕ → Labels → Name → Statement → List ℕ → Labels → Type 0
-Says number old t (says.Region below above fill residence) text new = ⊥
-Says number old t (says.Request a) text new = Asks number old t a text new
-Says number old t (says.Where name) text new = MatchOption (get old.names name) (Tells number t no_name old text new) (λ l. ⊥)
-Says number old t says.ReportSubpools text new = (text ≡ subpools_text number old t) × (new ≡ old)
-Says number old t says.ReportMap text new = ⊥
-
--- what a statement does
-abbrev pub Does : ℕ → Labels → Name → Statement → List ℕ → Labels → Type 0
-Does number old t s text new = MatchBool (not (is_active old.owners t)) (Tells number t not_run old text new) (Says number old t s text new)
+-- What a statement does, which is not REGION.
+abbrev pub Does : Labels → Name → Statement → Answer → Labels → Type 0
+Does old t s answer new = MatchBool (not (is_active old.owners t)) (Tells NotRun old answer new) (Says old t s answer new)
 
 -- the labels at the start of a step: none
-abbrev pub first_labels : CardValue → Labels
-first_labels card = record { fill = card.fill; count = 0; subpool = λ l. 0; len = λ l. 0; byte = λ l i. None; owners = first_owners card.name card.residence; names = empty; abended = false }
+abbrev pub first_labels : CardValue → Bool → Labels
+first_labels card former = record {
+  fill = card.fill;
+  count = 0;
+  subpool = λ l. 0;
+  len = λ l. 0;
+  byte = λ l i. None;
+  owners = first_owners card.name card.residence;
+  names = empty;
+  abended = false;
+  former = former;
+}
 
--- a REGION statement begins the first step
-abbrev pub Begins : ℕ → Name → Statement → List ℕ → Option Labels → Type 0
-Begins number t (says.Region below above fill residence) text new =
-    (text ≡ region_text number (card_of t below above fill residence)) × (new ≡ Some (first_labels (card_of t below above fill residence)))
-Begins number t _ text new = ⊥
+abbrev pub label_machine : Machine Labels
+label_machine = record { starts = first_labels; abended = λ m. m.abended; former = λ m. m.former; does = Does }
 
--- a later one ends the step and begins the next, and the other statements are of the step
-abbrev pub Follows : ℕ → Labels → Name → Statement → List ℕ → Option Labels → Type 0
-Follows number old t (says.Region below above fill residence) text new =
-    (text ≡ step_ended old.abended ++ region_text number (card_of t below above fill residence)) × (new ≡ Some (first_labels (card_of t below above fill residence)))
-Follows number old t s text new = (later : Labels) × (new ≡ Some later) × Does number old t s text later
+-- The label machine tells these events of a script, and ends so.
+abbrev pub IsLabelRun : List ℕ → List Event → Outcome → Type 0
+IsLabelRun script events outcome = Walks label_machine (JobEnds label_machine outcome) 1 None (lines_of script) events
 
--- what a line does, before the first step or in a step
-abbrev pub Serves : ℕ → Option Labels → Line → List ℕ → Option Labels → Type 0
-Serves number old line.Nothing text new = (text ≡ []) × (new ≡ old)
-Serves number None (line.Statement t s) text new = Begins number t s text new
-Serves number (Some m) (line.Statement t s) text new = Follows number m t s text new
-
--- what a line without a fault does
-abbrev pub ServesLine : ℕ → Option Labels → List ℕ → List ℕ → Option Labels → Type 0
-ServesLine number old bytes text new = (l : Line) × LineOf (not (is_some old)) bytes l × Serves number old l text new
-
--- what is printed at the end of a script without a fault
-abbrev pub Closes : ℕ → Option Labels → List ℕ → Type 0
-Closes number None text = text ≡ fault_text number OutOfPlace
-Closes number (Some m) text = text ≡ step_ended m.abended
-
--- what the lines from this number on print
-abbrev pub Prints : ℕ → Option Labels → List (List ℕ) → List ℕ → Type 0
-Prints number old [] text = Closes number old text
-Prints number old (l ∷ lines) text =
-    Faults number (not (is_some old)) l text
-    ⊎ ((mid : Option Labels) × (first : List ℕ) × (rest : List ℕ) × ServesLine number old l first mid × (text ≡ first ++ rest) × Prints (number + 1) mid lines rest)
-
--- The text is what the label machine prints for a script.
+-- The text is the printing of what the label machine tells of a script.
 abbrev pub IsLabelText : List ℕ → List ℕ → Type 0
-IsLabelText script text = Prints 1 None (lines_of script) text
+IsLabelText script text = (events : List Event) × (outcome : Outcome) × IsLabelRun script events outcome × (text ≡ printing events)

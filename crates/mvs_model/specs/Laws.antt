@@ -14,13 +14,8 @@ use Rattle.mvs_model.specs.WellFormed.{Apart, WellFormed}
 use Rattle.mvs_model.specs.Job.{JobValue}
 use Rattle.mvs_model.specs.Lines.{lines_of}
 use Rattle.mvs_model.specs.Reading.{checks, first_of, says_nothing}
-use Rattle.mvs_model.specs.Texts.{fault_text}
-use Rattle.mvs_model.specs.Runs.{Before, In, IsPrinting, Runs}
-
--- The job is in a step of a run of some lines.
-pub record IsRunning (job : JobValue) : Type 0 where
-  pub lines : List (List ℕ)
-  pub runs : Runs 1 Before lines (In job)
+use Rattle.mvs_model.specs.Answers.{Event, Faulted}
+use Rattle.mvs_model.specs.Runs.{IsRun, IsPrinting, IsRunning}
 
 -- In every state of a run each page is of one subpool.
 abbrev pub PagesKept : Type 0
@@ -38,7 +33,7 @@ PartsApart = (job : JobValue) → IsRunning job → Apart job.state
 abbrev pub KeptWellFormed : Type 0
 KeptWellFormed = (job : JobValue) → IsRunning job → WellFormed job.state
 
--- Each script has a printing.
+-- Each script has a run, and so a printing.
 abbrev pub EachIsPrinted : Type 0
 EachIsPrinted = (script : List ℕ) → (text : List ℕ) × (outcome : Outcome) × IsPrinting script text outcome
 
@@ -53,11 +48,11 @@ abbrev pub first_fault : ℕ → Bool → List (List ℕ) → Option (ℕ × Fau
 first_fault number first [] = if first then Some (number, OutOfPlace) else None
 first_fault number first (l ∷ lines) = fault_at number (first_of (checks first l)) (first_fault (number + 1) (first && says_nothing l) lines)
 
--- A printing ends in the text of the fault, where there is one, and in no fault where there is none.
-abbrev pub EndsIn : Option (ℕ × Fault) → List ℕ → Outcome → Type 0
-EndsIn None text outcome = outcome ≢ ScriptFault
-EndsIn (Some (number, fault)) text outcome = (outcome ≡ ScriptFault) × ((front : List ℕ) × (text ≡ front ++ fault_text number fault))
+-- The events end in the fault, where there is one, and in no fault where there is none.
+abbrev pub EndsIn : Option (ℕ × Fault) → List Event → Outcome → Type 0
+EndsIn None events outcome = outcome ≢ ScriptFault
+EndsIn (Some (number, fault)) events outcome = (outcome ≡ ScriptFault) × ((front : List Event) × (events ≡ front ++ Faulted number fault ∷ []))
 
 -- Whether, where and how a script faults is told by its lines alone, whatever its requests are answered.
 abbrev pub SameFault : Type 0
-SameFault = (script text : List ℕ) (outcome : Outcome) → IsPrinting script text outcome → EndsIn (first_fault 1 true (lines_of script)) text outcome
+SameFault = (script : List ℕ) (events : List Event) (outcome : Outcome) → IsRun script events outcome → EndsIn (first_fault 1 true (lines_of script)) events outcome

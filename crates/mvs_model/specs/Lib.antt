@@ -14,15 +14,19 @@ pub mod State
 pub mod Start
 pub mod Changes
 pub mod Steps
+pub mod Answered
 -- The script: how a line is read, what is printed, the runs of a job, and the label machine.
 pub mod Grammar
 pub mod Reading
 pub mod Lines
 pub mod Resolving
+pub mod Answers
 pub mod Texts
 pub mod Reports
 pub mod Job
 pub mod Replies
+pub mod Lent
+pub mod Walk
 pub mod Runs
 pub mod Memory
 pub mod Labels

@@ -1,6 +1,6 @@
 -- The lines of a script, and the ranges of what they say.
-use Rattle.std.specs.Prelude.{◌≡◌, ℕ, ◌≤◌, Bool, false, List, [], ◌∷◌, ◌==◌, Result, Ok, if◌then◌else◌}
-use Rattle.std.specs.List.{onto_first}
+use Rattle.std.specs.Prelude.{◌≡◌, ◌≢◌, ℕ, ◌≤◌, Bool, false, List, [], ◌∷◌, ◌++◌, ◌==◌, Result, Ok, if◌then◌else◌}
+use Rattle.std.specs.List.{onto_first, AllByRecursion}
 use Rattle.mvs_model.specs.declared.name.Name.{Name}
 use Rattle.mvs_model.specs.declared.line.Line.{Line}
 use Rattle.mvs_model.specs.declared.line.Line.TheVariants as line
@@ -18,6 +18,15 @@ use Rattle.mvs_model.specs.Card.{CardValue, IsCard}
 abbrev pub lines_of : List ℕ → List (List ℕ)
 lines_of [] = []
 lines_of (b ∷ bs) = if b == 10 then [] ∷ lines_of bs else onto_first b (lines_of bs)
+
+-- the text of lines, each of which has ended
+abbrev pub ended_text : List (List ℕ) → List ℕ
+ended_text [] = []
+ended_text (l ∷ lines) = l ++ 10 ∷ ended_text lines
+
+-- No line ends in these bytes.
+abbrev pub IsUnended : List ℕ → Type 0
+IsUnended bytes = AllByRecursion (λ b. b ≢ 10) bytes
 
 -- the card that a REGION statement of a task makes
 abbrev pub card_of : Name → ℕ → ℕ → ℕ → Residence → CardValue

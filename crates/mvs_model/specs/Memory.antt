@@ -1,5 +1,5 @@
 -- Where a run of a script takes memory: at a REGION statement, and at a granted request that sets a name.
-use Rattle.std.specs.Prelude.{◌≡◌, ◌≢◌, ◌⊎◌, ℕ, ◌+◌, List, [], ◌∷◌, ◌++◌, Some}
+use Rattle.std.specs.Prelude.{◌≡◌, ◌≢◌, ℕ, List, [], ◌∷◌, Option, Some, None}
 use Rattle.mvs_model.specs.declared.name.Name.{Name}
 use Rattle.mvs_model.specs.declared.line.Line.{Line}
 use Rattle.mvs_model.specs.declared.line.Line.TheVariants as line
@@ -9,11 +9,14 @@ use Rattle.mvs_model.specs.declared.request.Request.{Request}
 use Rattle.mvs_model.specs.declared.request.Reply.{Reply}
 use Rattle.mvs_model.specs.State.{State}
 use Rattle.mvs_model.specs.Steps.{Step}
+use Rattle.mvs_model.specs.Answers.{Event}
+use Rattle.mvs_model.specs.Texts.{printing}
 use Rattle.mvs_model.specs.Job.{JobValue}
 use Rattle.mvs_model.specs.Lines.{lines_of}
 use Rattle.mvs_model.specs.Reading.{LineOf}
 use Rattle.mvs_model.specs.Resolving.{resolved, names_set, places_in}
-use Rattle.mvs_model.specs.Runs.{Stage, Before, In, is_before, ServesLine, end_text}
+use Rattle.mvs_model.specs.Walk.{Stop, Walks, is_first, ending}
+use Rattle.mvs_model.specs.Runs.{machine}
 
 -- The request may be granted so that a name is set.
 pub record SetsName (job : JobValue) (t : Name) (a : Written) : Type 0 where
@@ -25,24 +28,17 @@ pub record SetsName (job : JobValue) (t : Name) (a : Written) : Type 0 where
   pub names : names_set a ≢ []
   pub places : places_in reply ≢ []
 
--- The line takes memory, and prints this text before its reply: of a later REGION statement the end of the step.
-abbrev pub TakesMemory : Stage → Line → List ℕ → Type 0
-TakesMemory Before (line.Statement t (says.Region below above fill residence)) text = text ≡ []
-TakesMemory (In job) (line.Statement t (says.Region below above fill residence)) text = text ≡ end_text job
-TakesMemory (In job) (line.Statement t (says.Request a)) text = (text ≡ []) × SetsName job t a
-TakesMemory old l text = ⊥
+-- The line takes memory, and these events are told before its answer: of a later REGION statement the end of the step.
+abbrev pub TakesMemory : Option JobValue → Line → List Event → Type 0
+TakesMemory old (line.Statement t (says.Region below above fill residence)) events = events ≡ ending machine old
+TakesMemory (Some job) (line.Statement t (says.Request a)) events = (events ≡ []) × SetsName job t a
+TakesMemory old l events = ⊥
 
--- the same of a line as it is written
-abbrev pub LineTakesMemory : Stage → List ℕ → List ℕ → Type 0
-LineTakesMemory old bytes text = (l : Line) × LineOf (is_before old) bytes l × TakesMemory old l text
+-- A walk may stop at such a line.
+abbrev pub StopsForMemory : Stop JobValue
+StopsForMemory number old [] events = ⊥
+StopsForMemory number old (l ∷ lines) events = (said : Line) × LineOf (is_first old) l said × TakesMemory old said events
 
--- The lines from this number on may print this text, up to the reply to one that takes memory.
-abbrev pub PrintsBefore : ℕ → Stage → List (List ℕ) → List ℕ → Type 0
-PrintsBefore number old [] text = ⊥
-PrintsBefore number old (l ∷ lines) text =
-    LineTakesMemory old l text
-    ⊎ ((mid : Stage) × (first : List ℕ) × (rest : List ℕ) × ServesLine number old l first mid × (text ≡ first ++ rest) × PrintsBefore (number + 1) mid lines rest)
-
--- The text is the whole printing of a run of the script before the reply to a statement that takes memory.
+-- The text is the whole printing of a run of the script before the answer to a statement that takes memory.
 abbrev pub IsPrintingBefore : List ℕ → List ℕ → Type 0
-IsPrintingBefore script text = PrintsBefore 1 Before (lines_of script) text
+IsPrintingBefore script text = (events : List Event) × Walks machine StopsForMemory 1 None (lines_of script) events × (text ≡ printing events)

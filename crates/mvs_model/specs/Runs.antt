@@ -1,124 +1,100 @@
--- The runs of a job: what its lines print.
-use Rattle.std.specs.Prelude.{◌≡◌, ◌⊎◌, ℕ, ◌||◌, ◌+◌, Bool, true, false, not, List, [], ◌∷◌, ◌++◌, Option, Some, None, if◌then◌else◌}
+-- The runs of a job: what its statements may be answered, and the printing of that.
+use Rattle.std.specs.Prelude.{◌≡◌, ℕ, ◌||◌, not, List, ◌++◌, Option, Some, None}
 use Rattle.std.specs.Bool.{MatchBool}
+use Rattle.std.specs.List.{AllByRecursion}
 use Rattle.std.specs.FinMap.{get}
 use Rattle.mvs_model.specs.declared.name.Name.{Name}
-use Rattle.mvs_model.specs.declared.line.Line.{Line}
-use Rattle.mvs_model.specs.declared.line.Line.TheVariants as line
 use Rattle.mvs_model.specs.declared.line.Statement.{Statement}
 use Rattle.mvs_model.specs.declared.line.Statement.TheVariants as says
 use Rattle.mvs_model.specs.declared.line.Written.{Written}
-use Rattle.mvs_model.specs.declared.line.Fault.{Fault}
-use Rattle.mvs_model.specs.declared.line.Fault.TheVariants.{OutOfPlace}
 use Rattle.mvs_model.specs.declared.outcome.Outcome.{Outcome}
-use Rattle.mvs_model.specs.declared.outcome.Outcome.TheVariants.{Clean, SomeAbend, ScriptFault}
 use Rattle.mvs_model.specs.declared.request.Request.{Request}
 use Rattle.mvs_model.specs.declared.request.Reply.{Reply}
 use Rattle.mvs_model.specs.Owners.{is_active}
+use Rattle.mvs_model.specs.State.{State}
 use Rattle.mvs_model.specs.Steps.{Step}
-use Rattle.mvs_model.specs.Reports.{subpools_text, map_text}
-use Rattle.mvs_model.specs.Texts.{not_run, no_name, step_ended, reply_line, region_text, fault_text}
-use Rattle.mvs_model.specs.Lines.{lines_of, card_of}
-use Rattle.mvs_model.specs.Reading.{LineOf, FaultOf}
+use Rattle.mvs_model.specs.Answers.{Answer, NotRun, NoName, Subpools, Map, Event}
+use Rattle.mvs_model.specs.Reports.{subpool_lines_of, page_map}
+use Rattle.mvs_model.specs.Texts.{printing}
+use Rattle.mvs_model.specs.Lines.{lines_of, ended_text, IsUnended}
 use Rattle.mvs_model.specs.Resolving.{resolved, names_set, places_in, all_set}
-use Rattle.mvs_model.specs.Replies.{is_abend, reply_text, where_text}
-use Rattle.mvs_model.specs.Job.{JobValue, first_job, next_job}
+use Rattle.mvs_model.specs.Replies.{is_abend, answer_of, where_answer}
+use Rattle.mvs_model.specs.Job.{JobValue, job_at}
+use Rattle.mvs_model.specs.Walk.{Machine, Walks, JobEnds, Leads}
 
--- How a job stands between two lines: before its first step, or in a step.
-pub data Stage : Type 0 where
-  Before : Stage
-  In : JobValue → Stage
+-- What may be asked of the step of a request: of the old state, the task, the request, its reply and the new state.
+abbrev pub Condition : Type 1
+Condition = State → Name → Request → Reply → State → Type 0
 
--- whether no statement came before
-abbrev pub is_before : Stage → Bool
-is_before Before = true
-is_before (In job) = false
-
--- The request is made: its reply is printed, and a grant sets its names.
-pub record Makes (number : ℕ) (old : JobValue) (t : Name) (a : Written) (r : Request) (text : List ℕ) (new : JobValue) : Type 0 where
+-- The request is made, by a step that meets the condition: its reply is the answer, and a grant sets its names.
+pub record Makes (P : Condition) (old : JobValue) (t : Name) (a : Written) (r : Request) (answer : Answer) (new : JobValue) : Type 0 where
   pub reply : Reply
   pub step : Step old.state t r reply new.state
+  pub meets : P old.state t r reply new.state
   pub names : new.names ≡ all_set old.names (names_set a) (places_in reply)
   pub abended : new.abended ≡ (old.abended || is_abend reply)
   pub former : new.former ≡ old.former
-  pub text_is : text ≡ reply_text number t old a reply
+  pub told : answer ≡ answer_of old.state a r reply
 
--- A line that changes nothing prints one text.
-abbrev pub Tells : ℕ → JobValue → Name → List ℕ → List ℕ → JobValue → Type 0
-Tells number old t told text new = (text ≡ reply_line number t told) × (new ≡ old)
+-- An answer that changes nothing.
+abbrev pub Tells : JobValue → Answer → Answer → JobValue → Type 0
+Tells old told answer new = (answer ≡ told) × (new ≡ old)
 
--- what a request may print, and which job it leaves: a name in it is not set, or it is made
-abbrev pub Asks : ℕ → JobValue → Name → Written → Option Request → List ℕ → JobValue → Type 0
-Asks number old t a None text new = Tells number old t no_name text new
-Asks number old t a (Some r) text new = Makes number old t a r text new
+-- What a request may be answered: a name in it is not set, or it is made.
+abbrev pub Asks : Condition → JobValue → Name → Written → Option Request → Answer → JobValue → Type 0
+Asks P old t a None answer new = Tells old NoName answer new
+Asks P old t a (Some r) answer new = Makes P old t a r answer new
 
--- what a statement of an active task may print, and which job it leaves
-abbrev pub Says : ℕ → JobValue → Name → Statement → List ℕ → JobValue → Type 0
-Says number old t (says.Region below above fill residence) text new = ⊥
-Says number old t (says.Request a) text new = Asks number old t a (resolved old.names a) text new
-Says number old t (says.Where name) text new = Tells number old t (where_text (get old.names name)) text new
-Says number old t says.ReportSubpools text new = (text ≡ subpools_text number old.state t) × (new ≡ old)
-Says number old t says.ReportMap text new = (text ≡ map_text number old.state t) × (new ≡ old)
+-- What a statement of an active task may be answered.
+abbrev pub Says : Condition → JobValue → Name → Statement → Answer → JobValue → Type 0
+Says P old t (says.Region below above fill residence) answer new = ⊥
+Says P old t (says.Request a) answer new = Asks P old t a (resolved old.names a) answer new
+Says P old t (says.Where name) answer new = Tells old (where_answer (get old.names name)) answer new
+Says P old t says.ReportSubpools answer new = Tells old (Subpools (subpool_lines_of old.state t)) answer new
+Says P old t says.ReportMap answer new = Tells old (Map (page_map old.state)) answer new
 
--- what a statement in a step may print, where it is not REGION, and which job it leaves
-abbrev pub Does : ℕ → JobValue → Name → Statement → List ℕ → JobValue → Type 0
-Does number old t s text new = MatchBool (not (is_active old.state.owners t)) (Tells number old t not_run text new) (Says number old t s text new)
+-- What a statement of a task may be answered, which is not REGION.
+abbrev pub Does : Condition → JobValue → Name → Statement → Answer → JobValue → Type 0
+Does P old t s answer new = MatchBool (not (is_active old.state.owners t)) (Tells old NotRun answer new) (Says P old t s answer new)
 
--- the line of the end of a step
-abbrev pub end_text : JobValue → List ℕ
-end_text job = step_ended job.abended
+-- the machine of a job whose requests meet a condition
+abbrev pub job_machine : Condition → Machine JobValue
+job_machine P = record { starts = job_at; abended = λ job. job.abended; former = λ job. job.former; does = Does P }
 
--- A REGION statement begins the first step.
-abbrev pub Begins : ℕ → Name → Statement → List ℕ → Stage → Type 0
-Begins number t (says.Region below above fill residence) text new =
-    (text ≡ region_text number (card_of t below above fill residence)) × (new ≡ In (first_job (card_of t below above fill residence)))
-Begins number t _ text new = ⊥
+-- no condition
+abbrev pub Any : Condition
+Any old t r reply new = Unit {0}
 
--- A later one ends the step and begins the next, whatever tasks are active; the other statements are of the step.
-abbrev pub Follows : ℕ → JobValue → Name → Statement → List ℕ → Stage → Type 0
-Follows number old t (says.Region below above fill residence) text new =
-    (text ≡ end_text old ++ region_text number (card_of t below above fill residence)) × (new ≡ In (next_job old (card_of t below above fill residence)))
-Follows number old t s text new = (later : JobValue) × (new ≡ In later) × Does number old t s text later
+-- the machine of a job
+abbrev pub machine : Machine JobValue
+machine = job_machine Any
 
--- what a line without a fault may print, and how it leaves the job; blank lines and comments print nothing
-abbrev pub Serves : ℕ → Stage → Line → List ℕ → Stage → Type 0
-Serves number old line.Nothing text new = (text ≡ []) × (new ≡ old)
-Serves number Before (line.Statement t s) text new = Begins number t s text new
-Serves number (In job) (line.Statement t s) text new = Follows number job t s text new
-
--- what a line may print that has no fault, and how it leaves the job
-abbrev pub ServesLine : ℕ → Stage → List ℕ → List ℕ → Stage → Type 0
-ServesLine number old bytes text new = (l : Line) × LineOf (is_before old) bytes l × Serves number old l text new
-
--- The line, the first statement or a later one, has a fault, whose text is the last.
-abbrev pub Faults : ℕ → Bool → List ℕ → List ℕ → Type 0
-Faults number first bytes text = (fault : Fault) × FaultOf first bytes fault × (text ≡ fault_text number fault)
-
--- how a job ends that has no fault
-abbrev pub outcome_of : JobValue → Outcome
-outcome_of job = if job.abended || job.former then SomeAbend else Clean
-
--- what a job prints that has no more lines: a script without a statement lacks its REGION statement
-abbrev pub Closes : ℕ → Stage → List ℕ → Outcome → Type 0
-Closes number Before text outcome = (text ≡ fault_text number OutOfPlace) × (outcome ≡ ScriptFault)
-Closes number (In job) text outcome = (text ≡ end_text job) × (outcome ≡ outcome_of job)
-
--- The lines from this number on may print this text, from this stage of the job, which then ends so.
-abbrev pub Prints : ℕ → Stage → List (List ℕ) → List ℕ → Outcome → Type 0
-Prints number old [] text outcome = Closes number old text outcome
-Prints number old (l ∷ lines) text outcome =
-    (Faults number (is_before old) l text × (outcome ≡ ScriptFault))
-    ⊎ ((mid : Stage) × (first : List ℕ) × (rest : List ℕ) × ServesLine number old l first mid × (text ≡ first ++ rest) × Prints (number + 1) mid lines rest outcome)
+-- A run of the script may tell these events, and end so.
+abbrev pub IsRun : List ℕ → List Event → Outcome → Type 0
+IsRun script events outcome = Walks machine (JobEnds machine outcome) 1 None (lines_of script) events
 
 -- The text is the printing of a run of the script, which ends so.
 abbrev pub IsPrinting : List ℕ → List ℕ → Outcome → Type 0
-IsPrinting script text outcome = Prints 1 Before (lines_of script) text outcome
+IsPrinting script text outcome = (events : List Event) × IsRun script events outcome × (text ≡ printing events)
 
 -- a front of such a printing
 abbrev pub IsPrintingFront : List ℕ → List ℕ → Type 0
 IsPrintingFront script text = (rest : List ℕ) × (outcome : Outcome) × IsPrinting script (text ++ rest) outcome
 
--- The lines from this number on, none of which has a fault, may lead from the old stage to the new one.
-abbrev pub Runs : ℕ → Stage → List (List ℕ) → Stage → Type 0
-Runs number old [] new = new ≡ old
-Runs number old (l ∷ lines) new = (mid : Stage) × (first : List ℕ) × ServesLine number old l first mid × Runs (number + 1) mid lines new
+-- All lines that have ended in some bytes of a script are answered: the text is the printing of a run of them.
+pub record IsAnswered (told text : List ℕ) : Type 0 where
+  pub lines : List (List ℕ)
+  pub kept : List ℕ
+  pub cut : told ≡ ended_text lines ++ kept
+  pub each : AllByRecursion IsUnended lines
+  pub unended : IsUnended kept
+  pub events : List Event
+  pub step : Option JobValue
+  pub leads : Leads machine 1 None lines events step
+  pub printed : text ≡ printing events
+
+-- In a run of a script the job may be in this step.
+pub record IsRunning (job : JobValue) : Type 0 where
+  pub lines : List (List ℕ)
+  pub events : List Event
+  pub leads : Leads machine 1 None lines events (Some job)

@@ -20,8 +20,9 @@ use Rattle.mvs_model.specs.Steps.{Step, whole}
 use Rattle.mvs_model.specs.Job.{JobValue}
 use Rattle.mvs_model.specs.Reading.{LineOf}
 use Rattle.mvs_model.specs.Resolving.{resolved}
-use Rattle.mvs_model.specs.Runs.{In, ServesLine}
-use Rattle.mvs_model.specs.Laws.{IsRunning}
+use Rattle.mvs_model.specs.Answers.{Event}
+use Rattle.mvs_model.specs.Walk.{ServesLine}
+use Rattle.mvs_model.specs.Runs.{machine, IsRunning}
 
 -- The request neither writes the byte nor releases it: PUT and MOVE write a place, FREEMAIN releases places or what a subpool holds, CPOOL
 -- FREE a cell, and CPOOL DELETE the cells of a pool.
@@ -54,7 +55,8 @@ LineSpares a old bytes new = (t : Name) (s : Statement) → LineOf false bytes (
 abbrev pub RunsSparing : ℕ → ℕ → JobValue → List (List ℕ) → JobValue → Type 0
 RunsSparing a number old [] new = new ≡ old
 RunsSparing a number old (l ∷ lines) new =
-    (mid : JobValue) × (text : List ℕ) × ServesLine number (In old) l text (In mid) × LineSpares a old l mid × RunsSparing a (number + 1) mid lines new
+    (mid : JobValue) × (events : List Event) × ServesLine machine number (Some old) l events (Some mid)
+    × LineSpares a old l mid × RunsSparing a (number + 1) mid lines new
 
 -- A byte that may be read is the same after any further lines of the step that neither write nor release it, nor end the task that owns
 -- what holds it.

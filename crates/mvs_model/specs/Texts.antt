@@ -1,14 +1,17 @@
 -- The printed lines. (all of this is this project's own notation)
-use Rattle.std.specs.Prelude.{ℕ, Bool, zero, suc, ◌+◌, ◌-◌, ◌/◌, ◌%◌, nat_lt, List, [], ◌∷◌, ◌++◌, take, drop, if◌then◌else◌, codes, decimal}
+use Rattle.std.specs.Prelude.{ℕ, Bool, zero, suc, ◌+◌, ◌-◌, ◌/◌, ◌%◌, nat_lt, List, [], ◌∷◌, ◌++◌, take, drop, length, Option, Some, None, if◌then◌else◌, codes, decimal}
 use Rattle.std.specs.List.{flat_map}
 use Rattle.mvs_model.specs.declared.name.Name.{Name}
 use Rattle.mvs_model.specs.declared.code.Code.{Code}
 use Rattle.mvs_model.specs.declared.code.Code.TheVariants.{System, User}
 use Rattle.mvs_model.specs.declared.line.Fault.{Fault}
 use Rattle.mvs_model.specs.declared.line.Fault.TheVariants.{TooLong, InvalidByte, UnknownOperation, InvalidOperand, MissingOperand, OutOfRange, Repeated, Conflicting, OutOfPlace}
+use Rattle.mvs_model.specs.declared.report.SubpoolLine.{SubpoolLine}
+use Rattle.mvs_model.specs.declared.report.MapRun.{MapRun}
 use Rattle.mvs_model.specs.Name.{trimmed}
 use Rattle.mvs_model.specs.Card.{CardValue}
 use Rattle.mvs_model.specs.Numbers.{line_bytes}
+use Rattle.mvs_model.specs.Answers.{Answer, NotRun, NoName, At, Rc0, Granted, Rc4, Cell, NoCell, Attached, Ended, Done, Data, Abended, Subpools, Map, Region, Event, Told, StepEnded, Faulted}
 
 -- the glyph of a digit, in upper case
 abbrev pub glyph : ℕ → ℕ
@@ -47,61 +50,48 @@ data_lines number t zero offset bytes = []
 data_lines number t (suc lines) offset bytes =
     reply_line number t (codes "DATA +" ++ hex 4 offset ++ codes " " ++ flat_map (hex 2) (take line_bytes bytes)) ++ data_lines number t lines (offset + line_bytes) (drop line_bytes bytes)
 
--- the reply to a REGION statement
-abbrev pub region_text : ℕ → CardValue → List ℕ
-region_text number card = reply_line number card.name (codes "REGION BELOW " ++ decimal card.below ++ codes " ABOVE " ++ decimal card.above)
-
--- ---- what the replies say
-
-abbrev pub not_run : List ℕ
-not_run = codes "NOT RUN"
-
-abbrev pub no_name : List ℕ
-no_name = codes "NO NAME"
-
-abbrev pub rc_0 : List ℕ
-rc_0 = codes "RC 0"
-
-abbrev pub rc_4 : List ℕ
-rc_4 = codes "RC 4"
-
--- of a variable request that was granted: the length
-abbrev pub rc_0_length : ℕ → List ℕ
-rc_0_length n = codes "RC 0 LENGTH " ++ hex 8 n
-
-abbrev pub cell : List ℕ
-cell = codes "CELL"
-
-abbrev pub no_cell : List ℕ
-no_cell = codes "NO CELL"
-
-abbrev pub attached : List ℕ
-attached = codes "ATTACHED"
-
-abbrev pub ended : List ℕ
-ended = codes "ENDED"
-
-abbrev pub ok : List ℕ
-ok = codes "OK"
-
--- of WHERE: the address
-abbrev pub at_text : ℕ → List ℕ
-at_text a = codes "AT " ++ hex 8 a
-
 -- of REPORT SP: a number, whether its subpool is owned, and the bytes that this holds outside of pools and in them
-abbrev pub subpool_text : ℕ → Bool → ℕ → ℕ → List ℕ
-subpool_text n owned plain pool =
-    codes "SP " ++ decimal n ++ (if owned then codes " OWNED PLAIN " else codes " SHARED PLAIN ") ++ decimal plain ++ codes " POOL " ++ decimal pool
+abbrev pub subpool_text : SubpoolLine → List ℕ
+subpool_text l =
+    codes "SP " ++ decimal l.number ++ (if l.owned then codes " OWNED PLAIN " else codes " SHARED PLAIN ") ++ decimal l.plain ++ codes " POOL " ++ decimal l.pool
 
-abbrev pub no_subpool : List ℕ
-no_subpool = codes "SP NONE"
+-- what pages are assigned to: the number under which the owner has the subpool, and the owner
+abbrev pub label_text : Option (ℕ × Name) → List ℕ
+label_text None = codes "FREE"
+label_text (Some label) = codes "SP " ++ decimal label.0 ++ codes " OWNER " ++ trimmed label.1
 
--- of REPORT MAP: an address, how many bytes follow it, and what is said of them
-abbrev pub map_text : ℕ → ℕ → List ℕ → List ℕ
-map_text a n said = codes "MAP " ++ hex 8 a ++ codes " " ++ hex 8 n ++ codes " " ++ said
+-- of REPORT MAP: an address, how many bytes follow it, and what they are assigned to
+abbrev pub map_text : MapRun → List ℕ
+map_text r = codes "MAP " ++ hex 8 r.addr ++ codes " " ++ hex 8 r.len ++ codes " " ++ label_text r.holder
 
-abbrev pub free : List ℕ
-free = codes "FREE"
+-- of a REGION statement: the pages below and above
+abbrev pub region_text : CardValue → List ℕ
+region_text card = codes "REGION BELOW " ++ decimal card.below ++ codes " ABOVE " ++ decimal card.above
+
+-- what the line of an answer says that has one line
+abbrev pub said : Answer → List ℕ
+said NotRun = codes "NOT RUN"
+said NoName = codes "NO NAME"
+said (At a) = codes "AT " ++ hex 8 a
+said Rc0 = codes "RC 0"
+said (Granted n) = codes "RC 0 LENGTH " ++ hex 8 n
+said Rc4 = codes "RC 4"
+said Cell = codes "CELL"
+said NoCell = codes "NO CELL"
+said Attached = codes "ATTACHED"
+said Ended = codes "ENDED"
+said Done = codes "OK"
+said (Region card) = region_text card
+said _ = []
+
+-- what is printed for an answer to a statement of the task
+abbrev pub answer_text : ℕ → Name → Answer → List ℕ
+answer_text number t (Data bytes) = data_lines number t (line_count (length bytes)) 0 bytes
+answer_text number t (Abended code fallen) = abend_lines number t code fallen
+answer_text number t (Subpools []) = reply_line number t (codes "SP NONE")
+answer_text number t (Subpools (l ∷ lines)) = flat_map (λ l. reply_line number t (subpool_text l)) (l ∷ lines)
+answer_text number t (Map runs) = flat_map (λ r. reply_line number t (map_text r)) runs
+answer_text number t answer = reply_line number t (said answer)
 
 -- the end of a step
 abbrev pub step_ended : Bool → List ℕ
@@ -122,3 +112,13 @@ fault_number OutOfPlace = 9
 -- a line's fault, which ends the job
 abbrev pub fault_text : ℕ → Fault → List ℕ
 fault_text number fault = decimal number ++ codes " JS0" ++ decimal (fault_number fault) ++ codes "\nJOB FAULT RC 12\n"
+
+-- what is printed for an event
+abbrev pub text_of : Event → List ℕ
+text_of (Told number t answer) = answer_text number t answer
+text_of (StepEnded abended) = step_ended abended
+text_of (Faulted number fault) = fault_text number fault
+
+-- what is printed for events, one after another
+abbrev pub printing : List Event → List ℕ
+printing events = flat_map text_of events

@@ -1,12 +1,10 @@
 -- Tidy scripts, runs that are granted in full, and how a state and the labels are linked.
-use Rattle.std.specs.Prelude.{◌≡◌, ◌≢◌, ◌⊎◌, ℕ, ◌+◌, ◌*◌, ◌/◌, ◌%◌, ◌<◌, Bool, true, false, not, ◌||◌, List, [], ◌∷◌, ◌++◌, length, map, Option, Some, None, is_some, IsSome, codes}
-use Rattle.std.specs.Bool.{MatchBool}
+use Rattle.std.specs.Prelude.{◌≡◌, ◌≢◌, ℕ, ◌+◌, ◌*◌, ◌/◌, ◌%◌, ◌<◌, Bool, true, false, not, ◌||◌, List, [], ◌∷◌, length, map, Option, Some, None, is_some, IsSome}
 use Rattle.std.specs.List.{list_all, zip}
 use Rattle.std.specs.Option.{option_map, unwrap_or}
 use Rattle.std.specs.FinMap.{get, empty}
 use Rattle.mvs_model.specs.declared.name.Name.{Name}
 use Rattle.mvs_model.specs.declared.code.Family.{Family}
-use Rattle.mvs_model.specs.declared.line.Line.{Line}
 use Rattle.mvs_model.specs.declared.line.Line.TheVariants as line
 use Rattle.mvs_model.specs.declared.line.Statement.{Statement}
 use Rattle.mvs_model.specs.declared.line.Statement.TheVariants as says
@@ -15,7 +13,6 @@ use Rattle.mvs_model.specs.declared.line.Location.TheVariants.{Absolute, Named}
 use Rattle.mvs_model.specs.declared.line.Written.{Written}
 use Rattle.mvs_model.specs.declared.line.Written.TheVariants as written
 use Rattle.mvs_model.specs.declared.outcome.Outcome.{Outcome}
-use Rattle.mvs_model.specs.declared.outcome.Outcome.TheVariants.{ScriptFault}
 use Rattle.mvs_model.specs.declared.request.Request.{Request}
 use Rattle.mvs_model.specs.declared.request.Request.TheVariants as request
 use Rattle.mvs_model.specs.declared.request.Reply.{Reply}
@@ -28,11 +25,12 @@ use Rattle.mvs_model.specs.Codes.{short}
 use Rattle.mvs_model.specs.Job.{JobValue}
 use Rattle.mvs_model.specs.Lines.{lines_of}
 use Rattle.mvs_model.specs.Reading.{LineOf}
-use Rattle.mvs_model.specs.Resolving.{resolved}
-use Rattle.mvs_model.specs.Runs.{Stage, Before, In, is_before, Makes, Tells, Says, Follows, Serves, Faults, Closes}
-use Rattle.mvs_model.specs.Laws.{IsRunning}
+use Rattle.mvs_model.specs.Answers.{Answer, Event}
+use Rattle.mvs_model.specs.Texts.{printing}
+use Rattle.mvs_model.specs.Walk.{Walks, ServesLine, JobEnds}
+use Rattle.mvs_model.specs.Runs.{Condition, Does, job_machine, IsRunning}
 use Rattle.mvs_model.specs.Labels as labels
-use Rattle.mvs_model.specs.Labels.{Labels, spot, is_there, IsLabelText}
+use Rattle.mvs_model.specs.Labels.{Labels, spot, is_there, label_machine, IsLabelRun, IsLabelText}
 
 -- the addresses that a request uses, with the lengths of their places, a release's rounded
 abbrev pub places_used : Labels → Written → List (Location × ℕ)
@@ -83,7 +81,8 @@ TidyLine (Some m) bytes = (t : Name) (s : Statement) → LineOf false bytes (lin
 abbrev pub TidyLines : ℕ → Option Labels → List (List ℕ) → Type 0
 TidyLines number old [] = Unit {0}
 TidyLines number old (l ∷ lines) =
-    TidyLine old l × ((text : List ℕ) (new : Option Labels) → labels.ServesLine number old l text new → TidyLines (number + 1) new lines)
+    TidyLine old l
+    × ((events : List Event) (new : Option Labels) → ServesLine label_machine number old l events new → TidyLines (number + 1) new lines)
 
 -- A script that uses no cell pools, no addresses, and of its areas only what is there.
 abbrev pub Tidy : List ℕ → Type 0
@@ -101,47 +100,22 @@ HasLargest (request.Obtain form n ask) reply = (p : PlaceValue) → reply ≡ Ob
 HasLargest _ reply = Unit {0}
 
 -- The request was not refused for want of a place, and has its largest length.
-pub record InFull (r : Request) (reply : Reply) : Type 0 where
+pub record IsInFull (r : Request) (reply : Reply) : Type 0 where
   pub answered : is_obtain r ≡ true → reply ≢ Rc4
   pub no_abend : (f : Family) (fallen : List Name) → reply ≢ Abended (short f) fallen
   pub largest : HasLargest r reply
 
--- what a request may print and which job it leaves, granted in full
-abbrev pub AsksInFull : ℕ → JobValue → Name → Written → Option Request → List ℕ → JobValue → Type 0
-AsksInFull number old t a None text new = Tells number old t (codes "NO NAME") text new
-AsksInFull number old t a (Some r) text new = (made : Makes number old t a r text new) × InFull r made.reply
+-- the same as a condition of a step
+abbrev pub InFull : Condition
+InFull old t r reply new = IsInFull r reply
 
--- the same of a statement
-abbrev pub SaysInFull : ℕ → JobValue → Name → Statement → List ℕ → JobValue → Type 0
-SaysInFull number old t (says.Request a) text new = AsksInFull number old t a (resolved old.names a) text new
-SaysInFull number old t s text new = Says number old t s text new
-
-abbrev pub DoesInFull : ℕ → JobValue → Name → Statement → List ℕ → JobValue → Type 0
-DoesInFull number old t s text new = MatchBool (not (is_active old.state.owners t)) (Tells number old t (codes "NOT RUN") text new) (SaysInFull number old t s text new)
-
--- the same where it may also end the step
-abbrev pub FollowsInFull : ℕ → JobValue → Name → Statement → List ℕ → Stage → Type 0
-FollowsInFull number old t (says.Region below above fill residence) text new = Follows number old t (says.Region below above fill residence) text new
-FollowsInFull number old t s text new = (later : JobValue) × (new ≡ In later) × DoesInFull number old t s text later
-
--- the same of a line
-abbrev pub ServesInFull : ℕ → Stage → Line → List ℕ → Stage → Type 0
-ServesInFull number (In job) (line.Statement t s) text new = FollowsInFull number job t s text new
-ServesInFull number old l text new = Serves number old l text new
-
-abbrev pub ServesLineInFull : ℕ → Stage → List ℕ → List ℕ → Stage → Type 0
-ServesLineInFull number old bytes text new = (l : Line) × LineOf (is_before old) bytes l × ServesInFull number old l text new
-
--- The lines from this number on may print this text, each request granted in full.
-abbrev pub PrintsInFull : ℕ → Stage → List (List ℕ) → List ℕ → Outcome → Type 0
-PrintsInFull number old [] text outcome = Closes number old text outcome
-PrintsInFull number old (l ∷ lines) text outcome =
-    (Faults number (is_before old) l text × (outcome ≡ ScriptFault))
-    ⊎ ((mid : Stage) × (first : List ℕ) × (rest : List ℕ) × ServesLineInFull number old l first mid × (text ≡ first ++ rest) × PrintsInFull (number + 1) mid lines rest outcome)
+-- A run of the script in which each request is granted in full may tell these events, and end so.
+abbrev pub IsRunInFull : List ℕ → List Event → Outcome → Type 0
+IsRunInFull script events outcome = Walks (job_machine InFull) (JobEnds (job_machine InFull) outcome) 1 None (lines_of script) events
 
 -- The text is the printing of a run of the script that was granted in full.
 abbrev pub IsPrintingInFull : List ℕ → List ℕ → Outcome → Type 0
-IsPrintingInFull script text outcome = PrintsInFull 1 Before (lines_of script) text outcome
+IsPrintingInFull script text outcome = (events : List Event) × IsRunInFull script events outcome × (text ≡ printing events)
 
 -- Areas have whole doublewords; there are bytes only inside of areas, and names only of areas.
 pub record IsLabels (m : Labels) : Type 0 where
@@ -165,26 +139,38 @@ pub record Link (job : JobValue) (m : Labels) : Type 0 where
   pub owners : job.state.owners ≡ m.owners
   pub fill : job.state.regions.fill ≡ m.fill
   pub abended : job.abended ≡ m.abended
+  pub former : job.former ≡ m.former
   pub labels : IsLabels m
 
--- From what is linked, a tidy statement of a run that is granted in full prints on both machines the same, and leaves what is
--- linked. (In a state of a run what is held lies before the end of the regions: REPORT SP counts to there, and would miss what
+-- From what is linked, a tidy statement of a run that is granted in full is answered on both machines the same, and leaves what
+-- is linked. (In a state of a run what is held lies before the end of the regions: REPORT SP counts to there, and would miss what
 -- a state that is only linked holds behind it.)
 abbrev pub TidyStep : Type 0
 TidyStep =
-    (number : ℕ) (job : JobValue) (m : Labels) (t : Name) (s : Statement) (text : List ℕ) (new : JobValue)
-    → IsRunning job → Link job m → IsTidy m t s → DoesInFull number job t s text new
-    → (later : Labels) × labels.Does number m t s text later × Link new later
+    (job : JobValue) (m : Labels) (t : Name) (s : Statement) (answer : Answer) (new : JobValue)
+    → IsRunning job → Link job m → IsTidy m t s → Does InFull job t s answer new
+    → (later : Labels) × labels.Does m t s answer later × Link new later
 
--- Each run of a tidy script that is granted in full prints what the label machine prints.
+-- Each run of a tidy script that is granted in full is answered what the label machine answers.
+abbrev pub TidyRun : Type 0
+TidyRun = (script : List ℕ) (events : List Event) (outcome : Outcome) → Tidy script → IsRunInFull script events outcome → IsLabelRun script events outcome
+
+-- So it prints what the label machine prints.
 abbrev pub TidyText : Type 0
 TidyText = (script text : List ℕ) (outcome : Outcome) → Tidy script → IsPrintingInFull script text outcome → IsLabelText script text
 
--- The label machine prints one text.
-abbrev pub OneLabelText : Type 0
-OneLabelText = (script one other : List ℕ) → IsLabelText script one → IsLabelText script other → one ≡ other
+-- The label machine answers a script in one way.
+abbrev pub OneLabelRun : Type 0
+OneLabelRun =
+    (script : List ℕ) (one other : List Event) (o p : Outcome) → IsLabelRun script one o → IsLabelRun script other p → (one ≡ other) × (o ≡ p)
 
--- Two runs of a tidy script that are granted in full print the same, wherever their areas lie.
+-- Two runs of a tidy script that are granted in full are answered the same and end the same, wherever their areas lie.
 abbrev pub PlacesDoNotMatter : Type 0
 PlacesDoNotMatter =
+    (script : List ℕ) (one other : List Event) (o p : Outcome)
+    → Tidy script → IsRunInFull script one o → IsRunInFull script other p → (one ≡ other) × (o ≡ p)
+
+-- So they print the same.
+abbrev pub PlacesAreNotPrinted : Type 0
+PlacesAreNotPrinted =
     (script one other : List ℕ) (o p : Outcome) → Tidy script → IsPrintingInFull script one o → IsPrintingInFull script other p → one ≡ other

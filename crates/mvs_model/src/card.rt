@@ -1,11 +1,10 @@
 //! The card of a step.
 
-ghost use Rattle.std.specs.Prelude.{◌≡◌, ◌≤◌, ◌<◌, SomeIff};
-ghost use Rattle.mvs_model.specs.Card.{CardValue, IsCard};
+ghost use Rattle.std.specs.Prelude.{◌≡◌, ◌≤◌};
 ghost use Rattle.mvs_model.specs.Numbers.{most_pages_below, most_pages_above};
 
+use crate::bounded::{PagesAbove, PagesBelow};
 use crate::name::Name;
-use crate::numbers::{MOST_PAGES_ABOVE, MOST_PAGES_BELOW};
 use crate::want::Residence;
 use std::marker::Model;
 
@@ -34,20 +33,25 @@ impl Model for Card {
 }
 
 impl Card {
-    /// The card of a step; None where the pages below are not 1 to 2,048, or those above more than 8,192.
-    pub fn new(name: Name, below: u32, above: u32, fill: u8, residence: Residence) -> Option<Card>
-        ensures { let card : CardValue = record { name = name; below = below; above = above; fill = fill; residence = residence } in SomeIff result (IsCard card) card }
+    /// The card of a step.
+    pub fn new(
+        name: Name,
+        below: PagesBelow,
+        above: PagesAbove,
+        fill: u8,
+        residence: Residence,
+    ) -> Card
+        ensures { result
+            ≡ record
+            { name = name; below = below; above = above; fill = fill; residence = residence } }
     {
-        if below < 1 || below > MOST_PAGES_BELOW || above > MOST_PAGES_ABOVE {
-            return None;
-        }
-        Some(Card {
+        Card {
             name,
-            below,
-            above,
+            below: below.get(),
+            above: above.get(),
             fill,
             residence,
-        })
+        }
     }
 
     /// The name of the job step task.

@@ -32,9 +32,9 @@ impl Model for Gifts {
 // The first number of a set, at or after one.
 fn first_number(set: u128, from: u8) -> Option<u8>
     requires { from < task_numbers }
-    ensures { MatchOption result
-        ((n : ℕ) → from ≤ n → has_bit set n ≡ false)
-        (λ n. (from ≤ n) × (n < task_numbers) × (has_bit set n ≡ true) × ((i : ℕ) → from ≤ i → i < n → has_bit set i ≡ false)) }
+    ensures { MatchOption result ((n : ℕ) → from ≤ n → has_bit set n ≡ false)
+        (λ n. (from ≤ n) × (n < task_numbers) × (has_bit set n ≡ true)
+        × ((i : ℕ) → from ≤ i → i < n → has_bit set i ≡ false)) }
 {
     let rest = set >> from;
     if rest == 0 {
@@ -47,7 +47,8 @@ fn first_number(set: u128, from: u8) -> Option<u8>
 impl Gifts {
     /// None where bit 0 is set, or a bit is set in both fields.
     pub fn new(given: u128, shared: u128, zero: bool) -> Option<Gifts>
-        ensures { let presents : GiftsValue = record { given = given; shared = shared; zero = zero } in SomeIff result (IsGifts presents) presents }
+        ensures { let presents : GiftsValue = record { given = given; shared = shared; zero = zero }
+            in SomeIff result (IsGifts presents) presents }
     {
         if given & shared != 0 || given % 2 != 0 || shared % 2 != 0 {
             return None;
@@ -75,9 +76,9 @@ impl Gifts {
 
     /// The first number from one on that the mother gives.
     pub fn first_given(&self, from: u8) -> Option<u8>
-        ensures { MatchOption result
-            ((n : ℕ) → from ≤ n → gives self.now n ≡ false)
-            (λ n. (from ≤ n) × (n < task_numbers) × (gives self.now n ≡ true) × ((i : ℕ) → from ≤ i → i < n → gives self.now i ≡ false)) }
+        ensures { MatchOption result ((n : ℕ) → from ≤ n → gives self.now n ≡ false)
+            (λ n. (from ≤ n) × (n < task_numbers) × (gives self.now n ≡ true)
+            × ((i : ℕ) → from ≤ i → i < n → gives self.now i ≡ false)) }
     {
         if from < TASK_NUMBERS {
             first_number(self.given, from)
@@ -88,9 +89,9 @@ impl Gifts {
 
     /// The first number from one on that the mother shares.
     pub fn first_shared(&self, from: u8) -> Option<u8>
-        ensures { MatchOption result
-            ((n : ℕ) → from ≤ n → shares self.now n ≡ false)
-            (λ n. (from ≤ n) × (n < task_numbers) × (shares self.now n ≡ true) × ((i : ℕ) → from ≤ i → i < n → shares self.now i ≡ false)) }
+        ensures { MatchOption result ((n : ℕ) → from ≤ n → shares self.now n ≡ false)
+            (λ n. (from ≤ n) × (n < task_numbers) × (shares self.now n ≡ true)
+            × ((i : ℕ) → from ≤ i → i < n → shares self.now i ≡ false)) }
     {
         if from >= TASK_NUMBERS {
             return None;

@@ -2,7 +2,7 @@
 
 ghost use Rattle.mvs_model.specs.Laws.{PagesKept, NeverStuck, PartsApart, KeptWellFormed, EachIsPrinted, SameFault};
 ghost use Rattle.mvs_model.specs.Sparing.{BytesStay, GrantsSpare};
-ghost use Rattle.mvs_model.specs.Tidy.{TidyStep, TidyText, OneLabelText, PlacesDoNotMatter};
+ghost use Rattle.mvs_model.specs.Tidy.{OneLabelRun, PlacesAreNotPrinted, PlacesDoNotMatter, TidyRun, TidyStep, TidyText};
 ghost use Rattle.mvs_model.specs.TidyExamples.{BusyReturn, GivenEnds, MovesInFull, MovesOverlap};
 ghost use Rattle.mvs_model.specs.ReadingLaws.{InRanges, OneReading, OnlyWords};
 ghost use Rattle.mvs_model.specs.Spelling.{AllowedIsRead, CutApart, EachIsWritten, InAnyOrder};
@@ -49,25 +49,29 @@ pub fn same_fault()
     ensures { SameFault }
 {}
 
-/// From a state of a run and labels that are linked, a tidy statement that is granted in full prints the same on
+/// From a state of a run and labels that are linked, a tidy statement that is granted in full is answered the same on
 /// both machines, and leaves them linked.
 pub fn tidy_step()
     ensures { TidyStep }
 {}
 
-/// Each run of a tidy script that is granted in full prints what the label machine prints, wherever its areas lie.
+/// Each run of a tidy script that is granted in full is answered what the label machine answers, wherever its areas lie,
+/// and so prints what that prints.
 pub fn tidy_text()
-    ensures { TidyText }
+    ensures answers { TidyRun }
+    ensures text { TidyText }
 {}
 
-/// The label machine prints one text for a script.
-pub fn one_label_text()
-    ensures { OneLabelText }
+/// The label machine answers a script in one way.
+pub fn one_label_run()
+    ensures { OneLabelRun }
 {}
 
-/// Two runs of a tidy script that are granted in full print the same, wherever their areas lie.
+/// Two runs of a tidy script that are granted in full are answered the same, wherever their areas lie, and so print the
+/// same.
 pub fn places_do_not_matter()
-    ensures { PlacesDoNotMatter }
+    ensures answers { PlacesDoNotMatter }
+    ensures text { PlacesAreNotPrinted }
 {}
 
 /// A script in which a task returns with a subtask is tidy.

@@ -1,6 +1,7 @@
 //! The storage machine: plain types, definitions and laws.
 #![tactic(auto)]
 
+pub mod answer;
 pub mod bounded;
 pub mod card;
 pub mod code;

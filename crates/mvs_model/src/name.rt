@@ -51,7 +51,8 @@ fn pad(text: &[u8]) -> [u8; 8]
 impl Name {
     /// The name that a text spells; None where the text is empty, longer than eight bytes, or has a blank.
     pub fn new(text: &[u8]) -> Option<Name>
-        ensures { MatchOption result (IsNameText text.now → ⊥) (λ name. IsNameText text.now × (name ≡ padded text.now)) }
+        ensures { MatchOption result (IsNameText text.now → ⊥)
+            (λ name. IsNameText text.now × (name ≡ padded text.now)) }
     {
         if text.is_empty() || text.len() > 8 || text.contains(&b' ') {
             return None;

@@ -1,11 +1,7 @@
 //! The numbers of the machine, as the code uses them: each is the one of the definitions.
 
 ghost use Rattle.std.specs.Prelude.{◌≡◌};
-ghost use Rattle.mvs_model.specs.Codes as codes;
 ghost use Rattle.mvs_model.specs.Numbers as numbers;
-ghost use Rattle.mvs_model.specs.declared.code.Family.TheVariants.{Located};
-
-use crate::code::Code;
 
 /// The bytes of a page (Assembler Services Guide, virtual storage management).
 pub const PAGE_BYTES: u32 = 4_096;
@@ -104,63 +100,31 @@ pub const MOST_ITEMS: usize = 16;
 /// The most bytes of a script. This project's choice.
 pub const MOST_SCRIPT_BYTES: usize = 16_777_215;
 
-impl Code {
-    /// Bytes are read or written that may not be (System Codes, 0C4).
-    pub const NO_ACCESS: Code = Code::System(0x0C4);
-
-    /// No place for a request with a location or for a part of a cell pool (System Codes, 878).
-    pub const SHORTAGE: Code = Code::System(0x878);
-
-    /// A task returns that has an active subtask (System Codes, A03).
-    pub const ACTIVE_SUBTASK: Code = Code::System(0xA03);
-
-    /// CPOOL FREE at an address where no taken cell of the pool begins. This project's choice, as those below are.
-    pub const NO_SUCH_CELL: Code = Code::User(4_001);
-
-    /// CPOOL names no pool that is there.
-    pub const NO_SUCH_POOL: Code = Code::User(4_002);
-
-    /// ATTACH gives a subpool that the mother shares and does not own.
-    pub const NOT_OWNED: Code = Code::User(4_003);
-
-    /// ATTACH beyond the most tasks.
-    pub const TOO_MANY_TASKS: Code = Code::User(4_005);
-
-    /// All of subpool 0 is to be released.
-    pub const WHOLE_OF_ZERO: Code = Code::User(4_006);
-
-    /// CPOOL BUILD beyond the most cell pools.
-    pub const TOO_MANY_POOLS: Code = Code::User(4_007);
-
-    /// CPOOL BUILD of a name that a pool has.
-    pub const POOL_IN_USE: Code = Code::User(4_008);
-
-    /// ATTACH of a name that an active task has.
-    pub const TASK_IN_USE: Code = Code::User(4_009);
-}
-
 /// Each number that the code uses is the one of the definitions.
 pub fn numbers_agree()
-    ensures page { (PAGE_BYTES ≡ numbers.page_bytes) × (PAGE_DOUBLEWORDS ≡ numbers.page_doublewords) }
-    ensures pages { (FIRST_PAGE_BELOW ≡ numbers.first_page_below) × (FIRST_PAGE_ABOVE ≡ numbers.first_page_above) }
-    ensures doublewords { (FIRST_DOUBLEWORD_BELOW ≡ numbers.first_doubleword_below) × (FIRST_DOUBLEWORD_ABOVE ≡ numbers.first_doubleword_above) }
+    ensures page { (PAGE_BYTES ≡ numbers.page_bytes)
+        × (PAGE_DOUBLEWORDS ≡ numbers.page_doublewords) }
+    ensures pages { (FIRST_PAGE_BELOW ≡ numbers.first_page_below)
+        × (FIRST_PAGE_ABOVE ≡ numbers.first_page_above) }
+    ensures doublewords { (FIRST_DOUBLEWORD_BELOW ≡ numbers.first_doubleword_below)
+        × (FIRST_DOUBLEWORD_ABOVE ≡ numbers.first_doubleword_above) }
     ensures begins { (BELOW_BEGINS ≡ numbers.below_begins) × (ABOVE_BEGINS ≡ numbers.above_begins) }
-    ensures regions { (MOST_PAGES_BELOW ≡ numbers.most_pages_below) × (MOST_PAGES_ABOVE ≡ numbers.most_pages_above) }
-    ensures subpools { (SUBPOOL_NUMBERS ≡ numbers.subpool_numbers) × (MOST_SUBPOOLS ≡ numbers.most_subpools) }
-    ensures numbers { (TASK_NUMBERS ≡ numbers.task_numbers) × (FIRST_STEP_NUMBER ≡ numbers.first_step_number) × (SECOND_STEP_NUMBER ≡ numbers.second_step_number) }
+    ensures regions { (MOST_PAGES_BELOW ≡ numbers.most_pages_below)
+        × (MOST_PAGES_ABOVE ≡ numbers.most_pages_above) }
+    ensures subpools { (SUBPOOL_NUMBERS ≡ numbers.subpool_numbers)
+        × (MOST_SUBPOOLS ≡ numbers.most_subpools) }
+    ensures numbers { (TASK_NUMBERS ≡ numbers.task_numbers)
+        × (FIRST_STEP_NUMBER ≡ numbers.first_step_number)
+        × (SECOND_STEP_NUMBER ≡ numbers.second_step_number) }
     ensures most { (MOST_TASKS ≡ numbers.most_tasks) × (MOST_POOLS ≡ numbers.most_pools) }
     ensures shown { (MOST_SHOWN ≡ numbers.most_shown) × (LINE_BYTES ≡ numbers.line_bytes) }
-    ensures addresses { (LAST_ADDRESS ≡ numbers.last_address) × (MOST_OFFSET ≡ numbers.most_offset) }
-    ensures exponents { (LEAST_EXPONENT ≡ numbers.least_exponent) × (MOST_EXPONENT ≡ numbers.most_exponent) }
-    ensures cells { (LEAST_CELL_BYTES ≡ numbers.least_cell_bytes) × (MOST_CELL_BYTES ≡ numbers.most_cell_bytes) × (MOST_CELLS ≡ numbers.most_cells) }
-    ensures operands { (MOST_USER_CODE ≡ numbers.most_user_code) × (MOST_PUT ≡ numbers.most_put) × (MOST_MOVED ≡ numbers.most_moved) × (MOST_ITEMS ≡ numbers.most_items) }
+    ensures addresses { (LAST_ADDRESS ≡ numbers.last_address)
+        × (MOST_OFFSET ≡ numbers.most_offset) }
+    ensures exponents { (LEAST_EXPONENT ≡ numbers.least_exponent)
+        × (MOST_EXPONENT ≡ numbers.most_exponent) }
+    ensures cells { (LEAST_CELL_BYTES ≡ numbers.least_cell_bytes)
+        × (MOST_CELL_BYTES ≡ numbers.most_cell_bytes) × (MOST_CELLS ≡ numbers.most_cells) }
+    ensures operands { (MOST_USER_CODE ≡ numbers.most_user_code) × (MOST_PUT ≡ numbers.most_put)
+        × (MOST_MOVED ≡ numbers.most_moved) × (MOST_ITEMS ≡ numbers.most_items) }
     ensures script { MOST_SCRIPT_BYTES ≡ numbers.most_script_bytes }
-{}
-
-/// Each code of a refusal that the code uses is the one of the definitions.
-pub fn codes_agree()
-    ensures system { (Code.NO_ACCESS ≡ codes.no_access) × (Code.SHORTAGE ≡ codes.short Located) × (Code.ACTIVE_SUBTASK ≡ codes.active_subtask) }
-    ensures pools { (Code.NO_SUCH_CELL ≡ codes.no_such_cell) × (Code.NO_SUCH_POOL ≡ codes.no_such_pool) × (Code.TOO_MANY_POOLS ≡ codes.too_many_pools) × (Code.POOL_IN_USE ≡ codes.pool_in_use) }
-    ensures tasks { (Code.NOT_OWNED ≡ codes.not_owned) × (Code.TOO_MANY_TASKS ≡ codes.too_many_tasks) × (Code.TASK_IN_USE ≡ codes.task_in_use) }
-    ensures whole { Code.WHOLE_OF_ZERO ≡ codes.whole_of_zero }
 {}

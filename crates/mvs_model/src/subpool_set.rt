@@ -41,9 +41,9 @@ fn one_bit(at: u32) -> u64
 // The first bit of the word, at or after one, that is set.
 fn first_bit(word: u64, from: u32) -> Option<u32>
     requires { from < 64 }
-    ensures { MatchOption result
-        ((i : ℕ) → from ≤ i → i < 64 → bit_at word i ≡ 0)
-        (λ at. (from ≤ at) × (at < 64) × (bit_at word at ≡ 1) × ((i : ℕ) → from ≤ i → i < at → bit_at word i ≡ 0)) }
+    ensures { MatchOption result ((i : ℕ) → from ≤ i → i < 64 → bit_at word i ≡ 0)
+        (λ at. (from ≤ at) × (at < 64) × (bit_at word at ≡ 1)
+        × ((i : ℕ) → from ≤ i → i < at → bit_at word i ≡ 0)) }
 {
     let rest = word >> from;
     if rest == 0 {
@@ -78,7 +78,8 @@ impl SubpoolSet {
 
     /// Puts a subpool into the set.
     pub fn insert(&mut self, subpool: SubpoolId)
-        ensures members { (s : ℕ) → is_one_of self.new s ≡ ((s == subpool) || is_one_of self.old s) }
+        ensures members { (s : ℕ)
+            → is_one_of self.new s ≡ ((s == subpool) || is_one_of self.old s) }
         ensures rising { IsStrictlySortedBy nat_cmp self.new }
     {
         let at = subpool.get() as usize;
@@ -105,9 +106,9 @@ impl SubpoolSet {
 
     /// The first member from a number on.
     pub fn first_from(&self, from: usize) -> Option<SubpoolId>
-        ensures { MatchOption result
-            ((s : ℕ) → from ≤ s → is_one_of self.now s ≡ false)
-            (λ r. (from ≤ r) × (is_one_of self.now r ≡ true) × ((s : ℕ) → from ≤ s → s < r → is_one_of self.now s ≡ false)) }
+        ensures { MatchOption result ((s : ℕ) → from ≤ s → is_one_of self.now s ≡ false)
+            (λ r. (from ≤ r) × (is_one_of self.now r ≡ true)
+            × ((s : ℕ) → from ≤ s → s < r → is_one_of self.now s ≡ false)) }
     {
         let mut at = from;
         'words: while at < 64 * WORDS {

@@ -42,8 +42,8 @@ pub enum Placement {
 pub struct Want {
     least: u32,
     most: u32,
-    start: u8,
-    within: Option<u8>,
+    start: Exponent,
+    within: Option<Exponent>,
     side: Side,
 }
 
@@ -68,7 +68,7 @@ impl Want {
         Want {
             least: len,
             most: len,
-            start: start.get() as u8,
+            start,
             within: None,
             side,
         }
@@ -91,7 +91,7 @@ impl Want {
     }
 
     /// The power of two of the boundary that the place begins on.
-    pub fn start(&self) -> u8
+    pub fn start(&self) -> Exponent
         ensures start { result ≡ self.now.start }
         ensures wanted { IsWant self.now }
     {
@@ -99,7 +99,7 @@ impl Want {
     }
 
     /// The power of two of the boundary that the place lies within.
-    pub fn within(&self) -> Option<u8>
+    pub fn within(&self) -> Option<Exponent>
         ensures within { result ≡ self.now.within }
         ensures wanted { IsWant self.now }
     {
@@ -119,8 +119,8 @@ impl Want {
 pub struct Ask {
     least: u32,
     most: u32,
-    start: u8,
-    within: Option<u8>,
+    start: Exponent,
+    within: Option<Exponent>,
     loc: Loc,
 }
 
@@ -139,13 +139,14 @@ impl Model for Ask {
 impl Ask {
     /// A request for one length on a boundary.
     pub fn fixed(len: Length, start: Exponent, loc: Loc) -> Ask
-        ensures { result ≡ record { least = len; most = len; start = start; within = None; loc = loc } }
+        ensures { result
+            ≡ record { least = len; most = len; start = start; within = None; loc = loc } }
     {
         let len = len.get();
         Ask {
             least: len,
             most: len,
-            start: start.get() as u8,
+            start,
             within: None,
             loc,
         }
@@ -167,7 +168,7 @@ impl Ask {
         ensures { result ≡ record self { within = Some within } }
     {
         Ask {
-            within: Some(within.get() as u8),
+            within: Some(within),
             ..self
         }
     }

@@ -56,7 +56,8 @@ impl<R: Read> Watched<R> {
     /// Makes one read of the reader.
     pub fn read(&mut self, buf: &mut [u8]) -> Result<usize, Failed>
         ensures bound { IfOk result (λ n. n ≤ length buf.new) }
-        ensures bytes { ReadConsumes (R.remaining self.old.inner) (R.remaining self.new.inner) result buf.new }
+        ensures bytes { ReadConsumes (R.remaining self.old.inner) (R.remaining self.new.inner)
+            result buf.new }
         ensures ok { OnOk result (self.new.failed ≡ self.old.failed) }
         ensures err { OnErr result (self.new.failed ≡ true) }
     {
@@ -75,7 +76,8 @@ impl<W: Write> Watched<W> {
     pub fn write(&mut self, buf: &[u8]) -> Result<usize, Failed>
         ensures bound { IfOk result (λ n. n ≤ length buf.now) }
         ensures some { IfOk result (λ n. 0 < length buf.now → 0 < n) }
-        ensures bytes { WriteAppends (W.contents self.old.inner) (W.contents self.new.inner) result buf.now }
+        ensures bytes { WriteAppends (W.contents self.old.inner) (W.contents self.new.inner) result
+            buf.now }
         ensures ok { OnOk result (self.new.failed ≡ self.old.failed) }
         ensures err { OnErr result (self.new.failed ≡ true) }
     {

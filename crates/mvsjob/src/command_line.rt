@@ -16,7 +16,7 @@ const ABOUT: &str =
     "Simulates the virtual storage services of z/OS: runs a script, and prints what each request is answered.";
 
 /// The version of this program, and the kit that it is proved with.
-const VERSION: &str = "1.0.0 (rattle-kit-13b logic dac8208d650f15bf)";
+const VERSION: &str = "1.0.0 (rattle-kit-13f logic dac8208d650f15bf)";
 
 const STATUSES: &str = "Exit status:
   0   clean: every line was run, and no task abended
@@ -41,7 +41,8 @@ fn titled<'a>(alloc: Global) -> Command<'a>
 
 // The command: a word and an option, which may both be left out.
 fn command<'a>(alloc: Global) -> Result<Command<'a>, AllocError>
-    ensures { IfOk result (λ c. (parser : ValueParser) × IsLowOrHigh parser × (app_of c ≡ command parser)) }
+    ensures { IfOk result
+        (λ c. (parser : ValueParser) × IsLowOrHigh parser × (app_of c ≡ command parser)) }
 {
     let file = Arg::new(alloc, "FILE").help("The script; standard input where it is left out or -");
     let place = Arg::new(alloc, "place")
@@ -53,7 +54,8 @@ fn command<'a>(alloc: Global) -> Result<Command<'a>, AllocError>
 
 // The word for the script.
 fn file<'a>(matches: &ArgMatches<'a>) -> &'a str
-    ensures { result.now ≡ unwrap_or (first_value (found_of matches.now) (codes "FILE")) (codes "-") }
+    ensures { result.now
+        ≡ unwrap_or (first_value (found_of matches.now) (codes "FILE")) (codes "-") }
 {
     match matches.get_str("FILE") {
         Some(file) => file,
@@ -63,7 +65,8 @@ fn file<'a>(matches: &ArgMatches<'a>) -> &'a str
 
 // Which place is taken.
 fn placement(matches: &ArgMatches<'_>) -> Placement
-    ensures { result ≡ Placement.High ↔ first_value (found_of matches.now) (codes "place") ≡ Some (codes "high") }
+    ensures { result ≡ Placement.High
+        ↔ first_value (found_of matches.now) (codes "place") ≡ Some (codes "high") }
 {
     match matches.get_str("place") {
         Some(place) if place == "high" => Placement::High,
@@ -75,14 +78,20 @@ fn placement(matches: &ArgMatches<'_>) -> Placement
 /// (where it is the help that the words ask for, `use_stderr` is false), or want of memory.
 pub fn settings<'a>(alloc: Global, words: &'a [String]) -> Result<Settings<'a>, clap::Error>
     // What clap assigns the words to.
-    ensures ok { IfOk result (λ s. (file : Option (List ℕ)) × (place : Option (List ℕ)) × Assigns (map string_bytes words.entry.now) file place
-        × (s.file.now ≡ unwrap_or file (codes "-")) × (s.placement ≡ Placement.High ↔ place ≡ Some (codes "high"))) }
+    ensures ok { IfOk result
+        (λ s. (file : Option (List ℕ)) × (place : Option (List ℕ))
+        × Assigns (map string_bytes words.entry.now) file place
+        × (s.file.now ≡ unwrap_or file (codes "-"))
+        × (s.placement ≡ Placement.High ↔ place ≡ Some (codes "high"))) }
     // Clap finds nothing wrong with words that are taken; an error is of a kind that it finds, or want of memory.
     ensures taken { IfOk result (λ _. FindsWrong (map string_bytes words.entry.now) []) }
-    ensures kinds { IfErr result (λ error. (kind_of error ≡ OutOfMemory)
-        ⊎ ((kinds : Kinds) × FindsWrong (map string_bytes words.entry.now) kinds × IsAmong (kind_of error) kinds)) }
+    ensures kinds { IfErr result
+        (λ error. (kind_of error ≡ OutOfMemory)
+        ⊎ ((kinds : Kinds) × FindsWrong (map string_bytes words.entry.now) kinds
+        × IsAmong (kind_of error) kinds)) }
     // Words that clap takes are refused for want of memory alone.
-    ensures refused { IfErr result (λ error. IsTaken (map string_bytes words.entry.now) → kind_of error ≡ OutOfMemory) }
+    ensures refused { IfErr result
+        (λ error. IsTaken (map string_bytes words.entry.now) → kind_of error ≡ OutOfMemory) }
 {
     let matches = command(alloc)?.try_get_matches_from(words)?;
     Ok(Settings {

@@ -1,14 +1,13 @@
 -- Numbers of subpools, and the subpools of pages.
-use Rattle.std.proofs.Common.{◌≡◌, ℕ, zero, suc, ◌+◌, ◌-◌, ◌<◌, ◌≤◌, ◌⊎◌, inl, inr, Bool, true, false, cond, ◌||◌, List, [], ◌∷◌, length, length-drop, take, drop, get_or, map, count_by, set, replicate, Option, Some, None, is_some, eqb, ltb, refl, sym, ap, ◌∙◌, arith}
+use Rattle.std.proofs.Common.{◌≡◌, ℕ, zero, suc, ◌+◌, ◌-◌, ◌<◌, ◌≤◌, ◌⊎◌, inl, inr, Bool, true, false, cond, ◌||◌, List, ◌∷◌, length, take, drop, get_or, map, set, replicate, Option, Some, None, is_some, eqb, ltb, refl, sym, ap, ◌∙◌, arith}
 use Rattle.std.proofs.lemmas.Bool.{cases_lt, cases_eq}
 use Rattle.std.proofs.lemmas.Bool.Decides.{nat_tests}
-use Rattle.std.proofs.lemmas.Grind.{get_or_default_zero}
-use Rattle.std.proofs.lemmas.List.{map-set, length-map, length-take-le}
-use Rattle.std.proofs.lemmas.List.Sums.{sum_by-cons}
+use Rattle.std.proofs.lemmas.Grind.{get_or_default_zero, common_steps}
+use Rattle.std.proofs.lemmas.List.{map-set, length-map}
 use Rattle.std.proofs.Math.ListN.{get_or-map}
 use Rattle.mvs_model.specs.Finite.{has}
 use Rattle.page_map.specs.Codes.{decoded, page_owners}
-use Rattle.page_map.specs.Owners.{owner_of, is_of, is_usable}
+use Rattle.page_map.specs.Owners.{owner_of, is_usable}
 
 pub decoded_some : (n : ℕ) → n < 4098 → decoded n ≡ Some n
 decoded_some n low = ap (λ b. cond b (Some n) None) (let t : ltb n 4098 ≡ true = grind (arith, nat_tests) in t)
@@ -25,16 +24,12 @@ length_is codes = length-map codes decoded
 
 -- whether a number is usable
 pub usable_is : (own n : ℕ) → (n < 4098) ⊎ (n ≡ 65535) → is_usable own (decoded n) ≡ (eqb n 65535 || eqb n own)
-usable_is own n (inl low) = ap (is_usable own) (decoded_some n low) ∙ sym (ap (λ b. b || eqb n own) (let t : eqb n 65535 ≡ false = grind (arith, nat_tests) in t))
-usable_is own n (inr e) = ap (is_usable own) (decoded_none n e) ∙ sym (ap (λ b. b || eqb n own) (let t : eqb n 65535 ≡ true = grind (arith, nat_tests) in t))
+usable_is own n h1 = grind (arith, nat_tests, decoded_some, decoded_none)
 
 -- a page more that a test refuses
 pub refused_more : (test : Option ℕ → Bool) (codes : List ℕ) (from page : ℕ) → ((p : ℕ) → from ≤ p → p < page → test (owner_of (page_owners codes) p) ≡ false) → page < length codes → test (decoded (get_or codes page 0)) ≡ false
     → (p : ℕ) → from ≤ p → p < page + 1 → test (owner_of (page_owners codes) p) ≡ false
-refused_more test codes from page before within here p low high = elim (cases_eq p page) [
-  | inl same ↦ ap (λ k. test (owner_of (page_owners codes) k)) same ∙ ap test (owner_is codes page ∙ ap decoded (get_or_default_zero codes page 65535 within)) ∙ here
-  | inr other ↦ before p low (omega (arith, other))
-]
+refused_more test codes from page before within here p low high = grind (arith, nat_tests, owner_is, cases_eq, get_or_default_zero)
 
 -- several pages more
 pub refused_several : (test : Option ℕ → Bool) (codes part : List ℕ) (from page n : ℕ) → ((p : ℕ) → from ≤ p → p < page → test (owner_of (page_owners codes) p) ≡ false)
@@ -56,37 +51,16 @@ pub all_free : (n : ℕ) → page_owners (replicate n 65535) ≡ replicate n Non
 all_free zero = refl
 all_free (suc n) = ap (λ o. o ∷ page_owners (replicate n 65535)) (decoded_none 65535 refl) ∙ ap (λ xs. None ∷ xs) (all_free n)
 
--- how many pages are a subpool's
-same_test : (own n : ℕ) → own < 4098 → is_of own (decoded n) ≡ eqb n own
-same_test own n low = elim (cases_lt n 4098) [
-  | inl less ↦ ap (is_of own) (decoded_some n less)
-  | inr past ↦ ap (λ b. is_of own (cond b (Some n) None)) (let t : ltb n 4098 ≡ false = grind (arith, nat_tests) in t) ∙ sym (let t : eqb n own ≡ false = grind (arith, nat_tests) in t)
-]
-
-pub same_count : (own : ℕ) → own < 4098 → (codes : List ℕ) → count_by (λ n. eqb n own) codes ≡ count_by (is_of own) (page_owners codes)
-same_count own low [] = refl
-same_count own low (x ∷ xs) =
-    sum_by-cons (λ n. cond (eqb n own) 1 0) x xs
-    ∙ (λ i. cond (sym (same_test own x low) i) 1 0 + same_count own low xs i)
-    ∙ sym (sum_by-cons (λ o. cond (is_of own o) 1 0) (decoded x) (page_owners xs))
-
 -- free pages have no subpool that passes
 no_owner : (test : ℕ → Bool) (o : Option ℕ) → is_some o ≡ false → has test o ≡ false
-no_owner test None e = refl
-no_owner test (Some s) e = absurd (let f : true ≡ false = e in cc)
+no_owner test o h1 = grind (arith, common_steps)
 
 pub none_of : (test : ℕ → Bool) (codes : List ℕ) (from to : ℕ) → ((p : ℕ) → from ≤ p → p < to → is_some (owner_of (page_owners codes) p) ≡ false) → (p : ℕ) → from ≤ p → p < to → has test (owner_of (page_owners codes) p) ≡ false
 none_of test codes from to free p low high = no_owner test (owner_of (page_owners codes) p) (free p low high)
 
 pub refused_free : (test : ℕ → Bool) (codes : List ℕ) (from page to : ℕ) → ((p : ℕ) → from ≤ p → p < page → has test (owner_of (page_owners codes) p) ≡ false) → ((p : ℕ) → page ≤ p → p < to → is_some (owner_of (page_owners codes) p) ≡ false)
     → (p : ℕ) → from ≤ p → p < to → has test (owner_of (page_owners codes) p) ≡ false
-refused_free test codes from page to before free p low high = elim (cases_lt p page) [
-  | inl less ↦ before p low less
-  | inr past ↦ no_owner test (owner_of (page_owners codes) p) (free p past high)
-]
+refused_free test codes from page to before free p low high = grind (arith, nat_tests, no_owner, cases_lt)
 
 pub part_length : (codes : List ℕ) (from to p : ℕ) → to ≤ length codes → from + p < to → p < length (take (to - from) (drop from codes))
-part_length codes from to p within low =
-    let rest : length (drop from codes) ≡ length codes - from = length-drop from codes in
-    let part : length (take (to - from) (drop from codes)) ≡ to - from = length-take-le (to - from) (drop from codes) (omega (arith, rest)) in
-    omega (arith, part)
+part_length codes from to p h1 h2 = grind (arith, common_steps)

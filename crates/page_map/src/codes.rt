@@ -44,7 +44,8 @@ fn is_usable(code: u16, own: u16) -> bool
 fn is_one_usable(codes: &[u16], own: u16) -> bool
     requires codes { AreCodes codes.now }
     requires own { own < most_subpools }
-    ensures { result ≡ false → (p : ℕ) → p < length codes.now → is_usable own (decoded (slice_index_or codes.now p free_code)) ≡ false }
+    ensures { result ≡ false → (p : ℕ) → p < length codes.now
+        → is_usable own (decoded (slice_index_or codes.now p free_code)) ≡ false }
 {
     let mut found = false;
     for code in codes {
@@ -60,7 +61,8 @@ fn pass_several(codes: &[u16], own: u16, from: usize) -> usize
     requires from { from ≤ length codes.now }
     ensures after { from ≤ result }
     ensures within { result ≤ length codes.now }
-    ensures passed { (p : ℕ) → from ≤ p → p < result → is_usable own (owner_of (page_owners codes.now) p) ≡ false }
+    ensures passed { (p : ℕ) → from ≤ p → p < result
+        → is_usable own (owner_of (page_owners codes.now) p) ≡ false }
 {
     let mut page = from;
     'several: while SEVERAL <= codes.len() - page {
@@ -95,7 +97,8 @@ pub(crate) fn first_usable(codes: &[u16], own: u16, from: usize) -> (usize, Opti
 // Whether one of some pages is assigned.
 fn is_one_assigned(codes: &[u16]) -> bool
     requires { AreCodes codes.now }
-    ensures { result ≡ false → (p : ℕ) → p < length codes.now → is_some (decoded (slice_index_or codes.now p free_code)) ≡ false }
+    ensures { result ≡ false → (p : ℕ) → p < length codes.now
+        → is_some (decoded (slice_index_or codes.now p free_code)) ≡ false }
 {
     let mut found = false;
     for code in codes {
@@ -110,7 +113,8 @@ fn pass_free(codes: &[u16], from: usize) -> usize
     requires from { from ≤ length codes.now }
     ensures after { from ≤ result }
     ensures within { result ≤ length codes.now }
-    ensures passed { (p : ℕ) → from ≤ p → p < result → is_some (owner_of (page_owners codes.now) p) ≡ false }
+    ensures passed { (p : ℕ) → from ≤ p → p < result
+        → is_some (owner_of (page_owners codes.now) p) ≡ false }
 {
     let mut page = from;
     'several: while SEVERAL_FREE <= codes.len() - page {

@@ -92,30 +92,6 @@ impl PageMap {
         self.owners[page] = FREE;
     }
 
-    /// Whether the subpool may use the page: no other subpool has it (Assembler Services Guide, subpools).
-    pub fn usable(&self, page: usize, subpool: SubpoolId) -> bool
-        requires { page < length self.now }
-        ensures { result ≡ is_usable subpool (owner_of self.now page) }
-    {
-        match self.owner(page) {
-            None => true,
-            Some(owner) => owner == subpool,
-        }
-    }
-
-    /// How many pages are assigned to the subpool.
-    pub fn pages_of(&self, subpool: SubpoolId) -> u32
-        ensures { result ≡ count_by (is_of subpool) self.now }
-    {
-        let mut count = 0u32;
-        for code in &self.owners {
-            if *code == subpool.get() {
-                count += 1;
-            }
-        }
-        count
-    }
-
     /// The first page from one on that the subpool may use, or the number of pages; and the subpool that the page is
     /// assigned to.
     pub fn first_usable(&self, subpool: SubpoolId, from: usize) -> (usize, Option<SubpoolId>)

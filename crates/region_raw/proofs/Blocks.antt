@@ -1,10 +1,8 @@
 -- What the walks that take and free a block share. Assumes `Logic`.
-use mathlib.Core.Path.{◌≡◌, refl, ap, ◌∙◌}
-use mathlib.Core.Bool.{true, false}
+use Rattle.std.proofs.Common.{◌≡◌, refl, ap, ◌∙◌, true, false, List, [], ◌∷◌, ◌++◌, replicate, None, Ok, Err}
+use Rattle.std.proofs.lemmas.Grind.{common_steps}
 use native.Mathlib.Omega.{arith}
 use Prim.Native.Nat.{◌<◌, ℕ, zero, suc, ◌+◌}
-use mathlib.Core.List.{List, [], ◌∷◌, ◌++◌}
-use lib.ListN.{replicate}
 use seplogic.Ra.Ura.{Ura}
 use mir.Syntax.{Ty, ty_int, w8}
 use mir.Val.{Val, vstruct, vcons, vnil, of_list}
@@ -21,9 +19,7 @@ use denote.Struct.Declared as Declared
 use denote.Struct.Owning as Owning
 use denote.Struct.Struct.{Struct, Struct-Makes, within}
 use denote.Struct.Tuple.{Tuple, tuple_type}
-use Rattle.std.specs.Prelude.{None}
 use Rattle.core.specs.Allocator.{block_if_ok}
-use Rattle.core.specs.declared.result.Result.TheVariants.{Ok, Err}
 use Rattle.core.proofs.alloc.Calls.{Answer, answer_val}
 use Rattle.region_raw.specs.Ownership.{owned, to_be_freed, heap_right, row, bytes_ty}
 use Rattle.region_raw.specs.declared.raw.Start.{Start}
@@ -93,5 +89,4 @@ module _ {M : Type 1} {𝓤 : Ura M} {𝓛 : Logic 𝓤} {K : Type 0} {Γ : List
 
 -- the right to free at least one byte is the heap's own
 pub right_is : (p : Ptr) (n : ℕ) → 0 < n → to_be_freed p n ≡ heap_right (bytes_ty n) p
-right_is p zero some = absurd (omega arith)
-right_is p (suc n) some = refl
+right_is p n h1 = grind (arith, common_steps)

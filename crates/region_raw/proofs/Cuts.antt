@@ -1,11 +1,9 @@
 -- Rows of bytes in a block: cut, joined, and two runs of them taken out. Assumes `Logic`.
-use mathlib.Core.Path.{◌≡◌, refl, sym, ap, ◌∙◌}
-use mathlib.Core.Logic.{inl, inr}
+use Rattle.std.proofs.Common.{◌≡◌, refl, sym, ap, ◌∙◌, inl, inr, List, [], ◌∷◌, ◌++◌, map, get_or, set, length, take, drop, take-append-drop, length-take, length-drop, replicate, drop-drop, drop-cons, Option, Some, None, take-take}
 use Prim.Native.Nat.{ℕ, suc, ◌+◌, ◌-◌, ◌<◌, ◌≤◌}
 use native.Mathlib.Omega.{arith}
-use mathlib.Core.List.{List, [], ◌∷◌, ◌++◌, map}
-use lib.ListN.{get_or, set, length, take, drop, take-append-drop, length-take, length-drop, length-map, replicate}
-use lib.Seq.{drop-drop, drop-cons, set_split}
+use lib.ListN.{length-map}
+use lib.Seq.{set_split}
 use seplogic.Ra.Ura.{Ura}
 use base.Logic.{SProp, ent, sep, emp, all, wand, apply∗, id⊢, mono_r}
 use base.Fml.{ftrue, fat}
@@ -21,8 +19,7 @@ use types.Kit.{frame, use3, ‵, raw, ◌⊛◌, ◌$◌, ◌∵◌, !, qed, by,
 use denote.Builtin.{u8}
 use denote.Memory.{part_at, mem, shares}
 use denote.Steps.{nothing}
-use Rattle.std.specs.Prelude.{Option, Some, None}
-use Rattle.std.proofs.lemmas.List.{drop-take, take-take}
+use Rattle.std.proofs.lemmas.List.{drop-take}
 use Rattle.region_raw.specs.Rows.{IsApart, written}
 use Rattle.region_raw.specs.Ownership.{row, byte_at}
 

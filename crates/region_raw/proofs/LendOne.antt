@@ -1,9 +1,8 @@
 -- From a borrow of the owner a run is lent to write, and the owner follows it. Assumes `Logic`.
-use mathlib.Core.Path.{◌≡◌, refl, sym, ap, subst, ◌∙◌}
+use Rattle.std.proofs.Common.{◌≡◌, refl, sym, ap, subst, ◌∙◌, List, [], ◌∷◌, map, length, take, drop, Option, Some, take_all}
 use Prim.Native.Nat.{ℕ, ◌+◌, ◌<◌, ◌≤◌, ◌^◌}
 use native.Mathlib.Omega.{arith}
-use mathlib.Core.List.{List, [], ◌∷◌, map}
-use lib.ListN.{length, take, drop, length-map}
+use lib.ListN.{length-map}
 use seplogic.Ra.Ura.{Ura}
 use mir.Syntax.{named}
 use mir.Val.{Val}
@@ -19,8 +18,6 @@ use denote.Memory.{mem, cell_at, part_of}
 use denote.RawPtr.{Ptr, block_ptr}
 use denote.Slice.{Room}
 use denote.FollowSlice.{Elements, lends_Elements}
-use Rattle.std.specs.Prelude.{Option, Some}
-use Rattle.std.proofs.lemmas.List.{take_all}
 use Rattle.region_raw.specs.Rows.{overlaid, written}
 use Rattle.region_raw.specs.LendsRaw.{with_run}
 use Rattle.region_raw.specs.Ownership.{owned, row}

@@ -1,9 +1,7 @@
 -- From a borrow of the owner a run is lent to read and another to write, and the owner follows the second. Assumes `Logic`.
-use mathlib.Core.Path.{◌≡◌, refl, sym, ap, subst, ◌∙◌}
+use Rattle.std.proofs.Common.{◌≡◌, refl, sym, ap, subst, ◌∙◌, List, [], ◌∷◌, map, length, take, drop, Option, Some, take_all}
 use Prim.Native.Nat.{ℕ, ◌+◌, ◌*◌, ◌<◌, ◌≤◌, ◌^◌}
 use native.Mathlib.Omega.{arith}
-use mathlib.Core.List.{List, [], ◌∷◌, map}
-use lib.ListN.{length, take, drop}
 use seplogic.Ra.Ura.{Ura}
 use mir.Syntax.{named}
 use mir.Val.{Val}
@@ -34,8 +32,6 @@ use denote.Struct.Field.{u8-field}
 use denote.Struct.Laws.{u8-copy}
 use denote.Struct.Struct.{Struct}
 use denote.Struct.Owning.{shape}
-use Rattle.std.specs.Prelude.{Option, Some}
-use Rattle.std.proofs.lemmas.List.{take_all}
 use Rattle.region_raw.specs.Rows.{IsApart, overlaid, written}
 use Rattle.region_raw.specs.LendsRaw.{with_run}
 use Rattle.region_raw.specs.Ownership.{owned, row}

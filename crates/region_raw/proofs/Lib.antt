@@ -2,7 +2,7 @@
 mod Runs
 mod Overlays
 mod Masks
-mod PageRows
+pub mod PageRows
 mod PageBytes
 mod Parts
 -- Memory, which the walks of the functions with raw pointers cite.

@@ -1,6 +1,5 @@
 -- A row whose blank bytes are those of a row of pages is one of pages.
-use Rattle.std.proofs.Common.{◌≡◌, ℕ, zero, suc, List, [], ◌∷◌, ◌++◌, map, length, replicate, Option, Some, None, refl, ap, ◌∙◌}
-use Rattle.std.specs.Prelude.{is_some}
+use Rattle.std.proofs.Common.{◌≡◌, ℕ, zero, suc, List, [], ◌∷◌, ◌++◌, map, length, replicate, Option, Some, None, refl, ap, ◌∙◌, is_some}
 use Rattle.region_raw.specs.Pages.{Pages, spread, ArePages}
 
 abbrev Marks : List (Option ℕ) → List (Option ℕ) → Type 0

@@ -1,8 +1,8 @@
 -- The bytes of a region by their index, and the row of its pages.
-use Rattle.std.proofs.Common.{◌≡◌, ◌∙◌, ℕ, zero, suc, ◌+◌, ◌-◌, ◌*◌, ◌/◌, ◌%◌, ◌<◌, ◌≤◌, List, [], ◌∷◌, ◌++◌, map, length, take, drop, get_or, true, false, Option, Some, None, is_some, refl, sym, ap, subst, arith, length-take}
-use Rattle.std.proofs.lemmas.List.{get_or-map, get_or-replicate, get_or_append_left, get_or-append-add, get_or-take, get_or-drop}
-use Rattle.std.proofs.lemmas.Nat.{div-add-mod'}
-use Rattle.std.proofs.Math.Nat.{mod-lt, suc-mul, zero-mul}
+use Rattle.std.proofs.Common.{◌≡◌, ◌∙◌, ℕ, zero, suc, ◌+◌, ◌-◌, ◌*◌, ◌/◌, ◌%◌, ◌<◌, ◌≤◌, List, [], ◌∷◌, ◌++◌, map, length, take, drop, get_or, true, false, Option, Some, None, is_some, refl, sym, ap, subst, arith, length-take, get_or-append-add, get_or-take, get_or-drop, suc-mul, zero-mul}
+use Rattle.std.proofs.lemmas.List.{get_or-map, get_or-replicate, get_or_append_left}
+use Rattle.std.proofs.lemmas.Bool.Decides.{nat_tests}
+use Rattle.std.proofs.lemmas.Grind.{common_steps}
 use Rattle.mvs_model.specs.Numbers.{page_bytes}
 use Rattle.region_raw.specs.Rows.{IsRun, values, overlaid}
 use Rattle.region_raw.specs.Pages.{Pages, ArePages, IsPart, Writes, byte_in, byte_of, is_open, page_row, part_of, row_of, spread, with_part}
@@ -12,12 +12,10 @@ use Rattle.region_raw.proofs.PageRows.{length_row, rest_are, seen}
 use Rattle.region_raw.proofs.Runs.{length-run}
 
 byte_in_row : (size : ℕ) (p : Option (List ℕ)) (i : ℕ) → ArePages size (p ∷ []) → i < size → get_or (page_row size p) i None ≡ byte_in p i
-byte_in_row size None i are low = get_or-replicate size i None None low
-byte_in_row size (Some bytes) i are low = get_or-map Some bytes i 0 None (omega (arith, low, are.0))
+byte_in_row size p i h1 h2 = grind (arith, nat_tests, get_or-map, get_or-replicate)
 
 first_are : (size : ℕ) (p : Option (List ℕ)) (ps : Pages) → ArePages size (p ∷ ps) → ArePages size (p ∷ [])
-first_are size None ps are = tt
-first_are size (Some bytes) ps are = (are.0, tt)
+first_are size p ps h1 = grind (arith, common_steps)
 
 behind : (xs ys : List (Option ℕ)) (k m : ℕ) → m ≡ length xs + k → get_or (xs ++ ys) m None ≡ get_or ys k None
 behind xs ys k m e = ap (λ j. get_or (xs ++ ys) j None) e ∙ get_or-append-add xs ys k None
@@ -35,13 +33,10 @@ byte_in_pages size pos (x ∷ ps) (suc p) o i are low e =
 
 -- the byte at an index is the one there in the row
 pub byte_row : (ps : Pages) → ArePages page_bytes ps → (k : ℕ) → get_or (row_of ps) k None ≡ byte_of ps k
-byte_row ps are k =
-    let pos : 0 < page_bytes = omega arith in
-    byte_in_pages page_bytes pos ps (k / page_bytes) k (k % page_bytes) are (mod-lt k pos) (sym (div-add-mod' k page_bytes))
+byte_row ps h1 k = grind (arith, nat_tests, byte_in_pages)
 
 some_in : (p : Option (List ℕ)) (i : ℕ) → is_some (byte_in p i) ≡ is_some p
-some_in None i = refl
-some_in (Some bytes) i = refl
+some_in p i = grind (arith, common_steps)
 
 -- a row of which each byte has a value
 all_values : (cs : List (Option ℕ)) → ((i : ℕ) → i < length cs → is_some (get_or cs i None) ≡ true) → cs ≡ map Some (values cs)
@@ -50,9 +45,7 @@ all_values (None ∷ cs) each = absurd (let has : is_some {T = ℕ} None ≡ tru
 all_values (Some x ∷ cs) each = ap (λ l. Some x ∷ l) (all_values cs (λ i low. each (suc i) (omega (arith, low))))
 
 within : (cs : List (Option ℕ)) (k : ℕ) → is_some (get_or cs k None) ≡ true → k < length cs
-within [] k has = absurd cc
-within (c ∷ cs) zero has = omega arith
-within (c ∷ cs) (suc k) has = omega (arith, within cs k has)
+within cs k h1 = grind (arith, common_steps)
 
 run_from : (cs : List (Option ℕ)) (at n : ℕ) → 1 ≤ n → ((k : ℕ) → at ≤ k → k < at + n → is_some (get_or cs k None) ≡ true) → IsRun cs at n
 run_from cs at zero some each = absurd (omega (arith, some))

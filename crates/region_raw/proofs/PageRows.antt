@@ -1,8 +1,9 @@
 -- Pages and their rows of bytes.
-use Rattle.std.proofs.Common.{true, false, ◌≡◌, ℕ, zero, suc, ◌+◌, ◌*◌, ◌<◌, List, [], ◌∷◌, ◌++◌, map, length, take, drop, set, get_or, replicate, Option, Some, None, refl, sym, ap, ◌∙◌, arith, length-append}
-use Rattle.std.proofs.lemmas.List.{length-map, length-replicate, append_assoc}
+use Rattle.std.proofs.Common.{true, false, ◌≡◌, ℕ, zero, suc, ◌+◌, ◌*◌, ◌<◌, List, [], ◌∷◌, ◌++◌, map, length, take, drop, set, get_or, replicate, Option, Some, None, refl, sym, ap, ◌∙◌, arith, length-append, append_assoc, suc-mul, zero-mul}
+use Rattle.std.proofs.lemmas.List.{length-map, length-replicate}
 use Rattle.std.proofs.Math.Seq.{take-append_seam, drop-append_seam, take-append-add, drop-append-add}
-use Rattle.std.proofs.Math.Nat.{suc-mul, zero-mul}
+use Rattle.std.proofs.lemmas.Bool.Decides.{nat_tests}
+use Rattle.std.proofs.lemmas.Grind.{common_steps}
 use Rattle.region_raw.specs.Rows.{values}
 use Rattle.region_raw.specs.Pages.{Pages, page_row, spread, ArePages, page_of, pages_of, is_open}
 
@@ -24,16 +25,13 @@ drop_past xs ys n k m e is = let at : m ≡ length xs + k = omega (arith, e, is)
 
 module _ (size : ℕ) (pos : 0 < size) where
   pub length_row : (p : Option (List ℕ)) (ps : Pages) → ArePages size (p ∷ ps) → length (page_row size p) ≡ size
-  length_row None ps are = length-replicate size None
-  length_row (Some bs) ps are = length-map bs Some ∙ are.0
+  length_row p ps h1 = grind (arith, nat_tests, length-map, length-replicate)
 
   pub rest_are : (p : Option (List ℕ)) (ps : Pages) → ArePages size (p ∷ ps) → ArePages size ps
-  rest_are None ps are = are
-  rest_are (Some bs) ps are = are.1
+  rest_are p ps h1 = grind (arith, common_steps)
 
   page_of_blank : (n : ℕ) → page_of (replicate n None) ≡ None
-  page_of_blank zero = refl
-  page_of_blank (suc n) = refl
+  page_of_blank n = grind (arith, common_steps)
 
   page_of_row : (p : Option (List ℕ)) (ps : Pages) → ArePages size (p ∷ ps) → page_of (page_row size p) ≡ p
   page_of_row None ps are = page_of_blank size
@@ -102,12 +100,7 @@ module _ (size : ℕ) (pos : 0 < size) where
   seen ps count row are long is = (λ i. pages_of size (sym long i) (is i)) ∙ pages_of-spread ps are
 
 pub open_within : (ps : Pages) (p : ℕ) → is_open ps p ≡ true → p < length ps
-open_within [] p is = absurd cc
-open_within (x ∷ ps) zero is = omega arith
-open_within (x ∷ ps) (suc p) is = omega (arith, open_within ps p is)
+open_within ps p h1 = grind (arith, common_steps)
 
 pub blank_is : (ps : Pages) (p : ℕ) → is_open ps p ≡ false → get_or ps p None ≡ None
-blank_is ps p is = by (get_or ps p None) refl where
-  by : (o : Option (List ℕ)) → get_or ps p None ≡ o → get_or ps p None ≡ None
-  by None e = e
-  by (Some bytes) e = absurd cc
+blank_is ps p is = grind (arith, common_steps)

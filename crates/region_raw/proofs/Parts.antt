@@ -1,6 +1,5 @@
 -- The parts of a region, as runs of the block below.
-use Rattle.std.proofs.Common.{◌≡◌, ◌+◌, ◌*◌, ◌<◌, ◌≤◌, ◌∙◌, ℕ, List, [], ◌∷◌, ◌++◌, Option, Some, length, take, drop, set, get_or, refl, sym, ap, subst, arith}
-use Rattle.std.proofs.lemmas.List.{length-set}
+use Rattle.std.proofs.Common.{◌≡◌, ◌+◌, ◌*◌, ◌<◌, ◌≤◌, ◌∙◌, ℕ, List, [], ◌∷◌, ◌++◌, Option, Some, length, take, drop, set, get_or, refl, sym, ap, subst, arith, length-set}
 use Rattle.mvs_model.specs.Numbers.{page_bytes, most_pages_above}
 use Rattle.region_raw.specs.Rows.{IsRun, run, overlaid}
 use Rattle.region_raw.specs.Pages.{Pages, ArePages, IsPart, Writes, byte_of, page_row, pages_of, part_of, row_of, with_part}

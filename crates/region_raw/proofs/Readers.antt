@@ -1,9 +1,7 @@
 -- What a `&` to a row of bytes may read: that each value in it is shared, and that a run of values is read from it. Assumes `Logic`.
-use mathlib.Core.Path.{◌≡◌, refl, sym, ap, ◌∙◌}
-use mathlib.Core.List.{List, [], ◌∷◌, ◌++◌, map}
+use Rattle.std.proofs.Common.{◌≡◌, refl, sym, ap, ◌∙◌, List, [], ◌∷◌, ◌++◌, map, length, take, drop, take-append-drop, Option, Some, None}
 use Prim.Native.Nat.{ℕ, zero, suc, ◌+◌, ◌≤◌, ◌^◌}
 use native.Mathlib.Omega.{arith}
-use lib.ListN.{length, take, drop, take-append-drop}
 use seplogic.Ra.Ura.{Ura}
 use base.Logic.{ent, via, snd∗, mono_r}
 use base.Fml.{Lft, ftrue, ffalse, flt}
@@ -19,7 +17,6 @@ use denote.Param.Shared.{copy_shared}
 use denote.Struct.Field.{u8-field}
 use denote.Struct.Laws.{u8-copy}
 use denote.Struct.Lending.{Lends, Lends-both, Lends-nothing, Lends-said, Lends-false}
-use Rattle.std.specs.Prelude.{Option, Some, None}
 use Rattle.region_raw.specs.Ownership.{byte_at, row, owned, byte_seen, row_seen, seen}
 
 -- a row at a place in a block

@@ -1,7 +1,7 @@
 -- Rows of places, and runs in them.
-use Rattle.std.proofs.Common.{◌≡◌, ℕ, zero, suc, ◌+◌, ◌<◌, ◌≤◌, List, [], ◌∷◌, ◌++◌, map, length, take, drop, set, get_or, replicate, Option, Some, None, refl, sym, ap, ◌∙◌, arith, length-append, length-take, length-drop, take-append-drop}
-use Rattle.std.proofs.lemmas.List.{length-map, length-replicate, append_assoc, get_or-take, get_or-drop, get_or-replicate}
-use lib.Seq.{drop-cons, drop-drop}
+use Rattle.std.proofs.Common.{◌≡◌, ℕ, zero, suc, ◌+◌, ◌<◌, ◌≤◌, List, [], ◌∷◌, ◌++◌, map, length, take, drop, set, get_or, replicate, Option, Some, None, refl, sym, ap, ◌∙◌, arith, length-append, length-take, length-drop, take-append-drop, append_assoc, get_or-take, get_or-drop, drop-cons, drop-drop}
+use Rattle.std.proofs.lemmas.List.{length-map, length-replicate, get_or-replicate}
+use Rattle.std.proofs.lemmas.Grind.{common_steps}
 use Rattle.region_raw.specs.Rows.{IsRun, run, written}
 
 set-end : {Y : Type 0} (us : List Y) (c x : Y) (vs : List Y) (i : ℕ) → i ≡ length us → set (us ++ c ∷ vs) i x ≡ us ++ x ∷ vs
@@ -33,8 +33,7 @@ length-written cs at n ws le e =
     omega (arith, length-append (take at cs) (map Some ws ++ drop (at + n) cs), length-append (map Some ws) (drop (at + n) cs), length-map ws Some, length-take at cs, length-drop (at + n) cs)
 
 more : (i : ℕ) (x : ℕ) (vs : List (Option ℕ)) → map Some (replicate i x) ++ Some x ∷ vs ≡ map Some (replicate (suc i) x) ++ vs
-more zero x vs = refl
-more (suc i) x vs = ap (λ l. Some x ∷ l) (more i x vs)
+more i x vs = grind (arith, common_steps)
 
 module _ (cs : List (Option ℕ)) (at i : ℕ) (x : ℕ) (lt : at + i < length cs) where
   front : List (Option ℕ)

@@ -1,12 +1,11 @@
 -- How a start lies in a local. Assumes `Logic`.
-use Rattle.std.proofs.Common.{lit<}
-use lib.Dec.{T}
-use mathlib.Core.List.{[], ◌∷◌}
+use Rattle.std.proofs.Common.{T, [], ◌∷◌, arith}
+use Rattle.std.proofs.lemmas.Grind.{common_steps}
 use mir.Val.{Val, has_ty, WT}
 use denote.Laws.{Is, Tells}
 use denote.Param.{layout}
 use denote.RattleType.{RattleType}
-use denote.RawPtr.{Ptr, block_ptr, null_ptr}
+use denote.RawPtr.{Ptr}
 use Rattle.region_raw.specs.declared.raw.Start.{Start}
 use Rattle.region_raw.specs.contracts.raw.Start as B
 use Rattle.region_raw.proofs.raw.Start.TheLaws as start_laws
@@ -22,5 +21,4 @@ abbrev pub word_tells : Tells StartRow (Is StartRow) (λ x. word x ∷ [])
 word_tells = (start_laws.the_told).tells
 
 pub good : (p : Ptr) → T (has_ty (layout StartRow) (word (record { ptr = p }))) × WT (word (record { ptr = p }))
-good (block_ptr b o) = (tt, (tt, tt))
-good null_ptr = (tt, (record { fits = lit< tt }, tt))
+good p = grind (arith, common_steps)

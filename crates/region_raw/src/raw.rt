@@ -41,7 +41,9 @@ impl Model for Right {
 pub fn take_block(alloc: &Global, len: usize) -> Option<(Start, RawBytes, Right)>
     requires some { 0 < len }
     requires small { len < 2 ^ 63 }
-    ensures { IfSome result (λ made. (made.1.at ≡ made.0.ptr) × (made.1.bytes ≡ replicate len None) × (made.2.at ≡ made.0.ptr) × (made.2.len ≡ len)) }
+    ensures { IfSome result
+        (λ made. (made.1.at ≡ made.0.ptr) × (made.1.bytes ≡ replicate len None)
+        × (made.2.at ≡ made.0.ptr) × (made.2.len ≡ len)) }
 {
     match alloc.allocate(len, 1) {
         Ok(ptr) => Some((Start { ptr }, RawBytes {}, Right {})),
@@ -51,7 +53,8 @@ pub fn take_block(alloc: &Global, len: usize) -> Option<(Start, RawBytes, Right)
 
 /// A block of no bytes, for which no memory is taken.
 pub fn no_block() -> (Start, RawBytes, Right)
-    ensures { (result.1.at ≡ result.0.ptr) × (result.1.bytes ≡ []) × (result.2.at ≡ result.0.ptr) × (result.2.len ≡ 0) }
+    ensures { (result.1.at ≡ result.0.ptr) × (result.1.bytes ≡ []) × (result.2.at ≡ result.0.ptr)
+        × (result.2.len ≡ 0) }
 {
     let none: [u8; 0] = [];
     let ptr = &raw const none as *mut u8;

@@ -67,23 +67,6 @@ impl Region {
         self.block.close(page * PAGE, PAGE);
     }
 
-    /// The byte at `at`.
-    pub fn byte(&self, at: usize) -> u8
-        requires { IsPart self.now at 1 }
-        ensures { byte_of self.now at ≡ Some result }
-    {
-        self.part(at, 1)[0]
-    }
-
-    /// Gives the byte at `at` a value.
-    pub fn put(&mut self, at: usize, value: u8)
-        requires { IsPart self.old at 1 }
-        ensures put { self.new ≡ with_part self.old at (value ∷ []) }
-        ensures writes { Writes self.old at (value ∷ []) self.new }
-    {
-        self.part_mut(at, 1)[0] = value;
-    }
-
     /// The word in the four bytes from `at` on, the high byte first.
     pub fn word(&self, at: usize) -> u32
         requires { IsPart self.now at 4 }
@@ -116,7 +99,8 @@ impl Region {
         requires { IsPart self.now at n }
         ensures value { result.now ≡ part_of self.now at n }
         ensures len { length result.now ≡ n }
-        ensures bytes { (k : ℕ) → k < n → byte_of self.now (at + k) ≡ Some (slice_index result.now k) }
+        ensures bytes { (k : ℕ) → k < n
+            → byte_of self.now (at + k) ≡ Some (slice_index result.now k) }
     {
         let _ = &self.count;
         self.block.part(at, n)
@@ -129,7 +113,8 @@ impl Region {
         ensures writes { (ws : List ℕ) → Writes self.old at ws (with_part self.old at ws) }
         ensures value { result.now ≡ part_of self.old at n }
         ensures len { length result.now ≡ n }
-        ensures bytes { (k : ℕ) → k < n → byte_of self.old (at + k) ≡ Some (slice_index result.now k) }
+        ensures bytes { (k : ℕ) → k < n
+            → byte_of self.old (at + k) ≡ Some (slice_index result.now k) }
     {
         self.block.part_mut(at, n)
     }
@@ -145,8 +130,10 @@ impl Region {
         ensures read { result.0.now ≡ part_of self.old from n }
         ensures written { result.1.now ≡ part_of self.old to n }
         ensures len { (length result.0.now ≡ n) × (length result.1.now ≡ n) }
-        ensures source_bytes { (k : ℕ) → k < n → byte_of self.old (from + k) ≡ Some (slice_index result.0.now k) }
-        ensures target_bytes { (k : ℕ) → k < n → byte_of self.old (to + k) ≡ Some (slice_index result.1.now k) }
+        ensures source_bytes { (k : ℕ) → k < n
+            → byte_of self.old (from + k) ≡ Some (slice_index result.0.now k) }
+        ensures target_bytes { (k : ℕ) → k < n
+            → byte_of self.old (to + k) ≡ Some (slice_index result.1.now k) }
     {
         self.block.two_parts(from, to, n)
     }

@@ -1,6 +1,6 @@
 -- The free runs that a pass has come by.
-use Rattle.std.proofs.Common.{◌≡◌, ◌∙◌, ℕ, ◌+◌, ◌-◌, ◌*◌, ◌/◌, ◌%◌, ◌<◌, ◌≤◌, ◌⊎◌, ◌&&◌, ◌||◌, not, Bool, true, false, List, Option, Some, None, is_some, length, get_or, eqb, ltb, refl, sym, ap, inl, inr, arith}
-use Rattle.std.proofs.lemmas.Bool.{and_from, both_ways, cases_eq, cases_lt, eq-eqb, lt-ltb, ne_eqb}
+use Rattle.std.proofs.Common.{◌≡◌, ◌∙◌, ℕ, ◌+◌, ◌-◌, ◌*◌, ◌/◌, ◌%◌, ◌<◌, ◌≤◌, ◌⊎◌, ◌&&◌, ◌||◌, not, Bool, true, false, List, Option, Some, None, length, get_or, eqb, ltb, refl, sym, ap, inl, inr, arith}
+use Rattle.std.proofs.lemmas.Bool.{and_from, both_ways, cases_eq, cases_lt, eq-eqb, lt-ltb, ne_eqb, or_right, and_right}
 use Rattle.std.proofs.lemmas.List.{get_or_default}
 use Rattle.mvs_model.specs.Finite.{count_below}
 use Rattle.mvs_model.specs.Storage.{IsLength}
@@ -11,7 +11,8 @@ use Rattle.subpool_store.specs.Memory.{MemoryState}
 use Rattle.subpool_store.specs.Search.{may_take}
 use Rattle.subpool_store.specs.Bits.{digit}
 use Rattle.subpool_store.specs.Walk.{begins_run, entries_to, looked_at}
-use Rattle.subpool_store.proofs.Counts.{count_all, count_most, count_none, count_split}
+use Rattle.subpool_store.proofs.Counts.{count_most, count_split}
+use Rattle.mvs_model.proofs.Below.{count_all, count_none}
 
 -- where none begins the count stays
 pub count_stays : (f : ℕ → Bool) (a b : ℕ) → a ≤ b → ((i : ℕ) → a ≤ i → i < b → f i ≡ false) → count_below b f ≡ count_below a f
@@ -34,10 +35,7 @@ module _ (m : MemoryState) (pages : List (Option ℕ)) (s : ℕ) where
   held_begins i set = ap (λ b. not b && (is_of s (owner_of pages (i / 512)) && (eqb (i % 512) 0 || get_or m.held (i - 1) false))) set
 
   pub foreign_begins : (i : ℕ) → is_of s (owner_of pages (i / 512)) ≡ false → begins_run m.held pages s i ≡ false
-  foreign_begins i foreign = ap (λ b. not (get_or m.held i false) && (b && (eqb (i % 512) 0 || get_or m.held (i - 1) false))) foreign ∙ never (not (get_or m.held i false)) where
-    never : (b : Bool) → (b && false) ≡ false
-    never true = refl
-    never false = refl
+  foreign_begins i foreign = ap (λ b. not (get_or m.held i false) && (b && (eqb (i % 512) 0 || get_or m.held (i - 1) false))) foreign ∙ and_right (not (get_or m.held i false)) false refl
 
   inner_begins : (i : ℕ) → (i % 512 ≡ 0 → ⊥) → get_or m.held (i - 1) false ≡ false → begins_run m.held pages s i ≡ false
   inner_begins i inner clear =
@@ -52,10 +50,7 @@ module _ (m : MemoryState) (pages : List (Option ℕ)) (s : ℕ) where
   first_begins i own clear begun =
       (λ j. not (clear j) && (is_of s (own j) && (eqb (i % 512) 0 || get_or m.held (i - 1) false)))
       ∙ (λ j. eq-eqb s s refl j && (eqb (i % 512) 0 || get_or m.held (i - 1) false))
-      ∙ elim begun [ inl zero ↦ ap (λ b. b || get_or m.held (i - 1) false) (eq-eqb (i % 512) 0 zero) | inr set ↦ ap (λ b. eqb (i % 512) 0 || b) set ∙ either (eqb (i % 512) 0) ] where
-        either : (b : Bool) → (b || true) ≡ true
-        either true = refl
-        either false = refl
+      ∙ elim begun [ inl zero ↦ ap (λ b. b || get_or m.held (i - 1) false) (eq-eqb (i % 512) 0 zero) | inr set ↦ ap (λ b. eqb (i % 512) 0 || b) set ∙ or_right (eqb (i % 512) 0) true refl ]
 
   -- the entry of a page that there is
   pub entries_at : (p : ℕ) → p < length pages → entries_to pages p ≡ p + 1
@@ -141,10 +136,7 @@ counted_few m pages s at steps is low sizes few =
 
 -- s may take nothing in a page that it may not use
 pub foreign_fails : (bits : List Bool) (pages : List (Option ℕ)) (s i : ℕ) → is_usable s (owner_of pages (i / 512)) ≡ false → may_take bits pages s i ≡ false
-foreign_fails bits pages s i foreign = ap (λ b. not (get_or bits i true) && b) foreign ∙ never (not (get_or bits i true)) where
-  never : (b : Bool) → (b && false) ≡ false
-  never true = refl
-  never false = refl
+foreign_fails bits pages s i foreign = ap (λ b. not (get_or bits i true) && b) foreign ∙ and_right (not (get_or bits i true)) false refl
 
 -- the least length is one that is wanted
 pub least_length : (want : WantValue) → IsWant want → IsLength want want.least
@@ -154,8 +146,3 @@ least_length want ok = record { least = omega arith; most = ok.ordered; whole = 
 pub not_own : (s : ℕ) (owner : Option ℕ) → is_usable s owner ≡ false → is_of s owner ≡ false
 not_own s None e = absurd (let f : true ≡ false = e in cc)
 not_own s (Some t) e = e
-
--- a page that is not assigned has no owner
-pub no_owner : (owner : Option ℕ) → is_some owner ≡ false → owner ≡ None
-no_owner None e = refl
-no_owner (Some t) e = absurd (let f : true ≡ false = e in cc)

@@ -9,23 +9,7 @@ use Rattle.subpool_store.specs.Region.{RegionState, cell, region_of, held_of}
 use Rattle.subpool_store.specs.Joined.{IsStore, regions_of, store_of}
 use Rattle.subpool_store.proofs.Both.{high_holder, low_holder}
 use Rattle.subpool_store.proofs.Exact.{holder_index}
-
-pub count_same : (n : ℕ) (f g : ℕ → Bool) → ((i : ℕ) → i < n → f i ≡ g i) → count_below n f ≡ count_below n g
-unfolding count_below
-count_same zero f g same = refl
-count_same (suc n) f g same =
-    let rest : count_below n f ≡ count_below n g = count_same n f g (λ i low. same i (omega arith)) in
-    ap (λ b. cond b 1 0 + count_below n f) (same n (omega arith)) ∙ ap (λ r. cond (g n) 1 0 + r) rest
-
-pub count_none : (n : ℕ) (f : ℕ → Bool) → ((i : ℕ) → i < n → f i ≡ false) → count_below n f ≡ 0
-unfolding count_below
-count_none zero f none = refl
-count_none (suc n) f none = ap (λ b. cond b 1 0 + count_below n f) (none n (omega arith)) ∙ (let rest : count_below n f ≡ 0 = count_none n f (λ i low. none i (omega arith)) in let e : 0 + count_below n f ≡ 0 = omega arith in e)
-
-pub count_all : (n : ℕ) (f : ℕ → Bool) → ((i : ℕ) → i < n → f i ≡ true) → count_below n f ≡ n
-unfolding count_below
-count_all zero f all = refl
-count_all (suc n) f all = ap (λ b. cond b 1 0 + count_below n f) (all n (omega arith)) ∙ (let rest : count_below n f ≡ n = count_all n f (λ i low. all i (omega arith)) in let e : 1 + count_below n f ≡ suc n = omega arith in e)
+use Rattle.mvs_model.proofs.Below.{count_same, count_all, count_none}
 
 pub count_most : (n : ℕ) (f : ℕ → Bool) → count_below n f ≤ n
 unfolding count_below

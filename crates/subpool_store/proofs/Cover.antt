@@ -1,8 +1,8 @@
 -- The doublewords and the addresses of a place, and ranges of indices.
-use Rattle.std.proofs.Common.{◌≡◌, ℕ, ◌+◌, ◌-◌, ◌*◌, ◌/◌, ◌%◌, ◌<◌, ◌≤◌, true, false, arith}
+use Rattle.std.proofs.Common.{◌≡◌, ℕ, ◌+◌, ◌-◌, ◌*◌, ◌/◌, ◌%◌, ◌<◌, ◌≤◌, false, arith}
 use Rattle.std.proofs.lemmas.Bool.Decides.{nat_tests}
 use Rattle.mvs_model.specs.Place.{PlaceValue}
-use Rattle.mvs_model.specs.Storage.{covers, has_address, Covers}
+use Rattle.mvs_model.specs.Storage.{covers, has_address}
 use Rattle.subpool_store.specs.Bits.{in_range}
 
 -- the doublewords of a place are the indices from its start to its end
@@ -11,12 +11,6 @@ covers_is first start end k p addr_is len_is some low = grind (arith, nat_tests)
 
 pub covers_none : (first start end k : ℕ) (p : PlaceValue) → p.addr ≡ 8 * (first + start) → k < first → covers p k ≡ false
 covers_none first start end k p addr_is low = grind (arith, nat_tests)
-
-pub covers_true : (p : PlaceValue) (d : ℕ) → covers p d ≡ true → Covers p d
-covers_true p d e = grind (arith, nat_tests)
-
-pub covers_from : (p : PlaceValue) (d : ℕ) → Covers p d → covers p d ≡ true
-covers_from p d h = grind (arith, nat_tests)
 
 -- a place of whole doublewords has an address where it has its doubleword
 pub has_address_is : (p : PlaceValue) (a : ℕ) → p.addr % 8 ≡ 0 → p.len % 8 ≡ 0 → has_address p a ≡ covers p (a / 8)

@@ -9,7 +9,8 @@ use Rattle.region_raw.specs.Pages.{Pages, is_open}
 use Rattle.subpool_store.specs.Edits.{HasBit, HasNoBit, IsClear, IsFreeRun}
 use Rattle.subpool_store.specs.Memory.{IsCursor, IsMemory, MemoryState, held_bits, memory_of}
 use Rattle.subpool_store.proofs.PageTaken.{bit_is}
-use Rattle.subpool_store.proofs.Queued.{closed_free, free_is, held_at, held_size, open_is_within}
+use Rattle.subpool_store.proofs.Queued.{closed_free, free_is, held_at, held_size}
+use Rattle.region_raw.proofs.PageRows.{open_within}
 
 -- blank pages with any heads hold nothing
 pub blank_clear : (ps : Pages) (heads : List ℕ) (n : ℕ) → ps ≡ replicate n None → length heads ≡ n → IsClear (512 * n) (held_bits ps heads)
@@ -43,7 +44,7 @@ none_free (r ∷ rs) v h queue none = absurd (none r.from (inl (omega arith, let
 
 module _ (ps : Pages) (heads : List ℕ) (m : MemoryState) (inv : IsMemory ps heads) (is : memory_of ps heads ≡ m) (page : ℕ) (there : is_open ps page ≡ true) (h : ℕ) (h_is : h ≡ get_or heads page h) where
   head_is : h ≡ get_or heads page 0
-  head_is = h_is ∙ get_or_default heads page h 0 (omega (arith, open_is_within ps page there, inv.sizes))
+  head_is = h_is ∙ get_or_default heads page h 0 (omega (arith, open_within ps page there, inv.sizes))
 
   abbrev runs : List Run
   runs = (inv.queues page there).0

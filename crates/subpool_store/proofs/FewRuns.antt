@@ -6,11 +6,8 @@ use Rattle.mvs_model.specs.Storage.{Storage, end_of, holder}
 use Rattle.mvs_model.specs.declared.want.Side.{Side}
 use Rattle.mvs_model.specs.declared.want.Side.TheVariants.{Below, Either}
 use Rattle.subpool_store.specs.Bound.{begins_free_run, free_runs, holds_in_page, own_pages}
-use Rattle.subpool_store.proofs.Counts.{count_none, count_split}
-
-count_more : (n : ℕ) (f : ℕ → Bool) → count_below (suc n) f ≡ cond (f n) 1 0 + count_below n f
-unfolding count_below
-count_more n f = refl
+use Rattle.subpool_store.proofs.Counts.{count_split}
+use Rattle.mvs_model.proofs.Below.{count_more, count_none}
 
 none_below : (f : ℕ → Bool) (most : ℕ) → count_below 0 f ≤ most
 unfolding count_below

@@ -1,29 +1,15 @@
 -- Which pages of a region are open, and the bytes of those that stay open.
-use Rattle.std.proofs.Common.{◌≡◌, ◌∙◌, ℕ, zero, suc, ◌+◌, ◌-◌, ◌/◌, ◌%◌, ◌<◌, ◌≤◌, Bool, true, cond, Option, Some, None, is_some, List, length, get_or, set, replicate, refl, sym, ap, inl, inr, arith}
-use Rattle.std.proofs.lemmas.Bool.{cases_Bool, cases_eq, cond-true, cond-false, eq-eqb, false≢true, ne_eqb}
-use Rattle.std.proofs.lemmas.List.{get_or-set_other, get_or-set_same, length-set, length-replicate}
+use Rattle.std.proofs.Common.{◌≡◌, ◌∙◌, ℕ, zero, suc, ◌+◌, ◌-◌, ◌/◌, Bool, true, cond, Option, Some, None, is_some, List, length, get_or, replicate, refl, sym, ap, inl, inr, arith}
+use Rattle.std.proofs.lemmas.Bool.{cases_Bool, cond-true, cond-false}
+use Rattle.std.proofs.lemmas.List.{length-replicate}
 use Rattle.std.specs.Prelude.{unwrap_or}
 use Rattle.page_map.specs.Owners.{owner_of}
-use Rattle.region_raw.specs.Pages.{IsPart, Pages, Writes, byte_in, byte_of, is_open}
+use Rattle.region_raw.specs.Pages.{Pages, Writes, is_open}
 use Rattle.subpool_store.specs.Bits.{in_range}
 use Rattle.subpool_store.specs.Region.{IsOpened, cell, value_at}
-use Rattle.subpool_store.specs.Memory.{KeepsHeld, Stays, Turns}
+use Rattle.subpool_store.specs.Memory.{Stays}
 use Rattle.subpool_store.proofs.Exact.{cell_some}
 use Rattle.subpool_store.proofs.Ranges.{in_range_true, in_range_false}
-
--- a page is assigned and opened, or given up and closed
-pub opened_turned : (pages : List (Option ℕ)) (bytes new : Pages) (page : ℕ) (owner : Option ℕ) (b : Bool) → page < length pages → IsOpened pages bytes → Turns bytes page b new → b ≡ is_some owner → IsOpened (set pages page owner) new
-opened_turned pages bytes new page owner b low opened turns same = record {
-  sizes = turns.sizes ∙ opened.sizes ∙ sym (length-set pages page owner);
-  each = λ p. turns.pages p ∙ elim (cases_eq p page) [
-    | inl is ↦ cond-true _ _ _ (eq-eqb p page is) ∙ same ∙ sym (ap is_some (ap (owner_of (set pages page owner)) is ∙ get_or-set_same pages page owner None low))
-    | inr other ↦ cond-false _ _ _ (ne_eqb p page other) ∙ opened.each p ∙ sym (ap is_some (get_or-set_other pages page p owner None other))
-  ];
-}
-
--- what is held changes, and no page is opened or closed
-pub opened_keeps : (pages : List (Option ℕ)) (held : List Bool) (bytes new : Pages) → IsOpened pages bytes → KeepsHeld held bytes new → IsOpened pages new
-opened_keeps pages held bytes new opened keeps = record { sizes = keeps.sizes ∙ opened.sizes; each = λ p. keeps.pages p ∙ opened.each p }
 
 -- with nothing assigned nothing is open
 pub opened_none : (n : ℕ) → IsOpened (replicate n None) (replicate n None)
@@ -33,19 +19,7 @@ opened_none n = record { sizes = length-replicate n None ∙ sym (length-replica
   each (suc n) zero = refl
   each (suc n) (suc p) = each n p
 
-some_in : (b : Option (List ℕ)) (i : ℕ) → is_some b ≡ true → byte_in b i ≡ Some (unwrap_or (byte_in b i) 0)
-some_in None i some = absurd (false≢true some)
-some_in (Some b) i some = refl
-
 module _ (pages : List (Option ℕ)) (bytes : Pages) (opened : IsOpened pages bytes) where
-  -- the byte in a page that is assigned
-  pub byte_there : (k : ℕ) → is_some (owner_of pages (k / 4096)) ≡ true → byte_of bytes k ≡ Some (value_at bytes k)
-  byte_there k owned = some_in (get_or bytes (k / 4096) None) (k % 4096) (opened.each (k / 4096) ∙ owned)
-
-  -- bytes of assigned pages are a part
-  pub part_of_assigned : (at n : ℕ) → 1 ≤ n → ((k : ℕ) → at ≤ k → k < at + n → is_some (owner_of pages (k / 4096)) ≡ true) → IsPart bytes at n
-  part_of_assigned at n some owned = (some, λ k from to. opened.each (k / 4096) ∙ owned k from to)
-
   -- the value of a byte after a write
   pub written_value : (at : ℕ) (w : List ℕ) (new : Pages) → Writes bytes at w new → (k : ℕ) → is_some (owner_of pages (k / 4096)) ≡ true →
       value_at new k ≡ cond (in_range at (at + length w) k) (get_or w (k - at) 0) (value_at bytes k)

@@ -9,9 +9,10 @@ use Rattle.subpool_store.specs.Bits.{in_range}
 use Rattle.subpool_store.specs.Edits.{IsMarked}
 use Rattle.subpool_store.specs.Memory.{IsMemory, KeepsHeld, MemoryState, Turns, held_bits, is_held, memory_of}
 use Rattle.subpool_store.proofs.PageChange.{marked_held, one_here, one_moved, one_other}
-use Rattle.subpool_store.proofs.Queued.{free_is, held_at, held_open, open_is_within, same_test}
+use Rattle.subpool_store.proofs.Queued.{free_is, held_at, same_test}
 use Rattle.subpool_store.proofs.PageParts.{inside_page, other_page, outside_part}
 use Rattle.subpool_store.proofs.Ranges.{in_range_true}
+use Rattle.region_raw.proofs.PageRows.{open_within}
 
 -- a page whose queue changes stays open
 pub keeps_turns : (ps ps' : Pages) (page : ℕ) → is_open ps page ≡ true → Keeps ps page ps' → Turns ps page true ps'
@@ -41,16 +42,10 @@ module _ (ps : Pages) (heads : List ℕ) (m : MemoryState) (inv : IsMemory ps he
   pub bit_is : (i : ℕ) → get_or m.held i false ≡ is_held ps heads i
   bit_is i = sym (ap (λ g. get_or g.held i false) is) ∙ held_at ps heads inv.sizes i
 
-  -- the page of what is held is open
-  pub held_there : (page from to : ℕ) → from < to → 512 * page ≤ from → to ≤ 512 * page + 512 → ((i : ℕ) → from ≤ i → i < to → get_or m.held i false ≡ true) → is_open ps page ≡ true
-  held_there page from to some first last held =
-      let here : from / 512 ≡ page = omega arith in
-      sym (ap (is_open ps) here) ∙ held_open ps heads from (sym (bit_is from) ∙ held from (omega arith) some)
-
   module _ (page from to at n h : ℕ) (some : from < to) (first : 512 * page ≤ from) (last : to ≤ 512 * page + 512) (at_is : at ≡ 8 * (from - 512 * page)) (n_is : n ≡ 8 * (to - from)) (h_is : h ≡ get_or heads page h)
       (there : is_open ps page ≡ true) where
     pub head_low : page < length heads
-    head_low = omega (arith, open_is_within ps page there, inv.sizes)
+    head_low = omega (arith, open_within ps page there, inv.sizes)
 
     abbrev pub runs : List Run
     runs = (inv.queues page there).0

@@ -19,16 +19,6 @@ not_gone test pages n p h = elim (cases_lt p n) [
   | inr past ↦ ap (λ b. b && has test (owner_of pages p)) (le-ltb p n past)
 ]
 
-pub dropped_start : (test : ℕ → Bool) (bits : List Bool) (pages : List (Option ℕ)) (n : ℕ) → IsFirst (has test) pages 0 n → IsDropped test bits pages n bits pages
-dropped_start test bits pages n first = record {
-  bits_size = refl;
-  pages_size = refl;
-  owners = λ p. ap (λ b. cond b None (owner_of pages p)) (sym (none p));
-  each = λ i. ap (λ b. cond b false (get_or bits i false)) (sym (none (i / 512)));
-} where
-  none : (p : ℕ) → goes test pages n p ≡ false
-  none p = not_gone test pages n p (λ low. first.passed p (omega arith) low)
-
 module _ (test : ℕ → Bool) (bits bits1 bits2 : List Bool) (pages pages1 pages2 : List (Option ℕ)) (n m : ℕ) (was : IsDropped test bits pages n bits1 pages1) (found : has test (owner_of pages1 n) ≡ true)
     (closed : pages2 ≡ set pages1 n None) (cleared : IsMarked bits1 (512 * n) (512 * n + 512) false bits2) (first : IsFirst (has test) pages2 (n + 1) m) where
   after : n + 1 ≤ m

@@ -1,6 +1,6 @@
 -- What is held in pages with queues, and how it changes with the queue of one page.
-use Rattle.std.proofs.Common.{None, is_some, subst, ◌≡◌, ◌∙◌, ℕ, ◌+◌, ◌*◌, ◌/◌, ◌%◌, ◌<◌, ◌≤◌, ◌⊎◌, ◌↔◌, ◌&&◌, ◌||◌, not, Bool, true, false, List, [], ◌∷◌, Option, length, get_or, refl, sym, ap, inl, inr, arith}
-use Rattle.std.proofs.lemmas.Bool.{and_parts, both_ways, cases_eq, cases_lt}
+use Rattle.std.proofs.Common.{None, is_some, subst, ◌≡◌, ◌∙◌, ℕ, ◌+◌, ◌*◌, ◌/◌, ◌%◌, ◌≤◌, ◌↔◌, ◌&&◌, ◌||◌, not, Bool, true, false, List, [], ◌∷◌, Option, length, get_or, refl, sym, ap, inl, inr, arith}
+use Rattle.std.proofs.lemmas.Bool.{and_parts, both_ways, cases_eq, cases_lt, or_cases, not-false}
 use Rattle.std.proofs.lemmas.List.{get_or_past}
 use Rattle.std.proofs.lemmas.List.FromFn.{length-map-range_with_len, get_or-map-range_with_len}
 use Rattle.free_queue.specs.Runs.{IsFree, Queue, Run, Same, Spells, page_of, runs_of}
@@ -20,15 +20,9 @@ same_test false true one other = sym (one refl)
 pub closed_past : (ps : Pages) (p : ℕ) → length ps ≤ p → is_open ps p ≡ false
 closed_past ps p past = ap (λ (o : Option (List ℕ)). is_some o) (get_or_past ps p None past)
 
-pub open_is_within : (ps : Pages) (p : ℕ) → is_open ps p ≡ true → p < length ps
-open_is_within ps p there = elim (cases_lt p (length ps)) [ inl low ↦ low | inr past ↦ absurd (both_ways _ (closed_past ps p past) there) ]
-
 pub free_true : (rs : List Run) (d : ℕ) → is_free rs d ≡ true → IsFree rs d
 free_true [] d e = absurd (both_ways _ refl e)
-free_true (r ∷ rs) d e = elim (or_parts (in_range r.from (r.from + r.len) d) (is_free rs d) e) [ inl hit ↦ inl (in_range_true r.from (r.from + r.len) d hit) | inr more ↦ inr (free_true rs d more) ] where
-  or_parts : (a b : Bool) → (a || b) ≡ true → (a ≡ true) ⊎ (b ≡ true)
-  or_parts true b e = inl refl
-  or_parts false b e = inr e
+free_true (r ∷ rs) d e = elim (or_cases (in_range r.from (r.from + r.len) d) (is_free rs d) e) [ inl hit ↦ inl (in_range_true r.from (r.from + r.len) d hit) | inr more ↦ inr (free_true rs d more) ]
 
 pub free_test : (rs : List Run) (d : ℕ) → IsFree rs d → is_free rs d ≡ true
 free_test [] d free = absurd free
@@ -54,12 +48,9 @@ free_is ps heads p rs there queue i page =
     let runs : runs_of (page_of ps (i / 512)) (get_or heads (i / 512) 0) ≡ rs = ap (λ q. runs_of (page_of ps q) (get_or heads q 0)) page ∙ runs_are rs (page_of ps p) (get_or heads p 0) queue in
     let test : is_held ps heads i ≡ not (is_free rs (8 * (i % 512))) =
     ap (λ b. b && not (is_free (runs_of (page_of ps (i / 512)) (get_or heads (i / 512) 0)) (8 * (i % 512)))) (ap (is_open ps) page ∙ there) ∙ ap (λ l. not (is_free l (8 * (i % 512)))) runs in (
-      λ none. free_true rs (8 * (i % 512)) (turned (is_free rs (8 * (i % 512))) (sym test ∙ none)),
+      λ none. free_true rs (8 * (i % 512)) (not-false (is_free rs (8 * (i % 512))) (sym test ∙ none)),
       λ free. test ∙ ap not (free_test rs (8 * (i % 512)) free),
-    ) where
-      turned : (b : Bool) → not b ≡ false → b ≡ true
-      turned true e = refl
-      turned false e = sym e
+    )
 
 module _ (ps : Pages) (heads : List ℕ) where
   pub held_size : length (held_bits ps heads) ≡ 512 * length heads

@@ -1,6 +1,6 @@
 -- What a search of a region has to look at, read off its map.
 use Rattle.std.proofs.Common.{◌≡◌, ◌∙◌, ℕ, ◌+◌, ◌-◌, ◌*◌, ◌/◌, ◌%◌, ◌<◌, ◌≤◌, ◌&&◌, ◌||◌, not, Bool, true, false, cond, List, Option, Some, None, is_some, length, get_or, eqb, refl, sym, ap, inl, inr, arith}
-use Rattle.std.proofs.lemmas.Bool.{cases_Bool, cases_eq, eq-eqb, le-ltb, lt-ltb, ne_eqb}
+use Rattle.std.proofs.lemmas.Bool.{cases_Bool, cases_eq, eq-eqb, le-ltb, lt-ltb, ne_eqb, and_right}
 use Rattle.std.specs.FinMap.{get}
 use Rattle.mvs_model.specs.Finite.{count_below, has}
 use Rattle.page_map.specs.Owners.{is_of, owner_of}
@@ -10,8 +10,8 @@ use Rattle.subpool_store.specs.Memory.{MemoryState}
 use Rattle.subpool_store.specs.Walk.{begins_run, entries_to, looked_at}
 use Rattle.subpool_store.proofs.Begun.{count_grows, count_once}
 use Rattle.subpool_store.proofs.Entries.{none_there}
-use Rattle.subpool_store.proofs.Counts.{count_none, count_same}
 use Rattle.subpool_store.proofs.Exact.{holder_index}
+use Rattle.mvs_model.proofs.Below.{count_same, count_none}
 
 pub count_has : (n : ℕ) (f : ℕ → Bool) (x : ℕ) → x < n → f x ≡ true → 1 ≤ count_below n f
 count_has n f x low hit = let one = count_once f x hit in let grows = count_grows f (x + 1) n (omega (arith, low)) in omega (arith, one, grows)
@@ -63,30 +63,19 @@ module _ (first : ℕ) (bits : List Bool) (pages : List (Option ℕ)) (region : 
   begins_by : (i : ℕ) (o : Option ℕ) → owner_of pages (i / 512) ≡ o → begins_run bits pages s i ≡ begins_free_run at s (first + i)
   begins_by i None e =
       (λ k. not (get_or bits i false) && (is_of s (e k) && (eqb (i % 512) 0 || get_or bits (i - 1) false)))
-      ∙ never (not (get_or bits i false)) (not (is_some (at (first + i))))
-      ∙ sym (λ k. not (is_some (at (first + i))) && (page_is i None e k && (eqb ((first + i) % 512) 0 || is_some (at (first + i - 1))))) where
-        never : (a b : Bool) → (a && false) ≡ (b && false)
-        never true true = refl
-        never true false = refl
-        never false true = refl
-        never false false = refl
+      ∙ and_right (not (get_or bits i false)) false refl ∙ sym (and_right (not (is_some (at (first + i)))) false refl)
+      ∙ sym (λ k. not (is_some (at (first + i))) && (page_is i None e k && (eqb ((first + i) % 512) 0 || is_some (at (first + i - 1)))))
   begins_by i (Some t) e = elim (cases_eq t s) [
     | inr other ↦
         (λ k. not (get_or bits i false) && (is_of s (e k) && (eqb (i % 512) 0 || get_or bits (i - 1) false)))
         ∙ (λ k. not (get_or bits i false) && (ne_eqb t s other k && (eqb (i % 512) 0 || get_or bits (i - 1) false)))
-        ∙ never (not (get_or bits i false)) (not (is_some (at (first + i))))
+        ∙ and_right (not (get_or bits i false)) false refl ∙ sym (and_right (not (is_some (at (first + i)))) false refl)
         ∙ sym ((λ k. not (is_some (at (first + i))) && (page_is i (Some t) e k && (eqb ((first + i) % 512) 0 || is_some (at (first + i - 1)))))
         ∙ (λ k. not (is_some (at (first + i))) && (ne_eqb t s other k && (eqb ((first + i) % 512) 0 || is_some (at (first + i - 1))))))
     | inl is ↦
         let own : owner_of pages (i / 512) ≡ Some s = e ∙ ap Some is in
         (λ k. not (sym (bit_of_own i own) k) && (both own k && before own k))
   ] where
-    never : (a b : Bool) → (a && false) ≡ (b && false)
-    never true true = refl
-    never true false = refl
-    never false true = refl
-    never false false = refl
-
     both : owner_of pages (i / 512) ≡ Some s → is_of s (owner_of pages (i / 512)) ≡ holds_in_page at s ((first + i) / 512)
     both own = ap (is_of s) own ∙ sym (page_is i (Some s) own)
 

@@ -1,9 +1,9 @@
 -- One pass over the runs finds each place.
-use Rattle.std.proofs.Common.{◌≡◌, ℕ, ◌+◌, ◌-◌, ◌*◌, ◌/◌, ◌%◌, ◌<◌, ◌≤◌, Bool, true, Option, None, Some, MatchOption, IfSome, ◌⊎◌, sym, ap, ◌∙◌, subst, inl, inr, arith}
+use Rattle.std.proofs.Common.{◌≡◌, ℕ, ◌+◌, ◌-◌, ◌*◌, ◌/◌, ◌%◌, ◌<◌, ◌≤◌, Bool, true, Option, None, Some, IfSome, ◌⊎◌, sym, ap, ◌∙◌, subst, inl, inr, arith}
 use Rattle.std.proofs.lemmas.Bool.{both_ways, cases_lt}
 use Rattle.mvs_model.specs.Place.{PlaceValue}
-use Rattle.mvs_model.specs.Storage.{IsLength, IsRun, InRun, Meets}
-use Rattle.mvs_model.specs.Want.{WantValue, IsWant}
+use Rattle.mvs_model.specs.Storage.{InRun}
+use Rattle.mvs_model.specs.Want.{WantValue}
 use Rattle.subpool_store.specs.Search.{AllPass, Beats, BehindBest, IsCandidate, IsNextRun, LongestIn, NoneFits}
 
 -- the first doubleword of such a place passes
@@ -84,37 +84,3 @@ best_found test first n want from start end next p best best' r run addr_is len_
   new : (r : Option PlaceValue) → LongestIn p want r → IfSome r (IsCandidate test first want)
   new None none = tt
   new (Some b) found = record { length = found.length; meets = found.meets; pass = run_passes test first n from start end next p b run addr_is len_is found.inside }
-
--- the bytes of a run are a run
-pub run_is : (first start end n : ℕ) (p : PlaceValue) → start < end → end ≤ n → 8 * (first + n) ≤ 2147483648 → (first < 2097152 → first + n ≤ 2097152) →
-    p.addr ≡ 8 * (first + start) → p.len ≡ 8 * (end - start) → IsRun p
-run_is first start end n p some within high one_side addr_is len_is = record {
-  whole = (omega arith, omega arith);
-  some = omega arith;
-  short = omega arith;
-  one_side = λ low. let below : first < 2097152 = omega arith in let ends : first + n ≤ 2097152 = one_side below in omega arith;
-}
-
--- where one length alone is wanted, a place of that length is a longest one
-pub one_length : (run : PlaceValue) (want : WantValue) (n : ℕ) (r : Option PlaceValue) → IsWant want → n ≡ want.least → want.least ≡ want.most →
-    MatchOption r ((q : PlaceValue) → q.len ≡ n → InRun run q → Meets want q → ⊥)
-    (λ p. (p.len ≡ n) × InRun run p × Meets want p × ((q : PlaceValue) → q.len ≡ n → InRun run q → Meets want q → p.addr ≤ q.addr)) →
-    LongestIn run want r
-one_length run want n None ok is same none = λ q len inside meets.
-    let low : want.least ≤ q.len = len.least in
-    let high : q.len ≤ want.most = len.most in
-    none q (omega arith) inside meets
-one_length run want n (Some p) ok is same found = record {
-  length = let e : p.len ≡ n = found.0 in let whole : want.least % 8 ≡ 0 = ok.least_whole in record { least = omega arith; most = omega arith; whole = subst (λ k. k % 8 ≡ 0) (sym (e ∙ is)) whole };
-  inside = found.1;
-  meets = found.2;
-  longest = λ q len inside meets. let e : p.len ≡ n = found.0 in let high : q.len ≤ want.most = len.most in omega arith;
-}
-
--- what the longest place of a run says, as one record
-pub longest_of : (run : PlaceValue) (want : WantValue) (r : Option PlaceValue) →
-    MatchOption r ((q : PlaceValue) → IsLength want q.len → InRun run q → Meets want q → ⊥)
-    (λ p. IsLength want p.len × InRun run p × Meets want p × ((q : PlaceValue) → IsLength want q.len → InRun run q → Meets want q → q.len ≤ p.len)) →
-    LongestIn run want r
-longest_of run want None none = none
-longest_of run want (Some p) found = record { length = found.0; inside = found.1; meets = found.2; longest = found.3 }

@@ -1,6 +1,6 @@
 -- What an obtain has to look at in both regions.
-use Rattle.std.proofs.Common.{◌≡◌, ◌∙◌, ℕ, ◌+◌, ◌-◌, ◌*◌, ◌/◌, ◌%◌, ◌<◌, ◌≤◌, ◌⊎◌, ◌&&◌, ◌||◌, not, Bool, true, false, Option, Some, None, is_some, eqb, refl, sym, ap, subst, inl, inr, arith}
-use Rattle.std.proofs.lemmas.Bool.{cases_eq, eq-eqb, le-ltb}
+use Rattle.std.proofs.Common.{◌≡◌, ◌∙◌, ℕ, ◌+◌, ◌-◌, ◌*◌, ◌/◌, ◌%◌, ◌<◌, ◌≤◌, ◌⊎◌, ◌&&◌, ◌||◌, not, false, Option, Some, None, is_some, eqb, refl, sym, ap, subst, inl, inr, arith}
+use Rattle.std.proofs.lemmas.Bool.{cases_eq, eq-eqb, le-ltb, and_right}
 use Rattle.std.proofs.lemmas.Option.{none-some}
 use Rattle.std.specs.Prelude.{nat_lt}
 use Rattle.std.specs.FinMap.{get}
@@ -16,7 +16,8 @@ use Rattle.subpool_store.specs.Search.{Beats, IsCounted}
 use Rattle.subpool_store.proofs.Begun.{least_length}
 use Rattle.subpool_store.proofs.FewRuns.{runs_few}
 use Rattle.subpool_store.proofs.Both.{high_holder, low_holder}
-use Rattle.subpool_store.proofs.Counts.{count_middle, count_most, count_none, count_same, count_split}
+use Rattle.subpool_store.proofs.Counts.{count_middle, count_most, count_split}
+use Rattle.mvs_model.proofs.Below.{count_same, count_none}
 
 -- a run begins where it does in a map that has the same page
 pub begins_same : (f g : ℕ → Option ℕ) (s d : ℕ) → ((e : ℕ) → e / 512 ≡ d / 512 → f e ≡ g e) → begins_free_run f s d ≡ begins_free_run g s d
@@ -32,13 +33,9 @@ begins_same f g s d same = λ j. not (is_some (same d refl j)) && (page j && bef
 
 -- no run of s begins in a page of which nothing is held
 pub begins_none : (f : ℕ → Option ℕ) (s d : ℕ) → ((e : ℕ) → e / 512 ≡ d / 512 → f e ≡ None) → begins_free_run f s d ≡ false
-begins_none f s d none = ap (λ b. not (is_some (f d)) && (b && (eqb (d % 512) 0 || is_some (f (d - 1))))) page ∙ never (not (is_some (f d))) where
+begins_none f s d none = ap (λ b. not (is_some (f d)) && (b && (eqb (d % 512) 0 || is_some (f (d - 1))))) page ∙ and_right (not (is_some (f d))) false refl where
   page : holds_in_page f s (d / 512) ≡ false
   page = le-ltb 0 _ (let zero = count_none 512 (λ i. has (λ t. eqb t s) (f (512 * (d / 512) + i))) (λ i low. ap (has (λ t. eqb t s)) (none (512 * (d / 512) + i) (omega (arith, low)))) in omega (arith, zero))
-
-  never : (b : Bool) → (b && false) ≡ false
-  never true = refl
-  never false = refl
 
 module _ (b a : RegionState) (fill : ℕ) (both : IsStore b a) (s : ℕ) where
   first_b : b.first ≡ 3072

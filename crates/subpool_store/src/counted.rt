@@ -43,7 +43,10 @@ fn entry_by(owner: Option<SubpoolId>, subpool: SubpoolId) -> Entry
 // Whether the page of an entry is the subpool's own and nothing of it is free: its queue is empty.
 fn is_full(memory: &Memory, page: usize, entry: Entry) -> bool
     requires { IsOwn entry → is_open memory.now.bytes page ≡ true }
-    ensures full { result ≡ true → IsOwn entry × ((i : ℕ) → i / page_doublewords ≡ page → slice_index_or memory.now.held i false ≡ true) }
+    ensures full { result ≡ true
+        → IsOwn entry
+        × ((i : ℕ) → i / page_doublewords ≡ page
+        → slice_index_or memory.now.held i false ≡ true) }
 {
     match entry {
         Entry::Own => memory.is_full(page),
@@ -119,7 +122,8 @@ impl Counted {
         requires from { from ≤ length pages.now }
         ensures after { from ≤ result.0 }
         ensures within { result.0 ≤ length pages.now }
-        ensures passed { (p : ℕ) → from ≤ p → p < result.0 → is_usable subpool (owner_of pages.now p) ≡ false }
+        ensures passed { (p : ℕ) → from ≤ p → p < result.0
+            → is_usable subpool (owner_of pages.now p) ≡ false }
         ensures entry { result.1 ≡ entry_of pages.now subpool result.0 }
         ensures counted { self.new.steps + from ≡ self.old.steps + entries_to pages.now result.0 }
     {
@@ -143,7 +147,8 @@ impl Counted {
         requires from { from ≤ length pages.now }
         ensures after { from ≤ result.0 }
         ensures within { result.0 ≤ length pages.now }
-        ensures passed { (p : ℕ) → from ≤ p → p < result.0 → IsFull memory.now.held pages.now subpool p }
+        ensures passed { (p : ℕ) → from ≤ p → p < result.0
+            → IsFull memory.now.held pages.now subpool p }
         ensures entry { result.1 ≡ entry_of pages.now subpool result.0 }
         ensures counted { self.new.steps + from ≡ self.old.steps + entries_to pages.now result.0 }
     {
@@ -170,9 +175,11 @@ impl Counted {
         requires from { page_doublewords * page ≤ from }
         requires queue { IsCursor memory.now page from queue }
         ensures run { MatchOption result
-            ((i : ℕ) → from ≤ i → i < page_doublewords * page + page_doublewords → slice_index_or memory.now.held i false ≡ true)
+            ((i : ℕ) → from ≤ i → i < page_doublewords * page + page_doublewords
+            → slice_index_or memory.now.held i false ≡ true)
             (λ found. IsFoundRun memory.now page from found.0 found.1 found.2) }
-        ensures counted { MatchOption result (self.new.steps ≡ self.old.steps) (λ _. self.new.steps ≡ self.old.steps + 1) }
+        ensures counted { MatchOption result (self.new.steps ≡ self.old.steps)
+            (λ _. self.new.steps ≡ self.old.steps + 1) }
     {
         let found = memory.free_run(page, from, queue)?;
         self.steps += 1;

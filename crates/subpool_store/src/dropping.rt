@@ -16,7 +16,8 @@ use page_map::PageMap;
 pub fn drop_pages(pages: &mut PageMap, memory: &mut Memory, subpools: &SubpoolSet)
     requires sizes { length memory.old.held ≡ page_doublewords * length pages.old }
     requires opened { IsOpened pages.old memory.old.bytes }
-    ensures dropped { IsDropped (is_one_of subpools.now) memory.old.held pages.old (length pages.old) memory.new.held pages.new }
+    ensures dropped { IsDropped (is_one_of subpools.now) memory.old.held pages.old
+        (length pages.old) memory.new.held pages.new }
     ensures opened { IsOpened pages.new memory.new.bytes }
     ensures stays { Stays memory.new.held memory.old.bytes memory.new.bytes }
 {

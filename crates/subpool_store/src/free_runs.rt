@@ -18,7 +18,8 @@ pub fn are_held_in(memory: &Memory, page: usize, from: usize, to: usize) -> bool
     requires first { page_doublewords * page ≤ from }
     requires last { to ≤ page_doublewords * page + page_doublewords }
     requires there { is_open memory.now.bytes page ≡ true }
-    ensures { IsTrue result ↔ ((i : ℕ) → from ≤ i → i < to → slice_index_or memory.now.held i false ≡ true) }
+    ensures { IsTrue result
+        ↔ ((i : ℕ) → from ≤ i → i < to → slice_index_or memory.now.held i false ≡ true) }
 {
     let mut at = PAGE_DOUBLEWORDS * page;
     let mut queue = memory.first(page);
@@ -36,8 +37,10 @@ pub fn are_held_in(memory: &Memory, page: usize, from: usize, to: usize) -> bool
 pub fn are_held(memory: &Memory, run: Run) -> bool
     requires some { run.start ≤ run.end }
     requires few { run.end ≤ most_doublewords }
-    requires there { (i : ℕ) → run.start ≤ i → i < run.end → is_open memory.now.bytes (i / page_doublewords) ≡ true }
-    ensures { IsTrue result ↔ ((i : ℕ) → run.start ≤ i → i < run.end → slice_index_or memory.now.held i false ≡ true) }
+    requires there { (i : ℕ) → run.start ≤ i → i < run.end
+        → is_open memory.now.bytes (i / page_doublewords) ≡ true }
+    ensures { IsTrue result
+        ↔ ((i : ℕ) → run.start ≤ i → i < run.end → slice_index_or memory.now.held i false ≡ true) }
 {
     let mut at = run.start;
     'pages: while at < run.end {
@@ -55,7 +58,9 @@ pub fn are_held(memory: &Memory, run: Run) -> bool
 pub fn count(memory: &Memory, page: usize) -> u32
     requires few { page < most_pages_above }
     requires there { is_open memory.now.bytes page ≡ true }
-    ensures { result ≡ count_below page_doublewords (λ i. slice_index_or memory.now.held (page_doublewords * page + i) false) }
+    ensures { result
+        ≡ count_below page_doublewords
+        (λ i. slice_index_or memory.now.held (page_doublewords * page + i) false) }
 {
     let mut count = 0;
     let mut at = PAGE_DOUBLEWORDS * page;

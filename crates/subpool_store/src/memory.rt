@@ -74,7 +74,8 @@ impl Memory {
     // Makes an open page blank.
     pub fn close_page(&mut self, page: usize)
         requires { is_open self.old.bytes page ≡ true }
-        ensures marked { IsMarked self.old.held (page_doublewords * page) (page_doublewords * page + page_doublewords) false self.new.held }
+        ensures marked { IsMarked self.old.held (page_doublewords * page)
+            (page_doublewords * page + page_doublewords) false self.new.held }
         ensures closed { Turns self.old.bytes page false self.new.bytes }
         ensures stays { Stays self.new.held self.old.bytes self.new.bytes }
     {
@@ -131,8 +132,10 @@ impl Memory {
     pub fn give(&mut self, run: Run)
         requires some { run.start ≤ run.end }
         requires few { run.end ≤ most_doublewords }
-        requires there { (i : ℕ) → run.start ≤ i → i < run.end → is_open self.old.bytes (i / page_doublewords) ≡ true }
-        requires held { (i : ℕ) → run.start ≤ i → i < run.end → slice_index_or self.old.held i false ≡ true }
+        requires there { (i : ℕ) → run.start ≤ i → i < run.end
+            → is_open self.old.bytes (i / page_doublewords) ≡ true }
+        requires held { (i : ℕ) → run.start ≤ i → i < run.end
+            → slice_index_or self.old.held i false ≡ true }
         ensures marked { IsMarked self.old.held run.start run.end false self.new.held }
         ensures keeps { KeepsHeld self.new.held self.old.bytes self.new.bytes }
     {
@@ -156,7 +159,9 @@ impl Memory {
     // Whether all doublewords of an open page are held.
     pub fn is_full(&self, page: usize) -> bool
         requires { is_open self.now.bytes page ≡ true }
-        ensures { IsTrue result ↔ ((i : ℕ) → i / page_doublewords ≡ page → slice_index_or self.now.held i false ≡ true) }
+        ensures { IsTrue result
+            ↔ ((i : ℕ) → i / page_doublewords ≡ page
+            → slice_index_or self.now.held i false ≡ true) }
     {
         let _ = &self.region;
         self.heads[page].is_none()
@@ -177,8 +182,10 @@ impl Memory {
         requires from { page_doublewords * page ≤ from }
         requires queue { IsCursor self.now page from queue }
         ensures { MatchOption result
-            ((i : ℕ) → from ≤ i → i < page_doublewords * page + page_doublewords → slice_index_or self.now.held i false ≡ true)
-            (λ found. IsFreeRun self.now.held from (page_doublewords * page + page_doublewords) found.0.start found.0.end × IsCursor self.now page found.0.end found.1) }
+            ((i : ℕ) → from ≤ i → i < page_doublewords * page + page_doublewords
+            → slice_index_or self.now.held i false ≡ true)
+            (λ found. IsFreeRun self.now.held from (page_doublewords * page + page_doublewords)
+            found.0.start found.0.end × IsCursor self.now page found.0.end found.1) }
     {
         let Some((at, len)) = queue::next_free(&self.region, page, queue, 0) else {
             return None;
@@ -197,7 +204,8 @@ impl Memory {
         requires from { page_doublewords * page ≤ from }
         requires queue { IsCursor self.now page from queue }
         ensures { MatchOption result
-            ((i : ℕ) → from ≤ i → i < page_doublewords * page + page_doublewords → slice_index_or self.now.held i false ≡ true)
+            ((i : ℕ) → from ≤ i → i < page_doublewords * page + page_doublewords
+            → slice_index_or self.now.held i false ≡ true)
             (λ found. IsFoundRun self.now page from found.0 found.1 found.2) }
     {
         let Some((at, len)) = queue::next_free(&self.region, page, queue, 0) else {
@@ -219,7 +227,8 @@ impl Memory {
     pub fn part(&self, at: usize, n: usize) -> &[u8]
         requires { IsHeldPart self.now.held at n }
         ensures len { length result.now ≡ n }
-        ensures bytes { (k : ℕ) → k < n → byte_of self.now.bytes (at + k) ≡ Some (slice_index result.now k) }
+        ensures bytes { (k : ℕ) → k < n
+            → byte_of self.now.bytes (at + k) ≡ Some (slice_index result.now k) }
     {
         let _ = &self.heads;
         self.region.part(at, n)
@@ -229,9 +238,11 @@ impl Memory {
     pub fn part_mut(&mut self, at: usize, n: usize) -> &mut [u8]
         requires { IsHeldPart self.old.held at n }
         ensures* writes_back { sem 𝓛 (LendsPart self.entry at n result) }
-        ensures writes { (ws : List ℕ) → Writes self.old.bytes at ws (with_part self.old.bytes at ws) }
+        ensures writes { (ws : List ℕ)
+            → Writes self.old.bytes at ws (with_part self.old.bytes at ws) }
         ensures len { length result.now ≡ n }
-        ensures bytes { (k : ℕ) → k < n → byte_of self.old.bytes (at + k) ≡ Some (slice_index result.now k) }
+        ensures bytes { (k : ℕ) → k < n
+            → byte_of self.old.bytes (at + k) ≡ Some (slice_index result.now k) }
     {
         self.region.part_mut(at, n)
     }
@@ -242,10 +253,13 @@ impl Memory {
         requires source { IsHeldPart self.old.held from n }
         requires target { IsHeldPart self.old.held to n }
         ensures* writes_back { sem 𝓛 (LendsSecond self.entry to n result) }
-        ensures writes { (ws : List ℕ) → Writes self.old.bytes to ws (with_part self.old.bytes to ws) }
+        ensures writes { (ws : List ℕ)
+            → Writes self.old.bytes to ws (with_part self.old.bytes to ws) }
         ensures len { (length result.0.now ≡ n) × (length result.1.now ≡ n) }
-        ensures source_bytes { (k : ℕ) → k < n → byte_of self.old.bytes (from + k) ≡ Some (slice_index result.0.now k) }
-        ensures target_bytes { (k : ℕ) → k < n → byte_of self.old.bytes (to + k) ≡ Some (slice_index result.1.now k) }
+        ensures source_bytes { (k : ℕ) → k < n
+            → byte_of self.old.bytes (from + k) ≡ Some (slice_index result.0.now k) }
+        ensures target_bytes { (k : ℕ) → k < n
+            → byte_of self.old.bytes (to + k) ≡ Some (slice_index result.1.now k) }
     {
         self.region.two_parts(from, to, n)
     }

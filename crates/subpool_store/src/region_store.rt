@@ -72,7 +72,8 @@ fn take_part(
     requires some { run.start < run.end }
     requires first { page_doublewords * page ≤ run.start }
     requires last { run.end ≤ page_doublewords * page + page_doublewords }
-    requires free { (i : ℕ) → run.start ≤ i → i < run.end → slice_index_or memory.old.held i false ≡ false }
+    requires free { (i : ℕ) → run.start ≤ i → i < run.end
+        → slice_index_or memory.old.held i false ≡ false }
     ensures assigned { pages.new ≡ slice_set pages.old page (Some subpool) }
     ensures opened { IsOpened pages.new memory.new.bytes }
     ensures marked { IsMarked memory.old.held run.start run.end true memory.new.held }
@@ -92,10 +93,14 @@ fn take_run(pages: &mut PageMap, memory: &mut Memory, subpool: SubpoolId, run: R
     requires some { run.start < run.end }
     requires within { run.end ≤ page_doublewords * length pages.old }
     requires few { length pages.old ≤ most_pages_above }
-    requires usable { (p : ℕ) → run.start / page_doublewords ≤ p → p < (run.end - 1) / page_doublewords + 1 → is_usable subpool (owner_of pages.old p) ≡ true }
+    requires usable { (p : ℕ) → run.start / page_doublewords ≤ p
+        → p < (run.end - 1) / page_doublewords + 1
+        → is_usable subpool (owner_of pages.old p) ≡ true }
     requires opened { IsOpened pages.old memory.old.bytes }
-    requires free { (i : ℕ) → run.start ≤ i → i < run.end → slice_index_or memory.old.held i false ≡ false }
-    ensures assigned { IsAssigned pages.old (run.start / page_doublewords) ((run.end - 1) / page_doublewords + 1) subpool pages.new }
+    requires free { (i : ℕ) → run.start ≤ i → i < run.end
+        → slice_index_or memory.old.held i false ≡ false }
+    ensures assigned { IsAssigned pages.old (run.start / page_doublewords)
+        ((run.end - 1) / page_doublewords + 1) subpool pages.new }
     ensures opened { IsOpened pages.new memory.new.bytes }
     ensures marked { IsMarked memory.old.held run.start run.end true memory.new.held }
     ensures stays { Stays memory.old.held memory.old.bytes memory.new.bytes }
@@ -118,7 +123,8 @@ pub fn close_page(pages: &mut PageMap, memory: &mut Memory, page: usize)
     requires opened { IsOpened pages.old memory.old.bytes }
     ensures unassigned { pages.new ≡ slice_set pages.old page None }
     ensures opened { IsOpened pages.new memory.new.bytes }
-    ensures marked { IsMarked memory.old.held (page_doublewords * page) (page_doublewords * page + page_doublewords) false memory.new.held }
+    ensures marked { IsMarked memory.old.held (page_doublewords * page)
+        (page_doublewords * page + page_doublewords) false memory.new.held }
     ensures stays { Stays memory.new.held memory.old.bytes memory.new.bytes }
 {
     pages.unassign(page);
@@ -192,7 +198,9 @@ fn holds_run(memory: &Memory, pages: &PageMap, subpool: SubpoolId, run: Run) -> 
     requires sizes { length memory.now.held ≡ page_doublewords * length pages.now }
     requires few { length pages.now ≤ most_pages_above }
     requires opened { IsOpened pages.now memory.now.bytes }
-    ensures { IsTrue result ↔ ((i : ℕ) → run.start ≤ i → i < run.end → cell memory.now.held pages.now i ≡ Some subpool) }
+    ensures { IsTrue result
+        ↔ ((i : ℕ) → run.start ≤ i → i < run.end
+        → cell memory.now.held pages.now i ≡ Some subpool) }
 {
     if !are_of(
         pages,
@@ -208,7 +216,8 @@ fn holds_run(memory: &Memory, pages: &PageMap, subpool: SubpoolId, run: Run) -> 
 // Whether the page is the subpool's.
 fn is_own(pages: &PageMap, subpool: SubpoolId, page: usize) -> bool
     requires { page < length pages.now }
-    ensures { MatchBool result (owner_of pages.now page ≡ Some subpool) (owner_of pages.now page ≡ Some subpool → ⊥) }
+    ensures { MatchBool result (owner_of pages.now page ≡ Some subpool)
+        (owner_of pages.now page ≡ Some subpool → ⊥) }
 {
     pages.owner(page) == Some(subpool)
 }
@@ -218,7 +227,10 @@ fn count_page(memory: &Memory, pages: &PageMap, subpool: SubpoolId, page: usize)
     requires few { length pages.now ≤ most_pages_above }
     requires within { page < length pages.now }
     requires opened { IsOpened pages.now memory.now.bytes }
-    ensures { result ≡ count_below page_doublewords (λ i. has (λ t. t == subpool) (cell memory.now.held pages.now (page_doublewords * page + i))) }
+    ensures { result
+        ≡ count_below page_doublewords
+        (λ i. has (λ t. t == subpool)
+        (cell memory.now.held pages.now (page_doublewords * page + i))) }
 {
     if is_own(pages, subpool, page) {
         free_runs::count(memory, page)
@@ -231,7 +243,9 @@ fn count_page(memory: &Memory, pages: &PageMap, subpool: SubpoolId, page: usize)
 fn count(memory: &Memory, pages: &PageMap, subpool: SubpoolId) -> u32
     requires few { length pages.now ≤ most_pages_above }
     requires opened { IsOpened pages.now memory.now.bytes }
-    ensures { result ≡ count_below (page_doublewords * length pages.now) (λ i. has (λ t. t == subpool) (cell memory.now.held pages.now i)) }
+    ensures { result
+        ≡ count_below (page_doublewords * length pages.now)
+        (λ i. has (λ t. t == subpool) (cell memory.now.held pages.now i)) }
 {
     let mut count = 0;
     for page in 0..pages.pages() {
@@ -283,8 +297,10 @@ impl RegionStore {
         requires few { pages ≤ most_pages_above }
         requires aligned { first % page_doublewords ≡ 0 }
         requires end { 8 * (first + page_doublewords * pages) ≤ 2 ^ 31 }
-        requires one_side { first < first_doubleword_above → first + page_doublewords * pages ≤ first_doubleword_above }
-        ensures empty { IfOk result (λ h. h ≡ record { first = first; pages = pages; held = empty; bytes = empty }) }
+        requires one_side { first < first_doubleword_above
+            → first + page_doublewords * pages ≤ first_doubleword_above }
+        ensures empty { IfOk result
+            (λ h. h ≡ record { first = first; pages = pages; held = empty; bytes = empty }) }
         ensures sound { IfOk result IsSound }
     {
         Ok(RegionStore {
@@ -377,7 +393,9 @@ impl RegionStore {
 
     // How many doublewords the subpool holds.
     pub fn count(&self, subpool: SubpoolId) -> u32
-        ensures count { result ≡ count_below (page_doublewords * self.now.pages) (λ i. has (λ t. t == subpool) (get self.now.held (self.now.first + i))) }
+        ensures count { result
+            ≡ count_below (page_doublewords * self.now.pages)
+            (λ i. has (λ t. t == subpool) (get self.now.held (self.now.first + i))) }
         ensures most { result ≤ most_doublewords }
     {
         count(&self.memory, &self.pages, subpool)
@@ -406,7 +424,8 @@ impl RegionStore {
     pub fn part(&self, place: Place) -> &[u8]
         requires { AllHeldIn self.now place }
         ensures len { length result.now ≡ place.len }
-        ensures each { (k : ℕ) → k < place.len → get self.now.bytes (place.addr + k) ≡ Some (slice_index result.now k) }
+        ensures each { (k : ℕ) → k < place.len
+            → get self.now.bytes (place.addr + k) ≡ Some (slice_index result.now k) }
     {
         let len = place.len() as usize;
         let from = (place.addr().get() - 8 * self.first) as usize;
@@ -418,7 +437,8 @@ impl RegionStore {
         requires { AllHeldIn self.old place }
         ensures* writes_back { sem 𝓛 (LendsRegion self.entry place result) }
         ensures len { length result.now ≡ place.len }
-        ensures each { (k : ℕ) → k < place.len → get self.old.bytes (place.addr + k) ≡ Some (slice_index result.now k) }
+        ensures each { (k : ℕ) → k < place.len
+            → get self.old.bytes (place.addr + k) ≡ Some (slice_index result.now k) }
     {
         let len = place.len() as usize;
         let from = (place.addr().get() - 8 * self.first) as usize;
@@ -433,8 +453,10 @@ impl RegionStore {
         requires apart { (from.addr + from.len ≤ to.addr) ⊎ (to.addr + to.len ≤ from.addr) }
         ensures* writes_back { sem 𝓛 (LendsRegion self.entry to result.1) }
         ensures len { (length result.0.now ≡ from.len) × (length result.1.now ≡ to.len) }
-        ensures source_bytes { (k : ℕ) → k < from.len → get self.old.bytes (from.addr + k) ≡ Some (slice_index result.0.now k) }
-        ensures target_bytes { (k : ℕ) → k < to.len → get self.old.bytes (to.addr + k) ≡ Some (slice_index result.1.now k) }
+        ensures source_bytes { (k : ℕ) → k < from.len
+            → get self.old.bytes (from.addr + k) ≡ Some (slice_index result.0.now k) }
+        ensures target_bytes { (k : ℕ) → k < to.len
+            → get self.old.bytes (to.addr + k) ≡ Some (slice_index result.1.now k) }
     {
         let len = from.len() as usize;
         let source = (from.addr().get() - 8 * self.first) as usize;

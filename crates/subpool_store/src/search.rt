@@ -177,10 +177,15 @@ pub fn find(
     requires exact { IsExact memory.now.held pages.now }
     requires opened { IsOpened pages.now memory.now.bytes }
     requires end { 8 * (first + length memory.now.held) ≤ 2 ^ 31 }
-    requires one_side { first < first_doubleword_above → first + length memory.now.held ≤ first_doubleword_above }
-    ensures found { IfSome result.place (IsCandidate (may_take memory.now.held pages.now subpool) first want.now) }
-    ensures longest { (q : PlaceValue) → IsCandidate (may_take memory.now.held pages.now subpool) first want.now q → Beats result.place q.len }
-    ensures counted { IsCounted (looked_at memory.now pages.now subpool (length memory.now.held)) result.place result.steps }
+    requires one_side { first < first_doubleword_above
+        → first + length memory.now.held ≤ first_doubleword_above }
+    ensures found { IfSome result.place
+        (IsCandidate (may_take memory.now.held pages.now subpool) first want.now) }
+    ensures longest { (q : PlaceValue)
+        → IsCandidate (may_take memory.now.held pages.now subpool) first want.now q
+        → Beats result.place q.len }
+    ensures counted { IsCounted (looked_at memory.now pages.now subpool (length memory.now.held))
+        result.place result.steps }
     ensures wanted { IsWant want.now }
 {
     let only = only_length(want);

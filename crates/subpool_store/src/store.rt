@@ -72,7 +72,8 @@ impl Model for Store {
 
 // Whether the place lies below 16 megabytes.
 fn is_below(place: Place) -> bool
-    ensures below { MatchBool result (place.addr + place.len ≤ above_begins) (above_begins < place.addr + place.len) }
+    ensures below { MatchBool result (place.addr + place.len ≤ above_begins)
+        (above_begins < place.addr + place.len) }
     ensures some { 1 ≤ place.len }
 {
     u64::from(place.addr().get()) + u64::from(place.len()) <= u64::from(ABOVE_BEGINS)
@@ -80,7 +81,8 @@ fn is_below(place: Place) -> bool
 
 // Whether the place ends at the last address or before.
 fn has_addresses(place: Place) -> bool
-    ensures within { MatchBool result (place.addr + place.len ≤ 2 ^ 31) (2 ^ 31 < place.addr + place.len) }
+    ensures within { MatchBool result (place.addr + place.len ≤ 2 ^ 31)
+        (2 ^ 31 < place.addr + place.len) }
     ensures some { 1 ≤ place.len }
 {
     place.addr().get() + place.len() <= 0x8000_0000
@@ -122,7 +124,14 @@ impl Store {
         requires below { below ≤ most_pages_below }
         requires above { above ≤ most_pages_above }
         ensures empty { IfOk result
-            (λ s. s ≡ record { storage = record { regions = record { below = below; above = above; fill = fill }; held = empty; bytes = empty }; steps = 0 }) }
+            (λ s. s ≡ record {
+              storage = record {
+                regions = record { below = below; above = above; fill = fill };
+                held = empty;
+                bytes = empty;
+              };
+              steps = 0;
+            }) }
         ensures storage { IfOk result (λ s. IsStorage s.storage) }
     {
         Ok(Store {
@@ -155,7 +164,8 @@ impl Store {
         requires open { Open self.old.storage.regions (holder self.old.storage) subpool place }
         requires whole { IsWhole place }
         requires some { 8 ≤ place.len }
-        ensures taken { Taken self.old.storage place (Some subpool) (Some self.old.storage.regions.fill) self.new.storage }
+        ensures taken { Taken self.old.storage place (Some subpool)
+            (Some self.old.storage.regions.fill) self.new.storage }
         ensures storage { IsStorage self.new.storage }
         ensures steps { self.new.steps ≡ self.old.steps }
     {
@@ -172,7 +182,8 @@ impl Store {
     /// which place is taken is this project's choice).
     pub fn obtain(&mut self, subpool: SubpoolId, want: &Want) -> Option<Place>
         ensures grant { MatchOption result
-            (NoPlace self.old.storage.regions (holder self.old.storage) subpool want.now × (self.new.storage ≡ self.old.storage))
+            (NoPlace self.old.storage.regions (holder self.old.storage) subpool want.now
+            × (self.new.storage ≡ self.old.storage))
             (λ p. Grant self.old.storage subpool want.now p self.new.storage) }
         ensures bound { IsBound self.old.storage subpool want.now.side result self.new.steps }
         ensures storage { IsStorage self.new.storage }
@@ -213,7 +224,8 @@ impl Store {
         requires { IsWhole place }
         ensures released { MatchResult result
             (λ _. Release self.old.storage subpool place self.new.storage)
-            (λ _. (HeldBy self.old.storage subpool place → ⊥) × (self.new.storage ≡ self.old.storage)) }
+            (λ _. (HeldBy self.old.storage subpool place → ⊥)
+            × (self.new.storage ≡ self.old.storage)) }
         ensures storage { IsStorage self.new.storage }
         ensures steps { self.new.steps ≡ self.old.steps }
     {
@@ -318,7 +330,8 @@ impl Store {
     pub fn bytes(&self, place: Place) -> &[u8]
         requires { AllHeld self.now.storage place }
         ensures len { length result.now ≡ place.len }
-        ensures bytes { (k : ℕ) → k < place.len → slice_get result.now k ≡ get self.now.storage.bytes (place.addr + k) }
+        ensures bytes { (k : ℕ) → k < place.len
+            → slice_get result.now k ≡ get self.now.storage.bytes (place.addr + k) }
     {
         if is_below(place) {
             self.below.part(place)
@@ -334,9 +347,11 @@ impl Store {
         ensures* writes_back { sem 𝓛 (LendsBytes self.entry place result) }
 
         // What the storage is once the loan is over, where `w` was left behind the result.
-        ensures written { (w : List ℕ) → length w ≡ place.len → Puts self.old.storage place w (written self.old.storage place w) }
+        ensures written { (w : List ℕ) → length w ≡ place.len
+            → Puts self.old.storage place w (written self.old.storage place w) }
         ensures len { length result.now ≡ place.len }
-        ensures bytes { (k : ℕ) → k < place.len → slice_get result.now k ≡ get self.old.storage.bytes (place.addr + k) }
+        ensures bytes { (k : ℕ) → k < place.len
+            → slice_get result.now k ≡ get self.old.storage.bytes (place.addr + k) }
     {
         if is_below(place) {
             self.below.part_mut(place)
@@ -354,10 +369,13 @@ impl Store {
         requires to_below { to.addr < above_begins }
         requires apart { (from.addr + from.len ≤ to.addr) ⊎ (to.addr + to.len ≤ from.addr) }
         ensures* writes_back { sem 𝓛 (LendsBytes self.entry to result.1) }
-        ensures written { (w : List ℕ) → length w ≡ to.len → Puts self.old.storage to w (written self.old.storage to w) }
+        ensures written { (w : List ℕ) → length w ≡ to.len
+            → Puts self.old.storage to w (written self.old.storage to w) }
         ensures len { (length result.0.now ≡ from.len) × (length result.1.now ≡ to.len) }
-        ensures source_bytes { (k : ℕ) → k < from.len → slice_get result.0.now k ≡ get self.old.storage.bytes (from.addr + k) }
-        ensures target_bytes { (k : ℕ) → k < to.len → slice_get result.1.now k ≡ get self.old.storage.bytes (to.addr + k) }
+        ensures source_bytes { (k : ℕ) → k < from.len
+            → slice_get result.0.now k ≡ get self.old.storage.bytes (from.addr + k) }
+        ensures target_bytes { (k : ℕ) → k < to.len
+            → slice_get result.1.now k ≡ get self.old.storage.bytes (to.addr + k) }
     {
         self.below.two(from, to)
     }
@@ -371,10 +389,13 @@ impl Store {
         requires to_above { above_begins ≤ to.addr }
         requires apart { (from.addr + from.len ≤ to.addr) ⊎ (to.addr + to.len ≤ from.addr) }
         ensures* writes_back { sem 𝓛 (LendsBytes self.entry to result.1) }
-        ensures written { (w : List ℕ) → length w ≡ to.len → Puts self.old.storage to w (written self.old.storage to w) }
+        ensures written { (w : List ℕ) → length w ≡ to.len
+            → Puts self.old.storage to w (written self.old.storage to w) }
         ensures len { (length result.0.now ≡ from.len) × (length result.1.now ≡ to.len) }
-        ensures source_bytes { (k : ℕ) → k < from.len → slice_get result.0.now k ≡ get self.old.storage.bytes (from.addr + k) }
-        ensures target_bytes { (k : ℕ) → k < to.len → slice_get result.1.now k ≡ get self.old.storage.bytes (to.addr + k) }
+        ensures source_bytes { (k : ℕ) → k < from.len
+            → slice_get result.0.now k ≡ get self.old.storage.bytes (from.addr + k) }
+        ensures target_bytes { (k : ℕ) → k < to.len
+            → slice_get result.1.now k ≡ get self.old.storage.bytes (to.addr + k) }
     {
         self.above.two(from, to)
     }
@@ -387,10 +408,13 @@ impl Store {
         requires from_below { from.addr < above_begins }
         requires to_above { above_begins ≤ to.addr }
         ensures* writes_back { sem 𝓛 (LendsBytes self.entry to result.1) }
-        ensures written { (w : List ℕ) → length w ≡ to.len → Puts self.old.storage to w (written self.old.storage to w) }
+        ensures written { (w : List ℕ) → length w ≡ to.len
+            → Puts self.old.storage to w (written self.old.storage to w) }
         ensures len { (length result.0.now ≡ from.len) × (length result.1.now ≡ to.len) }
-        ensures source_bytes { (k : ℕ) → k < from.len → slice_get result.0.now k ≡ get self.old.storage.bytes (from.addr + k) }
-        ensures target_bytes { (k : ℕ) → k < to.len → slice_get result.1.now k ≡ get self.old.storage.bytes (to.addr + k) }
+        ensures source_bytes { (k : ℕ) → k < from.len
+            → slice_get result.0.now k ≡ get self.old.storage.bytes (from.addr + k) }
+        ensures target_bytes { (k : ℕ) → k < to.len
+            → slice_get result.1.now k ≡ get self.old.storage.bytes (to.addr + k) }
     {
         (self.below.part(from), self.above.part_mut(to))
     }
@@ -403,10 +427,13 @@ impl Store {
         requires from_above { above_begins ≤ from.addr }
         requires to_below { to.addr < above_begins }
         ensures* writes_back { sem 𝓛 (LendsBytes self.entry to result.1) }
-        ensures written { (w : List ℕ) → length w ≡ to.len → Puts self.old.storage to w (written self.old.storage to w) }
+        ensures written { (w : List ℕ) → length w ≡ to.len
+            → Puts self.old.storage to w (written self.old.storage to w) }
         ensures len { (length result.0.now ≡ from.len) × (length result.1.now ≡ to.len) }
-        ensures source_bytes { (k : ℕ) → k < from.len → slice_get result.0.now k ≡ get self.old.storage.bytes (from.addr + k) }
-        ensures target_bytes { (k : ℕ) → k < to.len → slice_get result.1.now k ≡ get self.old.storage.bytes (to.addr + k) }
+        ensures source_bytes { (k : ℕ) → k < from.len
+            → slice_get result.0.now k ≡ get self.old.storage.bytes (from.addr + k) }
+        ensures target_bytes { (k : ℕ) → k < to.len
+            → slice_get result.1.now k ≡ get self.old.storage.bytes (to.addr + k) }
     {
         (self.above.part(from), self.below.part_mut(to))
     }
@@ -421,10 +448,13 @@ impl Store {
         ensures* writes_back { sem 𝓛 (LendsBytes self.entry to result.1) }
 
         // What the storage is once the loan is over, where `w` was left behind the second result.
-        ensures written { (w : List ℕ) → length w ≡ to.len → Puts self.old.storage to w (written self.old.storage to w) }
+        ensures written { (w : List ℕ) → length w ≡ to.len
+            → Puts self.old.storage to w (written self.old.storage to w) }
         ensures len { (length result.0.now ≡ from.len) × (length result.1.now ≡ to.len) }
-        ensures source_bytes { (k : ℕ) → k < from.len → slice_get result.0.now k ≡ get self.old.storage.bytes (from.addr + k) }
-        ensures target_bytes { (k : ℕ) → k < to.len → slice_get result.1.now k ≡ get self.old.storage.bytes (to.addr + k) }
+        ensures source_bytes { (k : ℕ) → k < from.len
+            → slice_get result.0.now k ≡ get self.old.storage.bytes (from.addr + k) }
+        ensures target_bytes { (k : ℕ) → k < to.len
+            → slice_get result.1.now k ≡ get self.old.storage.bytes (to.addr + k) }
     {
         if from.addr().get() < ABOVE_BEGINS {
             if to.addr().get() < ABOVE_BEGINS {

@@ -123,7 +123,9 @@ fn leave_page(
     requires exact { IsExact memory.now.held pages.now }
     requires opened { IsOpened pages.now memory.now.bytes }
     requires within { from < length memory.now.held }
-    requires rest { (i : ℕ) → from ≤ i → i < page_doublewords * (from / page_doublewords) + page_doublewords → slice_index_or memory.now.held i false ≡ true }
+    requires rest { (i : ℕ) → from ≤ i
+        → i < page_doublewords * (from / page_doublewords) + page_doublewords
+        → slice_index_or memory.now.held i false ≡ true }
     ensures { IsNextPart memory.now pages.now subpool from counted.steps result }
 {
     let mut counted = counted;
@@ -153,8 +155,11 @@ fn take_run(
     requires opened { IsOpened pages.now memory.now.bytes }
     requires within { from < length memory.now.held }
     requires own { owner_of pages.now (from / page_doublewords) ≡ Some subpool }
-    requires fresh { (from % page_doublewords ≡ 0) ⊎ (slice_index_or memory.now.held from false ≡ true) }
-    requires run { IsFreeRun memory.now.held from (page_doublewords * (from / page_doublewords) + page_doublewords) found.0.start found.0.end }
+    requires fresh { (from % page_doublewords ≡ 0)
+        ⊎ (slice_index_or memory.now.held from false ≡ true) }
+    requires run { IsFreeRun memory.now.held from
+        (page_doublewords * (from / page_doublewords) + page_doublewords) found.0.start
+        found.0.end }
     requires cursor { IsCursor memory.now (from / page_doublewords) found.0.end found.1 }
     ensures { IsNextPart memory.now pages.now subpool from (counted.steps - 1) result }
 {
@@ -207,7 +212,8 @@ fn examine_run(
     requires opened { IsOpened pages.now memory.now.bytes }
     requires within { from < length memory.now.held }
     requires own { owner_of pages.now (from / page_doublewords) ≡ Some subpool }
-    requires fresh { (from % page_doublewords ≡ 0) ⊎ (slice_index_or memory.now.held from false ≡ true) }
+    requires fresh { (from % page_doublewords ≡ 0)
+        ⊎ (slice_index_or memory.now.held from false ≡ true) }
     requires cursor { IsCursor memory.now (from / page_doublewords) from queue }
     ensures { IsNextPart memory.now pages.now subpool from counted.steps result }
 {
@@ -249,7 +255,13 @@ impl Walk {
 
     // Has the pass stand at an index, with nothing joined.
     fn stand(&mut self, at: usize)
-        ensures { self.new ≡ record { start = at; end = at; entry = self.old.entry; queue = self.old.queue; counted = self.old.counted } }
+        ensures { self.new ≡ record {
+          start = at;
+          end = at;
+          entry = self.old.entry;
+          queue = self.old.queue;
+          counted = self.old.counted;
+        } }
     {
         self.start = at;
         self.end = at;
@@ -272,8 +284,10 @@ impl Walk {
         ensures walk { IsWalk memory.now pages.now subpool self.new }
         ensures after { self.old.start ≤ self.new.start }
         ensures on { self.old.end ≤ self.new.end }
-        ensures none { NoneFits (may_take memory.now.held pages.now subpool) least self.old.start self.new.start }
-        ensures part { IsNextPart memory.now pages.now subpool self.new.end self.new.counted.steps result }
+        ensures none { NoneFits (may_take memory.now.held pages.now subpool) least self.old.start
+            self.new.start }
+        ensures part { IsNextPart memory.now pages.now subpool self.new.end self.new.counted.steps
+            result }
     {
         let page = self.end / PAGE_DOUBLEWORDS;
         let first = PAGE_DOUBLEWORDS * page;
@@ -303,7 +317,9 @@ impl Walk {
     fn is_of_use(&self, least: usize) -> bool
         requires ordered { self.now.start ≤ self.now.end }
         requires least { 1 ≤ least }
-        ensures { result ≡ false → self.now.end < self.now.start + least × ((self.now.start ≡ self.now.end) ⊎ (self.now.end % page_doublewords ≡ 0 → ⊥)) }
+        ensures { result ≡ false
+            → self.now.end < self.now.start + least
+            × ((self.now.start ≡ self.now.end) ⊎ (self.now.end % page_doublewords ≡ 0 → ⊥)) }
     {
         let len = self.end - self.start;
         0 < len && (least <= len || self.end % PAGE_DOUBLEWORDS == 0)
@@ -325,8 +341,10 @@ impl Walk {
         ensures walk { IsWalk memory.now pages.now subpool self.new }
         ensures after { self.old.start ≤ self.new.start }
         ensures on { self.old.end ≤ self.new.end }
-        ensures none { NoneFits (may_take memory.now.held pages.now subpool) least self.old.start self.new.start }
-        ensures part { IsNextPart memory.now pages.now subpool self.new.end self.new.counted.steps result }
+        ensures none { NoneFits (may_take memory.now.held pages.now subpool) least self.old.start
+            self.new.start }
+        ensures part { IsNextPart memory.now pages.now subpool self.new.end self.new.counted.steps
+            result }
     {
         if self.is_of_use(least) {
             return examine_run(self.counted, memory, pages, subpool, self.end, self.queue);
@@ -351,8 +369,10 @@ impl Walk {
         ensures walk { IsWalk memory.now pages.now subpool self.new }
         ensures after { self.old.start ≤ self.new.start }
         ensures on { self.old.end ≤ self.new.end }
-        ensures none { NoneFits (may_take memory.now.held pages.now subpool) least self.old.start self.new.start }
-        ensures part { IsNextPart memory.now pages.now subpool self.new.end self.new.counted.steps result }
+        ensures none { NoneFits (may_take memory.now.held pages.now subpool) least self.old.start
+            self.new.start }
+        ensures part { IsNextPart memory.now pages.now subpool self.new.end self.new.counted.steps
+            result }
     {
         match self.entry {
             Entry::Free => join_pages(self.counted, memory, pages, subpool, self.end),
@@ -376,8 +396,10 @@ impl Walk {
         requires least { 1 ≤ least }
         ensures walk { IsWalk memory.now pages.now subpool self.new }
         ensures run { MatchOption result
-            ((to : ℕ) → NoneFits (may_take memory.now.held pages.now subpool) least self.old.start to)
-            (λ run. IsNextRun (may_take memory.now.held pages.now subpool) least self.old.start run.start run.end self.new.start) }
+            ((to : ℕ)
+            → NoneFits (may_take memory.now.held pages.now subpool) least self.old.start to)
+            (λ run. IsNextRun (may_take memory.now.held pages.now subpool) least self.old.start
+            run.start run.end self.new.start) }
         ensures all { result ≡ None → self.new.end ≡ length memory.now.held }
     {
         let total = PAGE_DOUBLEWORDS * pages.pages();

@@ -1,7 +1,7 @@
 -- A subtask is admitted, and its mother hands over what she gives and shares.
 use Rattle.std.proofs.Common.{◌≡◌, ◌≢◌, ℕ, ◌+◌, ◌<◌, Bool, true, false, cond, ◌&&◌, ◌||◌, ◌==◌, List, Option, Some, None, is_some, IsSome, eqb, ltb, sym, ap, subst, refl, ◌∙◌, arith, ◌⊎◌, inl, inr}
-use Rattle.std.proofs.lemmas.Bool.{eq-eqb, eqb-true}
-use Rattle.std.proofs.lemmas.Bool.Decides.{nat_tests}
+use Rattle.std.proofs.lemmas.Bool.{eq-eqb, eqb-true, and_parts}
+use Rattle.std.proofs.lemmas.Bool.Decides.{nat_tests, eqb_tells}
 use Rattle.std.specs.Option.{option_map}
 use Rattle.mvs_model.specs.declared.name.Name.{Name}
 use Rattle.mvs_model.specs.declared.want.Residence.{Residence}
@@ -16,10 +16,11 @@ use Rattle.task_owner.specs.Handing.{Leaves, Admits, taken, is_handed, passed_on
 use Rattle.task_owner.specs.declared.seat.Seat.{Seat}
 use Rattle.task_owner.specs.declared.seat.Owned.{Owned}
 use Rattle.task_owner.proofs.Having.{same_place, gives_low, shares_low}
-use Rattle.task_owner.proofs.Places.{same_or_not, number_cases, of_some}
+use Rattle.task_owner.proofs.Places.{same_or_not, of_some}
 use Rattle.task_owner.proofs.Reading.{found, found_at, not_found, name_cases, view-task, view-entry, view-owner, view-name}
-use Rattle.task_owner.proofs.Bools.{same_test, both_true}
-use Rattle.task_owner.proofs.AnyBelow.{found_below, passing_below}
+use Rattle.task_owner.proofs.AnyBelow.{found_below}
+use Rattle.mvs_model.proofs.Below.{below_some}
+use Rattle.mvs_model.proofs.Tests.{same_test}
 
 -- a task that stays: it has lost what the mother at the key gives
 record Stays (gifts : GiftsValue) (m k : ℕ) (old now : Seat) : Type 0 where
@@ -57,7 +58,7 @@ module _ (seats mid next : List (Option Seat)) (owned left : List (Option Owned)
 
   -- each task before stays
   after : (k : ℕ) (z : Seat) → item_at seats k ≡ Some z → (y : Seat) × (item_at next k ≡ Some y) × Stays gifts m k z y
-  after k z h = by (number_cases k m) where
+  after k z h = by (eqb_tells k m) where
     by : ((eqb k m ≡ true) × (k ≡ m)) ⊎ ((eqb k m ≡ false) × (k ≢ m)) → (y : Seat) × (item_at next k ≡ Some y) × Stays gifts m k z y
     by (inl p) =
         let f : Some x ≡ Some z = sym at ∙ ap (item_at seats) (sym p.1) ∙ h in
@@ -105,7 +106,7 @@ module _ (seats mid next : List (Option Seat)) (owned left : List (Option Owned)
   same_number false o = refl
 
   rank_apart : (k : ℕ) → k ≢ key → cond (eqb k key) (sound.ranked.0 m + 1) (sound.ranked.0 k) ≡ sound.ranked.0 k
-  rank_apart k d = by (number_cases k key) where
+  rank_apart k d = by (eqb_tells k key) where
     by : ((eqb k key ≡ true) × (k ≡ key)) ⊎ ((eqb k key ≡ false) × (k ≢ key)) → cond (eqb k key) (sound.ranked.0 m + 1) (sound.ranked.0 k) ≡ sound.ranked.0 k
     by (inl p) = absurd (d p.1)
     by (inr p) = ap (λ b. cond b (sound.ranked.0 m + 1) (sound.ranked.0 k)) p.0
@@ -186,7 +187,7 @@ module _ (seats mid next : List (Option Seat)) (owned left : List (Option Owned)
         → (y : Seat) × (item_at next (cond b (record { owner = key; number = o.number }) o).owner ≡ Some y) × (number_of y (cond b (record { owner = key; number = o.number }) o).number ≡ Some s)
     new_owner s o h true t =
         let z = sound.owners s o h in
-        let both = both_true (eqb o.owner m) (gives gifts o.number) t in
+        let both = and_parts (eqb o.owner m) (gives gifts o.number) t in
         let f : Some z.0 ≡ Some x = sym z.1 ∙ ap (item_at seats) (eqb-true o.owner m both.0) ∙ at in
         let same : z.0 ≡ x = cc in
         (w, here, w_numbers o.number ∙ ap (λ b. cond (b || shares gifts o.number) (number_of x o.number) None) both.1 ∙ ap (λ (v : Seat). number_of v o.number) (sym same) ∙ z.2)
@@ -302,14 +303,14 @@ module _ (seats mid next : List (Option Seat)) (owned left : List (Option Owned)
 
     there : is_given (directory seats owned).owners x.name gifts s ≡ true → has (is_handed gifts m) (item_at owned s) ≡ true
     there t =
-        let r = passing_below (λ n. gives gifts n && has (λ r. r == s) (entry (directory seats owned).owners x.name n)) 128 t in
-        let both = both_true (gives gifts r.0) (has (λ r. r == s) (entry (directory seats owned).owners x.name r.0)) r.2 in
+        let r = below_some (λ n. gives gifts n && has (λ r. r == s) (entry (directory seats owned).owners x.name n)) 128 t in
+        let both = and_parts (gives gifts r.0) (has (λ r. r == s) (entry (directory seats owned).owners x.name r.0)) r.2 in
         there_at r.0 r.1 both.0 (entry (directory seats owned).owners x.name r.0) refl both.1
 
     back_at : (o : Option Owned) → item_at owned s ≡ o → has (is_handed gifts m) o ≡ true → is_given (directory seats owned).owners x.name gifts s ≡ true
     back_at None e t = absurd (let f : false ≡ true = t in cc)
     back_at (Some o) e t =
-        let both = both_true (eqb o.owner m) (gives gifts o.number) t in
+        let both = and_parts (eqb o.owner m) (gives gifts o.number) t in
         let z = sound.owners s o e in
         let f : Some z.0 ≡ Some x = sym z.1 ∙ ap (item_at seats) (eqb-true o.owner m both.0) ∙ at in
         let same : z.0 ≡ x = cc in

@@ -1,9 +1,9 @@
 -- Tests of the numbers below a bound.
 use Rattle.std.proofs.Common.{◌≡◌, ℕ, zero, suc, ◌+◌, ◌<◌, ◌≤◌, ◌≢◌, ◌==◌, Bool, true, false, ◌||◌, sym, ap, refl, ◌∙◌, arith, ◌⊎◌, inl, inr}
-use Rattle.std.proofs.lemmas.Bool.{cases_lt}
+use Rattle.std.proofs.lemmas.Bool.{cases_lt, or_right}
 use Rattle.mvs_model.specs.Finite.{any_below}
-use Rattle.task_owner.proofs.Places.{number_cases}
-use Rattle.task_owner.proofs.Bools.{or_true}
+use Rattle.mvs_model.proofs.Below.{below_some}
+use Rattle.std.proofs.lemmas.Bool.Decides.{eqb_tells}
 
 module _ (test : ℕ → Bool) where
   pub none_below : any_below test 0 ≡ false
@@ -18,18 +18,10 @@ module _ (test : ℕ → Bool) where
   pub found_below : (n m : ℕ) → n < m → test n ≡ true → any_below test m ≡ true
   unfolding any_below
   found_below n zero l e = absurd (omega arith)
-  found_below n (suc m) l e = by (number_cases n m) (λ h. found_below n m h e) where
+  found_below n (suc m) l e = by (eqb_tells n m) (λ h. found_below n m h e) where
     by : ((n == m) ≡ true) × (n ≡ m) ⊎ ((n == m) ≡ false) × (n ≢ m) → (n < m → any_below test m ≡ true) → (test m || any_below test m) ≡ true
     by (inl p) f = ap (λ j. test j || any_below test m) (sym p.1) ∙ ap (λ b. b || any_below test m) e
-    by (inr p) f = let d : n ≢ m = p.1 in ap (λ b. test m || b) (f (omega arith)) ∙ or_true (test m)
-
-  pub passing_below : (m : ℕ) → any_below test m ≡ true → (n : ℕ) × (n < m) × (test n ≡ true)
-  unfolding any_below
-  passing_below zero h = absurd (let e : false ≡ true = h in cc)
-  passing_below (suc m) h = by (test m) refl h (passing_below m) where
-    by : (b : Bool) → test m ≡ b → (b || any_below test m) ≡ true → (any_below test m ≡ true → (n : ℕ) × (n < m) × (test n ≡ true)) → (n : ℕ) × (n < suc m) × (test n ≡ true)
-    by true e t f = (m, omega arith, e)
-    by false e t f = let r = f t in (r.0, (let l = r.1 in omega arith), r.2)
+    by (inr p) f = let d : n ≢ m = p.1 in ap (λ b. test m || b) (f (omega arith)) ∙ or_right (test m) true refl
 
   -- where none passes, each fails
   pub fails_below : (n m : ℕ) → n < m → any_below test m ≡ false → test n ≡ false
@@ -44,7 +36,7 @@ module _ (test : ℕ → Bool) where
     by : (b : Bool) → any_below test to ≡ b → b ≡ false
     by false e = refl
     by true e =
-        let p = passing_below to e in
+        let p = below_some test to e in
         elim (cases_lt p.0 from) [
           | inl low ↦ absurd (let f : true ≡ false = sym p.2 ∙ fails_below p.0 from low h in cc)
           | inr high ↦ absurd (let f : true ≡ false = sym p.2 ∙ fails p.0 high p.1 in cc)

@@ -11,8 +11,9 @@ use Rattle.task_owner.specs.Seats.{item_at, name_of_seat, number_of, seat_named,
 use Rattle.task_owner.specs.declared.seat.Seat.{Seat}
 use Rattle.task_owner.specs.declared.seat.Owned.{Owned}
 use Rattle.task_owner.proofs.Having.{same_place}
-use Rattle.task_owner.proofs.Places.{set_here, set_apart, same_or_not, number_cases}
-use Rattle.task_owner.proofs.Reading.{found, found_at, not_found, name_cases, low_number, view-task, view-entry, view-owner, view-name, name_is}
+use Rattle.task_owner.proofs.Places.{set_here, set_apart, same_or_not}
+use Rattle.task_owner.proofs.Reading.{found, found_at, not_found, name_cases, low_number, view-task, view-entry, view-owner, view-name, name_is, seat_there}
+use Rattle.std.proofs.lemmas.Bool.Decides.{eqb_tells}
 
 -- where the tasks of a name are the same, the same is found by it
 pub same_lookup : (seats next : List (Option Seat)) (t : Name) → Distinct seats → Distinct next
@@ -68,12 +69,8 @@ module _ (seats next : List (Option Seat)) (owned : List (Option Owned)) (key n 
     is_some_name None h = h
     is_some_name (Some y) h = refl
 
-    is_some_seat : (o : Option Seat) → IsSome (option_map (λ z. z.name) o) → IsSome o
-    is_some_seat None h = h
-    is_some_seat (Some y) h = refl
-
     still : (m : ℕ) → IsSome (item_at seats m) → IsSome (item_at next m)
-    still m h = is_some_seat (item_at next m) (subst IsSome (sym (names_kept m)) (is_some_name (item_at seats m) h))
+    still m h = seat_there (item_at next m) (subst IsSome (sym (names_kept m)) (is_some_name (item_at seats m) h))
 
     owned_here : item_at owners_next s ≡ Some by_key
     owned_here = set_here owned s (Some by_key) in_range
@@ -161,7 +158,7 @@ module _ (seats next : List (Option Seat)) (owned : List (Option Owned)) (key n 
       by (inr r) = ap (option_map (task_of next)) (same_named q r.1) ∙ mapped (seat_named seats q)
 
     entries_at : (q : Name) (m : ℕ) → entry_of (seat_named next q) m ≡ cond (same_name q x.name && eqb m n) (Some s) (entry_of (seat_named seats q) m)
-    entries_at q m = by (name_cases q x.name) (number_cases m n) where
+    entries_at q m = by (name_cases q x.name) (eqb_tells m n) where
       by : ((same_name q x.name ≡ true) × (q ≡ x.name)) ⊎ ((same_name q x.name ≡ false) × (q ≢ x.name)) → ((eqb m n ≡ true) × (m ≡ n)) ⊎ ((eqb m n ≡ false) × (m ≢ n))
           → entry_of (seat_named next q) m ≡ cond (same_name q x.name && eqb m n) (Some s) (entry_of (seat_named seats q) m)
       by (inr r) p = ap (λ o. entry_of o m) (same_named q r.1) ∙ ap (λ b. cond (b && eqb m n) (Some s) (entry_of (seat_named seats q) m)) (sym r.0)
@@ -174,7 +171,7 @@ module _ (seats next : List (Option Seat)) (owned : List (Option Owned)) (key n 
           ∙ (λ i. cond (sym r.0 i && sym p.0 i) (Some s) (entry_of (seat_named seats q) m))
 
     owners_at : (r : ℕ) → owner_name next (item_at owners_next r) ≡ cond (eqb r s) (Some x.name) (owner_name seats (item_at owned r))
-    owners_at r = by (number_cases r s) where
+    owners_at r = by (eqb_tells r s) where
       names : (o : Option Owned) → owner_name next o ≡ owner_name seats o
       names None = refl
       names (Some o) = names_kept o.owner

@@ -2,8 +2,8 @@
 use Rattle.std.proofs.Common.{◌≡◌, ◌≢◌, ℕ, zero, suc, ◌+◌, ◌<◌, ◌≤◌, Bool, true, false, cond, not, is_some, ◌&&◌, ◌||◌, List, [], ◌∷◌, Option, Some, None, length, eqb, ltb, set, sym, ap, subst, refl, ◌∙◌, arith, ◌⊎◌, inl, inr}
 use Rattle.std.specs.Prelude.{◌==◌, nat_eq, slice_index_or}
 use Rattle.std.specs.Option.{option_eq}
-use Rattle.std.proofs.lemmas.Bool.{eqb-true, eq-eqb, cases_lt, cases_eq}
-use Rattle.std.proofs.lemmas.Bool.Decides.{nat_tests}
+use Rattle.std.proofs.lemmas.Bool.{eqb-true, eq-eqb, cases_lt, cases_eq, or_right, or_cases, or_left}
+use Rattle.std.proofs.lemmas.Bool.Decides.{nat_tests, eqb_tells}
 use Rattle.std.specs.List.Sorted.{IsStrictlySortedBy}
 use Rattle.std.specs.Ordering.{nat_cmp}
 use Rattle.slab.specs.Slab.{Slab, get, slab_len}
@@ -13,8 +13,9 @@ use Rattle.task_owner.specs.Seats.{item_at, number_of}
 use Rattle.task_owner.specs.Family.{IsFreed, falls_free, is_owner_active, is_of, is_freed_below, OwnersHave, FreedBelow, TrimsBy, IsTrimmedBy, Loses, IsLost}
 use Rattle.task_owner.specs.declared.seat.Seat.{Seat}
 use Rattle.task_owner.specs.declared.seat.Owned.{Owned}
-use Rattle.task_owner.proofs.Places.{number_cases, read_at, same_or_not, set_apart}
-use Rattle.task_owner.proofs.Bools.{same_test, either_true, or_true, or_false, both_true}
+use Rattle.task_owner.proofs.Places.{read_at, same_or_not, set_apart}
+use Rattle.task_owner.proofs.Bools.{or_false}
+use Rattle.mvs_model.proofs.Tests.{same_test}
 
 -- The set has what it had and only subpools that the task owns besides, among these all that stand under a number below the bound.
 pub record CollectedBelow (numbers : List (Option ℕ)) (key : ℕ) (owned : List (Option Owned)) (old : List ℕ) (bound : ℕ) (now : List ℕ) : Type 0 where
@@ -22,58 +23,16 @@ pub record CollectedBelow (numbers : List (Option ℕ)) (key : ℕ) (owned : Lis
   pub own : (s : ℕ) → is_one_of now s ≡ true → (is_of key (item_at owned s) ≡ true) ⊎ (is_one_of old s ≡ true)
   pub found : (n s : ℕ) → n < bound → item_at numbers n ≡ Some s → is_of key (item_at owned s) ≡ true → is_one_of now s ≡ true
 
-or_first : (b c : Bool) → b ≡ true → (b || c) ≡ true
-or_first true c e = refl
-or_first false c e = absurd (let f : false ≡ true = e in cc)
-
-or_second : (b c : Bool) → c ≡ true → (b || c) ≡ true
-or_second true c e = refl
-or_second false c e = e
-
 the_owner : (key : ℕ) (o : Option Owned) → is_of key o ≡ true → (p : Owned) × (o ≡ Some p) × (p.owner ≡ key)
 the_owner key None e = absurd (let f : false ≡ true = e in cc)
 the_owner key (Some p) e = (p, refl, eqb-true p.owner key e)
 
 module _ (numbers : List (Option ℕ)) (key : ℕ) (owned : List (Option Owned)) (old : List ℕ) where
-  pub collected_start : CollectedBelow numbers key owned old 0 old
-  collected_start = record {
-    stays = λ s e. e;
-    own = λ s e. inr e;
-    found = λ n s low h e. absurd (omega arith);
-  }
-
-  pub collected_more : (n subpool : ℕ) (now next : List ℕ) → CollectedBelow numbers key owned old n now → item_at numbers n ≡ Some subpool
-      → ((s : ℕ) → is_one_of next s ≡ (((s == subpool) && is_of key (item_at owned s)) || is_one_of now s)) → CollectedBelow numbers key owned old (n + 1) next
-  collected_more n subpool now next r at each = record {
-    stays = λ s e. each s ∙ or_second ((s == subpool) && is_of key (item_at owned s)) (is_one_of now s) (r.stays s e);
-    own = λ s e. elim (either_true ((s == subpool) && is_of key (item_at owned s)) (is_one_of now s) (sym (each s) ∙ e)) [
-      | inl b ↦ inl (both_true (s == subpool) (is_of key (item_at owned s)) b).1
-      | inr b ↦ r.own s b
-    ];
-    found = λ m s low h e. at_place m s low h e (same_or_not m n);
-  } where
-    at_place : (m s : ℕ) → m < n + 1 → item_at numbers m ≡ Some s → is_of key (item_at owned s) ≡ true → (m ≡ n) ⊎ (m ≢ n) → is_one_of next s ≡ true
-    at_place m s low h e (inl same) =
-        let f : Some s ≡ Some subpool = sym h ∙ ap (item_at numbers) same ∙ at in
-        let is : s ≡ subpool = cc in
-        each s ∙ or_first ((s == subpool) && is_of key (item_at owned s)) (is_one_of now s) (ap (λ b. b && is_of key (item_at owned s)) (let t : (s == subpool) ≡ true = grind (arith, nat_tests) in t) ∙ e)
-    at_place m s low h e (inr d) = each s ∙ or_second ((s == subpool) && is_of key (item_at owned s)) (is_one_of now s) (r.found m s (omega (arith, d)) h e)
-
-  pub collected_same : (n : ℕ) (now next : List ℕ) → CollectedBelow numbers key owned old n now → ((s : ℕ) → item_at numbers n ≡ Some s → ⊥) → next ≡ now → CollectedBelow numbers key owned old (n + 1) next
-  collected_same n now next r none same = subst (λ xs. CollectedBelow numbers key owned old (n + 1) xs) (sym same) (record {
-    stays = r.stays;
-    own = r.own;
-    found = λ m s low h e. at_place m s low h e (same_or_not m n);
-  }) where
-    at_place : (m s : ℕ) → m < n + 1 → item_at numbers m ≡ Some s → is_of key (item_at owned s) ≡ true → (m ≡ n) ⊎ (m ≢ n) → is_one_of now s ≡ true
-    at_place m s low h e (inl is) = absurd (none s (ap (item_at numbers) (sym is) ∙ h))
-    at_place m s low h e (inr d) = r.found m s (omega (arith, d)) h e
-
   pub collected_all : (n : ℕ) (now : List ℕ) → CollectedBelow numbers key owned old n now → ((s : ℕ) (o : Owned) → item_at owned s ≡ Some o → o.owner ≡ key → (o.number < n) × (item_at numbers o.number ≡ Some s))
       → (s : ℕ) → is_one_of now s ≡ (is_of key (item_at owned s) || is_one_of old s)
   collected_all n now r listed s = same_test (is_one_of now s) (is_of key (item_at owned s) || is_one_of old s)
-      (λ e. elim (r.own s e) [ inl b ↦ or_first (is_of key (item_at owned s)) (is_one_of old s) b | inr b ↦ or_second (is_of key (item_at owned s)) (is_one_of old s) b ])
-      (λ e. elim (either_true (is_of key (item_at owned s)) (is_one_of old s) e) [
+      (λ e. elim (r.own s e) [ inl b ↦ or_left (is_of key (item_at owned s)) (is_one_of old s) b | inr b ↦ or_right (is_of key (item_at owned s)) (is_one_of old s) b ])
+      (λ e. elim (or_cases (is_of key (item_at owned s)) (is_one_of old s) e) [
         | inl b ↦ (let o = the_owner key (item_at owned s) b in let l = listed s o.0 o.1 o.2 in r.found o.0.number s l.0 l.1 b)
         | inr b ↦ r.stays s b
       ])
@@ -100,7 +59,7 @@ nothing_lost number s None h = refl
 nothing_lost number s (Some x) h = (x, refl, record { name = refl; mother = refl; residence = refl; numbers = λ n. sym (ap (λ b. cond b None (number_of x n)) (fails n)) }) where
   other : (o : Option ℕ) → (o ≡ Some s → ⊥) → has (λ r. r == s) o ≡ false
   other None d = refl
-  other (Some r) d = by (number_cases r s) where
+  other (Some r) d = by (eqb_tells r s) where
     by : ((eqb r s ≡ true) × (r ≡ s)) ⊎ ((eqb r s ≡ false) × (r ≢ s)) → eqb r s ≡ false
     by (inl p) = absurd (d (ap Some p.1))
     by (inr p) = p.0
@@ -119,32 +78,13 @@ pub freed_more : (before after : Slab Seat) (owned : List (Option Owned)) (key :
 freed_more before after owned key old now gone others was is s = is s ∙ ap (λ b. is_of key (item_at owned s) || b) (was s) ∙ at (item_at owned s) where
   at : (o : Option Owned) → (is_of key o || has (λ p. not (is_owner_active before p)) o) ≡ has (λ p. not (is_owner_active after p)) o
   at None = refl
-  at (Some o) = by (number_cases o.owner key) where
+  at (Some o) = by (eqb_tells o.owner key) where
     by : ((eqb o.owner key ≡ true) × (o.owner ≡ key)) ⊎ ((eqb o.owner key ≡ false) × (o.owner ≢ key)) → (eqb o.owner key || not (is_some (get before o.owner))) ≡ not (is_some (get after o.owner))
     by (inl p) = ap (λ b. b || not (is_some (get before o.owner))) p.0 ∙ sym (ap (λ k. not (is_some (get after k))) p.1 ∙ ap (λ v. not (is_some v)) gone)
     by (inr p) = ap (λ b. b || not (is_some (get before o.owner))) p.0 ∙ sym (ap (λ v. not (is_some v)) (others o.owner p.1))
 
 -- While the subpools are freed one by one. Those passed are the ones of the set below a bound.
 module _ (freed : List ℕ) where
-  none_below : (s : ℕ) → is_freed_below freed 0 s ≡ false
-  none_below s = ap (λ b. b && is_one_of freed s) (let e : ltb s 0 ≡ false = grind (arith, nat_tests) in e)
-
-  pub freed_start : (old : Slab Seat) (owned : List (Option Owned)) → FreedBelow old owned freed 0 old owned
-  freed_start old owned = record {
-    owners = λ s. ap (λ b. cond b None (item_at owned s)) (sym (none_below s));
-    each = λ k. untouched (get old k);
-    sizes = refl;
-    len = refl;
-    capacity = refl;
-  } where
-    all_of : (o : Option ℕ) → o ≡ kept (λ s. not (is_freed_below freed 0 s)) o
-    all_of None = refl
-    all_of (Some s) = ap (λ b. cond (not b) (Some s) None) (sym (none_below s))
-
-    untouched : (o : Option Seat) → IsTrimmedBy (λ s. not (is_freed_below freed 0 s)) o o
-    untouched None = refl
-    untouched (Some x) = (x, refl, record { name = refl; mother = refl; residence = refl; numbers = λ n. all_of (number_of x n) })
-
   -- the bound passes the next one of the set
   module _ (old mid next : Slab Seat) (owned now left : List (Option Owned)) (from to r number : ℕ) (after : from ≤ r) (to_is : to ≡ r + 1) (member : is_one_of freed r ≡ true)
       (skipped : (s : ℕ) → from ≤ s → s < r → is_one_of freed s ≡ false) (was : FreedBelow old owned freed from mid now) (left_is : left ≡ set now r None) (long : length left ≡ length now) where
@@ -153,7 +93,7 @@ module _ (freed : List ℕ) where
       by : (s < from) ⊎ (from ≤ s) → (s ≡ r) ⊎ (s ≢ r) → is_freed_below freed to s ≡ (is_freed_below freed from s || (s == r))
       by p (inl e) =
           ap (λ b. b && is_one_of freed s) (let t : ltb s to ≡ true = grind (arith, nat_tests) in t) ∙ ap (is_one_of freed) e ∙ member
-          ∙ sym (ap (λ b. is_freed_below freed from s || b) (let t : (s == r) ≡ true = grind (arith, nat_tests) in t) ∙ or_true (is_freed_below freed from s))
+          ∙ sym (ap (λ b. is_freed_below freed from s || b) (let t : (s == r) ≡ true = grind (arith, nat_tests) in t) ∙ or_right (is_freed_below freed from s) true refl)
       by (inl low) (inr d) =
           ap (λ b. b && is_one_of freed s) ((let t : ltb s to ≡ true = grind (arith, nat_tests) in t) ∙ sym (let t : ltb s from ≡ true = grind (arith, nat_tests) in t))
           ∙ sym (ap (λ b. is_freed_below freed from s || b) (let t : (s == r) ≡ false = grind (arith, nat_tests) in t) ∙ or_false (is_freed_below freed from s))
@@ -166,7 +106,7 @@ module _ (freed : List ℕ) where
       by : (s ≡ r) ⊎ (s ≢ r) → item_at left s ≡ cond (is_freed_below freed to s) None (item_at owned s)
       by (inl e) =
           ap (item_at left) e ∙ ap (λ xs. item_at xs r) left_is ∙ none_here now r
-          ∙ sym (ap (λ b. cond b None (item_at owned s)) (below_to s ∙ ap (λ b. is_freed_below freed from s || b) (let t : (s == r) ≡ true = grind (arith, nat_tests) in t) ∙ or_true (is_freed_below freed from s)))
+          ∙ sym (ap (λ b. cond b None (item_at owned s)) (below_to s ∙ ap (λ b. is_freed_below freed from s || b) (let t : (s == r) ≡ true = grind (arith, nat_tests) in t) ∙ or_right (is_freed_below freed from s) true refl))
       by (inr d) =
           ap (λ xs. item_at xs s) left_is ∙ set_apart now r s None d ∙ was.owners s
           ∙ ap (λ b. cond b None (item_at owned s)) (sym (below_to s ∙ ap (λ b. is_freed_below freed from s || b) (let t : (s == r) ≡ false = grind (arith, nat_tests) in t) ∙ or_false (is_freed_below freed from s)))
@@ -229,15 +169,6 @@ number_inside x n s e = by (cases_lt n 133) where
   by : (n < 133) ⊎ (133 ≤ n) → (n < 133) × (item_at x.numbers n ≡ Some s)
   by (inl low) = (low, ap (λ b. cond b (item_at x.numbers n) None) (sym (let t : ltb n 133 ≡ true = grind (arith, nat_tests) in t)) ∙ e)
   by (inr high) = absurd (let f : ◌≡◌ {A = Option ℕ} None (Some s) = ap (λ b. cond b (item_at x.numbers n) None) (sym (let t : ltb n 133 ≡ false = grind (arith, nat_tests) in t)) ∙ e in cc)
-
--- what a task owns stands under its numbers
-pub listed_by : (seats : List (Option Seat)) (owned : List (Option Owned)) (key : ℕ) (x : Seat) → OwnersHave seats owned → item_at seats key ≡ Some x
-    → (s : ℕ) (o : Owned) → item_at owned s ≡ Some o → o.owner ≡ key → (o.number < 133) × (item_at x.numbers o.number ≡ Some s)
-listed_by seats owned key x have at s o h e =
-    let y = have s o h in
-    let f : Some y.0 ≡ Some x = sym y.1 ∙ ap (item_at seats) e ∙ at in
-    let same : y.0 ≡ x = cc in
-    number_inside x o.number s (ap (λ v. number_of v o.number) (sym same) ∙ y.2)
 
 -- before a task goes, each owner is active
 pub none_freed : (active : Slab Seat) (owned : List (Option Owned)) → OwnersHave active.slots owned → (s : ℕ) → false ≡ falls_free active owned s

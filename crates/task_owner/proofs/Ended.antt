@@ -18,9 +18,10 @@ use Rattle.task_owner.specs.declared.seat.Seat.{Seat}
 use Rattle.task_owner.specs.declared.seat.Owned.{Owned}
 use Rattle.task_owner.proofs.Places.{past_end}
 use Rattle.task_owner.proofs.Reading.{the_seat, name_is, view-owner}
-use Rattle.task_owner.proofs.Bools.{same_kept, kept_back}
+use Rattle.task_owner.proofs.Bools.{same_kept}
 use Rattle.task_owner.proofs.Fallen.{goes_sorted, fallen_is}
 use Rattle.task_owner.proofs.Ending.{ended_sound, ends, names_end, freed_test}
+use Rattle.mvs_model.proofs.Tests.{kept_is}
 
 -- what the callers are told, and that the fields are sound
 pub record EndsAt (d : TasksValue) (t : Name) (names : List Name) (subpools : List ℕ) (next : List (Option Seat)) (left : List (Option Owned)) : Type 0 where
@@ -107,4 +108,4 @@ freed_had active owned freed is s e = by (item_at owned s) (sym (is s) ∙ e) wh
 
 -- the tasks that stay have entries as before
 pub still_stand : (old now : Slab Seat) (owned : List (Option Owned)) (keeps : Seat → Bool) → IsSound old.slots owned → Keeps (get old) (λ _ x. keeps x) (get now) → EntriesStand now.slots owned
-still_stand old now owned keeps sound out k n s x h e = sound.entries k n s x (kept_back keeps (get old k) x (sym (out k) ∙ h)).0 e
+still_stand old now owned keeps sound out k n s x h e = sound.entries k n s x (kept_is keeps (get old k) x (sym (out k) ∙ h)).0 e

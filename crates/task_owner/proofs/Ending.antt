@@ -2,6 +2,7 @@
 use Rattle.std.proofs.Common.{◌≡◌, ℕ, Bool, true, false, cond, not, ◌||◌, List, Option, Some, None, is_some, IsSome, sym, ap, subst, refl, ◌∙◌}
 use Rattle.std.specs.Option.{option_map}
 use Rattle.std.specs.FinMap.{get}
+use Rattle.std.proofs.lemmas.Bool.{not-true}
 use Rattle.mvs_model.specs.declared.name.Name.{Name}
 use Rattle.mvs_model.specs.Finite.{Keeps, kept, has}
 use Rattle.mvs_model.specs.Owners.{goes, Ends}
@@ -12,8 +13,9 @@ use Rattle.task_owner.specs.declared.seat.Seat.{Seat}
 use Rattle.task_owner.specs.declared.seat.Owned.{Owned}
 use Rattle.task_owner.proofs.Places.{of_some}
 use Rattle.task_owner.proofs.Reading.{found, found_at, not_found, view-task, view-entry, view-owner, view-name}
-use Rattle.task_owner.proofs.Bools.{kept_back, not_true, passing_kept, none_kept, all_kept}
+use Rattle.task_owner.proofs.Bools.{passing_kept, none_kept, all_kept}
 use Rattle.task_owner.proofs.Having.{same_place}
+use Rattle.mvs_model.proofs.Tests.{kept_is}
 
 module _ (seats mid next : List (Option Seat)) (owned left : List (Option Owned)) (t : Name) (fallen : List Name) (sound : IsSound seats owned)
     (out : Keeps (item_at seats) (λ _ (x : Seat). not (goes t fallen x.name)) (item_at mid))
@@ -21,7 +23,7 @@ module _ (seats mid next : List (Option Seat)) (owned left : List (Option Owned)
     (freed : Keeps (item_at owned) (λ _ (o : Owned). is_some (item_at mid o.owner)) (item_at left))
     (each : (k : ℕ) → IsTrimmed left (item_at mid k) (item_at next k)) where
   from_mid : (k : ℕ) (x : Seat) → item_at mid k ≡ Some x → (item_at seats k ≡ Some x) × (goes t fallen x.name ≡ false)
-  from_mid k x h = let r = kept_back (λ (y : Seat). not (goes t fallen y.name)) (item_at seats k) x (sym (out k) ∙ h) in (r.0, not_true (goes t fallen x.name) r.1)
+  from_mid k x h = let r = kept_is (λ (y : Seat). not (goes t fallen y.name)) (item_at seats k) x (sym (out k) ∙ h) in (r.0, not-true (goes t fallen x.name) r.1)
 
   to_mid : (k : ℕ) (x : Seat) → item_at seats k ≡ Some x → item_at mid k ≡ cond (not (goes t fallen x.name)) (Some x) None
   to_mid k x h = out k ∙ ap (kept (λ (y : Seat). not (goes t fallen y.name))) h
@@ -36,7 +38,7 @@ module _ (seats mid next : List (Option Seat)) (owned left : List (Option Owned)
     by (Some x) e r = let f : Some r.0 ≡ Some w = sym r.1 ∙ h in let same : r.0 ≡ w = cc in (x, e, subst (λ (v : Seat). TrimsBy (has_owner left) x v) same r.2)
 
   owner_back : (s : ℕ) (o : Owned) → item_at left s ≡ Some o → (item_at owned s ≡ Some o) × IsSome (item_at mid o.owner)
-  owner_back s o h = kept_back (λ (p : Owned). is_some (item_at mid p.owner)) (item_at owned s) o (sym (freed s) ∙ h)
+  owner_back s o h = kept_is (λ (p : Owned). is_some (item_at mid p.owner)) (item_at owned s) o (sym (freed s) ∙ h)
 
   pub ended_sound : IsSound next left
   ended_sound = record {
@@ -49,14 +51,14 @@ module _ (seats mid next : List (Option Seat)) (owned left : List (Option Owned)
     first = λ j k v w hv hw e f. let a = before j v hv in let b = before k w hw in sound.first j k a.0 b.0 (from_mid j a.0 a.1).0 (from_mid k b.0 b.1).0 (sym a.2.mother ∙ e) (sym b.2.mother ∙ f);
     entries = λ k n s w h e.
         let a = before k w h in
-        let r = kept_back (has_owner left) (number_of a.0 n) s (sym (a.2.numbers n) ∙ e) in
+        let r = kept_is (has_owner left) (number_of a.0 n) s (sym (a.2.numbers n) ∙ e) in
         let o = of_some (item_at left s) r.1 in
         let p = sound.entries k n s a.0 (from_mid k a.0 a.1).0 r.0 in
         let f : Some p.0 ≡ Some o.0 = sym p.1 ∙ (owner_back s o.0 o.1).0 in
         (p.0, o.1 ∙ sym f, p.2);
     places = λ k n s w h e.
         let a = before k w h in
-        let r = kept_back (has_owner left) (number_of a.0 n) s (sym (a.2.numbers n) ∙ e) in
+        let r = kept_is (has_owner left) (number_of a.0 n) s (sym (a.2.numbers n) ∙ e) in
         same_place a.0 w n (sym a.2.mother) (sound.places k n s a.0 (from_mid k a.0 a.1).0 r.0);
     owners = λ s o h.
         let b = owner_back s o h in

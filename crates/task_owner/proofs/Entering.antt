@@ -2,6 +2,7 @@
 use Rattle.std.proofs.Common.{◌≡◌, ◌≢◌, ℕ, zero, suc, ◌+◌, ◌-◌, ◌<◌, ◌≤◌, [], unwrap_or, Bool, true, false, cond, not, ◌&&◌, Option, Some, None, eqb, sym, ap, subst, refl, ◌∙◌, arith, ◌⊎◌, inl, inr}
 use Rattle.std.specs.FinMap.{get}
 use Rattle.std.specs.Option.{MatchOption}
+use Rattle.std.proofs.lemmas.Bool.{not-false}
 use Rattle.mvs_model.specs.declared.name.Name.{Name}
 use Rattle.mvs_model.specs.Name.{same_name}
 use Rattle.mvs_model.specs.Gifts.{GiftsValue, gives, shares}
@@ -10,8 +11,9 @@ use Rattle.mvs_model.specs.Owners.{Owners, entry, owns, Binds, Enters, EntersBel
 use Rattle.mvs_model.proofs.Orders.{same_name_is, same_name_self}
 use Rattle.task_owner.specs.Tasks.{TasksValue, name_at, name_of}
 use Rattle.task_owner.specs.Handing.{GetsEntry, SharesBelow}
-use Rattle.task_owner.proofs.Places.{number_cases}
-use Rattle.task_owner.proofs.AnyBelow.{passing_below, fails_below}
+use Rattle.task_owner.proofs.AnyBelow.{fails_below}
+use Rattle.mvs_model.proofs.Below.{below_some}
+use Rattle.std.proofs.lemmas.Bool.Decides.{eqb_tells}
 
 pub none_yet : (old : TasksValue) (t : ℕ) (gifts : GiftsValue) → SharesBelow old t gifts 0 old
 none_yet old t gifts = record { made = none; names = λ id. refl }
@@ -63,11 +65,7 @@ module _ (t : Name) (gifts : GiftsValue) where
   pub owns_given : (o : Owners) → gives_shared o t gifts ≡ false → (n r : ℕ) → n < 128 → gives gifts n ≡ true → entry o t n ≡ Some r → get o.owner r ≡ Some t
   owns_given o h n r l g e =
       let f = fails_below (λ n. gives gifts n && has (λ s. not (owns o t s)) (entry o t n)) n 128 l h in
-      is_owner (get o.owner r) (back (owns o t r) (sym (λ i. g i && has (λ s. not (owns o t s)) (e i)) ∙ f))
-    where
-      back : (b : Bool) → not b ≡ false → b ≡ true
-      back true h = refl
-      back false h = absurd (let e : true ≡ false = h in cc)
+      is_owner (get o.owner r) (not-false (owns o t r) (sym (λ i. g i && has (λ s. not (owns o t s)) (e i)) ∙ f))
 
   pub gives_owned : (o : Owners) → ((n r : ℕ) → n < 128 → gives gifts n ≡ true → entry o t n ≡ Some r → get o.owner r ≡ Some t) → gives_shared o t gifts ≡ false
   gives_owned o h = by (gives_shared o t gifts) refl where
@@ -80,12 +78,12 @@ module _ (t : Name) (gifts : GiftsValue) where
 
     by : (b : Bool) → gives_shared o t gifts ≡ b → b ≡ false
     by false e = refl
-    by true e = let r = passing_below (λ n. gives gifts n && has (λ s. not (owns o t s)) (entry o t n)) 128 e in absurd (two r.0 r.1 (gives gifts r.0) refl (entry o t r.0) refl r.2)
+    by true e = let r = below_some (λ n. gives gifts n && has (λ s. not (owns o t s)) (entry o t n)) 128 e in absurd (two r.0 r.1 (gives gifts r.0) refl (entry o t r.0) refl r.2)
 
   -- a subpool that the mother gets is her own
   bound_owned : (old new : Owners) (k s : ℕ) → Binds old t k s new → ((n r : ℕ) → n < 128 → gives gifts n ≡ true → entry old t n ≡ Some r → get old.owner r ≡ Some t)
       → (n r : ℕ) → n < 128 → gives gifts n ≡ true → entry new t n ≡ Some r → get new.owner r ≡ Some t
-  bound_owned old new k s b h n r l g e = b.owner r ∙ at (number_cases r s) (number_cases n k) where
+  bound_owned old new k s b h n r l g e = b.owner r ∙ at (eqb_tells r s) (eqb_tells n k) where
     entry_is : entry new t n ≡ cond (eqb n k) (Some s) (entry old t n)
     entry_is = b.table (t, n) ∙ ap (λ c. cond (c && eqb n k) (Some s) (entry old t n)) (same_name_self t)
 

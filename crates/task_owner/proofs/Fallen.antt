@@ -8,6 +8,7 @@ use Rattle.std.proofs.lemmas.Map.Views.{Contains-from_any, list_any-from_Contain
 use Rattle.std.specs.List.{list_any, Contains, dedup, dedup_from}
 use Rattle.std.specs.List.Sorted.{IsSorted, IsPermutation, IsStrictlySortedBy}
 use Rattle.std.specs.Option.{option_map}
+use Rattle.std.proofs.lemmas.Bool.{or_cases, not-false, or_right}
 use Rattle.slab.specs.Slab.{Slab}
 use Rattle.mvs_model.specs.declared.name.Name.{Name}
 use Rattle.mvs_model.specs.Name.{name_cmp, same_name}
@@ -20,7 +21,8 @@ use Rattle.task_owner.specs.declared.seat.Seat.{Seat}
 use Rattle.task_owner.specs.declared.seat.Owned.{Owned}
 use Rattle.task_owner.proofs.Places.{of_some, of_mapped}
 use Rattle.task_owner.proofs.Reading.{found, found_at, view-task}
-use Rattle.task_owner.proofs.Bools.{kept_back, dropped_fails, not_false, either_true, or_true}
+use Rattle.task_owner.proofs.Bools.{dropped_fails}
+use Rattle.mvs_model.proofs.Tests.{kept_is}
 
 -- a list that has each name once loses nothing where neighbours that are alike are joined
 apart : (x y : Name) (ys : List Name) → count_by (same_name y) (x ∷ y ∷ ys) ≤ 1 → same_name y x ≡ false
@@ -132,10 +134,10 @@ module _ (seats : List (Option Seat)) (owned : List (Option Owned)) (t : ℕ) (y
 
       by : (o : Option Seat) → item_at mid r.key ≡ o → list_any (same_name q) names ≡ true
       by None e =
-          let lost : goes y.name names r.seat.name ≡ true = not_false (goes y.name names r.seat.name) (dropped_fails (λ (x : Seat). not (goes y.name names x.name)) r.seat (ap (kept (λ (x : Seat). not (goes y.name names x.name))) (sym r.here) ∙ sym (out r.key) ∙ e)) in
-          two (either_true (same_name q y.name) (list_any (same_name q) names) (ap (goes y.name names) (sym r.name) ∙ lost))
+          let lost : goes y.name names r.seat.name ≡ true = not-false (goes y.name names r.seat.name) (dropped_fails (λ (x : Seat). not (goes y.name names x.name)) r.seat (ap (kept (λ (x : Seat). not (goes y.name names x.name))) (sym r.here) ∙ sym (out r.key) ∙ e)) in
+          two (or_cases (same_name q y.name) (list_any (same_name q) names) (ap (goes y.name names) (sym r.name) ∙ lost))
       by (Some x) e =
-          let was = kept_back (λ (z : Seat). not (goes y.name names z.name)) (item_at seats r.key) x (sym (out r.key) ∙ e) in
+          let was = kept_is (λ (z : Seat). not (goes y.name names z.name)) (item_at seats r.key) x (sym (out r.key) ∙ e) in
           let f : Some r.seat ≡ Some x = sym r.here ∙ was.0 in
           let same : r.seat ≡ x = cc in
           let z = of_some (item_at mid r.mother_key) (closed r.key r.mother_key x e (ap (λ (v : Seat). v.mother) (sym same) ∙ r.mother)) in
@@ -144,7 +146,7 @@ module _ (seats : List (Option Seat)) (owned : List (Option Owned)) (t : ℕ) (y
     all_listed : (q : Name) → Descends (directory seats owned).owners y.name q → list_any (same_name q) names ≡ true
     all_listed q (subtask m) = listed y.name q (ap (λ b. b || list_any (same_name y.name) names) (same_name_self y.name)) m (subtask m)
     all_listed q (further {m = n} d m) =
-        listed n q (ap (λ b. same_name n y.name || b) (all_listed n d) ∙ or_true (same_name n y.name)) m (further d m)
+        listed n q (ap (λ b. same_name n y.name || b) (all_listed n d) ∙ or_right (same_name n y.name) true refl) m (further d m)
 
 -- the descendants, in byte order
 pub fallen_is : (old now : Slab Seat) (owned : List (Option Owned)) (t : ℕ) (y : Seat) (names fallen : List Name) → IsSound old.slots owned → item_at old.slots t ≡ Some y → Falls old t y.name names now → MothersActive now.slots

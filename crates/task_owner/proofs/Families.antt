@@ -1,8 +1,10 @@
 -- A task and its descendants are taken out, and their names listed.
 use Rattle.std.proofs.Common.{◌≡◌, ◌≢◌, ℕ, ◌+◌, ◌≤◌, Bool, true, false, cond, not, ◌||◌, List, [], ◌∷◌, ◌++◌, length, length-append, Option, Some, None, count_by, sym, ap, subst, refl, ◌∙◌, arith, ◌⊎◌, inl, inr}
+use Rattle.std.specs.Prelude.{IsSome}
 use Rattle.std.proofs.lemmas.List.Folds.{list_any-append}
 use Rattle.std.proofs.lemmas.List.Sums.{sum_by-cons, sum_by-append}
 use Rattle.std.specs.List.{list_any}
+use Rattle.std.proofs.lemmas.Bool.{not-true, or_cases, not-false, or_parts, or_right}
 use Rattle.slab.specs.Slab.{Slab, get, slab_len, Updates}
 use Rattle.mvs_model.specs.declared.name.Name.{Name}
 use Rattle.mvs_model.specs.Name.{same_name}
@@ -14,7 +16,8 @@ use Rattle.task_owner.specs.Family.{Falls, Below, child, lower}
 use Rattle.task_owner.specs.declared.seat.Seat.{Seat}
 use Rattle.task_owner.proofs.Places.{same_or_not, of_some}
 use Rattle.task_owner.proofs.Reading.{name_cases}
-use Rattle.task_owner.proofs.Bools.{or_true, or_false, either_true, both_false, not_true, not_false, kept_back, dropped_fails, same_kept}
+use Rattle.task_owner.proofs.Bools.{or_false, dropped_fails, same_kept}
+use Rattle.mvs_model.proofs.Tests.{kept_is}
 
 -- the same tests, grouped otherwise
 one_more : (a b c : Bool) → (a || (b || (c || false))) ≡ ((a || b) || c)
@@ -30,13 +33,9 @@ goes_more t names x q = ap (λ b. same_name q t || b) (list_any-append (same_nam
 count_none : {X : Type 0} (p : X → Bool) (xs : List X) → list_any p xs ≡ false → count_by p xs ≡ 0
 count_none p [] h = refl
 count_none {X} p (x ∷ xs) h =
-    let parts = both_false (p x) (list_any p xs) h in
+    let parts = or_parts (p x) (list_any p xs) h in
     let rest : count_by p xs ≡ 0 = count_none p xs parts.1 in
     sum_by-cons (λ y. cond (p y) 1 0) x xs ∙ (λ i. cond (parts.0 i) 1 0 + rest i)
-
-at_most_one : (b : Bool) → cond b 1 0 ≤ 1
-at_most_one true = omega arith
-at_most_one false = omega arith
 
 -- a new name stands once at the end
 once_more : (q x : Name) (names : List Name) → count_by (same_name q) names ≤ 1 → list_any (same_name x) names ≡ false → count_by (same_name q) (names ++ x ∷ []) ≤ 1
@@ -79,15 +78,15 @@ module _ (old : Slab Seat) (t : ℕ) (first : Seat) (distinct : Distinct old.slo
   module _ (mothers : MothersActive old.slots) (now next : Slab Seat) (names : List Name) (key m : ℕ) (x : Seat) (r : Falls old t first.name names now) (here : get now key ≡ Some x) (mother : x.mother ≡ Some m)
       (gone : get now m ≡ None) (u : Updates now next key None) where
     was : (get old key ≡ Some x) × (not (goes first.name names x.name) ≡ true)
-    was = kept_back (λ (y : Seat). not (goes first.name names y.name)) (get old key) x (sym (r.kept key) ∙ here)
+    was = kept_is (λ (y : Seat). not (goes first.name names y.name)) (get old key) x (sym (r.kept key) ∙ here)
 
     absent : list_any (same_name x.name) names ≡ false
-    absent = (both_false (same_name x.name first.name) (list_any (same_name x.name) names) (not_true (goes first.name names x.name) was.1)).1
+    absent = (or_parts (same_name x.name first.name) (list_any (same_name x.name) names) (not-true (goes first.name names x.name) was.1)).1
 
     kept_more : (k : ℕ) → (k ≡ key) ⊎ (k ≢ key) → get next k ≡ kept (λ y. not (goes first.name (names ++ x.name ∷ []) y.name)) (get old k)
     kept_more k (inl e) =
         ap (get next) e ∙ u.changed
-        ∙ ap (λ b. cond (not b) (Some x) None) (sym (goes_more first.name names x.name x.name ∙ ap (λ b. goes first.name names x.name || b) (same_name_self x.name) ∙ or_true (goes first.name names x.name)))
+        ∙ ap (λ b. cond (not b) (Some x) None) (sym (goes_more first.name names x.name x.name ∙ ap (λ b. goes first.name names x.name || b) (same_name_self x.name) ∙ or_right (goes first.name names x.name) true refl))
         ∙ ap (kept (λ (y : Seat). not (goes first.name (names ++ x.name ∷ []) y.name))) (sym (ap (get old) e ∙ was.0))
     kept_more k (inr d) = u.others k d ∙ r.kept k ∙ same_kept (λ (y : Seat). not (goes first.name names y.name)) (λ (y : Seat). not (goes first.name (names ++ x.name ∷ []) y.name)) (get old k) agree where
       agree : (y : Seat) → get old k ≡ Some y → not (goes first.name names y.name) ≡ not (goes first.name (names ++ x.name ∷ []) y.name)
@@ -97,12 +96,12 @@ module _ (old : Slab Seat) (t : ℕ) (first : Seat) (distinct : Distinct old.slo
         by (inr p) = ap not (sym (goes_more first.name names x.name y.name ∙ ap (λ b. goes first.name names y.name || b) p.0 ∙ or_false (goes first.name names y.name)))
 
     below_here : Below old.slots t key
-    below_here = by (either_true (same_name z.0.name first.name) (list_any (same_name z.0.name) names) fell) where
+    below_here = by (or_cases (same_name z.0.name first.name) (list_any (same_name z.0.name) names) fell) where
       z : (z : Seat) × (get old m ≡ Some z)
       z = of_some (get old m) (mothers key m x was.0 mother)
 
       fell : goes first.name names z.0.name ≡ true
-      fell = not_false (goes first.name names z.0.name) (dropped_fails (λ (y : Seat). not (goes first.name names y.name)) z.0 (ap (kept (λ (y : Seat). not (goes first.name names y.name))) (sym z.1) ∙ sym (r.kept m) ∙ gone))
+      fell = not-false (goes first.name names z.0.name) (dropped_fails (λ (y : Seat). not (goes first.name names y.name)) z.0 (ap (kept (λ (y : Seat). not (goes first.name names y.name))) (sym z.1) ∙ sym (r.kept m) ∙ gone))
 
       by : (same_name z.0.name first.name ≡ true) ⊎ (list_any (same_name z.0.name) names ≡ true) → Below old.slots t key
       by (inl p) =
@@ -116,7 +115,7 @@ module _ (old : Slab Seat) (t : ℕ) (first : Seat) (distinct : Distinct old.slo
     pub falls_more : (next_names : List Name) → next_names ≡ names ++ x.name ∷ [] → slab_len next + 1 ≡ slab_len now → next.capacity ≡ now.capacity → Falls old t first.name next_names next
     falls_more next_names e len capacity = subst (λ ns. Falls old t first.name ns next) (sym e) (record {
       kept = λ k. kept_more k (same_or_not k key);
-      below = λ q h. below q (either_true (list_any (same_name q) names) (same_name q x.name || false) (sym (list_any-append (same_name q) names (x.name ∷ [])) ∙ h));
+      below = λ q h. below q (or_cases (list_any (same_name q) names) (same_name q x.name || false) (sym (list_any-append (same_name q) names (x.name ∷ [])) ∙ h));
       once = λ q. once_more q x.name names (r.once q) absent;
       len = (let long : length (names ++ x.name ∷ []) ≡ length names + 1 = length-append names (x.name ∷ []) in let before = r.len in omega arith);
       capacity = capacity ∙ r.capacity;
@@ -124,3 +123,16 @@ module _ (old : Slab Seat) (t : ℕ) (first : Seat) (distinct : Distinct old.slo
       below : (q : Name) → (list_any (same_name q) names ≡ true) ⊎ ((same_name q x.name || false) ≡ true) → (k : ℕ) × (y : Seat) × (get old k ≡ Some y) × (y.name ≡ q) × Below old.slots t k
       below q (inl h) = r.below q h
       below q (inr h) = (key, x, was.0, sym (same_name_is q x.name (sym (or_false (same_name q x.name)) ∙ h)), below_here)
+
+-- a task that is not a mother goes alone
+pub closed_alone : (old now : Slab Seat) (t : ℕ) → MothersActive old.slots → ((k : ℕ) (x : Seat) → get old k ≡ Some x → x.mother ≢ Some t) → Updates old now t None → MothersActive now.slots
+closed_alone old now t mothers alone u k m x here mother = at (same_or_not k t) where
+  at : (k ≡ t) ⊎ (k ≢ t) → IsSome (get now m)
+  at (inl e) = absurd (let n : get now t ≡ None = u.changed in let f : None ≡ Some x = sym n ∙ ap (get now) (sym e) ∙ here in cc)
+  at (inr d) = there (same_or_not m t) where
+    was : get old k ≡ Some x
+    was = sym (u.others k d) ∙ here
+
+    there : (m ≡ t) ⊎ (m ≢ t) → IsSome (get now m)
+    there (inl e) = absurd (alone k x was (mother ∙ ap Some e))
+    there (inr f) = subst IsSome (sym (u.others m f)) (mothers k m x was mother)

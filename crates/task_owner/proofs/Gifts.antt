@@ -1,12 +1,11 @@
 -- What a mother gives and shares, number by number.
 use Rattle.std.proofs.Common.{◌≡◌, ◌≢◌, ℕ, ◌+◌, ◌<◌, ◌≤◌, inl, inr, Bool, true, false, cond, ◌&&◌, ◌||◌, Option, Some, None, List, eqb, ltb, refl, sym, ap, ◌∙◌, arith}
-use Rattle.std.proofs.lemmas.Bool.{cases_lt, cases_eq}
+use Rattle.std.proofs.lemmas.Bool.{cases_lt, cases_eq, and_parts}
 use Rattle.std.proofs.lemmas.Bool.Decides.{nat_tests}
 use Rattle.mvs_model.specs.Gifts.{GiftsValue, gives}
 use Rattle.task_owner.specs.Seats.{item_at}
-use Rattle.task_owner.specs.Handing.{is_handed, owned_anew, passed_below, passed_on}
+use Rattle.task_owner.specs.Handing.{is_handed, owned_anew, passed_below}
 use Rattle.task_owner.specs.declared.seat.Owned.{Owned}
-use Rattle.task_owner.proofs.Bools.{both_true}
 
 pub given_or_shared : (g s : Bool) (o : Option ℕ) → cond g o (cond s o None) ≡ cond (g || s) o None
 given_or_shared true s o = refl
@@ -34,26 +33,8 @@ module _ (gifts : GiftsValue) (mother key : ℕ) where
   same_bound from to None le apart = refl
   same_bound from to (Some o) le apart = ap (anew mother key o) (bound_moves o from to le (λ n low high. apart o n refl low high))
 
-  pub none_passed : (p : Option Owned) → p ≡ passed_below gifts mother key 0 p
-  none_passed None = refl
-  none_passed (Some o) = sym (ap (anew mother key o) (by (is_handed gifts mother o) ∙ refl)) where
-    by : (b : Bool) → (b && ltb o.number 0) ≡ false
-    by true = grind (arith, nat_tests)
-    by false = refl
-
   handed_gives : (o : Owned) → is_handed gifts mother o ≡ true → gives gifts o.number ≡ true
-  handed_gives o h = (both_true (eqb o.owner mother) (gives gifts o.number) h).1
-
-  -- past all numbers that are given
-  pub all_passed : (from : ℕ) (p : Option Owned) → ((n : ℕ) → from ≤ n → gives gifts n ≡ false) → passed_below gifts mother key from p ≡ passed_on gifts mother key p
-  all_passed from None none = refl
-  all_passed from (Some o) none = ap (anew mother key o) (by (is_handed gifts mother o) refl) where
-    by : (b : Bool) → is_handed gifts mother o ≡ b → (b && ltb o.number from) ≡ b
-    by false e = refl
-    by true e = elim (cases_lt o.number from) [
-      | inl low ↦ (let t : ltb o.number from ≡ true = grind (arith, nat_tests) in t)
-      | inr high ↦ absurd (let f : true ≡ false = sym (handed_gives o e) ∙ none o.number high in cc)
-    ]
+  handed_gives o h = (and_parts (eqb o.owner mother) (gives gifts o.number) h).1
 
   -- the one under the next number that is given
   pub here_passed : (from n : ℕ) (o : Owned) → from ≤ n → gives gifts n ≡ true → o.number ≡ n → owned_anew mother key (passed_below gifts mother key from (Some o)) ≡ passed_below gifts mother key (n + 1) (Some o)

@@ -1,11 +1,11 @@
 -- Under which numbers a task may have subpools.
 use Rattle.std.proofs.Common.{◌≡◌, ℕ, ◌<◌, true, ltb, arith, sym, ◌∙◌, inl, inr}
 use Rattle.std.proofs.lemmas.Bool.Decides.{nat_tests}
+use Rattle.std.proofs.lemmas.Bool.{and_parts}
 use Rattle.mvs_model.specs.Gifts.{GiftsValue, gives, shares}
 use Rattle.mvs_model.specs.Subpool.{is_subpool_number}
 use Rattle.task_owner.specs.Seats.{MayHave}
 use Rattle.task_owner.specs.declared.seat.Seat.{Seat}
-use Rattle.task_owner.proofs.Bools.{both_true}
 
 -- a task with the same mother may have the same
 pub same_place : (x y : Seat) (n : ℕ) → x.mother ≡ y.mother → MayHave x n → MayHave y n
@@ -17,10 +17,10 @@ low : (n : ℕ) → ltb n 128 ≡ true → n < 128
 low n h = grind (arith, nat_tests)
 
 pub gives_low : (gifts : GiftsValue) (n : ℕ) → gives gifts n ≡ true → n < 128
-gives_low gifts n h = low n (both_true (ltb n 128) _ h).0
+gives_low gifts n h = low n (and_parts (ltb n 128) _ h).0
 
 pub shares_low : (gifts : GiftsValue) (n : ℕ) → shares gifts n ≡ true → n < 128
-shares_low gifts n h = low n (both_true (ltb n 128) _ h).0
+shares_low gifts n h = low n (and_parts (ltb n 128) _ h).0
 
 -- such a number is one that a program may name
 pub is_number : (x : Seat) (n : ℕ) → MayHave x n → is_subpool_number n ≡ true

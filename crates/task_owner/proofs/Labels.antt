@@ -13,7 +13,7 @@ use Rattle.task_owner.specs.declared.seat.Seat.{Seat}
 use Rattle.task_owner.specs.declared.seat.Owned.{Owned}
 use Rattle.task_owner.proofs.Places.{of_some}
 use Rattle.task_owner.proofs.Reading.{found, view-entry, view-owner, the_seat, name_is}
-use Rattle.task_owner.proofs.Bools.{same_test}
+use Rattle.mvs_model.proofs.Tests.{same_test}
 
 module _ (seats : List (Option Seat)) (owned : List (Option Owned)) (d : TasksValue) (s : ℕ) (e : directory seats owned ≡ d) where
   owner_is : get d.owners.owner s ≡ owner_name seats (item_at owned s)

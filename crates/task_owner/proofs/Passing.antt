@@ -1,6 +1,6 @@
 -- What a mother gives stands under the numbers that the subtask has then.
 use Rattle.std.proofs.Common.{◌≡◌, ℕ, ◌<◌, true, cond, ◌||◌, List, Option, Some, None, eqb, ltb, sym, ap, ◌∙◌, arith}
-use Rattle.std.proofs.lemmas.Bool.{eqb-true}
+use Rattle.std.proofs.lemmas.Bool.{eqb-true, and_parts}
 use Rattle.std.proofs.lemmas.Bool.Decides.{nat_tests}
 use Rattle.slab.specs.Slab.{Slab, get as slot}
 use Rattle.mvs_model.specs.Gifts.{GiftsValue, gives, shares}
@@ -9,7 +9,6 @@ use Rattle.task_owner.specs.Seats.{item_at, number_of, directory, IsSound}
 use Rattle.task_owner.specs.Handing.{is_handed, taken}
 use Rattle.task_owner.specs.declared.seat.Seat.{Seat}
 use Rattle.task_owner.specs.declared.seat.Owned.{Owned}
-use Rattle.task_owner.proofs.Bools.{both_true}
 use Rattle.task_owner.proofs.Collecting.{number_inside}
 use Rattle.task_owner.proofs.Having.{gives_low}
 use Rattle.task_owner.proofs.Reading.{the_seat}
@@ -30,7 +29,7 @@ module _ (old : Slab Seat) (owned : List (Option Owned)) (d : TasksValue) (m id 
 
   pub handed_listed : (s : ℕ) (o : Owned) → item_at owned s ≡ Some o → is_handed gifts m o ≡ true → item_at numbers o.number ≡ Some s
   handed_listed s o h t =
-      let both = both_true (eqb o.owner m) (gives gifts o.number) t in
+      let both = and_parts (eqb o.owner m) (gives gifts o.number) t in
       let y = sound.owners s o h in
       let g : Some y.0 ≡ Some x.0 = sym y.1 ∙ ap (item_at old.slots) (eqb-true o.owner m both.0) ∙ x.1 in
       let same : y.0 ≡ x.0 = cc in

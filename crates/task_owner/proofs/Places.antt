@@ -1,10 +1,8 @@
 -- What a list has at a place, after a write, and what a loop over places has made.
 use Rattle.std.proofs.Common.{◌≡◌, ◌≢◌, ℕ, zero, suc, ◌<◌, ◌≤◌, Bool, true, false, List, [], ◌∷◌, map, length, Option, Some, None, IsSome, slice_index_or, slice_set, replicate, eqb, sym, ap, refl, ◌∙◌, arith, ◌⊎◌, inl, inr}
 use Rattle.std.proofs.lemmas.Bool.Decides.{nat_tests}
-use Rattle.std.proofs.lemmas.Bool.{eq-eqb, eqb-true}
 use Rattle.std.specs.Option.{option_map}
 use Rattle.task_owner.specs.Seats.{item_at}
-use Rattle.task_owner.specs.Family.{MadeBelow}
 
 pub same_or_not : (a b : ℕ) → (a ≡ b) ⊎ (a ≢ b)
 same_or_not a b = by (eqb a b) refl where
@@ -13,12 +11,6 @@ same_or_not a b = by (eqb a b) refl where
   by false t = inr (λ e. grind (arith, nat_tests))
 
 -- the same with the test's answer
-pub number_cases : (a b : ℕ) → ((eqb a b ≡ true) × (a ≡ b)) ⊎ ((eqb a b ≡ false) × (a ≢ b))
-number_cases a b = by (eqb a b) refl where
-  by : (c : Bool) → eqb a b ≡ c → ((eqb a b ≡ true) × (a ≡ b)) ⊎ ((eqb a b ≡ false) × (a ≢ b))
-  by true t = inl (t, eqb-true a b t)
-  by false t = inr (t, λ e. (let f : true ≡ false = sym (eq-eqb a b e) ∙ t in cc))
-
 pub of_some : {A : Type 0} (o : Option A) → IsSome o → (x : A) × (o ≡ Some x)
 of_some None h = absurd (let e : false ≡ true = h in cc)
 of_some (Some x) h = (x, refl)
@@ -65,7 +57,3 @@ set_apart (y ∷ ys) zero zero x n = absurd (n refl)
 set_apart (y ∷ ys) zero (suc j) x n = refl
 set_apart (y ∷ ys) (suc i) zero x n = refl
 set_apart (y ∷ ys) (suc i) (suc j) x n = set_apart ys i j x (λ e. n (ap suc e))
-
--- a loop begins with what there was
-pub made_start : {X : Type 0} (old goal now : ℕ → Option X) → ((k : ℕ) → now k ≡ old k) → MadeBelow old goal 0 now
-made_start old goal now h k = let e : now k ≡ old k = h k in grind (arith, nat_tests)

@@ -91,15 +91,17 @@ not_found seats t h = by (seat_named seats t) refl where
 along : (seats : List (Option Seat)) (owned : List (Option Owned)) (d : TasksValue) (key id : ℕ) (P : TasksValue → ℕ → Type 0) → directory seats owned ≡ d → key ≡ id → P (directory seats owned) key → P d id
 along seats owned d key id P e f h = subst (λ (v : TasksValue). P v id) e (subst (λ (k : ℕ). P (directory seats owned) k) f h)
 
+-- a seat that has a name is one
+pub seat_there : (o : Option Seat) → IsSome (option_map (λ x. x.name) o) → IsSome o
+seat_there None h = h
+seat_there (Some x) h = refl
+
 module _ (seats : List (Option Seat)) (owned : List (Option Owned)) (d : TasksValue) (key id : ℕ) (e : directory seats owned ≡ d) (f : key ≡ id) where
   pub at_id : name_at d id ≡ name_of_seat seats key
   at_id = along seats owned d key id (λ v k. name_at v k ≡ name_of_seat seats key) e f (view-name seats owned key)
 
   pub is_seat : IsTask d id → IsSome (item_at seats key)
-  is_seat h = by (item_at seats key) (subst IsSome at_id h) where
-    by : (o : Option Seat) → IsSome (option_map (λ x. x.name) o) → IsSome o
-    by None h = h
-    by (Some x) h = refl
+  is_seat h = seat_there (item_at seats key) (subst IsSome at_id h)
 
   -- the task of an identifier
   pub the_seat : IsTask d id → (x : Seat) × (item_at seats key ≡ Some x)
@@ -131,13 +133,6 @@ low_number n o h = grind (arith, nat_tests)
 -- the number at an index in range
 pub number_is : (x : Seat) (n : ℕ) (d : Option ℕ) → n < length x.numbers → n < 133 → slice_index_or x.numbers n d ≡ number_of x n
 number_is x n d h b = same_default x.numbers n d None h ∙ sym (low_number n (item_at x.numbers n) b)
-
--- a number that has a subpool is below the bound
-pub number_low : (x : Seat) (n s : ℕ) → number_of x n ≡ Some s → n < 133
-number_low x n s e = by (ltb n 133) refl e where
-  by : (b : Bool) → ltb n 133 ≡ b → cond b (item_at x.numbers n) None ≡ Some s → n < 133
-  by true t e = grind (arith, nat_tests)
-  by false t e = absurd (let f : ◌≡◌ {A = Option ℕ} None (Some s) = e in cc)
 
 -- an identifier's name where its key has a task
 pub name_at_is : (seats : List (Option Seat)) (owned : List (Option Owned)) (d : TasksValue) (key : ℕ) (x : Seat) → directory seats owned ≡ d → item_at seats key ≡ Some x → name_at d key ≡ Some x.name

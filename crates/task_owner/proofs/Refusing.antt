@@ -2,6 +2,7 @@
 use Rattle.std.proofs.Common.{◌≡◌, ℕ, ◌<◌, ◌≤◌, Bool, true, false, cond, not, ◌&&◌, List, Option, Some, None, is_some, count_by, nat_le, sym, ap, refl, ◌∙◌, arith}
 use Rattle.std.proofs.lemmas.Bool.Decides.{nat_tests}
 use Rattle.std.specs.FinMap.{len}
+use Rattle.std.proofs.lemmas.Bool.{leb-false}
 use Rattle.mvs_model.specs.declared.name.Name.{Name}
 use Rattle.mvs_model.specs.declared.code.Code.{Code}
 use Rattle.mvs_model.specs.declared.code.Code.TheVariants.{User}
@@ -30,9 +31,6 @@ tested_true m n h = grind (arith, nat_tests)
 tested_false : (m n : ℕ) → n < m → false ≡ nat_le m n
 tested_false m n h = grind (arith, nat_tests)
 
-below_test : (m n : ℕ) → nat_le m n ≡ false → n < m
-below_test m n h = grind (arith, nat_tests)
-
 module _ (seats : List (Option Seat)) (owned : List (Option Owned)) (d : TasksValue) (e : directory seats owned ≡ d) (sound : IsSound seats owned) where
   pub len_is : len d.owners.tasks ≡ count_by is_some seats
   len_is = ap (λ (v : TasksValue). len v.owners.tasks) (sym e) ∙ tasks_len seats owned sound
@@ -53,7 +51,7 @@ module _ (o : Owners) (mother name : Name) (gifts : GiftsValue) where
     by true e b f c g k = absurd (let i : ◌≡◌ {A = Option Code} (Some (User 4009)) None = k in cc)
     by false e true f c g k = absurd (let i : ◌≡◌ {A = Option Code} (Some (User 4005)) None = k in cc)
     by false e false f true g k = absurd (let i : ◌≡◌ {A = Option Code} (Some (User 4003)) None = k in cc)
-    by false e false f false g k = (e, below_test 32 (len o.tasks) f, g)
+    by false e false f false g k = (e, leb-false 32 (len o.tasks) f, g)
 
   pub not_refused : (r : Option Code) → r ≡ attach_refusal o mother name gifts → ((x : Code) → r ≡ Some x → ⊥) → attach_refusal o mother name gifts ≡ None
   not_refused None e h = sym e

@@ -4,6 +4,7 @@ use Rattle.std.proofs.lemmas.Bool.Decides.{nat_tests}
 use Rattle.std.proofs.lemmas.List.Folds.{list_any-append}
 use Rattle.std.proofs.lemmas.List.Sums.{sum_by-cons}
 use Rattle.std.specs.List.{list_any}
+use Rattle.std.proofs.lemmas.Bool.{eqb-true, or_right}
 use Rattle.mvs_model.specs.Subpool.{is_step_number}
 use Rattle.task_owner.specs.Seats.{item_at, number_of, MayHave, IsSound}
 use Rattle.task_owner.specs.declared.seat.Seat.{Seat}
@@ -25,10 +26,7 @@ length-without s (x ∷ xs) h = by (eqb s x) h (length-without s xs) where
 kept : (r s : ℕ) (xs : List ℕ) → r ≢ s → list_any (eqb r) xs ≡ true → list_any (eqb r) (without s xs) ≡ true
 unfolding without
 kept r s [] n h = h
-kept r s (x ∷ xs) n h = by (eqb s x) (same s x) h (kept r s xs n) where
-  same : (a b : ℕ) → eqb a b ≡ true → a ≡ b
-  same a b e = grind (arith, nat_tests)
-
+kept r s (x ∷ xs) n h = by (eqb s x) (eqb-true s x) h (kept r s xs n) where
   later : eqb r s ≡ false
   later = grind (arith, nat_tests)
 
@@ -91,14 +89,10 @@ under_gap x (suc n) m h e = by (below_or_at m n h) (λ p. under_gap x n m p e) w
 eqb_itself : (s : ℕ) → eqb s s ≡ true
 eqb_itself s = grind (arith, nat_tests)
 
-or_true : (b : Bool) → (b || true) ≡ true
-or_true true = refl
-or_true false = refl
-
 put_has : (o : Option ℕ) (s : ℕ) (xs : List ℕ) → list_any (eqb s) xs ≡ true → list_any (eqb s) (put o xs) ≡ true
 unfolding put
 put_has None s xs h = h
-put_has (Some r) s xs h = ap (λ b. eqb s r || b) h ∙ or_true (eqb s r)
+put_has (Some r) s xs h = ap (λ b. eqb s r || b) h ∙ or_right (eqb s r) true refl
 
 put_some : (o : Option ℕ) (s : ℕ) (xs : List ℕ) → o ≡ Some s → list_any (eqb s) (put o xs) ≡ true
 unfolding put
@@ -160,7 +154,7 @@ everything_has b (Some y ∷ rest) zero m s x h p e =
     let same : x ≡ y = (let f : Some y ≡ Some x = h in cc) in
     list_any-append (eqb s) (under y b) (everything b rest) ∙ ap (λ c. c || list_any (eqb s) (everything b rest)) (under_has y b m s p (ap (λ z. number_of z m) (sym same) ∙ e))
 everything_has b (Some y ∷ rest) (suc k) m s x h p e =
-    list_any-append (eqb s) (under y b) (everything b rest) ∙ ap (λ c. list_any (eqb s) (under y b) || c) (everything_has b rest k m s x h p e) ∙ or_true (list_any (eqb s) (under y b))
+    list_any-append (eqb s) (under y b) (everything b rest) ∙ ap (λ c. list_any (eqb s) (under y b) || c) (everything_has b rest k m s x h p e) ∙ or_right (list_any (eqb s) (under y b)) true refl
 
 -- below a bound one is missing, or all are there
 some_or_all : {X : Type 0} (n : ℕ) (f : ℕ → Option X) → ((s : ℕ) × (s < n) × (f s ≡ None)) ⊎ ((s : ℕ) → s < n → IsSome (f s))
@@ -274,7 +268,7 @@ module _ (seats : List (Option Seat)) (owned : List (Option Owned)) (sound : IsS
       by y k n h e (inl low) = ap (λ c. c || list_any (eqb s) (of_first (first_seat seats))) (everything_has 128 seats k n s y h low e)
       by y k n h e (inr r) =
           ap (λ c. list_any (eqb s) (everything 128 seats) || c) (ap (λ o. list_any (eqb s) (of_first o)) (the_first k y h r.1) ∙ two_has y n s r.0 e)
-          ∙ or_true (list_any (eqb s) (everything 128 seats))
+          ∙ or_right (list_any (eqb s) (everything 128 seats)) true refl
 
   -- where a task has none under a number under which it may have one, they are fewer than there could be
   all_few : (k m : ℕ) (x : Seat) → count_by is_some seats ≤ 32 → item_at seats k ≡ Some x → MayHave x m → number_of x m ≡ None → length all < 4098

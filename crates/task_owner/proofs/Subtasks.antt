@@ -16,7 +16,7 @@ use Rattle.task_owner.specs.declared.seat.Seat.{Seat}
 use Rattle.task_owner.specs.declared.seat.Owned.{Owned}
 use Rattle.task_owner.proofs.Places.{of_mapped}
 use Rattle.task_owner.proofs.Reading.{found_at, view-task, the_seat, name_is, a_task}
-use Rattle.task_owner.proofs.Bools.{same_test}
+use Rattle.mvs_model.proofs.Tests.{same_test}
 
 module _ {X : Type 0} (m : FinMap name_cmp X) (p : X → Bool) where
   -- a key whose value passes the test, and the test of all keys

@@ -1,6 +1,6 @@
 //! What goes when a task ends.
 
-ghost use Rattle.std.specs.Prelude.{◌≡◌, ◌≤◌, ℕ, [], length, IsSome, MatchOption, Some, None};
+ghost use Rattle.std.specs.Prelude.{◌≡◌, ◌≢◌, ◌≤◌, ℕ, [], length, IsSome, MatchOption, Some, None};
 ghost use Rattle.std.specs.List.Sorted.{IsStrictlySortedBy};
 ghost use Rattle.std.specs.Ordering.{nat_cmp};
 ghost use Rattle.slab.specs.Slab.{get, slab_len};
@@ -17,7 +17,9 @@ use slab::Slab;
 
 // A task whose mother is not active.
 fn orphan(active: &Slab<Seat>) -> Option<usize>
-    ensures { MatchOption result (MothersActive active.now.slots) (λ k. (m : ℕ) × (x : Seat) × (get active.now k ≡ Some x) × (x.mother ≡ Some m) × (get active.now m ≡ None)) }
+    ensures { MatchOption result (MothersActive active.now.slots)
+        (λ k. (m : ℕ) × (x : Seat) × (get active.now k ≡ Some x) × (x.mother ≡ Some m)
+        × (get active.now m ≡ None)) }
 {
     for (key, seat) in active.iter() {
         if let Some(mother) = seat.mother {
@@ -43,7 +45,8 @@ pub(crate) fn remove_family(
     requires long { length owned.now ≡ most_subpools }
     requires owners { OwnersHave active.old.slots owned.now }
     requires none { freed.old ≡ [] }
-    ensures falls { (x : Seat) → get active.old t ≡ Some x → Falls active.old t x.name result active.new }
+    ensures falls { (x : Seat) → get active.old t ≡ Some x
+        → Falls active.old t x.name result active.new }
     ensures closed { MothersActive active.new.slots }
     ensures freed { IsFreed active.new owned.now freed.new }
     ensures rising { IsStrictlySortedBy nat_cmp freed.new }
@@ -55,4 +58,27 @@ pub(crate) fn remove_family(
         names.push(active.remove(key).name);
     }
     names
+}
+
+// Takes out a task that has no subtask, and puts the subpools that it owns into the set.
+pub(crate) fn remove_alone(
+    active: &mut Slab<Seat>,
+    owned: &[Option<Owned>],
+    t: usize,
+    freed: &mut SubpoolSet,
+)
+    requires there { IsSome (get active.old t) }
+    requires distinct { Distinct active.old.slots }
+    requires mothers { MothersActive active.old.slots }
+    requires alone { (k : ℕ) (x : Seat) → get active.old k ≡ Some x → x.mother ≢ Some t }
+    requires long { length owned.now ≡ most_subpools }
+    requires owners { OwnersHave active.old.slots owned.now }
+    requires none { freed.old ≡ [] }
+    ensures falls { (x : Seat) → get active.old t ≡ Some x
+        → Falls active.old t x.name [] active.new }
+    ensures closed { MothersActive active.new.slots }
+    ensures freed { IsFreed active.new owned.now freed.new }
+{
+    collect_owned(&seat_at(active, t).numbers, t, owned, freed);
+    active.remove(t);
 }

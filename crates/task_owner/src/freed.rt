@@ -19,7 +19,9 @@ use slab::Slab;
 // Puts a subpool into the set if the task at the key owns it.
 fn collect(subpool: SubpoolId, key: usize, owned: &[Option<Owned>], freed: &mut SubpoolSet)
     requires { length owned.now ≡ most_subpools }
-    ensures members { (s : ℕ) → is_one_of freed.new s ≡ (((s == subpool) && is_of key (item_at owned.now s)) || is_one_of freed.old s) }
+    ensures members { (s : ℕ)
+        → is_one_of freed.new s
+        ≡ (((s == subpool) && is_of key (item_at owned.now s)) || is_one_of freed.old s) }
     ensures rising { IsStrictlySortedBy nat_cmp freed.old → IsStrictlySortedBy nat_cmp freed.new }
 {
     if let Some(o) = owned[subpool.get() as usize] {
@@ -37,8 +39,10 @@ pub(crate) fn collect_owned(
     freed: &mut SubpoolSet,
 )
     requires long { length owned.now ≡ most_subpools }
-    requires listed { (s : ℕ) (o : Owned) → item_at owned.now s ≡ Some o → o.owner ≡ key → (o.number < subpool_numbers) × (item_at numbers.now o.number ≡ Some s) }
-    ensures members { (s : ℕ) → is_one_of freed.new s ≡ (is_of key (item_at owned.now s) || is_one_of freed.old s) }
+    requires listed { (s : ℕ) (o : Owned) → item_at owned.now s ≡ Some o → o.owner ≡ key
+        → (o.number < subpool_numbers) × (item_at numbers.now o.number ≡ Some s) }
+    ensures members { (s : ℕ)
+        → is_one_of freed.new s ≡ (is_of key (item_at owned.now s) || is_one_of freed.old s) }
     ensures rising { IsStrictlySortedBy nat_cmp freed.old → IsStrictlySortedBy nat_cmp freed.new }
 {
     for n in 0..numbers.len() {
@@ -70,7 +74,9 @@ fn lose(active: &mut Slab<Seat>, key: usize, number: usize, subpool: SubpoolId)
 // Whether a task has the subpool under the number.
 fn is_held(active: &Slab<Seat>, number: usize, subpool: SubpoolId) -> bool
     requires { number < subpool_numbers }
-    ensures { IsTrue result ↔ ((k : ℕ) × (x : Seat) × (get active.now k ≡ Some x) × (number_of x number ≡ Some subpool)) }
+    ensures { IsTrue result
+        ↔ ((k : ℕ) × (x : Seat) × (get active.now k ≡ Some x)
+        × (number_of x number ≡ Some subpool)) }
 {
     for (_, seat) in active.iter() {
         if seat.numbers[number] == Some(subpool) {
@@ -104,10 +110,12 @@ pub(crate) fn free_subpools(
     freed: &SubpoolSet,
 )
     requires long { length owned.old.items ≡ most_subpools }
-    requires low { (s : ℕ) (o : Owned) → item_at owned.old.items s ≡ Some o → o.number < subpool_numbers }
+    requires low { (s : ℕ) (o : Owned) → item_at owned.old.items s ≡ Some o
+        → o.number < subpool_numbers }
     requires entries { EntriesStand active.old.slots owned.old.items }
     requires owned { (s : ℕ) → is_one_of freed.now s ≡ true → IsSome (item_at owned.old.items s) }
-    ensures { FreedBelow active.old owned.old.items freed.now most_subpools active.new owned.new.items }
+    ensures { FreedBelow active.old owned.old.items freed.now most_subpools active.new
+        owned.new.items }
 {
     let mut from = 0;
     'subpools: while let Some(subpool) = freed.first_from(from) {

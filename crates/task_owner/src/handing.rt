@@ -16,7 +16,8 @@ use slab::Slab;
 
 // Puts what stands under the numbers that are shared into a subtask's.
 fn share(numbers: &Numbers, gifts: &Gifts, subtask: &mut Numbers)
-    ensures { (n : ℕ) → n < subpool_numbers → item_at subtask.new n ≡ with_shared gifts.now numbers.now subtask.old n }
+    ensures { (n : ℕ) → n < subpool_numbers
+        → item_at subtask.new n ≡ with_shared gifts.now numbers.now subtask.old n }
 {
     let mut from = 0;
     'shared: while let Some(number) = gifts.first_shared(from) {
@@ -27,8 +28,10 @@ fn share(numbers: &Numbers, gifts: &Gifts, subtask: &mut Numbers)
 
 // Moves what stands under the numbers that are given to a subtask's.
 fn give(numbers: &mut Numbers, gifts: &Gifts, subtask: &mut Numbers)
-    ensures left { (n : ℕ) → n < subpool_numbers → item_at numbers.new n ≡ left_over gifts.now numbers.old n }
-    ensures given { (n : ℕ) → n < subpool_numbers → item_at subtask.new n ≡ with_given gifts.now numbers.old subtask.old n }
+    ensures left { (n : ℕ) → n < subpool_numbers
+        → item_at numbers.new n ≡ left_over gifts.now numbers.old n }
+    ensures given { (n : ℕ) → n < subpool_numbers
+        → item_at subtask.new n ≡ with_given gifts.now numbers.old subtask.old n }
 {
     let mut from = 0;
     'given: while let Some(number) = gifts.first_given(from) {
@@ -41,8 +44,10 @@ fn give(numbers: &mut Numbers, gifts: &Gifts, subtask: &mut Numbers)
 // Takes what the task at the key gives; what it gives and shares.
 pub(crate) fn hand_over(active: &mut Slab<Seat>, mother: usize, gifts: &Gifts) -> Numbers
     requires { IsSome (get active.old mother) }
-    ensures taken { (x : Seat) → get active.old mother ≡ Some x → (n : ℕ) → n < subpool_numbers → item_at result n ≡ taken gifts.now x.numbers n }
-    ensures left { (x : Seat) → get active.old mother ≡ Some x → (y : Seat) × (get active.new mother ≡ Some y) × Leaves gifts.now x y }
+    ensures taken { (x : Seat) → get active.old mother ≡ Some x → (n : ℕ) → n < subpool_numbers
+        → item_at result n ≡ taken gifts.now x.numbers n }
+    ensures left { (x : Seat) → get active.old mother ≡ Some x
+        → (y : Seat) × (get active.new mother ≡ Some y) × Leaves gifts.now x y }
     ensures others { (k : ℕ) → k ≢ mother → get active.new k ≡ get active.old k }
     ensures len { slab_len active.new ≡ slab_len active.old }
     ensures capacity { active.new.capacity ≡ active.old.capacity }
@@ -61,7 +66,8 @@ pub(crate) fn hand_over(active: &mut Slab<Seat>, mother: usize, gifts: &Gifts) -
 // Makes the task at the key the owner of a subpool that the mother owns.
 fn pass(owned: &mut Vec<Option<Owned>>, mother: usize, key: usize, subpool: SubpoolId)
     requires { length owned.old.items ≡ most_subpools }
-    ensures here { item_at owned.new.items subpool ≡ owned_anew mother key (item_at owned.old.items subpool) }
+    ensures here { item_at owned.new.items subpool
+        ≡ owned_anew mother key (item_at owned.old.items subpool) }
     ensures others { (s : ℕ) → s ≢ subpool → item_at owned.new.items s ≡ item_at owned.old.items s }
     ensures len { length owned.new.items ≡ length owned.old.items }
 {
@@ -85,9 +91,12 @@ pub(crate) fn pass_on(
     gifts: &Gifts,
 )
     requires long { length owned.old.items ≡ most_subpools }
-    requires stand { (n s : ℕ) → gives gifts.now n ≡ true → item_at numbers.now n ≡ Some s → (o : Owned) × (item_at owned.old.items s ≡ Some o) × (o.number ≡ n) }
-    requires listed { (s : ℕ) (o : Owned) → item_at owned.old.items s ≡ Some o → is_handed gifts.now mother o ≡ true → item_at numbers.now o.number ≡ Some s }
-    ensures passed { (s : ℕ) → item_at owned.new.items s ≡ passed_on gifts.now mother key (item_at owned.old.items s) }
+    requires stand { (n s : ℕ) → gives gifts.now n ≡ true → item_at numbers.now n ≡ Some s
+        → (o : Owned) × (item_at owned.old.items s ≡ Some o) × (o.number ≡ n) }
+    requires listed { (s : ℕ) (o : Owned) → item_at owned.old.items s ≡ Some o
+        → is_handed gifts.now mother o ≡ true → item_at numbers.now o.number ≡ Some s }
+    ensures passed { (s : ℕ)
+        → item_at owned.new.items s ≡ passed_on gifts.now mother key (item_at owned.old.items s) }
     ensures len { length owned.new.items ≡ length owned.old.items }
 {
     let mut from = 0;

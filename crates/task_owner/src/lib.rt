@@ -1,7 +1,6 @@
 //! Active tasks, the subpools that they have under their numbers, and the owners of the subpools.
 #![tactic(auto)]
 
-mod by_name;
 mod family;
 mod freed;
 mod handing;

@@ -51,7 +51,9 @@ pub(crate) fn seat_at(active: &Slab<Seat>, key: usize) -> &Seat
 pub(crate) fn enter(active: &mut Slab<Seat>, key: usize, number: usize, subpool: SubpoolId)
     requires there { IsSome (get active.old key) }
     requires low { number < subpool_numbers }
-    ensures entered { (x : Seat) → get active.old key ≡ Some x → get active.new key ≡ Some (record x { numbers = slice_set x.numbers number (Some subpool) }) }
+    ensures entered { (x : Seat) → get active.old key ≡ Some x
+        → get active.new key
+        ≡ Some (record x { numbers = slice_set x.numbers number (Some subpool) }) }
     ensures fits { (x : Seat) → get active.old key ≡ Some x → number < length x.numbers }
     ensures others { (k : ℕ) → k ≢ key → get active.new k ≡ get active.old k }
     ensures len { slab_len active.new ≡ slab_len active.old }
@@ -65,7 +67,8 @@ pub(crate) fn enter(active: &mut Slab<Seat>, key: usize, number: usize, subpool:
 
 // The key of the task of this name.
 pub(crate) fn find_key(active: &Slab<Seat>, name: Name) -> Option<usize>
-    ensures { MatchOption result ((k : ℕ) (x : Seat) → get active.now k ≡ Some x → x.name ≢ name) (λ k. (x : Seat) × (get active.now k ≡ Some x) × (x.name ≡ name)) }
+    ensures { MatchOption result ((k : ℕ) (x : Seat) → get active.now k ≡ Some x → x.name ≢ name)
+        (λ k. (x : Seat) × (get active.now k ≡ Some x) × (x.name ≡ name)) }
 {
     for (key, seat) in active.iter() {
         if seat.name == name {
@@ -77,7 +80,8 @@ pub(crate) fn find_key(active: &Slab<Seat>, name: Name) -> Option<usize>
 
 // The task without a mother.
 pub(crate) fn find_first(active: &Slab<Seat>) -> Option<usize>
-    ensures { MatchOption result ((k : ℕ) (x : Seat) → get active.now k ≡ Some x → x.mother ≢ None) (λ k. (x : Seat) × (get active.now k ≡ Some x) × (x.mother ≡ None)) }
+    ensures { MatchOption result ((k : ℕ) (x : Seat) → get active.now k ≡ Some x → x.mother ≢ None)
+        (λ k. (x : Seat) × (get active.now k ≡ Some x) × (x.mother ≡ None)) }
 {
     for (key, seat) in active.iter() {
         if seat.mother.is_none() {
@@ -89,7 +93,8 @@ pub(crate) fn find_first(active: &Slab<Seat>) -> Option<usize>
 
 // Whether a task has the mother at the key.
 pub(crate) fn has_child(active: &Slab<Seat>, mother: usize) -> bool
-    ensures { IsTrue result ↔ ((k : ℕ) × (x : Seat) × (get active.now k ≡ Some x) × (x.mother ≡ Some mother)) }
+    ensures { IsTrue result
+        ↔ ((k : ℕ) × (x : Seat) × (get active.now k ≡ Some x) × (x.mother ≡ Some mother)) }
 {
     for (_, seat) in active.iter() {
         if seat.mother == Some(mother) {

@@ -1,6 +1,6 @@
 //! The active tasks and their subpools.
 
-ghost use Rattle.std.specs.Prelude.{◌≡◌, ◌≢◌, ◌<◌, ◌≤◌, ◌↔◌, ℕ, true, false, not, IsTrue, is_some, IfSome, IfOk, IfErr, OnOk, OnErr, MatchOption, Some, None, length, slice_index_or};
+ghost use Rattle.std.specs.Prelude.{◌≡◌, ◌≢◌, ◌<◌, ◌≤◌, ◌↔◌, ℕ, true, false, not, IsTrue, is_some, IfSome, IfOk, IfErr, OnOk, OnErr, MatchOption, Some, None, [], length, slice_index_or};
 ghost use Rattle.std.specs.List.{Contains};
 ghost use Rattle.std.specs.List.Sorted.{IsStrictlySortedBy};
 ghost use Rattle.std.specs.Ordering.{nat_cmp};
@@ -14,7 +14,7 @@ ghost use Rattle.mvs_model.specs.Start.{first_owners};
 ghost use Rattle.task_owner.specs.Handing.{GetsEntry, SharesBelow, Admits};
 ghost use Rattle.task_owner.specs.Tasks.{name_at, IsTask, name_of, residence_of};
 
-use crate::family::remove_family;
+use crate::family::{remove_alone, remove_family};
 use crate::freed::free_subpools;
 use crate::handing::{hand_over, pass_on};
 use crate::seat::{
@@ -115,6 +115,17 @@ impl Tasks {
         }
     }
 
+    /// The active task of a name.
+    pub fn task_of(&self, name: Name) -> TaskId
+        requires { is_active self.now.owners name ≡ true }
+        ensures { name_at self.now result ≡ Some name }
+    {
+        let Some(t) = self.find(&name) else {
+            unreachable!();
+        };
+        t
+    }
+
     /// Whether the task has a subtask that is active.
     pub fn has_active_subtasks(&self, t: TaskId) -> bool
         requires { IsTask self.now t }
@@ -134,7 +145,8 @@ impl Tasks {
     // The task whose subpool a task means by a number: the job step task for 131 and 132, and else the task itself.
     fn keeper(&self, t: TaskId, number: SubNo) -> TaskId
         requires { IsTask self.now t }
-        ensures { name_at self.now result ≡ Some (keeper self.now.owners (name_of self.now t) number) }
+        ensures { name_at self.now result
+            ≡ Some (keeper self.now.owners (name_of self.now t) number) }
     {
         match self.common_keeper(number) {
             Some(first) => first,
@@ -143,8 +155,9 @@ impl Tasks {
     }
 
     // The job step task, where each task means its subpool by the number.
-    pub(crate) fn common_keeper(&self, number: SubNo) -> Option<TaskId>
-        ensures { MatchOption result ((t : TheName) → keeper self.now.owners t number ≡ t) (λ id. (t : TheName) → name_at self.now id ≡ Some (keeper self.now.owners t number)) }
+    fn common_keeper(&self, number: SubNo) -> Option<TaskId>
+        ensures { MatchOption result ((t : TheName) → keeper self.now.owners t number ≡ t)
+            (λ id. (t : TheName) → name_at self.now id ≡ Some (keeper self.now.owners t number)) }
     {
         if !number.is_of_step() {
             return None;
@@ -168,7 +181,8 @@ impl Tasks {
     pub fn entries(&self, t: TaskId) -> &[Option<SubpoolId>]
         requires { IsTask self.now t }
         ensures len { length result.now ≡ subpool_numbers }
-        ensures entries { (n : ℕ) → n < subpool_numbers → slice_index_or result.now n None ≡ entry self.now.owners (name_of self.now t) n }
+        ensures entries { (n : ℕ) → n < subpool_numbers
+            → slice_index_or result.now n None ≡ entry self.now.owners (name_of self.now t) n }
     {
         &seat_at(&self.active, t.key).numbers
     }
@@ -185,7 +199,9 @@ impl Tasks {
     /// Whether the task has a subpool under the number and owns it.
     pub fn owns(&self, t: TaskId, number: SubNo) -> bool
         requires { IsTask self.now t }
-        ensures { result ≡ has (owns self.now.owners (name_of self.now t)) (entry self.now.owners (name_of self.now t) number) }
+        ensures { result
+            ≡ has (owns self.now.owners (name_of self.now t))
+            (entry self.now.owners (name_of self.now t) number) }
     {
         match self.entry(t, number) {
             Some(subpool) => self.is_owner(t, subpool),
@@ -222,7 +238,8 @@ impl Tasks {
         requires active { IsTask self.old t }
         requires none { subpool_meant self.old.owners (name_of self.old t) number ≡ None }
         requires spare { get self.old.owners.owner subpool ≡ None }
-        ensures binds { Binds self.old.owners (keeper self.old.owners (name_of self.old t) number) number subpool self.new.owners }
+        ensures binds { Binds self.old.owners (keeper self.old.owners (name_of self.old t) number)
+            number subpool self.new.owners }
         ensures names { (id : ℕ) → name_at self.new id ≡ name_at self.old id }
     {
         let keeper = self.keeper(t, number);
@@ -247,13 +264,19 @@ impl Tasks {
         residence: Residence,
     ) -> Result<TaskId, Code>
         requires { IsTask self.old mother }
-        ensures attached { OnOk result (Attach self.old.owners (name_of self.old mother) name.now gifts.now residence self.new.owners) }
-        ensures granted { OnOk result (attach_refusal self.old.owners (name_of self.old mother) name.now gifts.now ≡ None) }
+        ensures attached { OnOk result
+            (Attach self.old.owners (name_of self.old mother) name.now gifts.now residence
+            self.new.owners) }
+        ensures granted { OnOk result
+            (attach_refusal self.old.owners (name_of self.old mother) name.now gifts.now ≡ None) }
         ensures named { IfOk result (λ id. name_at self.new id ≡ Some name.now) }
         ensures fresh { IfOk result (λ id. name_at self.old id ≡ None) }
-        ensures others { IfOk result (λ id. (k : ℕ) → k ≢ id → name_at self.new k ≡ name_at self.old k) }
+        ensures others { IfOk result
+            (λ id. (k : ℕ) → k ≢ id → name_at self.new k ≡ name_at self.old k) }
 
-        ensures refused { IfErr result (λ code. attach_refusal self.old.owners (name_of self.old mother) name.now gifts.now ≡ Some code) }
+        ensures refused { IfErr result
+            (λ code. attach_refusal self.old.owners (name_of self.old mother) name.now gifts.now
+            ≡ Some code) }
         ensures unchanged { OnErr result (self.new ≡ self.old) }
     {
         if let Some(code) = self.refusal(mother, name, gifts) {
@@ -266,7 +289,8 @@ impl Tasks {
     // Why an attach is refused, if it is.
     fn refusal(&self, mother: TaskId, name: &Name, gifts: &Gifts) -> Option<Code>
         requires { IsTask self.now mother }
-        ensures { result ≡ attach_refusal self.now.owners (name_of self.now mother) name.now gifts.now }
+        ensures { result
+            ≡ attach_refusal self.now.owners (name_of self.now mother) name.now gifts.now }
     {
         if self.find(name).is_some() {
             return Some(Code::TASK_IN_USE);
@@ -298,7 +322,9 @@ impl Tasks {
     // Whether the task has a subpool under the number and does not own it.
     fn is_shared(&self, t: TaskId, number: SubNo) -> bool
         requires { IsTask self.now t }
-        ensures { result ≡ has (λ s. not (owns self.now.owners (name_of self.now t) s)) (entry self.now.owners (name_of self.now t) number) }
+        ensures { result
+            ≡ has (λ s. not (owns self.now.owners (name_of self.now t) s))
+            (entry self.now.owners (name_of self.now t) number) }
     {
         match self.entry(t, number) {
             Some(subpool) => !self.is_owner(t, subpool),
@@ -340,7 +366,8 @@ impl Tasks {
         requires new { is_active self.old.owners name.now ≡ false }
         requires room { len self.old.owners.tasks < most_tasks }
         requires owned { gives_shared self.old.owners (name_of self.old mother) gifts.now ≡ false }
-        ensures admits { Admits self.old.owners (name_of self.old mother) name.now gifts.now residence self.new.owners }
+        ensures admits { Admits self.old.owners (name_of self.old mother) name.now gifts.now
+            residence self.new.owners }
         ensures named { name_at self.new result ≡ Some name.now }
         ensures fresh { name_at self.old result ≡ None }
         ensures others { (k : ℕ) → k ≢ result → name_at self.new k ≡ name_at self.old k }
@@ -363,9 +390,14 @@ impl Tasks {
         requires { IsTask self.old t }
         ensures fallen { IsFallen self.old.owners (name_of self.old t) result.fallen }
         ensures ends { Ends self.old.owners (name_of self.old t) result.fallen self.new.owners }
-        ensures freed { (s : ℕ) → Contains result.freed s ↔ (ends_with self.old.owners (name_of self.old t) result.fallen s ≡ true) }
+        ensures freed { (s : ℕ)
+            → Contains result.freed s
+            ↔ (ends_with self.old.owners (name_of self.old t) result.fallen s ≡ true) }
         ensures rising { IsStrictlySortedBy nat_cmp result.freed }
-        ensures names { (id : ℕ) → name_at self.new id ≡ kept (λ x. not (goes (name_of self.old t) result.fallen x)) (name_at self.old id) }
+        ensures names { (id : ℕ)
+            → name_at self.new id
+            ≡ kept (λ x. not (goes (name_of self.old t) result.fallen x))
+            (name_at self.old id) }
     {
         let mut freed = SubpoolSet::empty();
         let names = remove_family(&mut self.active, self.owned.as_slice(), t.key, &mut freed);
@@ -376,9 +408,27 @@ impl Tasks {
         }
     }
 
+    /// Ends a task that has no active subtask: the subpools that it owns fall free, and no task has one of these any more. The
+    /// result is these subpools.
+    pub fn end_alone(&mut self, t: TaskId) -> SubpoolSet
+        requires active { IsTask self.old t }
+        requires alone { has_subtask self.old.owners (name_of self.old t) ≡ false }
+        ensures fallen { IsFallen self.old.owners (name_of self.old t) [] }
+        ensures ends { Ends self.old.owners (name_of self.old t) [] self.new.owners }
+        ensures freed { (s : ℕ)
+            → Contains result s ↔ (ends_with self.old.owners (name_of self.old t) [] s ≡ true) }
+    {
+        let mut freed = SubpoolSet::empty();
+        remove_alone(&mut self.active, self.owned.as_slice(), t.key, &mut freed);
+        free_subpools(&mut self.active, &mut self.owned, &freed);
+        freed
+    }
+
     /// The number under which the subpool stands, and the name of its owner.
     pub fn label(&self, subpool: SubpoolId) -> Option<(SubNo, Name)>
-        ensures label { MatchOption result (get self.now.owners.owner subpool ≡ None) (λ r. (get self.now.owners.owner subpool ≡ Some r.1) × (entry self.now.owners r.1 r.0 ≡ Some subpool)) }
+        ensures label { MatchOption result (get self.now.owners.owner subpool ≡ None)
+            (λ r. (get self.now.owners.owner subpool ≡ Some r.1)
+            × (entry self.now.owners r.1 r.0 ≡ Some subpool)) }
         ensures kept { OwnersKept self.now.owners }
     {
         match self.owned[subpool.get() as usize] {

@@ -6,7 +6,9 @@ pub returns : goal.returns
 returns c =
     let start : c.start.result ≡ c.args.want.now.start = c.start.ensures.start in
     let start_2 : c.start-2.result ≡ c.args.want.now.start = c.start-2.ensures.start in
-    let within : c.within-within.result ≡ c.args.want.now.within = c.within-within.ensures.within in
+    let within : c.within.result ≡ c.args.want.now.within = c.within.ensures.within in
+    let within_2 : c.within-2.result ≡ c.args.want.now.within = c.within-2.ensures.within in
+    let within_3 : c.within-3.result ≡ c.args.want.now.within = c.within-3.ensures.within in
     let side : c.side.result ≡ c.args.want.now.side = c.side.ensures in
     let begin : c.get-from.result ≡ c.args.run.addr = c.get-from.ensures.value ∙ c.addr.ensures in
     let from : c.from-from.result ≡ c.args.run.addr = c.from-from.ensures ∙ begin in
@@ -16,5 +18,5 @@ returns c =
     (rw (← side, ← begin) (c.if-not-allows.ensures.0 refl))
     (rw (← unit, ← from) c.round_up-first.ensures.least)
     (rw (← start_2, ← within) c.next_start-next.ensures.next)
-    (rw (← within, ← end) c.room.ensures)
-    (rw (← within, ← end) c.room-2.ensures)
+    (rw (← within_2, ← end) c.room.ensures)
+    (rw (← within_3, ← end) c.room-2.ensures)

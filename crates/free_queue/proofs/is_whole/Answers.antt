@@ -1,5 +1,4 @@
-use Rattle.std.proofs.Common.{sym, ◌∙◌}
-use Rattle.std.proofs.lemmas.Bool.{eqb-true, eq-eqb}
+use Rattle.std.proofs.Common.{sym, ◌∙◌, eqb-true, eq-eqb}
 use Rattle.free_queue.specs.Runs.{page_of}
 use Rattle.free_queue.proofs.Queues.{whole_all, all_whole}
 use Rattle.free_queue.proofs.is_whole.Goals as goal

@@ -1,14 +1,13 @@
-use Rattle.std.proofs.Common.{◌≡◌, Some, sym, ap, ◌∙◌, subst, arith}
+use Rattle.std.proofs.Common.{Some, sym, ap, ◌∙◌, subst, arith}
 use Rattle.free_queue.specs.Runs.{Queue, place_of, page_of}
-use Rattle.free_queue.proofs.Queues.{head_whole, step_next, first_of, next_above, next_is_none, next_is}
+use Rattle.free_queue.proofs.Queues.{opened, step_next, next_is_none, next_is}
 use Rattle.free_queue.proofs.next_free.Goals as goal
 
 pub runs-smaller : goal.runs-smaller
 runs-smaller c =
-    let q = c.requires.queue in let now = c.runs.invariant q.0 q.1 in
-    let lt = c.runs-test.true in let le = c.requires.inside in
-    let on = next_above now.0 now.1 (page_of c.args.region.now c.args.page) c.runs.at now.2 (λ e. omega (arith, e, lt, le)) in
-    omega (arith, on, lt, le, c.link-at.ensures)
+    let q = c.requires.queue in let now = c.runs.invariant q.0 q.1 in let lt = c.runs-test.true in let le = c.requires.inside in
+    let o = opened (page_of c.args.region.now c.args.page) c.runs.at now.0 now.1 now.2 (λ e. omega (arith, e, lt, le)) in
+    omega (arith, o.next, lt, le, c.link-at.ensures)
 
 pub runs-preserved : goal.runs-preserved
 runs-preserved c = λ rs q.
@@ -29,13 +28,7 @@ returns-else-at c = λ rs q.
 pub link-at-requires-clause-inside : goal.link-at-requires-clause-inside
 link-at-requires-clause-inside c =
     let q = c.requires.queue in let now = c.runs.invariant q.0 q.1 in let lt = c.runs-test.true in let le = c.requires.inside in
-    let ends : c.runs.at ≡ 4294967295 → ⊥ = λ e. omega (arith, e, lt, le) in
-    let w = head_whole now.0 now.1 (page_of c.args.region.now c.args.page) c.runs.at now.2 ends in
-    omega (arith, lt, le, w.0)
+    (opened (page_of c.args.region.now c.args.page) c.runs.at now.0 now.1 now.2 (λ e. omega (arith, e, lt, le))).room
 
 pub len-requires-clause-inside : goal.len-requires-clause-inside
-len-requires-clause-inside c =
-    let q = c.requires.queue in let now = c.runs.invariant q.0 q.1 in
-    let f = first_of now.0 now.1 (page_of c.args.region.now c.args.page) c.runs.at now.2 c.if-at.false in
-    let w = head_whole now.0 now.1 (page_of c.args.region.now c.args.page) c.runs.at now.2 c.if-at.false in
-    omega (arith, f.0, w.0)
+len-requires-clause-inside c = let q = c.requires.queue in let now = c.runs.invariant q.0 q.1 in (opened (page_of c.args.region.now c.args.page) c.runs.at now.0 now.1 now.2 c.if-at.false).room

@@ -2,7 +2,7 @@ use Rattle.std.proofs.Common.{◌≡◌, ◌≤◌, ◌+◌, ◌-◌, length, ta
 use Rattle.std.specs.Prelude.{◌&&◌, nat_le}
 use Rattle.std.specs.List.{list_all}
 use Rattle.std.proofs.lemmas.List.{take_rest}
-use Rattle.job_script.proofs.Plain.{part_passes, part_fails, longer_end}
+use Rattle.job_script.proofs.PrintedBytes.{part_passes, part_fails, longer_end}
 use Rattle.job_script.proofs.is_plain_by.Goals as goal
 
 pub loop-done-preserved : goal.loop-done-preserved

@@ -42,8 +42,8 @@ first_free-requires-clause-free c =
     let w = c.walk.invariant in
     fewer c.args.store.now.storage c.args.root.now c.requires.chain w.number (is_met c.args.store.now.storage c.args.root.now c.requires.counted c.requires.free c.walk.step c.walk.part w) c.walk.part w.addr _ _ c.read_header-header.ensures.count c.read_header-header.ensures.taken (omega arith)
 
-pub returns-then-header : goal.returns-then-header
-returns-then-header c =
+pub returns-then-header-clause-free : goal.returns-then-header-clause-free
+returns-then-header-clause-free c =
     let w = c.walk.invariant in
     record {
       number = w.number;

@@ -2,7 +2,7 @@ use Rattle.std.proofs.Common.{◌≤◌, ap, subst, arith}
 use Rattle.cell_pool.specs.Layout.{byte_of, count_at, flag}
 use Rattle.cell_pool.specs.Roots.{Root}
 use Rattle.cell_pool.specs.Walk.{Fills}
-use Rattle.cell_pool.proofs.Counts.{count_most}
+use Rattle.subpool_store.proofs.Counts.{count_most}
 use Rattle.cell_pool.proofs.Walking.{few_at}
 use Rattle.cell_pool.proofs.Opening.{counts}
 use Rattle.cell_pool.proofs.take.take.Goals as goal

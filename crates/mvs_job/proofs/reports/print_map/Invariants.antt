@@ -4,7 +4,7 @@ use Rattle.mvs_job.proofs.reports.print_map.Given as goal
 
 abbrev pub invariant-runs : goal.invariant-runs
 invariant-runs g l = record {
-  so_far : SoFar l.line_number l.step.state l.task (g.W.Write.contents l.initial.writer.inner) (g.W.Write.contents l.writer.inner) l.from;
+  so_far : SoFar l.line_number l.job.state l.task (g.W.Write.contents l.initial.writer.inner) (g.W.Write.contents l.writer.inner) l.from;
   low : l.from ≤ 0x3000000;
   same : l.writer.failed ≡ l.initial.writer.failed;
 }

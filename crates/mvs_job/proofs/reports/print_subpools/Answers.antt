@@ -1,14 +1,14 @@
 use Rattle.std.proofs.Common.{ℕ, List, subst}
-use Rattle.job_script.specs.Writing.{WritesAll}
+use Rattle.job_script.specs.Writing.{Prints}
 use Rattle.mvs_job.proofs.Numbers.{none_text, some_text}
 use Rattle.mvs_job.proofs.reports.print_subpools.Goals as goal
 
-pub returns-in-Some-clause-bytes : goal.returns-in-Some-clause-bytes
-returns-in-Some-clause-bytes g c =
-    subst (λ (bytes : List ℕ). WritesAll (g.W.Write.contents c.args.writer.now.inner) (g.W.Write.contents c.print_numbers.new.writer.inner) c.print_numbers.result bytes)
-    (some_text c.args.line_number c.args.step.now.state c.args.task.now c.in-Some.first c.in-Some.ensures) c.print_numbers.ensures.bytes
+pub returns-in-Some : goal.returns-in-Some
+returns-in-Some g c =
+    subst (λ (text : List ℕ). Prints g.W.Write.contents c.args.writer.now c.print_numbers.new.writer c.print_numbers.result text)
+    (some_text c.args.line_number c.args.job.now.state c.args.task.now c.in-Some.first c.in-Some.ensures) c.print_numbers.ensures
 
-pub returns-in-None-clause-bytes : goal.returns-in-None-clause-bytes
-returns-in-None-clause-bytes g c =
-    subst (λ (bytes : List ℕ). WritesAll (g.W.Write.contents c.args.writer.now.inner) (g.W.Write.contents c.print_no_subpool.new.writer.inner) c.print_no_subpool.result bytes)
-    (none_text c.args.line_number c.args.step.now.state c.args.task.now c.in-None.ensures) c.print_no_subpool.ensures.bytes
+pub returns-in-None : goal.returns-in-None
+returns-in-None g c =
+    subst (λ (text : List ℕ). Prints g.W.Write.contents c.args.writer.now c.print_no_subpool.new.writer c.print_no_subpool.result text)
+    (none_text c.args.line_number c.args.job.now.state c.args.task.now c.in-None.ensures) c.print_no_subpool.ensures

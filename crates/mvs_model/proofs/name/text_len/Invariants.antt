@@ -1,5 +1,4 @@
-use Rattle.std.proofs.Common.{◌≡◌, ◌+◌, drop}
-use Rattle.std.specs.Prelude.{◌==◌}
+use Rattle.std.proofs.Common.{◌≡◌, ◌+◌, drop, ◌==◌}
 use Rattle.std.specs.List.{position_or_len}
 use Rattle.mvs_model.proofs.name.text_len.Given as goal
 

@@ -1,5 +1,4 @@
-use Rattle.std.proofs.Common.{◌≡◌, ◌<◌, ℕ, false}
-use Rattle.std.specs.Prelude.{slice_index_or}
+use Rattle.std.proofs.Common.{◌≡◌, ◌<◌, ℕ, false, slice_index_or}
 use Rattle.page_map.specs.Codes.{decoded, free_code}
 use Rattle.page_map.specs.Owners.{is_usable}
 use Rattle.page_map.proofs.codes.is_one_usable.Given as goal

@@ -1,5 +1,4 @@
-use Rattle.std.proofs.Common.{is_some, ◌≤◌, ◌+◌, ◌-◌, take, drop, ◌∙◌, arith}
-use Rattle.std.proofs.lemmas.List.{get_or-take, get_or-drop}
+use Rattle.std.proofs.Common.{is_some, ◌≤◌, ◌+◌, ◌-◌, take, drop, ◌∙◌, arith, get_or-take, get_or-drop}
 use Rattle.page_map.proofs.Decoding.{refused_several, part_length}
 use Rattle.page_map.proofs.codes.pass_free.Goals as goal
 

@@ -1,6 +1,6 @@
 -- `give_block` forgets the bytes and hands the block back. Assumes `Logic`.
+use Rattle.std.proofs.Common.{T}
 use Rattle.region_raw.proofs.Walks.{◌≡◌, ℕ, ◌<◌, ◌^◌, List, [], ◌∷◌, None, length, replicate, refl, sym, ap, subst, ◌∙◌, lit<, arith, w64, proved, full_share, id⊢, never, emp, ftrue, fat, froom, flft, named, Val, vunit, vint, vptr, fact, fact_i, tables, ‵, raw, ◌⊛◌, some, later, at_ret, ◌$◌, ◌∵◌, !, qed, move, keep, leave, use0, use1, await, pick, split, join, fsplit, fjoin, feq_i, feq_l, flt_l, flt_i, rewrite, suffices, done, whole, sub, enter, of_opd, lit, unit_lit, get, get_in, fld, stop, no_more, and_then, first, blocks, exec, returns, alloc_all, pass_all, free_all, look_at, sets, take_at, give_at, env, usize, unit, yes, layout, uint_vals, uint_Tells, owns, Ptr, block_ptr, in_a_block, plain, nothing, heard, Stays, walk_of, stay_dropped, Goes-dropped, ends_at}
-use lib.Dec.{T}
 use mir.Val.{has_ty, WT}
 use mir.Syntax.{ty_unit}
 use prog.Memory.{size, align, capped}

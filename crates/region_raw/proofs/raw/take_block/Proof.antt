@@ -1,6 +1,6 @@
 -- `take_block` asks the heap for a block, and owns it as blank bytes. Assumes `Logic`.
+use Rattle.std.proofs.Common.{true, false}
 use Rattle.region_raw.proofs.Walks.{◌≡◌, ℕ, ◌*◌, ◌<◌, ◌^◌, List, [], ◌∷◌, Option, Some, None, length, replicate, refl, sym, subst, ◌∙◌, lit<, arith, w64, proved, id⊢, emp, ftrue, flft, named, Val, vint, vcons, vnil, fact, fact_i, tables, ‵, raw, ◌⊛◌, some, later, at_ret, ◌$◌, ◌∵◌, !, qed, move, keep, leave, use0, use1, use2, await, pick, split, join, fjoin, feq_i, flt_i, rewrite, suffices, done, whole, agg, enter, of_opd, lit, get, get_in, fld, stop, switches_on, no_more, and_then, first, exec, returns, alloc_all, pass_all, free_all, look_at, sets, sets_last, env, usize, yes, uint_vals, uint_Tells, owns, Ptr, block_ptr, plain, nothing, heard, Stays, walk_of, says, stay_dropped, Goes-dropped, ends_at, length-replicate}
-use mathlib.Core.Bool.{true, false}
 use types.Kit.{any_q}
 use types.Match.{live, vrt, in_variant}
 use types.ByLocal.{get_tag, lands_as}

@@ -12,24 +12,23 @@ abbrev plan_of : ℕ → ℕ → ℕ → Side → Plan
 plan_of size primary secondary side = record { cell_size = size; primary = primary; secondary = secondary; side = side }
 
 pub returns-then-is_some-clause-refused : goal.returns-then-is_some-clause-refused
-returns-then-is_some-clause-refused c = in_use c.args.self.now c.args.store.now.storage c.args.name.now c.args.subpool (plan_of c.args.cell_size c.args.primary c.args.secondary c.args.side) c.is_some.result (c.is_some.ensures ∙ ap is_some c.find.ensures) c.if-is_some.true
+returns-then-is_some-clause-refused c = in_use c.args.self.now c.args.store.now.storage c.args.name.now c.args.subpool c.args.plan.now c.is_some.result (c.is_some.ensures ∙ ap is_some c.find.ensures) c.if-is_some.true
 
 pub returns-then-len-ge-MOST_POOLS-clause-refused : goal.returns-then-len-ge-MOST_POOLS-clause-refused
 returns-then-len-ge-MOST_POOLS-clause-refused c =
-    let plan = plan_of c.args.cell_size c.args.primary c.args.secondary c.args.side in
-    let now = is_fresh c.args.self.now c.args.store.now.storage c.args.name.now c.args.subpool plan c.is_some.result (c.is_some.ensures ∙ ap is_some c.find.ensures) c.if-is_some.false in
-    too_many c.args.self.now c.args.store.now.storage c.args.name.now c.args.subpool plan now (let l = c.if-len-ge-MOST_POOLS.true in let e = c.len.ensures in omega arith)
+    let now = is_fresh c.args.self.now c.args.store.now.storage c.args.name.now c.args.subpool c.args.plan.now c.is_some.result (c.is_some.ensures ∙ ap is_some c.find.ensures) c.if-is_some.false in
+    too_many c.args.self.now c.args.store.now.storage c.args.name.now c.args.subpool c.args.plan.now now (let l = c.if-len-ge-MOST_POOLS.true in let e = c.len.ensures in omega arith)
 
 pub returns-in_default-clause-refused : goal.returns-in_default-clause-refused
-returns-in_default-clause-refused c =
-    let plan = plan_of c.args.cell_size c.args.primary c.args.secondary c.args.side in
+returns-in_default-clause-refused c = rw (← c.plan.view_is) (
+    let plan = plan_of c.plan.inside.cell_size c.plan.inside.primary c.plan.inside.secondary c.plan.inside.side in
     let now = is_fresh c.args.self.now c.args.store.now.storage c.args.name.now c.args.subpool plan c.is_some.result (c.is_some.ensures ∙ ap is_some c.find.ensures) c.if-is_some.false in
-    no_room c.args.self.now c.args.store.now.storage c.args.name.now c.args.subpool plan now (let l = c.if-len-ge-MOST_POOLS.false in let e = c.len.ensures in omega arith) c.in_default.ensures.obtained.0
+    no_room c.args.self.now c.args.store.now.storage c.args.name.now c.args.subpool plan now (let l = c.if-len-ge-MOST_POOLS.false in let e = c.len.ensures in omega arith) c.in_default.ensures.obtained.0)
 
 pub returns-clause-built : goal.returns-clause-built
-returns-clause-built c =
+returns-clause-built c = rw (← c.plan.view_is) (
     let g = c.in-Some.ensures.obtained in
-    let plan : Plan = record { cell_size = c.args.cell_size; primary = c.args.primary; secondary = c.args.secondary; side = c.args.side } in
+    let plan = plan_of c.plan.inside.cell_size c.plan.inside.primary c.plan.inside.secondary c.plan.inside.side in
     let fresh = no_root (get c.args.self.now c.args.name.now) c.find.result c.is_some.result c.find.ensures c.is_some.ensures c.if-is_some.false in
     let now = is_fresh c.args.self.now c.args.store.now.storage c.args.name.now c.args.subpool plan c.is_some.result (c.is_some.ensures ∙ ap is_some c.find.ensures) c.if-is_some.false in
     record {
@@ -39,27 +38,27 @@ returns-clause-built c =
       extends = built c.args.self.now c.args.store.now.storage c.obtain_part.new.store.storage c.lay_out.new.store.storage c.requires.parts g.1 c.args.name.now fresh c.args.subpool plan _ c.in-Some.place g.0 refl
           (lays_is c.obtain_part.new.store.storage c.lay_out.new.store.storage _ _ _ _ _ _ (c.get-2.ensures.value ∙ c.addr-first.ensures) c.get-3.ensures.value c.get-4.ensures.value c.lay_out.ensures)
           c.byte-fill.result (fill_is c.args.store.now.storage c.obtain_part.new.store.storage _ _ c.in-Some.place g.0 c.get.result c.byte-fill.result (c.get.ensures.value ∙ c.addr-first.ensures) c.byte-fill.ensures (let l = g.0.chosen.length.least in omega arith)) c.insert.new.self
-          (λ n. c.insert.ensures n ∙ (λ k. cond (same_name n c.args.name.now) (Some (record { subpool = c.args.subpool; cell_size = c.args.cell_size; primary = c.args.primary; secondary = c.args.secondary; side = c.args.side; fill = c.byte-fill.result; count = 1; first = c.addr-first.ensures k; last = c.addr-first.ensures k; free = (c.from.ensures ∙ c.get-5.ensures.value) k; open_part = c.addr-first.ensures k })) (get c.args.self.now n)))
+          (λ n. c.insert.ensures n ∙ (λ k. cond (same_name n c.args.name.now) (Some (record { subpool = c.args.subpool; cell_size = plan.cell_size; primary = plan.primary; secondary = plan.secondary; side = plan.side; fill = c.byte-fill.result; count = 1; first = c.addr-first.ensures k; last = c.addr-first.ensures k; free = (c.from.ensures ∙ c.get-5.ensures.value) k; open_part = c.addr-first.ensures k })) (get c.args.self.now n)))
           (let v = c.get-4.ensures.value in let l = c.get-4.ensures.low in omega arith) (let v = c.get-4.ensures.value in let l = c.get-4.ensures.high in omega arith)
           (let v = c.get-3.ensures.value in let l = c.get-3.ensures.low in omega arith) (let v = c.get-3.ensures.value in let l = c.get-3.ensures.high in omega arith);
-    }
+    })
 
 pub returns-clause-agree : goal.returns-clause-agree
 returns-clause-agree c =
     let g = c.in-Some.ensures.obtained in
-    let plan : Plan = record { cell_size = c.args.cell_size; primary = c.args.primary; secondary = c.args.secondary; side = c.args.side } in
+    let plan = plan_of c.plan.inside.cell_size c.plan.inside.primary c.plan.inside.secondary c.plan.inside.side in
     let fresh = no_root (get c.args.self.now c.args.name.now) c.find.result c.is_some.result c.find.ensures c.is_some.ensures c.if-is_some.false in
     record {
       parts = built_agrees c.args.self.now c.args.store.now.storage c.obtain_part.new.store.storage c.lay_out.new.store.storage c.requires.parts g.1 c.args.name.now fresh c.args.subpool plan _ c.in-Some.place g.0 refl
           (lays_is c.obtain_part.new.store.storage c.lay_out.new.store.storage _ _ _ _ _ _ (c.get-2.ensures.value ∙ c.addr-first.ensures) c.get-3.ensures.value c.get-4.ensures.value c.lay_out.ensures)
           c.byte-fill.result (fill_is c.args.store.now.storage c.obtain_part.new.store.storage _ _ c.in-Some.place g.0 c.get.result c.byte-fill.result (c.get.ensures.value ∙ c.addr-first.ensures) c.byte-fill.ensures (let l = g.0.chosen.length.least in omega arith)) c.insert.new.self
-          (λ n. c.insert.ensures n ∙ (λ k. cond (same_name n c.args.name.now) (Some (record { subpool = c.args.subpool; cell_size = c.args.cell_size; primary = c.args.primary; secondary = c.args.secondary; side = c.args.side; fill = c.byte-fill.result; count = 1; first = c.addr-first.ensures k; last = c.addr-first.ensures k; free = (c.from.ensures ∙ c.get-5.ensures.value) k; open_part = c.addr-first.ensures k })) (get c.args.self.now n)))
+          (λ n. c.insert.ensures n ∙ (λ k. cond (same_name n c.args.name.now) (Some (record { subpool = c.args.subpool; cell_size = plan.cell_size; primary = plan.primary; secondary = plan.secondary; side = plan.side; fill = c.byte-fill.result; count = 1; first = c.addr-first.ensures k; last = c.addr-first.ensures k; free = (c.from.ensures ∙ c.get-5.ensures.value) k; open_part = c.addr-first.ensures k })) (get c.args.self.now n)))
           (let v = c.get-4.ensures.value in let l = c.get-4.ensures.low in omega arith) (let v = c.get-4.ensures.value in let l = c.get-4.ensures.high in omega arith)
           (let v = c.get-3.ensures.value in let l = c.get-3.ensures.low in omega arith) (let v = c.get-3.ensures.value in let l = c.get-3.ensures.high in omega arith);
       counted = built_counted c.args.self.now c.args.store.now.storage c.obtain_part.new.store.storage c.lay_out.new.store.storage c.requires.parts g.1 c.args.name.now fresh c.args.subpool plan _ c.in-Some.place g.0 refl
           (lays_is c.obtain_part.new.store.storage c.lay_out.new.store.storage _ _ _ _ _ _ (c.get-2.ensures.value ∙ c.addr-first.ensures) c.get-3.ensures.value c.get-4.ensures.value c.lay_out.ensures)
           c.byte-fill.result (fill_is c.args.store.now.storage c.obtain_part.new.store.storage _ _ c.in-Some.place g.0 c.get.result c.byte-fill.result (c.get.ensures.value ∙ c.addr-first.ensures) c.byte-fill.ensures (let l = g.0.chosen.length.least in omega arith)) c.insert.new.self
-          (λ n. c.insert.ensures n ∙ (λ k. cond (same_name n c.args.name.now) (Some (record { subpool = c.args.subpool; cell_size = c.args.cell_size; primary = c.args.primary; secondary = c.args.secondary; side = c.args.side; fill = c.byte-fill.result; count = 1; first = c.addr-first.ensures k; last = c.addr-first.ensures k; free = (c.from.ensures ∙ c.get-5.ensures.value) k; open_part = c.addr-first.ensures k })) (get c.args.self.now n)))
+          (λ n. c.insert.ensures n ∙ (λ k. cond (same_name n c.args.name.now) (Some (record { subpool = c.args.subpool; cell_size = plan.cell_size; primary = plan.primary; secondary = plan.secondary; side = plan.side; fill = c.byte-fill.result; count = 1; first = c.addr-first.ensures k; last = c.addr-first.ensures k; free = (c.from.ensures ∙ c.get-5.ensures.value) k; open_part = c.addr-first.ensures k })) (get c.args.self.now n)))
           (let v = c.get-4.ensures.value in let l = c.get-4.ensures.low in omega arith) (let v = c.get-4.ensures.value in let l = c.get-4.ensures.high in omega arith)
           (let v = c.get-3.ensures.value in let l = c.get-3.ensures.low in omega arith) (let v = c.get-3.ensures.value in let l = c.get-3.ensures.high in omega arith) c.requires.counted;
     }

@@ -7,7 +7,8 @@ use Rattle.mvs_model.specs.View.{state_of}
 use Rattle.mvs_model.specs.Steps.{GetStep}
 use Rattle.cell_pool.specs.Layout.{byte_of, count_at, head_length}
 use Rattle.cell_pool.specs.Marks.{Marks}
-use Rattle.cell_pool.specs.Roots.{Root, pools_of}
+use Rattle.mvs_model.specs.Pools.{Part}
+use Rattle.cell_pool.specs.Roots.{Root, part_addr, pools_of}
 use Rattle.cell_pool.specs.Walk.{IsFreeAt, Fills}
 use Rattle.cell_pool.proofs.Walking.{chain_of}
 use Rattle.cell_pool.proofs.Opening.{all_taken}
@@ -28,7 +29,7 @@ returns-then-has_free-clause-answer c o t =
     let s = c.find_free-spot.result in
     subst (λ p. GetStep (state_of c.args.store.now.storage o (pools_of c.args.self.now c.args.store.now.storage)) t c.args.name.now c.args.conditional (get (pools_of c.args.self.now c.args.store.now.storage) c.args.name.now) (Cell c.take_cell.result) (state_of c.take_cell.new.store.storage o p))
     (sym c.take_cell.ensures.pools)
-    (got c.args.self.now c.args.store.now.storage c.requires.parts c.args.name.now c.in-Some.root (sym c.in-Some.ensures) s.part s.cell s.taken c.take_cell.new.store.storage c.take_cell.result c.find_free-spot.ensures c.take_cell.ensures.taken c.take_cell.ensures.place c.args.conditional o t)
+    (got c.args.self.now c.args.store.now.storage c.requires.parts c.args.name.now c.in-Some.root (sym c.in-Some.ensures) s.part s.cell s.taken c.take_cell.new.store.storage c.take_cell.result c.find_free-spot.ensures.free c.take_cell.ensures.taken c.take_cell.ensures.place c.args.conditional o t)
 
 pub returns-then-conditional-clause-answer : goal.returns-then-conditional-clause-answer
 returns-then-conditional-clause-answer c =
@@ -52,6 +53,15 @@ take_cell-requires-2-clause-free c =
     let e = c.in-Some-extend.ensures.extended in
     let at : c.last.result ≡ e.0 = c.last.ensures.last ∙ ap (λ (r : Root). r.last) e.1 in
     subst (λ b. IsFreeAt c.extend.new.store.storage c.in-Some-extend.extended b 0 0) (sym at) (subst (λ (r : Root). IsFreeAt c.extend.new.store.storage r e.0 0 0) (sym e.1) e.2.free)
+
+pub take_cell-requires-2-clause-count : goal.take_cell-requires-2-clause-count
+take_cell-requires-2-clause-count c =
+    let e = c.in-Some-extend.ensures.extended in
+    let bytes = byte_of c.extend.new.store.storage in
+    let at : c.last.result ≡ e.0 = c.last.ensures.last ∙ ap (λ (r : Root). r.last) e.1 in
+    let second : c.get.result ≡ c.in-Some.root.secondary = c.get.ensures.value ∙ ap (λ (r : Root). r.secondary) (c.extended.view_is ∙ e.1) in
+    let there : count_at bytes e.0 ≡ c.in-Some.root.secondary = ap (count_at bytes) (e.2.free.addr ∙ ap (part_addr bytes c.in-Some.root.first) e.2.is_last) ∙ ap (λ (p : Part). p.count) e.2.part in
+    second ∙ sym there ∙ ap (count_at bytes) (sym at)
 
 pub returns-clause-answer : goal.returns-clause-answer
 returns-clause-answer c o t =

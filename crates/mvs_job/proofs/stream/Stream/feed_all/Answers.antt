@@ -1,21 +1,20 @@
 use Rattle.std.proofs.Common.{◌≡◌, ◌∙◌, ◌-◌, arith, take, drop, length, length-drop, ap}
 use Rattle.std.proofs.lemmas.List.{take_rest, take_all}
 use Rattle.std.proofs.lemmas.Result.{err_from_is_err_and}
-use Rattle.mvs_job.specs.Serving.{stage_of}
 use Rattle.mvs_job.proofs.Feeding.{some_on, some_fault, some_stopped}
 use Rattle.mvs_job.proofs.stream.Stream.feed_all.Goals as goal
 
 pub returns-in_err-taken-clause-bytes : goal.returns-in_err-taken-clause-bytes
 returns-in_err-taken-clause-bytes g c = λ start told st.
     let p = err_from_is_err_and c.from_residual.result c.from_residual.ensures.1 in
-    rw (p.1, p.2) (some_stopped _ _ c.args.bytes.now _ c.loop-at.at _ c.feed_some.new.self.number _ (stage_of c.feed_some.new.self.stage) _ c.feed_some.new.self.line (take_rest c.args.bytes.now c.loop-at.at) start told (c.loop-at.invariant.stands start told st) c.in_err-taken.field-0.0 c.in_err-taken.ensures.bytes)
+    rw (p.1, p.2) (some_stopped _ _ c.args.bytes.now _ c.loop-at.at _ c.feed_some.new.self.walk _ c.feed_some.new.self.line (take_rest c.args.bytes.now c.loop-at.at) start told (c.loop-at.invariant.stands start told st) c.in_err-taken.field-0.0 c.in_err-taken.ensures.bytes)
 
 pub loop-at-preserved : goal.loop-at-preserved
 loop-at-preserved g c =
     let taken = rw (c.in-Some.is) at c.in_ok-taken.ensures.taken in
     let rest : length (take (length c.args.bytes.now - c.loop-at.at) (drop c.loop-at.at c.args.bytes.now)) ≡ length c.args.bytes.now - c.loop-at.at = ap length (take_rest c.args.bytes.now c.loop-at.at) ∙ length-drop c.loop-at.at c.args.bytes.now in
     record {
-      stands = λ start told st. some_on _ _ c.args.bytes.now _ c.loop-at.at _ _ _ _ _ _ (take_rest c.args.bytes.now c.loop-at.at) start told (c.loop-at.invariant.stands start told st) c.in-Some.taken (rw (c.in-Some.is) at c.in_ok-taken.ensures.bytes);
+      stands = λ start told st. some_on _ _ c.args.bytes.now _ c.loop-at.at _ _ _ _ (take_rest c.args.bytes.now c.loop-at.at) start told (c.loop-at.invariant.stands start told st) c.in-Some.taken (rw (c.in-Some.is) at c.in_ok-taken.ensures.bytes);
       within = omega (arith, taken.1, rest);
       room = c.in_ok-taken.ensures.room;
       number = omega (arith, taken.0, c.in_ok-taken.ensures.number);
@@ -24,7 +23,7 @@ loop-at-preserved g c =
 
 pub returns-in-None-clause-bytes : goal.returns-in-None-clause-bytes
 returns-in-None-clause-bytes g c = λ start told st.
-    some_fault _ _ c.args.bytes.now _ c.loop-at.at _ c.feed_some.new.self.number _ (stage_of c.feed_some.new.self.stage) _ c.feed_some.new.self.line (take_rest c.args.bytes.now c.loop-at.at) start told (c.loop-at.invariant.stands start told st) (rw (c.in-None.is) at c.in_ok-taken.ensures.bytes)
+    some_fault _ _ c.args.bytes.now _ c.loop-at.at _ c.feed_some.new.self.walk _ c.feed_some.new.self.line (take_rest c.args.bytes.now c.loop-at.at) start told (c.loop-at.invariant.stands start told st) (rw (c.in-None.is) at c.in_ok-taken.ensures.bytes)
 
 pub returns-clause-bytes : goal.returns-clause-bytes
 returns-clause-bytes g c = λ start told st.

@@ -1,15 +1,14 @@
 use Rattle.std.proofs.Common.{◌≡◌, ℕ, ◌<◌, ◌≤◌, ◌+◌, ◌-◌, ◌++◌, List, Option, length, take}
-use Rattle.mvs_job.specs.Serving.{stage_of}
 use Rattle.mvs_job.specs.Streams.{Stands}
 use Rattle.mvs_job.proofs.stream.Stream.feed_all.Given as goal
 
 abbrev pub invariant-loop-at : goal.invariant-loop-at
 invariant-loop-at g l = record {
-  stands : (start : Option (List ℕ)) (told : List ℕ) → Stands start (g.W.Write.contents l.initial.writer.inner) told l.initial.self.number (stage_of l.initial.self.stage) l.initial.self.line
-      → Stands start (g.W.Write.contents l.writer.inner) (told ++ take l.at l.bytes) l.self.number (stage_of l.self.stage) l.self.line;
+  stands : (start : Option (List ℕ)) (told : List ℕ) → Stands start (g.W.Write.contents l.initial.writer.inner) told l.initial.self.walk l.initial.self.line
+      → Stands start (g.W.Write.contents l.writer.inner) (told ++ take l.at l.bytes) l.self.walk l.self.line;
   within : l.at ≤ length l.bytes;
   room : length l.self.line < 256;
-  number : l.self.number ≤ l.initial.self.number + l.at;
+  number : l.self.walk.number ≤ l.initial.self.walk.number + l.at;
   same : l.writer.failed ≡ l.initial.writer.failed;
 }
 

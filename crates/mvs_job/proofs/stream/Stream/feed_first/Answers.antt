@@ -1,12 +1,11 @@
-use Rattle.mvs_job.specs.Serving.{stage_of}
 use Rattle.mvs_job.proofs.Feeding.{fed_first_on, fed_first_fault, fed_first_stopped}
 use Rattle.mvs_job.proofs.stream.Stream.feed_first.Goals as goal
 
 pub returns-in-Ok-true-clause-bytes : goal.returns-in-Ok-true-clause-bytes
-returns-in-Ok-true-clause-bytes g c = fed_first_on _ _ c.args.bytes.now _ _ _ _ _ _ c.requires.some _ c.in-Ok-true.field-0-test c.in-Ok-true.ensures.bytes
+returns-in-Ok-true-clause-bytes g c = fed_first_on _ _ c.args.bytes.now _ _ _ _ c.requires.some _ c.in-Ok-true.field-0-test c.in-Ok-true.ensures.bytes
 
 pub returns-in-Ok-false-clause-bytes : goal.returns-in-Ok-false-clause-bytes
-returns-in-Ok-false-clause-bytes g c = fed_first_fault _ _ c.args.bytes.now _ _ _ _ _ _ c.requires.some _ c.in-Ok-false.field-0-test c.in-Ok-false.ensures.bytes
+returns-in-Ok-false-clause-bytes g c = fed_first_fault _ _ c.args.bytes.now _ _ _ _ c.requires.some _ c.in-Ok-false.field-0-test c.in-Ok-false.ensures.bytes
 
 pub returns-in-Err-clause-bytes : goal.returns-in-Err-clause-bytes
-returns-in-Err-clause-bytes g c = fed_first_stopped _ _ c.args.bytes.now _ c.feed.new.self.number _ (stage_of c.feed.new.self.stage) _ c.feed.new.self.line c.requires.some c.in-Err.stop c.in-Err.ensures.bytes
+returns-in-Err-clause-bytes g c = fed_first_stopped _ _ c.args.bytes.now _ c.feed.new.self.walk _ c.feed.new.self.line c.requires.some c.in-Err.stop c.in-Err.ensures.bytes

@@ -1,25 +1,24 @@
 use Rattle.std.proofs.Common.{◌≡◌, arith, length, ap}
 use Rattle.std.proofs.lemmas.Grind.{common_steps}
-use Rattle.mvs_job.specs.Serving.{stage_of}
 use Rattle.mvs_job.proofs.Feeding.{last_none, last_line, last_fault, last_stopped}
 use Rattle.mvs_job.proofs.stream.Stream.finish.Goals as goal
 
 pub returns-then-is_empty-clause-bytes : goal.returns-then-is_empty-clause-bytes
 returns-then-is_empty-clause-bytes g c = λ start told st.
     let none : length c.args.self.now.line ≡ 0 = let e : length c.bytes.result.now ≡ length c.args.self.now.line = ap length c.bytes.ensures in grind (arith, common_steps) in
-    c.close_job.ensures.closed start told (last_none _ _ told _ _ _ st none)
+    c.close.ensures.closed start told (last_none _ _ told _ _ st none)
 
 pub returns-in-Ok-true-clause-bytes : goal.returns-in-Ok-true-clause-bytes
 returns-in-Ok-true-clause-bytes g c = λ start told st.
     let some : length c.args.self.now.line ≡ 0 → ⊥ = let e : length c.bytes.result.now ≡ length c.args.self.now.line = ap length c.bytes.ensures in grind (arith, common_steps) in
-    c.close_job-in-Ok-true.ensures.closed start told (last_line _ _ _ told _ _ _ _ _ st some _ c.in-Ok-true.field-0-test c.in-Ok-true.ensures.number c.in-Ok-true.ensures.ran)
+    c.close-in-Ok-true.ensures.closed start told (last_line _ _ _ told _ _ _ st some _ c.in-Ok-true.field-0-test c.in-Ok-true.ensures.number c.in-Ok-true.ensures.ran)
 
 pub returns-in-Ok-false-clause-bytes : goal.returns-in-Ok-false-clause-bytes
 returns-in-Ok-false-clause-bytes g c = λ start told st.
     let some : length c.args.self.now.line ≡ 0 → ⊥ = let e : length c.bytes.result.now ≡ length c.args.self.now.line = ap length c.bytes.ensures in grind (arith, common_steps) in
-    last_fault _ _ _ told _ 0 _ _ _ st some _ c.in-Ok-false.field-0-test c.in-Ok-false.ensures.ran
+    last_fault _ _ _ told _ c.end_line.new.self.walk _ st some _ c.in-Ok-false.field-0-test c.in-Ok-false.ensures.ran
 
 pub returns-in-Err-clause-bytes : goal.returns-in-Err-clause-bytes
 returns-in-Err-clause-bytes g c = λ start told st.
     let some : length c.args.self.now.line ≡ 0 → ⊥ = let e : length c.bytes.result.now ≡ length c.args.self.now.line = ap length c.bytes.ensures in grind (arith, common_steps) in
-    last_stopped _ _ _ told _ 0 _ (stage_of c.end_line.new.self.stage) _ st some c.in-Err.stop c.in-Err.ensures.ran
+    last_stopped _ _ _ told _ c.end_line.new.self.walk _ st some c.in-Err.stop c.in-Err.ensures.ran

@@ -1,5 +1,4 @@
-use Rattle.std.proofs.Common.{ap, sym, ◌∙◌, arith}
-use Rattle.std.specs.Prelude.{◌||◌, ◌==◌}
+use Rattle.std.proofs.Common.{ap, sym, ◌∙◌, arith, ◌||◌, ◌==◌}
 use Rattle.mvs_model.specs.Storage.{is_one_of}
 use Rattle.mvs_model.proofs.SubpoolSets.{members_is, members_rise, member_more, subpools_more, in_set}
 use Rattle.mvs_model.proofs.subpool_set.SubpoolSet.insert.Goals as goal

@@ -1,7 +1,7 @@
 use Rattle.std.proofs.Common.{arith}
 use Rattle.subpool_store.specs.Walk.{begins_run}
-use Rattle.subpool_store.proofs.Counts.{count_none}
 use Rattle.subpool_store.proofs.walk.Walk.new.Goals as goal
+use Rattle.mvs_model.proofs.Below.{count_none}
 
 pub returns-clause-walk : goal.returns-clause-walk
 returns-clause-walk c = record {

@@ -1,0 +1,63 @@
+//! How an emulator uses the library: each supervisor call of its program is a line, and the answer comes back as a value.
+#![tactic(auto)]
+
+use mvs_job::{LineTold, Session};
+use mvs_model::answer::Answer;
+use mvs_model::code::Code;
+use mvs_model::want::Placement;
+use std::io;
+
+/// What the emulated program asks for.
+const CALLS: [&str; 6] = [
+    "JOB REGION BELOW=1",
+    "JOB GETMAIN RC,LV=16,A=X",
+    "JOB PUT X,X'C1C2'",
+    "JOB SHOW X,2",
+    "JOB WHERE X",
+    "JOB GETMAIN R,LV=4096,A=Y",
+];
+
+// What an answer does to the emulated program. The bytes of SHOW, the tasks that an abend ended and the lines of the reports
+// are lent by the job.
+fn take_answer(rt: &HostRuntime, session: &Session, answer: &Answer) -> io::Result<()> {
+    match answer {
+        Answer::At(addr) => println!(rt; "register 1 is {:08X}", addr.get()),
+        Answer::Data(place) => match session.walk().job() {
+            Some(job) => println!(rt; "the bytes are {:?}", job.bytes(*place)),
+            None => Ok(()),
+        },
+        Answer::Abended(Code::System(code)) => {
+            println!(rt;
+                "abend S{code:03X}, and {} tasks more",
+                session.walk().fallen().len()
+            )
+        }
+        Answer::Rc0 => println!(rt; "register 15 is 0"),
+        Answer::Rc4 => println!(rt; "register 15 is 4"),
+        other => println!(rt; "{other:?}"),
+    }
+}
+
+// What a line told.
+fn take(rt: &HostRuntime, session: &Session, told: &LineTold) -> io::Result<()> {
+    match told {
+        LineTold::Nothing => Ok(()),
+        LineTold::Began { .. } => println!(rt; "a step begins"),
+        LineTold::Answered { answer, .. } => take_answer(rt, session, answer),
+        LineTold::Faulted(fault) => println!(rt; "the call is no statement: {fault:?}"),
+    }
+}
+
+fn main(rt: HostRuntime) -> io::Result<()> {
+    let mut session = Session::new(rt.alloc(), Placement::Low);
+    for call in CALLS {
+        if !session.takes_line() {
+            break;
+        }
+        match session.line(call.as_bytes()) {
+            Ok(told) => take(&rt, &session, &told)?,
+            Err(_) => println!(rt; "out of memory")?,
+        }
+    }
+    Ok(())
+}

@@ -1,0 +1,90 @@
+-- What a text starts with, and the operands of the statements that are read plainly.
+use Rattle.std.specs.Prelude.{◌≡◌, ◌≤◌, ℕ, nat_le, nat_lt, ◌==◌, ◌&&◌, Bool, true, false, List, [], ◌∷◌, ◌++◌, length, Option, Some, None, codes, if◌then◌else◌}
+use Rattle.std.specs.List.{list_all}
+use Rattle.mvs_model.specs.declared.code.Form.{Form}
+use Rattle.mvs_model.specs.declared.code.Form.TheVariants as form
+use Rattle.mvs_model.specs.declared.line.Line.{Line}
+use Rattle.mvs_model.specs.declared.line.Location.TheVariants.{Named}
+use Rattle.mvs_model.specs.declared.name.Name.{Name}
+use Rattle.mvs_model.specs.declared.want.Loc.{Loc}
+use Rattle.mvs_model.specs.declared.want.Loc.TheVariants as loc
+use Rattle.mvs_model.specs.Name.{padded}
+use Rattle.mvs_model.specs.Grammar as grammar
+use Rattle.mvs_model.specs.Reading.{LineOf, is_name, location, number}
+use Rattle.mvs_model.specs.Spelling.{Fits, FitsAlone}
+
+-- A text that fits a kind stands in front, and behind it the rest.
+pub record IsFront (kind : grammar.Kind) (text value rest : List ℕ) : Type 0 where
+  pub whole : text ≡ value ++ rest
+  pub alone : FitsAlone kind value
+
+-- The text starts with a number from a least to a greatest one.
+pub record IsNumberFront (least most : ℕ) (text : List ℕ) (n : ℕ) (digits rest : List ℕ) : Type 0 where
+  pub front : IsFront (grammar.Number least most) text digits rest
+  pub value : n ≡ number digits
+  pub low : least ≤ n
+  pub high : n ≤ most
+
+-- The text starts with an address by a name, with an offset or without one.
+pub record IsAddressFront (text name : List ℕ) (offset : ℕ) (address rest : List ℕ) : Type 0 where
+  pub front : IsFront grammar.Address text address rest
+  pub named : is_name name ≡ true
+  pub location_is : Named (padded name) offset ≡ location address
+  pub near : offset ≤ 33554431
+
+-- what may stand behind operands: nothing, or a remark behind a blank
+abbrev pub is_remark : List ℕ → Bool
+is_remark [] = true
+is_remark (b ∷ bs) = (b == 32) && list_all (λ b. nat_le 32 b && nat_le b 126) bs
+
+-- the text starts with the number of a subpool, or has none there, which means 0
+abbrev pub IsSubpoolFront : List ℕ → ℕ → Option (List ℕ) → List ℕ → Type 0
+IsSubpoolFront text n None rest = (text ≡ rest) × (n ≡ 0)
+IsSubpoolFront text n (Some sp) rest = (text ≡ codes ",SP=" ++ (sp ++ rest)) × Fits (grammar.Number 0 255) sp × (n ≡ number sp)
+
+-- the operand that asks for a place in storage, and whether a form takes it; without one it is that of the task
+abbrev pub loc_text : Loc → List ℕ
+loc_text loc.Any = codes ",LOC=ANY"
+loc_text loc.Below = codes ",LOC=BELOW"
+loc_text loc.Res = []
+
+abbrev pub may_place : Form → Loc → Bool
+may_place f loc.Res = true
+may_place form.R l = false
+may_place f l = true
+
+-- the forms that both GETMAIN and FREEMAIN have for one area, and their words
+abbrev pub is_single : Form → Bool
+is_single form.R = true
+is_single form.Rc = true
+is_single form.Ru = true
+is_single _ = false
+
+abbrev pub form_word : Form → List ℕ
+form_word form.R = codes "R"
+form_word form.Rc = codes "RC"
+form_word form.Ru = codes "RU"
+form_word _ = []
+
+-- Operands start with such a form and a length, and with a key behind which this text stands.
+pub record IsSized (field : List ℕ) (f : Form) (n : ℕ) (digits rest : List ℕ) : Type 0 where
+  pub form_is : is_single f ≡ true
+  pub fits : Fits (grammar.Number 1 2147483647) digits
+  pub length_is : n ≡ number digits
+  pub low : 1 ≤ n
+  pub high : n ≤ 2147483647
+  pub whole : field ≡ form_word f ++ (codes ",LV=" ++ (digits ++ (codes ",A=" ++ rest)))
+
+-- Operands start with the name of a cell pool, and with a key behind which this text stands.
+pub record IsPooled (field name rest : List ℕ) : Type 0 where
+  pub fits : Fits grammar.Name name
+  pub whole : field ≡ codes "CPID=" ++ (name ++ (codes ",CELL=" ++ rest))
+
+-- The line of a task that goes on with a text says this, where it has at most 255 bytes.
+abbrev pub SaysBehind : List ℕ → Name → Line → Type 0
+SaysBehind behind task l =
+    (text : List ℕ) → is_name text ≡ true → task ≡ padded text → nat_lt 255 (length (text ++ behind)) ≡ false → LineOf false (text ++ behind) l
+
+-- CPOOL GET up to its operands, conditional or not
+abbrev pub get_text : Bool → List ℕ
+get_text conditional = if conditional then codes " CPOOL GET,C," else codes " CPOOL GET,"

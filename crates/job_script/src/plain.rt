@@ -1,0 +1,291 @@
+//! The statements that a script repeats most, read in one pass where they are written plainly: one blank between the words, and the operands in the
+//! order of the table. Every other line is read by the table. Both are proved against one definition, so that no line is read otherwise here than
+//! there.
+
+ghost use Rattle.std.specs.Prelude.{◌≡◌, ◌≢◌, ◌++◌, ◌∷◌, ℕ, List, Option, codes, true, false, IfSome};
+ghost use Rattle.mvs_model.specs.Reading.{LineOf};
+ghost use Rattle.job_script.specs.Fronts.{IsPooled, IsSized, IsSubpoolFront, SaysBehind, form_word, get_text, is_single, loc_text, may_place};
+
+use crate::LONGEST;
+use crate::addresses::name;
+use crate::in_front::{
+    address_in_front, behind, bytes_in_front, is_remark, name_in_front, number_in_front,
+};
+use crate::values::bytes;
+use mvs_model::bounded::{Exponent, Length, Offset, ShowLength};
+use mvs_model::code::Form;
+use mvs_model::line::{Line, Location, Statement, Written};
+use mvs_model::name::Name;
+use mvs_model::want::{Ask, Loc};
+
+// The number of the subpool that a text starts with, or 0, and the text behind it.
+fn subpool_in_front(text: &[u8]) -> Option<(u8, &[u8])>
+    ensures { IfSome result (λ r. (sp : Option (List ℕ)) × IsSubpoolFront text.now r.0 sp r.1.now) }
+{
+    let Some(digits) = behind(text, b",SP=") else {
+        return Some((0, text));
+    };
+    let (number, rest) = number_in_front(0, 255, digits)?;
+    Some((number as u8, rest))
+}
+
+// The place that a text starts with, where it is not that of the task, and the text behind it.
+fn loc_word_in_front(text: &[u8]) -> Option<(Loc, &[u8])>
+    ensures { IfSome result
+        (λ r. (codes ",LOC=" ++ text.now ≡ loc_text r.0 ++ r.1.now) × (r.0 ≢ Loc.Res)) }
+{
+    match text {
+        [b'A', b'N', b'Y', rest @ ..] => Some((Loc::Any, rest)),
+        [b'B', b'E', b'L', b'O', b'W', rest @ ..] => Some((Loc::Below, rest)),
+        _ => None,
+    }
+}
+
+// The place in storage that a text starts with, or that of the task, and the text behind it. (GETMAIN R has no such operand.)
+fn loc_in_front(form: Form, text: &[u8]) -> Option<(Loc, &[u8])>
+    ensures { IfSome result
+        (λ r. (text.now ≡ loc_text r.0 ++ r.1.now) × (may_place form r.0 ≡ true)) }
+{
+    let Some(word) = behind(text, b",LOC=") else {
+        return Some((Loc::Res, text));
+    };
+    match form {
+        Form::R => None,
+        _ => loc_word_in_front(word),
+    }
+}
+
+// The form of a request for one area or of its release that a field starts with, and the text behind its comma.
+fn form_in_front(field: &[u8]) -> Option<(Form, &[u8])>
+    ensures { IfSome result
+        (λ r. (is_single r.0 ≡ true) × (field.now ≡ form_word r.0 ++ 44 ∷ r.1.now)) }
+{
+    match field {
+        [b'R', b',', rest @ ..] => Some((Form::R, rest)),
+        [b'R', b'C', b',', rest @ ..] => Some((Form::Rc, rest)),
+        [b'R', b'U', b',', rest @ ..] => Some((Form::Ru, rest)),
+        _ => None,
+    }
+}
+
+// The form and the length that operands start with, and the text behind the key of what follows.
+#[inline(always)]
+fn sized_in_front(field: &[u8]) -> Option<(Form, u32, &[u8])>
+    ensures { IfSome result (λ r. (digits : List ℕ) × IsSized field.now r.0 r.1 digits r.2.now) }
+{
+    let (form, rest) = form_in_front(field)?;
+    let digits = behind(rest, b"LV=")?;
+    let (len, rest) = number_in_front(1, 0x7FFF_FFFF, digits)?;
+    let rest = behind(rest, b",A=")?;
+    Some((form, len, rest))
+}
+
+// The cell pool that operands start with, and the text behind the key of its cell.
+fn pool_in_front(field: &[u8]) -> Option<(&[u8], &[u8])>
+    ensures { IfSome result (λ r. IsPooled field.now r.0.now r.1.now) }
+{
+    let rest = behind(field, b"CPID=")?;
+    let (pool, rest) = name_in_front(rest)?;
+    let rest = behind(rest, b",CELL=")?;
+    Some((pool, rest))
+}
+
+// GETMAIN of one area.
+fn read_obtain(task: Name, field: &[u8], line: &mut Line) -> Option<()>
+    ensures { IfSome result (λ _. SaysBehind (codes " GETMAIN " ++ field.now) task line.new) }
+{
+    let (form, len, rest) = sized_in_front(field)?;
+    let (area, rest) = name_in_front(rest)?;
+    let (number, rest) = subpool_in_front(rest)?;
+    let (loc, rest) = loc_in_front(form, rest)?;
+    if !is_remark(rest) {
+        return None;
+    }
+    *line = Line::Statement(
+        task,
+        Statement::Request(Written::Obtain {
+            form,
+            number,
+            ask: Ask::fixed(Length::new(len), Exponent::new(3), loc),
+            variable: false,
+            area: name(area),
+        }),
+    );
+    Some(())
+}
+
+// FREEMAIN of one area.
+fn read_release(task: Name, field: &[u8], line: &mut Line) -> Option<()>
+    ensures { IfSome result (λ _. SaysBehind (codes " FREEMAIN " ++ field.now) task line.new) }
+{
+    let (form, len, rest) = sized_in_front(field)?;
+    let (area, offset, rest) = address_in_front(rest)?;
+    let (number, rest) = subpool_in_front(rest)?;
+    if !is_remark(rest) {
+        return None;
+    }
+    *line = Line::Statement(
+        task,
+        Statement::Request(Written::Release {
+            form,
+            number,
+            location: Location::Named(name(area), Offset::new(offset)),
+            len: Length::new(len),
+        }),
+    );
+    Some(())
+}
+
+// CPOOL GET.
+fn read_get(task: Name, conditional: bool, field: &[u8], line: &mut Line) -> Option<()>
+    ensures { IfSome result (λ _. SaysBehind (get_text conditional ++ field.now) task line.new) }
+{
+    let (pool, rest) = pool_in_front(field)?;
+    let (cell, rest) = name_in_front(rest)?;
+    if !is_remark(rest) {
+        return None;
+    }
+    *line = Line::Statement(
+        task,
+        Statement::Request(Written::Get {
+            pool: name(pool),
+            conditional,
+            cell: name(cell),
+        }),
+    );
+    Some(())
+}
+
+// CPOOL FREE.
+fn read_free(task: Name, field: &[u8], line: &mut Line) -> Option<()>
+    ensures { IfSome result (λ _. SaysBehind (codes " CPOOL FREE," ++ field.now) task line.new) }
+{
+    let (pool, rest) = pool_in_front(field)?;
+    let (cell, offset, rest) = address_in_front(rest)?;
+    if !is_remark(rest) {
+        return None;
+    }
+    *line = Line::Statement(
+        task,
+        Statement::Request(Written::Free {
+            pool: name(pool),
+            cell: Location::Named(name(cell), Offset::new(offset)),
+        }),
+    );
+    Some(())
+}
+
+// CPOOL GET and FREE.
+fn read_cell(task: Name, field: &[u8], line: &mut Line) -> Option<()>
+    ensures { IfSome result (λ _. SaysBehind (codes " CPOOL " ++ field.now) task line.new) }
+{
+    if let Some(rest) = behind(field, b"GET,C,") {
+        return read_get(task, true, rest, line);
+    }
+    if let Some(rest) = behind(field, b"GET,") {
+        return read_get(task, false, rest, line);
+    }
+    let rest = behind(field, b"FREE,")?;
+    read_free(task, rest, line)
+}
+
+// RETURN, with nothing behind it.
+fn read_return(task: Name, field: &[u8], line: &mut Line) -> Option<()>
+    ensures { IfSome result (λ _. SaysBehind (codes " RETURN" ++ field.now) task line.new) }
+{
+    if !field.is_empty() {
+        return None;
+    }
+    *line = Line::Statement(task, Statement::Request(Written::Return));
+    Some(())
+}
+
+// PUT, to an area that has a name.
+fn read_put(task: Name, field: &[u8], line: &mut Line) -> Option<()>
+    ensures { IfSome result (λ _. SaysBehind (codes " PUT " ++ field.now) task line.new) }
+{
+    let (area, offset, rest) = address_in_front(field)?;
+    let rest = behind(rest, b",")?;
+    let (quoted, rest) = bytes_in_front(rest)?;
+    if !is_remark(rest) {
+        return None;
+    }
+    *line = Line::Statement(
+        task,
+        Statement::Request(Written::Put {
+            to: Location::Named(name(area), Offset::new(offset)),
+            bytes: bytes(quoted),
+        }),
+    );
+    Some(())
+}
+
+// SHOW, of an area that has a name.
+fn read_show(task: Name, field: &[u8], line: &mut Line) -> Option<()>
+    ensures { IfSome result (λ _. SaysBehind (codes " SHOW " ++ field.now) task line.new) }
+{
+    let (area, offset, rest) = address_in_front(field)?;
+    let rest = behind(rest, b",")?;
+    let (len, rest) = number_in_front(1, 4_096, rest)?;
+    if !is_remark(rest) {
+        return None;
+    }
+    *line = Line::Statement(
+        task,
+        Statement::Request(Written::Show {
+            from: Location::Named(name(area), Offset::new(offset)),
+            len: ShowLength::new(len),
+        }),
+    );
+    Some(())
+}
+
+// WHERE.
+fn read_where(task: Name, field: &[u8], line: &mut Line) -> Option<()>
+    ensures { IfSome result (λ _. SaysBehind (codes " WHERE " ++ field.now) task line.new) }
+{
+    let (area, rest) = name_in_front(field)?;
+    if !is_remark(rest) {
+        return None;
+    }
+    *line = Line::Statement(task, Statement::Where(name(area)));
+    Some(())
+}
+
+// REPORT SP.
+fn read_report(task: Name, field: &[u8], line: &mut Line) -> Option<()>
+    ensures { IfSome result (λ _. SaysBehind (codes " REPORT SP" ++ field.now) task line.new) }
+{
+    if !is_remark(field) {
+        return None;
+    }
+    *line = Line::Statement(task, Statement::ReportSubpools);
+    Some(())
+}
+
+// What is said behind the name of a task; the first letters of an operation tell which it can be.
+fn read_behind(task: Name, text: &[u8], read: &mut Line) -> Option<()>
+    ensures { IfSome result (λ _. SaysBehind text.now task read.new) }
+{
+    match text {
+        [_, b'G', ..] => read_obtain(task, behind(text, b" GETMAIN ")?, read),
+        [_, b'F', ..] => read_release(task, behind(text, b" FREEMAIN ")?, read),
+        [_, b'C', ..] => read_cell(task, behind(text, b" CPOOL ")?, read),
+        [_, b'P', ..] => read_put(task, behind(text, b" PUT ")?, read),
+        [_, b'S', ..] => read_show(task, behind(text, b" SHOW ")?, read),
+        [_, b'W', ..] => read_where(task, behind(text, b" WHERE ")?, read),
+        [_, b'R', b'E', b'P', ..] => read_report(task, behind(text, b" REPORT SP")?, read),
+        _ => read_return(task, behind(text, b" RETURN")?, read),
+    }
+}
+
+/// What a line says that is written so, which is not the first statement of a script. It is None of every other line, which has to be read by the table.
+pub fn read_plain(line: &[u8], read: &mut Line) -> Option<()>
+    ensures { IfSome result (λ _. LineOf false line.now read.new) }
+{
+    if line.len() > LONGEST {
+        return None;
+    }
+    let (task, rest) = name_in_front(line)?;
+    read_behind(name(task), rest, read)
+}

@@ -1,0 +1,97 @@
+-- What a line tells, and how a job stands between two lines.
+use Rattle.std.specs.Prelude.{refl, ◌≡◌, ◌≤◌, ℕ, List, [], ◌∷◌, ◌++◌, Option, Some, None, Bool, true, false, Result, Ok, Err}
+use Rattle.std.specs.Coded.{Coded, code_by, coded×, coded_bool, coded_ℕ, coded_option, coded_list}
+use Rattle.std.specs.FinMap as map
+use Rattle.mvs_model.specs.declared.name.Name.{Name}
+use Rattle.mvs_model.specs.declared.line.Fault.TheVariants.{OutOfPlace}
+use Rattle.mvs_model.specs.declared.line.Statement.{Statement}
+use Rattle.mvs_model.specs.declared.line.Statement.TheVariants as says
+use Rattle.mvs_model.specs.declared.answer.Answer.{Answer as Short}
+use Rattle.mvs_model.specs.declared.answer.Answer.TheVariants as short
+use Rattle.mvs_model.specs.Answers.{Answer, NotRun, Region, Event, Told, StepEnded, Faulted}
+use Rattle.mvs_model.specs.Card.{CardValue}
+use Rattle.mvs_model.specs.Changes.{Granted}
+use Rattle.mvs_model.specs.Job.{JobValue}
+use Rattle.mvs_model.specs.Lent.{lent}
+use Rattle.mvs_model.specs.Lines.{card_of}
+use Rattle.mvs_model.specs.Name.{name_cmp, name_code}
+use Rattle.mvs_model.specs.Numbers.{most_shown}
+use Rattle.mvs_model.specs.Place.{PlaceValue, place_code}
+use Rattle.mvs_model.specs.Reading.{FaultOf}
+use Rattle.mvs_model.specs.Runs.{machine}
+use Rattle.mvs_model.specs.State.{State, state_code}
+use Rattle.mvs_model.specs.Walk.{ServesLine, is_first}
+use Rattle.mvs_job.specs.declared.walk.Stopped.{Stopped}
+use Rattle.mvs_job.specs.declared.walk.LineTold.{LineTold}
+use Rattle.mvs_job.specs.declared.walk.LineTold.TheVariants as told
+
+-- A job between two lines: its step, none before the first; the number of the next line; and the tasks that ended with the one
+-- that abended, where the last request that was made abended.
+pub record WalkValue : Type 0 where
+  pub step : Option JobValue
+  pub number : ℕ
+  pub fallen : List Name
+
+-- codes, for models' values
+abbrev pub job_code : Coded JobValue
+job_code = code_by (State × (map.FinMap name_cmp PlaceValue × (Bool × Bool))) (coded× state_code (coded× (map.code name_code place_code) (coded× coded_bool coded_bool))) (λ j. (j.state, (j.names, (j.abended, j.former)))) (λ p. record { state = p.0; names = p.1.0; abended = p.1.1.0; former = p.1.1.1 }) (λ _. refl)
+
+abbrev pub walk_code : Coded WalkValue
+walk_code = code_by (Option JobValue × (ℕ × List Name)) (coded× (coded_option job_code) (coded× coded_ℕ (coded_list name_code))) (λ w. (w.step, (w.number, w.fallen))) (λ p. record { step = p.0; number = p.1.0; fallen = p.1.1 }) (λ _. refl)
+
+-- a job before its first line
+abbrev pub new_walk : WalkValue
+new_walk = record { step = None; number = 1; fallen = [] }
+
+-- the card of a REGION statement of a task
+abbrev pub card_said : Name → Statement → Option CardValue
+card_said t (says.Region below above fill residence) = Some (card_of t below above fill residence)
+card_said t _ = None
+
+-- how the step ends that runs, if one does: whether a task of it has abended
+abbrev pub end_told : Option JobValue → Option Bool
+end_told None = None
+end_told (Some job) = Some job.abended
+
+-- the end of a step, if one ended
+abbrev pub ended : Option Bool → List Event
+ended None = []
+ended (Some abended) = StepEnded abended ∷ []
+
+-- the end of a job that has no more lines
+abbrev pub closing : ℕ → Option Bool → List Event
+closing number None = Faulted number OutOfPlace ∷ []
+closing number (Some abended) = StepEnded abended ∷ []
+
+-- the answer to a statement of a task, of which the job lends the long parts; it is told in a step
+abbrev pub lent_in : Option JobValue → List Name → Name → Short → Answer
+lent_in None fallen t a = NotRun
+lent_in (Some job) fallen t a = lent job.state fallen t a
+
+-- the events of a line of this number, behind which the job stands so
+abbrev pub events_told : ℕ → WalkValue → LineTold → List Event
+events_told number w told.Nothing = []
+events_told number w (told.Began end card) = ended end ++ Told number card.name (Region card) ∷ []
+events_told number w (told.Answered t a) = Told number t (lent_in w.step w.fallen t a) ∷ []
+events_told number w (told.Faulted fault) = Faulted number fault ∷ []
+
+-- The line tells this: it has a fault, and the step is as before; or it is served.
+abbrev pub IsTold : WalkValue → List ℕ → LineTold → WalkValue → Type 0
+IsTold old bytes (told.Faulted fault) new = FaultOf (is_first old.step) bytes fault × (new.step ≡ old.step)
+IsTold old bytes told new = ServesLine machine old.number old.step bytes (events_told old.number new told) new.step
+
+-- The bytes of which an answer speaks may be read, and are few.
+abbrev pub IsLentBy : State → Short → Type 0
+IsLentBy st (short.Data p) = Granted st p × (p.len ≤ most_shown)
+IsLentBy st _ = Unit {0}
+
+-- A step lends what an answer speaks of.
+abbrev pub IsLent : WalkValue → LineTold → Type 0
+IsLent w (told.Answered t a) = (job : JobValue) × (w.step ≡ Some job) × IsLentBy job.state a
+IsLent w _ = Unit {0}
+
+-- whether a job goes on behind a line
+abbrev pub goes_on : Result LineTold Stopped → Bool
+goes_on (Ok (told.Faulted fault)) = false
+goes_on (Ok told) = true
+goes_on (Err stopped) = false

@@ -1,0 +1,144 @@
+//! Prints what lines tell, and how a job ends.
+
+ghost use Rattle.std.specs.Prelude.{◌≡◌, ◌<◌, ◌+◌, ◌^◌, ◌∷◌, [], List, true, OnOk, IsErrOf};
+ghost use Rattle.mvs_model.specs.declared.name.Name.{Name as TaskName};
+ghost use Rattle.mvs_model.specs.Lent.{lent};
+ghost use Rattle.mvs_model.specs.Texts.{answer_text, printing};
+ghost use Rattle.job_script.specs.Writing.{Prints};
+ghost use Rattle.mvs_job.specs.Serving.{RunsLine};
+ghost use Rattle.mvs_job.specs.Telling.{IsLent, IsLentBy, closing, ended, events_told};
+
+use crate::job::Job;
+use crate::reports::{print_map, print_subpools};
+use crate::walk::{LineTold, Walk};
+use job_script::{print_abend, print_data, print_fault, print_region, print_said, print_step_end};
+use mvs_model::answer::Answer;
+use mvs_model::line::Fault;
+use mvs_model::name::Name;
+use mvs_model::place::Place;
+use mvs_model::watched::{Failed, Watched};
+use std::io::Write;
+
+/// Why a job stops before its end.
+#[derive(Clone, Copy, Debug, PartialEq, Eq)]
+pub enum Stop {
+    Write,
+    Memory,
+}
+
+// Prints the end of a step, if one ended.
+fn print_ended<W: Write>(writer: &mut Watched<W>, end: Option<bool>) -> Result<(), Failed>
+    ensures { Prints W.contents writer.old writer.new result (printing (ended end)) }
+{
+    match end {
+        Some(abended) => print_step_end(writer, abended),
+        None => Ok(()),
+    }
+}
+
+// Prints the bytes of a place.
+fn print_shown<W: Write>(
+    writer: &mut Watched<W>,
+    line_number: u32,
+    task: &Name,
+    job: &Job,
+    place: Place,
+) -> Result<(), Failed>
+    requires { IsLentBy job.now.state (Answer.Data place) }
+    ensures { (fallen : List TaskName)
+        → Prints W.contents writer.old writer.new result
+        (answer_text line_number task.now
+        (lent job.now.state fallen task.now (Answer.Data place))) }
+{
+    match job.bytes(place) {
+        Some(bytes) => print_data(writer, line_number, task, bytes),
+        None => unreachable!(),
+    }
+}
+
+// Prints the answer to a statement of a task, of which the job lends the long parts.
+fn print_answer<W: Write>(
+    writer: &mut Watched<W>,
+    line_number: u32,
+    task: &Name,
+    job: &Job,
+    fallen: &[Name],
+    answer: &Answer,
+) -> Result<(), Failed>
+    requires { IsLentBy job.now.state answer.now }
+    ensures { Prints W.contents writer.old writer.new result
+        (answer_text line_number task.now (lent job.now.state fallen.now task.now answer.now)) }
+{
+    match answer {
+        Answer::Data(place) => print_shown(writer, line_number, task, job, *place),
+        Answer::Abended(code) => print_abend(writer, line_number, task, *code, fallen),
+        Answer::Subpools => print_subpools(writer, line_number, task, job),
+        Answer::Map => print_map(writer, line_number, task, job),
+        _ => print_said(writer, line_number, task, answer),
+    }
+}
+
+/// Prints what a line told, of which the job lends the long parts.
+pub fn print_line<W: Write>(
+    writer: &mut Watched<W>,
+    line_number: u32,
+    walk: &Walk,
+    told: &LineTold,
+) -> Result<(), Failed>
+    requires { IsLent walk.now told.now }
+    ensures { Prints W.contents writer.old writer.new result
+        (printing (events_told line_number walk.now told.now)) }
+{
+    match told {
+        LineTold::Nothing => Ok(()),
+        LineTold::Began { ended: end, card } => {
+            print_ended(writer, *end)?;
+            print_region(writer, line_number, card)
+        }
+        LineTold::Answered { task, answer } => match walk.job() {
+            Some(job) => print_answer(writer, line_number, task, job, walk.fallen(), answer),
+            None => unreachable!(),
+        },
+        LineTold::Faulted(fault) => print_fault(writer, line_number, *fault),
+    }
+}
+
+/// Serves one line, and prints what it tells. Answers whether the job goes on.
+pub fn run_line<W: Write>(
+    walk: &mut Walk,
+    line: &[u8],
+    writer: &mut Watched<W>,
+) -> Result<bool, Stop>
+    requires { walk.old.number + 1 < 2 ^ 32 }
+    ensures ran { RunsLine (W.contents writer.old.inner) (W.contents writer.new.inner) walk.old
+        line.now walk.new result }
+    ensures number { walk.new.number ≡ walk.old.number + 1 }
+    ensures ok { OnOk result (writer.new.failed ≡ writer.old.failed) }
+    ensures write { IsErrOf result Stop.Write → writer.new.failed ≡ true }
+{
+    let line_number = walk.number();
+    match walk.line(line) {
+        Ok(told) => match print_line(writer, line_number, walk, &told) {
+            Ok(()) => Ok(!matches!(told, LineTold::Faulted(_))),
+            Err(_) => Err(Stop::Write),
+        },
+        Err(stopped) => match print_ended(writer, stopped.ended) {
+            Ok(()) => Err(Stop::Memory),
+            Err(_) => Err(Stop::Write),
+        },
+    }
+}
+
+/// Prints the end of a job that has no more lines.
+pub fn print_closing<W: Write>(
+    writer: &mut Watched<W>,
+    line_number: u32,
+    end: Option<bool>,
+) -> Result<(), Failed>
+    ensures { Prints W.contents writer.old writer.new result (printing (closing line_number end)) }
+{
+    match end {
+        Some(abended) => print_step_end(writer, abended),
+        None => print_fault(writer, line_number, Fault::OutOfPlace),
+    }
+}

@@ -1,0 +1,259 @@
+//! The walk over the lines of a script: each line is read and served, and tells what it is answered.
+
+ghost use Rattle.std.specs.Prelude.{◌≡◌, ◌<◌, ◌+◌, ◌^◌, ◌∷◌, [], Bool, Some, None, IfOk, IfSome, MatchOption, MatchResult};
+ghost use Rattle.mvs_model.specs.declared.line.Line.TheVariants as line;
+ghost use Rattle.mvs_model.specs.Card.{IsCard};
+ghost use Rattle.mvs_model.specs.Job.{JobValue, job_at};
+ghost use Rattle.mvs_model.specs.Lent.{fallen_in, lent};
+ghost use Rattle.mvs_model.specs.Lines.{IsStatement};
+ghost use Rattle.mvs_model.specs.Memory.{StopsForMemory, TakesMemory};
+ghost use Rattle.mvs_model.specs.Runs.{Any, Does, machine};
+ghost use Rattle.mvs_model.specs.Walk.{Closes, has_abended, is_first};
+ghost use Rattle.mvs_job.specs.Telling.{IsLent, IsLentBy, IsTold, card_said, closing, end_told, ended, new_walk};
+
+use crate::job::Job;
+use job_script::read_line;
+use mvs_model::answer::Answer;
+use mvs_model::card::Card;
+use mvs_model::error::OutOfMemory;
+use mvs_model::line::{Fault, Line, Statement};
+use mvs_model::name::Name;
+use mvs_model::outcome::Outcome;
+use mvs_model::request::{Reply, Request};
+use mvs_model::want::Placement;
+use std::alloc::Global;
+use std::marker::Model;
+
+/// What a line told.
+#[derive(Clone, Copy, Debug, PartialEq, Eq)]
+pub enum LineTold {
+    /// It is blank or a comment.
+    Nothing,
+    /// A REGION statement: the step that ran, if one did, has ended, and a task of it had abended or not; and another one has
+    /// begun.
+    Began { ended: Option<bool>, card: Card },
+    /// A statement of a task, in a step.
+    Answered { task: Name, answer: Answer },
+    /// The line has a fault, which ends the job.
+    Faulted(Fault),
+}
+
+/// Memory was wanting for a line. Of a REGION statement the step that ran, if one did, has ended, and a task of it had abended
+/// or not.
+#[derive(Clone, Copy, Debug, PartialEq, Eq)]
+pub struct Stopped {
+    pub ended: Option<bool>,
+}
+
+/// How a job ends that has no more lines: its step ends, and a task of it had abended or not; where no step has begun, the
+/// script lacks its REGION statement.
+#[derive(Clone, Copy, Debug, PartialEq, Eq)]
+pub struct Closing {
+    pub ended: Option<bool>,
+    pub outcome: Outcome,
+}
+
+/// A job between two lines of its script.
+#[derive(Drop)]
+pub struct Walk {
+    alloc: Global,
+    placement: Placement,
+    /// The step that runs; None before the first.
+    job: Option<Job>,
+    /// The number of the next line.
+    number: u32,
+    /// What the last line said, and what was asked and answered last. They are long, so they stay in their places.
+    read: Line,
+    request: Request,
+    reply: Reply,
+}
+
+impl Model for Walk {
+    ghost use Rattle.mvs_model.specs.Lent.{fallen_in};
+    ghost use Rattle.mvs_job.specs.Telling.{WalkValue, walk_code};
+
+    ghost Value = { WalkValue };
+
+    ghost coded = { walk_code };
+
+    ghost view = { λ w. record { step = w.job; number = w.number; fallen = fallen_in w.reply } };
+}
+
+// The card of a REGION statement of a task; the other statements have none.
+fn card_of(task: &Name, statement: &Statement) -> Option<Card>
+    requires { (first : Bool) × IsStatement first task.now statement.now }
+    ensures card { result ≡ card_said task.now statement.now }
+    ensures in_range { IfSome result IsCard }
+{
+    match statement {
+        Statement::Region {
+            below,
+            above,
+            fill,
+            residence,
+        } => Some(Card::new(*task, *below, *above, *fill, *residence)),
+        _ => None,
+    }
+}
+
+// Whether a task of the step that runs has abended, if one runs.
+fn end_of(job: &Option<Job>) -> Option<bool>
+    ensures { result ≡ end_told job.now }
+{
+    job.as_ref().map(|job| job.abended())
+}
+
+// Whether a task has abended so far.
+fn has_abended(job: &Option<Job>) -> bool
+    ensures { result ≡ has_abended machine job.now }
+{
+    match job {
+        Some(job) => job.any_abended(),
+        None => false,
+    }
+}
+
+// Ends the step that runs, if one does, and begins that of a card.
+fn begin(
+    job: &mut Option<Job>,
+    alloc: Global,
+    placement: Placement,
+    card: &Card,
+) -> Result<Option<bool>, Stopped>
+    requires { IsCard card.now }
+    ensures { MatchResult result
+        (λ ended. (ended ≡ end_told job.old)
+        × (job.new ≡ Some (job_at card.now (has_abended machine job.old))))
+        (λ stopped. stopped.ended ≡ end_told job.old) }
+{
+    let ended = end_of(job);
+    let former = has_abended(job);
+    *job = None;
+    match Job::new(alloc, card, placement, former) {
+        Ok(next) => {
+            *job = Some(next);
+            Ok(ended)
+        }
+        Err(_) => Err(Stopped { ended }),
+    }
+}
+
+// Serves a statement of the step that runs, which is not REGION.
+fn serve(
+    job: &mut Option<Job>,
+    task: &Name,
+    statement: &Statement,
+    request: &mut Request,
+    reply: &mut Reply,
+) -> Result<Answer, OutOfMemory>
+    requires in_range { IsStatement (is_first job.old) task.now statement.now }
+    requires of_step { card_said task.now statement.now ≡ None }
+    ensures served { MatchResult result
+        (λ answer. (step : JobValue) × (later : JobValue) × (job.old ≡ Some step)
+        × (job.new ≡ Some later)
+        × Does Any step task.now statement.now
+        (lent later.state (fallen_in reply.new) task.now answer) later
+        × IsLentBy later.state answer)
+        (λ _. TakesMemory job.old (line.Statement task.now statement.now) []) }
+{
+    match job {
+        Some(job) => job.serve(task, statement, request, reply),
+        None => unreachable!(),
+    }
+}
+
+impl Walk {
+    /// A job before its first line.
+    pub fn new(alloc: Global, placement: Placement) -> Walk
+        ensures { result ≡ new_walk }
+    {
+        Walk {
+            alloc,
+            placement,
+            job: None,
+            number: 1,
+            read: Line::Nothing,
+            request: Request::Return,
+            reply: Reply::NotRun,
+        }
+    }
+
+    /// The number of the next line.
+    pub fn number(&self) -> u32
+        ensures { result ≡ self.now.number }
+    {
+        self.number
+    }
+
+    /// The step that runs; None before the first.
+    pub fn job(&self) -> Option<&Job>
+        ensures { MatchOption result (self.now.step ≡ None) (λ job. self.now.step ≡ Some job.now) }
+    {
+        self.job.as_ref()
+    }
+
+    /// The tasks that ended with the one that abended, where the last request that was made abended.
+    pub fn fallen(&self) -> &[Name]
+        ensures { result.now ≡ self.now.fallen }
+    {
+        match &self.reply {
+            Reply::Abended(_, fallen) => fallen.names(),
+            _ => &[],
+        }
+    }
+
+    /// Serves one line, which is given without its end.
+    pub fn line(&mut self, line: &[u8]) -> Result<LineTold, Stopped>
+        requires { self.old.number + 1 < 2 ^ 32 }
+        ensures told { MatchResult result (λ told. IsTold self.old line.now told self.new)
+            (λ stopped. StopsForMemory self.old.number self.old.step (line.now ∷ [])
+            (ended stopped.ended)) }
+        ensures lent { IfOk result (IsLent self.new) }
+        ensures number { self.new.number ≡ self.old.number + 1 }
+    {
+        self.number += 1;
+        match read_line(line, self.job.is_none(), &mut self.read) {
+            Ok(()) => {}
+            Err(fault) => return Ok(LineTold::Faulted(fault)),
+        }
+        let Line::Statement(task, statement) = &self.read else {
+            return Ok(LineTold::Nothing);
+        };
+        if let Some(card) = card_of(task, statement) {
+            return match begin(&mut self.job, self.alloc, self.placement, &card) {
+                Ok(ended) => Ok(LineTold::Began { ended, card }),
+                Err(stopped) => Err(stopped),
+            };
+        }
+        let served = serve(
+            &mut self.job,
+            task,
+            statement,
+            &mut self.request,
+            &mut self.reply,
+        );
+        let Ok(answer) = served else {
+            return Err(Stopped { ended: None });
+        };
+        Ok(LineTold::Answered {
+            task: *task,
+            answer,
+        })
+    }
+
+    /// How the job ends, if it has no more lines.
+    pub fn close(&self) -> Closing
+        ensures { Closes machine self.now.number self.now.step
+            (closing self.now.number result.ended) result.outcome }
+    {
+        let outcome = match &self.job {
+            None => Outcome::ScriptFault,
+            Some(job) if job.any_abended() => Outcome::SomeAbend,
+            Some(_) => Outcome::Clean,
+        };
+        Closing {
+            ended: end_of(&self.job),
+            outcome,
+        }
+    }
+}

@@ -1,0 +1,34 @@
+-- What a statement is answered, and what is told of a job, with nothing of the printing.
+use Rattle.std.specs.Prelude.{ℕ, Bool, List}
+use Rattle.mvs_model.specs.declared.name.Name.{Name}
+use Rattle.mvs_model.specs.declared.code.Code.{Code}
+use Rattle.mvs_model.specs.declared.line.Fault.{Fault}
+use Rattle.mvs_model.specs.declared.report.SubpoolLine.{SubpoolLine}
+use Rattle.mvs_model.specs.declared.report.MapRun.{MapRun}
+use Rattle.mvs_model.specs.Card.{CardValue}
+
+-- What a statement is answered.
+pub data Answer : Type 0 where
+  NotRun : Answer
+  NoName : Answer
+  At : ℕ → Answer
+  Rc0 : Answer
+  Granted : ℕ → Answer
+  Rc4 : Answer
+  Cell : Answer
+  NoCell : Answer
+  Attached : Answer
+  Ended : Answer
+  Done : Answer
+  Data : List ℕ → Answer
+  Abended : Code → List Name → Answer
+  Subpools : List SubpoolLine → Answer
+  Map : List MapRun → Answer
+  Region : CardValue → Answer
+
+-- What is told of a job: a statement's answer, with the number of its line and its task; the end of a step, of which a task has
+-- abended or not; and the fault of a line, which ends the job.
+pub data Event : Type 0 where
+  Told : ℕ → Name → Answer → Event
+  StepEnded : Bool → Event
+  Faulted : ℕ → Fault → Event

@@ -1,5 +1,0 @@
-pub mod Access
-pub mod Answers
-pub mod Lists
-pub mod Machine
-pub mod Reports

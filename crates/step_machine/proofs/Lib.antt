@@ -1,0 +1,14 @@
+mod Accessing
+mod Building
+mod Bytes
+mod Cases
+mod Copying
+mod Ending
+mod Listing
+mod Obtaining
+mod Places
+mod Pooling
+mod Releasing
+mod Reporting
+mod Split
+mod Telling

@@ -1,0 +1,85 @@
+-- What is obtained from a store is obtained from the machine.
+use Rattle.std.proofs.Common.{◌≡◌, ℕ, inl, Bool, true, false, cond, Option, Some, None, Ok, Err, refl, sym, ap, subst, ◌∙◌}
+use Rattle.std.specs.Prelude.{MatchOption}
+use Rattle.mvs_model.specs.declared.name.Name.{Name}
+use Rattle.mvs_model.specs.declared.code.Form.{Form}
+use Rattle.mvs_model.specs.declared.want.Loc.{Loc}
+use Rattle.mvs_model.specs.declared.want.Side.{Side}
+use Rattle.mvs_model.specs.declared.want.Residence.{Residence}
+use Rattle.mvs_model.specs.declared.want.Residence.TheVariants.{Below}
+use Rattle.std.specs.Option.{option_map, unwrap_or}
+use Rattle.std.specs.FinMap.{FinMap, get}
+use Rattle.mvs_model.specs.declared.request.Reply.TheVariants.{Rc4}
+use Rattle.mvs_model.specs.Place.{PlaceValue}
+use Rattle.mvs_model.specs.Want.{AskValue, WantValue, side_of, want_of}
+use Rattle.mvs_model.specs.Storage.{Storage, holder, IsStorage, NoPlace, Grant}
+use Rattle.mvs_model.specs.Owners.{Owners, entry, keeper, IsSpare, SubpoolOf, Binds, Enters}
+use Rattle.mvs_model.specs.State.{State}
+use Rattle.mvs_model.specs.Name.{name_cmp}
+use Rattle.mvs_model.specs.Codes.{family, form_side, is_conditional, short, bad_subpool}
+use Rattle.mvs_model.specs.Changes.{GrantTo, ShortOf}
+use Rattle.mvs_model.specs.Subpool.{is_subpool_number}
+use Rattle.mvs_model.specs.Steps.{Fails, side_for, is_invalid, ObtainStep}
+use Rattle.mvs_model.proofs.Seen.{no_place_seen}
+use Rattle.cell_pool.specs.Agree.{Agree}
+use Rattle.cell_pool.specs.Roots.{Root, pools_of}
+use Rattle.mvs_model.specs.Answered.{Answered, obtain_reply}
+use Rattle.step_machine.specs.Machine.{machine_state}
+use Rattle.step_machine.proofs.Pooling.{granted, grant_agrees}
+use Rattle.step_machine.proofs.Cases.{not_valid, is_valid}
+use Rattle.mvs_model.proofs.Tests.{match_true, match_false}
+
+-- the subpool that the task has, or would have
+pub its_subpool : (o : Owners) (t : Name) (number s : ℕ) → entry o t number ≡ Some s → SubpoolOf o t number s
+its_subpool o t number s e = subst (λ v. MatchOption v (IsSpare o s) (λ r. s ≡ r)) (sym e) refl
+
+pub new_subpool : (o : Owners) (t : Name) (number s : ℕ) → entry o t number ≡ None → IsSpare o s → SubpoolOf o t number s
+new_subpool o t number s e spare = subst (λ v. MatchOption v (IsSpare o s) (λ r. s ≡ r)) (sym e) spare
+
+pub stays_entered : (o : Owners) (t : Name) (number s : ℕ) → entry o t number ≡ Some s → Enters o t number s o
+stays_entered o t number s e = subst (λ v. MatchOption v (Binds o t number s o) (λ _. o ≡ o)) (sym e) refl
+
+pub now_entered : (o : Owners) (t : Name) (number s : ℕ) (new : Owners) → entry o t number ≡ None → Binds o t number s new → Enters o t number s new
+now_entered o t number s new e binds = subst (λ v. MatchOption v (Binds o t number s new) (λ _. new ≡ o)) (sym e) binds
+
+-- an area of a subpool that the task has
+pub area_of : (roots : FinMap name_cmp Root) (st new : Storage) (o : Owners) (t : Name) (number s : ℕ) (want : WantValue) (r : Option PlaceValue) → Agree roots st → IsStorage new → entry o t number ≡ Some s
+    → MatchOption r (NoPlace st.regions (holder st) s want × (new ≡ st)) (λ p. Grant st s want p new)
+    → MatchOption r (ShortOf (machine_state roots st o) t number want × (machine_state roots new o ≡ machine_state roots st o)) (λ p. GrantTo (machine_state roots st o) t number want p (machine_state roots new o))
+area_of roots st new o t number s want None agree now e h = ((s, its_subpool o t number s e, no_place_seen st o (pools_of roots st) s want agree.parts.storage h.0), ap (λ x. machine_state roots x o) h.1)
+area_of roots st new o t number s want (Some p) agree now e h = granted roots st new o o t number s want p agree now (its_subpool o t number s e) (stays_entered o t number s e) h
+
+-- then the pools are as they were
+pub area_agrees : (roots : FinMap name_cmp Root) (st new : Storage) (s : ℕ) (want : WantValue) (r : Option PlaceValue) → Agree roots st → IsStorage new → MatchOption r (NoPlace st.regions (holder st) s want × (new ≡ st)) (λ p. Grant st s want p new) → Agree roots new
+area_agrees roots st new s want None agree now h = subst (Agree roots) (sym h.1) agree
+area_agrees roots st new s want (Some p) agree now h = (grant_agrees roots st new s want p agree now h).0
+
+-- shortage in a subpool that the task would have
+pub short_of_new : (roots : FinMap name_cmp Root) (st : Storage) (o : Owners) (t : Name) (number s : ℕ) (want : WantValue) → Agree roots st → entry o t number ≡ None → IsSpare o s → NoPlace st.regions (holder st) s want → ShortOf (machine_state roots st o) t number want
+short_of_new roots st o t number s want agree e spare none = (s, new_subpool o t number s e spare, no_place_seen st o (pools_of roots st) s want agree.parts.storage none)
+
+-- an area of a new subpool
+pub area_of_new : (roots : FinMap name_cmp Root) (st new : Storage) (o after : Owners) (t : Name) (number s : ℕ) (want : WantValue) (p : PlaceValue) → Agree roots st → IsStorage new → entry o t number ≡ None → IsSpare o s → Binds o t number s after → Grant st s want p new → GrantTo (machine_state roots st o) t number want p (machine_state roots new after)
+area_of_new roots st new o after t number s want p agree now e spare binds g = granted roots st new o after t number s want p agree now (new_subpool o t number s e spare) (now_entered o t number s after e binds) g
+
+-- an invalid number abends
+pub invalid_answers : (old : State) (t : Name) (form : Form) (number : ℕ) (want : WantValue) → (is_subpool_number number ≡ true → ⊥) → Answered obtain_reply (ObtainStep old t form number want) old t (Err (bad_subpool (family form) true)) old
+invalid_answers old t form number want h = (refl, λ reply ended a. match_true _ _ (is_invalid number) (not_valid number h) a)
+
+-- shortage is answered 4, or abends
+pub short_answers : (old : State) (t : Name) (form : Form) (number : ℕ) (want : WantValue) → is_subpool_number number ≡ true → ShortOf old (keeper old.owners t number) number want → Answered obtain_reply (ObtainStep old t form number want) old t (cond (is_conditional form) (Ok None) (Err (short (family form)))) old
+short_answers old t form number want l s = at (is_conditional form) refl where
+  at : (b : Bool) → is_conditional form ≡ b → Answered obtain_reply (ObtainStep old t form number want) old t (cond b (Ok None) (Err (short (family form)))) old
+  at true e = match_false _ _ (is_invalid number) (is_valid number l) (inl (s, subst (λ b. Fails b old t (short (family form)) Rc4 old) (sym e) (refl, refl)))
+  at false e = (refl, λ reply ended a. match_false _ _ (is_invalid number) (is_valid number l) (inl (s, subst (λ b. Fails b old t (short (family form)) reply ended) (sym e) a)))
+
+-- what is wanted for a task that was found by its name, by where it resides
+pub want_seen : (st : State) (t found : Name) (form : Form) (ask : AskValue) (r : Residence) (loc : Loc) (meant served : Side) (want : WantValue) → found ≡ t → option_map (λ task. task.residence) (get st.owners.tasks found) ≡ Some r
+    → loc ≡ ask.loc → meant ≡ side_of loc r → served ≡ form_side (family form) meant → want ≡ want_of ask served → want ≡ want_of ask (side_for st t form ask.loc)
+want_seen st t found form ask r loc meant served want named resides lies means serves wants =
+    let where_it_resides : option_map (λ task. task.residence) (get st.owners.tasks t) ≡ Some r = ap (λ n. option_map (λ task. task.residence) (get st.owners.tasks n)) (sym named) ∙ resides in
+    wants ∙ ap (want_of ask) (serves ∙ ap (form_side (family form)) (means ∙ ap (λ l. side_of l r) lies ∙ ap (λ v. side_of ask.loc (unwrap_or v Below)) (sym where_it_resides)))
+
+-- a subpool is entered for a task that was found by its name
+pub bound_keeper : (o : Owners) (t found : Name) (number s : ℕ) (new : Owners) → found ≡ t → Binds o (keeper o found number) number s new → Binds o (keeper o t number) number s new
+bound_keeper o t found number s new named binds = subst (λ n. Binds o (keeper o n number) number s new) named binds

@@ -1,0 +1,25 @@
+use Rattle.std.proofs.Common.{◌∙◌, sym, ap}
+use Rattle.std.specs.List.{list_all}
+use Rattle.mvs_model.specs.Owners.{subpool_meant}
+use Rattle.mvs_model.specs.State.{State}
+use Rattle.mvs_model.specs.Steps.{on_doubleword}
+use Rattle.step_machine.proofs.Ending.{found_name}
+use Rattle.step_machine.proofs.Releasing.{invalid_release, misplaced_release, release_answered}
+use Rattle.step_machine.proofs.machine.Machine.release_list.Goals as goal
+
+pub returns-in_default : goal.returns-in_default
+returns-in_default c = rw (c.bad_subpool.ensures) (invalid_release _ _ c.args.form c.args.number c.args.places.now c.in_default.ensures)
+
+pub returns-then-not-are_on_doublewords : goal.returns-then-not-are_on_doublewords
+returns-then-not-are_on_doublewords c =
+    rw (c.bad_address.ensures) (misplaced_release _ _ c.args.form c.args.number c.args.places.now c.in-Some.ensures.0
+    (sym (c.are_on_doublewords.ensures ∙ ap (list_all on_doubleword) c.as_slice-places.ensures.items) ∙ c.if-not-are_on_doublewords.true))
+
+pub returns : goal.returns
+returns c =
+    let old = c.args.self.now in
+    let t = c.args.name in
+    release_answered old t c.args.form c.args.number c.args.places.now c.subpool-subpool.result _ c.release_areas.result c.answered.result c.in-Some.ensures.0
+    (sym (c.are_on_doublewords.ensures ∙ ap (list_all on_doubleword) c.as_slice-places.ensures.items) ∙ c.if-not-are_on_doublewords.false)
+    (c.subpool-subpool.ensures ∙ ap (λ n. subpool_meant c.self.inside.tasks.owners n c.in-Some.number) (found_name c.self.inside.tasks c.task_of.result t c.task_of.ensures) ∙ ap (λ (st : State). subpool_meant st.owners t c.in-Some.number) c.self.view_is ∙ ap (subpool_meant old.owners t) c.in-Some.ensures.1)
+    (rw (← c.as_slice-places.ensures.items) c.release_areas.ensures) c.answered.ensures

@@ -1,0 +1,6 @@
+pub mod Access
+pub mod Lists
+pub mod Machine
+pub mod Reports
+pub mod Step
+pub mod Told

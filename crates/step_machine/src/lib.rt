@@ -1,0 +1,16 @@
+//! The step of a job: the machine that its tasks share, each of their requests, and what these are answered.
+#![tactic(auto)]
+
+mod access;
+mod cells;
+mod codes;
+mod machine;
+mod obtain;
+mod obtain_list;
+mod release;
+mod report;
+mod step;
+mod subtasking;
+mod tell;
+
+pub use step::Step;
