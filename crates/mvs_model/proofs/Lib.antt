@@ -61,7 +61,12 @@ pub mod Counting
 pub mod WithinKept
 pub mod TidySteps
 pub mod OneOwners
+pub mod OneWalk
 pub mod OneLabels
+pub mod OneSteps
+mod EitherWay
+mod Determined
+mod Taking
 pub mod TidyMoves
 mod InFull
 pub mod TidyBusy

@@ -1,10 +1,9 @@
 -- The label machine answers a script in one way.
-use Rattle.std.proofs.Common.{◌≡◌, ℕ, ◌+◌, inl, inr, Bool, true, false, List, [], ◌∷◌, ◌++◌, map, length, Option, Some, None, sym, ap, ◌∙◌, subst, not, ◌&&◌, MatchOption, ◌==◌, MatchBool, arith}
+use Rattle.std.proofs.Common.{◌≡◌, ℕ, Bool, true, false, List, [], ◌∷◌, map, length, Option, Some, None, sym, ap, ◌∙◌, subst, not, ◌&&◌, MatchOption, ◌==◌, MatchBool, arith}
 use Rattle.std.specs.List.{list_all}
 use Rattle.std.proofs.lemmas.Bool.Decides.{nat_tests}
 use Rattle.std.proofs.lemmas.Grind.{common_steps}
-use Rattle.mvs_model.proofs.Types.{Name, Residence, Form, Code, System, User, Line, Statement, Written, Outcome}
-use Rattle.mvs_model.specs.declared.line.Line.TheVariants as line
+use Rattle.mvs_model.proofs.Types.{Name, Residence, Form, Code, System, User, Statement, Written}
 use Rattle.mvs_model.specs.declared.line.Written.TheVariants as written
 use Rattle.mvs_model.specs.Gifts.{GiftsValue}
 use Rattle.mvs_model.specs.Place.{round8}
@@ -15,12 +14,11 @@ use Rattle.mvs_model.specs.Answers as tells
 use Rattle.mvs_model.specs.Answers.{Answer, Abended, Event, Told, Faulted}
 use Rattle.mvs_model.specs.Texts.{printing}
 use Rattle.mvs_model.specs.Lines.{lines_of}
-use Rattle.mvs_model.specs.Walk.{is_first, Serves, ServesLine, Faults, Walks, JobEnds}
-use Rattle.mvs_model.specs.Labels.{Labels, Spot, rounded, is_there, without, may_free, all_named, spot_of, spots_of, area_of, Leaves, Tells, Abends, Fails, Grants, GrantsEach, Obtains, Releases, Empties, Attaches, Returns, Asks, Says, Does, label_machine}
+use Rattle.mvs_model.specs.Walk.{ServesLine}
+use Rattle.mvs_model.specs.Labels.{Labels, first_labels, Spot, rounded, is_there, without, may_free, all_named, spot_of, spots_of, area_of, Leaves, Tells, Abends, Fails, Grants, GrantsEach, Obtains, Releases, Empties, Attaches, Returns, Asks, Says, Does, label_machine}
 use Rattle.mvs_model.specs.Tidy.{OneLabelRun, PlacesDoNotMatter, PlacesAreNotPrinted}
 use Rattle.mvs_model.proofs.TidySteps.{tidy_run}
-use Rattle.mvs_model.proofs.Walking.{IsOfStep, served_first, served_in}
-use Rattle.mvs_model.proofs.Reading.{one_reading}
+use Rattle.mvs_model.proofs.OneWalk as walk
 use Rattle.mvs_model.proofs.OneOwners.{one_subpool, one_enters, one_attach, one_fallen, one_ends}
 
 by_two : {P Q S U R : Type 0} (b : Bool) → MatchBool b P Q → MatchBool b S U → (P → S → R) → (Q → U → R) → R
@@ -111,41 +109,16 @@ module _ (old : Labels) (t : Name) (answer other : Answer) (a b : Labels) where
   does_one : (s : Statement) → Does old t s answer a → Does old t s other b → One
   does_one s x y = by_two (not (is_active old.owners t)) x y (λ p q. tells_one tells.NotRun old p q) (λ p q. says_one s p q)
 
-serves_one : (number : ℕ) (old : Option Labels) (l : Line) (events other : List Event) (a b : Option Labels) → Serves label_machine number old l events a → Serves label_machine number old l other b → (events ≡ other) × (a ≡ b)
-serves_one number old line.Nothing events other a b x y = (x.0 ∙ sym y.0, x.1 ∙ sym y.1)
-serves_one number None (line.Statement t s) events other a b x y =
-    served_first label_machine (λ s. Serves label_machine number None (line.Statement t s) other b) (λ _. (events ≡ other) × (a ≡ b)) number t s events a x y (λ below above fill residence y x. (x.0 ∙ sym y.0, x.1 ∙ sym y.1))
-serves_one number (Some m) (line.Statement t s) events other a b x y =
-    served_in label_machine (λ s. Serves label_machine number (Some m) (line.Statement t s) other b) (λ _. (events ≡ other) × (a ≡ b)) number m t s events a x y
-    (λ below above fill residence y x. (x.0 ∙ sym y.0, x.1 ∙ sym y.1))
-    (λ s of_step y x. served_in label_machine (λ s. IsOfStep s × Does m t s x.0 x.1) (λ _. (events ≡ other) × (a ≡ b)) number m t s other b y (of_step, x.2)
-    (λ below above fill residence i y. absurd i.0)
-    (λ s of_step i y. let d = does_one m t x.0 y.0 x.1 y.1 s i.1 y.2 in (x.3 ∙ ap (λ answer. Told number t answer ∷ []) d.0 ∙ sym y.3, x.4 ∙ ap Some d.1 ∙ sym y.4)))
+labels_alike : (number : ℕ) (old : Labels) (t : Name) (s : Statement) (answer other : Answer) (a b : Labels) → Does old t s answer a → Does old t s other b → (answer ≡ other) × (a ≡ b)
+labels_alike number old t s answer other a b x y = does_one old t answer other a b s x y
 
 -- a line says one thing or has one fault
 pub line_one : (number : ℕ) (old : Option Labels) (l : List ℕ) (events other : List Event) (a b : Option Labels) → ServesLine label_machine number old l events a → ServesLine label_machine number old l other b → (events ≡ other) × (a ≡ b)
-line_one number old l events other a b h1 h2 = grind (arith, nat_tests, serves_one, one_reading)
-
-faults_one : (number : ℕ) (first : Bool) (l : List ℕ) (events other : List Event) → Faults number first l events → Faults number first l other → events ≡ other
-faults_one number first l events other x y = x.2 ∙ ap (λ fault. Faulted number fault ∷ []) (one_reading.one_fault first l x.0 y.0 x.1 y.1) ∙ sym y.2
-
-no_fault : (number : ℕ) (old : Option Labels) (l : List ℕ) (events other : List Event) (b : Option Labels) → Faults number (is_first old) l events → ServesLine label_machine number old l other b → ⊥
-no_fault number old l events other b x y = one_reading.not_both (is_first old) l y.0 x.0 y.1 x.1
-
-walks_one : (o p : Outcome) (lines : List (List ℕ)) (number : ℕ) (old : Option Labels) (one other : List Event)
-    → Walks label_machine (JobEnds label_machine o) number old lines one → Walks label_machine (JobEnds label_machine p) number old lines other → (one ≡ other) × (o ≡ p)
-walks_one o p [] number None one other x y = (x.0 ∙ sym y.0, x.1 ∙ sym y.1)
-walks_one o p [] number (Some m) one other x y = (x.0 ∙ sym y.0, x.1 ∙ sym y.1)
-walks_one o p (l ∷ lines) number old one other (inl x) (inl y) = (faults_one number (is_first old) l one other x.0 y.0, x.1 ∙ sym y.1)
-walks_one o p (l ∷ lines) number old one other (inl x) (inr y) = absurd (no_fault number old l one y.1 y.0 x.0 y.3)
-walks_one o p (l ∷ lines) number old one other (inr x) (inl y) = absurd (no_fault number old l other x.1 x.0 y.0 x.3)
-walks_one o p (l ∷ lines) number old one other (inr x) (inr y) =
-    let s = line_one number old l x.1 y.1 x.0 y.0 x.3 y.3 in
-    let rest = walks_one o p lines (number + 1) y.0 x.2 y.2 (subst (λ m. Walks label_machine (JobEnds label_machine o) (number + 1) m lines x.2) s.1 x.5) y.5 in
-    (x.4 ∙ (λ i. s.0 i ++ rest.0 i) ∙ sym y.4, rest.1)
+line_one = walk.line_one first_labels (λ m. m.abended) (λ m. m.former) (λ number. Does) (λ number. Does) labels_alike
 
 pub one_label_run : OneLabelRun
-one_label_run script one other o p x y = walks_one o p (lines_of script) 1 None one other x y
+one_label_run script one other o p x y =
+    walk.walks_one first_labels (λ m. m.abended) (λ m. m.former) (λ number. Does) (λ number. Does) labels_alike o p (lines_of script) 1 None one other x y
 
 pub places_do_not_matter : PlacesDoNotMatter
 places_do_not_matter script one other o p tidy x y = one_label_run script one other o p (tidy_run script one o tidy x) (tidy_run script other p tidy y)

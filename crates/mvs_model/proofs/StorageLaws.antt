@@ -1,10 +1,12 @@
 -- Laws over grants and releases.
-use Rattle.std.proofs.Common.{◌≡◌, ℕ, ◌+◌, ◌*◌, ◌/◌, ◌<◌, ◌≤◌, Bool, true, false, cond, Option, Some, None, refl, sym, ap, ◌∙◌, arith, is_some}
+use Rattle.std.proofs.Common.{◌≡◌, ℕ, ◌+◌, ◌-◌, ◌*◌, ◌/◌, ◌^◌, ◌<◌, ◌≤◌, inl, inr, Bool, true, false, cond, Option, Some, None, refl, sym, ap, ◌∙◌, arith, is_some}
+use Rattle.std.specs.Prelude.{IfSome}
+use Rattle.std.proofs.Math.Pow.{shr_mono}
 use Rattle.std.proofs.lemmas.Bool.Decides.{nat_tests}
 use Rattle.std.specs.FinMap.{get}
-use Rattle.mvs_model.specs.Place.{PlaceValue}
+use Rattle.mvs_model.specs.Place.{PlaceValue, place_at}
 use Rattle.mvs_model.specs.Want.{WantValue}
-use Rattle.mvs_model.specs.Storage.{Covers, covers, has_address, MayTake, PageRule, Storage, holder, IsStorage, Grant, Release}
+use Rattle.mvs_model.specs.Storage.{Covers, covers, has_address, MayTake, Meets, Places, PageRule, Storage, Regions, holder, IsStorage, Grant, Release}
 use Rattle.mvs_model.proofs.Tables.{same_maps}
 use Rattle.mvs_model.proofs.Tests.{true_false, else_some}
 
@@ -17,6 +19,26 @@ covers_from p d c = let l : p.addr < 8 * d + 8 = c.0 in let m : 8 * d < p.addr +
 -- an address of the place lies in a doubleword that it covers
 pub has_covers : (p : PlaceValue) (a : ℕ) → has_address p a ≡ true → covers p (a / 8) ≡ true
 has_covers p a e = covers_from p (a / 8) (let h : (p.addr ≤ a) × (a < p.addr + p.len) = grind (arith, nat_tests) in (omega arith, omega arith))
+
+-- the front of a place meets what the place meets
+shorter_meets : (want : WantValue) (p : PlaceValue) (n : ℕ) → 1 ≤ n → n ≤ p.len → Meets want p → Meets want (place_at p.addr n)
+shorter_meets want p n some short m = record { on_doubleword = m.on_doubleword; start = m.start; within = within want.within m.within; side = m.side } where
+  within : (o : Option ℕ) → IfSome o (λ k. p.addr / 2 ^ k ≡ (p.addr + p.len - 1) / 2 ^ k) → IfSome o (λ k. p.addr / 2 ^ k ≡ (p.addr + n - 1) / 2 ^ k)
+  within None h = h
+  within (Some k) h =
+      let low : p.addr / 2 ^ k ≤ (p.addr + n - 1) / 2 ^ k = shr_mono k (omega arith) in
+      let high : (p.addr + n - 1) / 2 ^ k ≤ (p.addr + p.len - 1) / 2 ^ k = shr_mono k (omega arith) in
+      let e : p.addr / 2 ^ k ≡ (p.addr + p.len - 1) / 2 ^ k = h in omega arith
+
+-- and is open where the place is: there is a place of each shorter length
+pub shorter_place : (r : Regions) (h : ℕ → Option ℕ) (s : ℕ) (want : WantValue) (m n a : ℕ) → 1 ≤ m → m ≤ n → Places r h s want n a → Places r h s want m a
+shorter_place r h s want m n a some short p = (
+  record {
+    inside = elim p.0.inside [ inl b ↦ inl ((let l : 0x6000 ≤ a = b.0 in l), omega (arith, b.1)) | inr b ↦ inr ((let l : 0x1000000 ≤ a = b.0 in l), omega (arith, b.1)) ];
+    each = λ d c. p.0.each d ((let l : a < 8 * d + 8 = c.0 in l), (let l : 8 * d < a + m = c.1 in omega arith));
+  },
+  shorter_meets want (place_at a n) m some short p.1,
+)
 
 -- a place that is granted and released again leaves the storage as it was
 pub taken_back : (old mid new : Storage) (s : ℕ) (want : WantValue) (p : PlaceValue) → IsStorage old → Grant old s want p mid → Release mid s p new → new ≡ old

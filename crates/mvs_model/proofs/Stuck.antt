@@ -30,7 +30,7 @@ covers_low : (p : PlaceValue) (d : ℕ) → covers p d ≡ true → d < p.addr +
 covers_low p d e = grind (arith, nat_tests)
 
 -- a place that is chosen can be granted
-granted_some : (old : State) (t : Name) (number : ℕ) (want : WantValue) (s : ℕ) (p : PlaceValue) → SubpoolOf old.owners t number s → Chosen old.regions (holder old) s want p → (new : State) × GrantTo old t number want p new
+pub granted_some : (old : State) (t : Name) (number : ℕ) (want : WantValue) (s : ℕ) (p : PlaceValue) → SubpoolOf old.owners t number s → Chosen old.regions (holder old) s want p → (new : State) × GrantTo old t number want p new
 granted_some old t number want s p is c =
     let held = made_changes old.held (p.addr + p.len) (covers p) (plain s) (covers_low p) in
     let bytes = made_changes old.bytes (p.addr + p.len) (has_address p) old.regions.fill (λ a e. (has_is p a e).1) in

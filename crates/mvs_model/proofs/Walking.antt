@@ -21,7 +21,7 @@ module _ {J : Type 0} (m : Machine J) where
 
   -- and every other one so
   abbrev pub Steps : ℕ → J → Name → Statement → List Event → Option J → Type 0
-  Steps number step t s events new = (answer : Answer) × (later : J) × m.does step t s answer later × (events ≡ Told number t answer ∷ []) × (new ≡ Some later)
+  Steps number step t s events new = (answer : Answer) × (later : J) × m.does number step t s answer later × (events ≡ Told number t answer ∷ []) × (new ≡ Some later)
 
   pub served_first : (Q : Statement → Type 0) (R : Statement → Type 0) (number : ℕ) (t : Name) (s : Statement) (events : List Event) (new : Option J)
       → Serves m number None (line.Statement t s) events new → Q s

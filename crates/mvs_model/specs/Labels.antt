@@ -268,7 +268,7 @@ first_labels card former = record {
 }
 
 abbrev pub label_machine : Machine Labels
-label_machine = record { starts = first_labels; abended = λ m. m.abended; former = λ m. m.former; does = Does }
+label_machine = record { starts = first_labels; abended = λ m. m.abended; former = λ m. m.former; does = λ number. Does }
 
 -- The label machine tells these events of a script, and ends so.
 abbrev pub IsLabelRun : List ℕ → List Event → Outcome → Type 0

@@ -36,6 +36,7 @@ pub mod Kept
 pub mod WellFormed
 pub mod Going
 pub mod Laws
+pub mod Determined
 pub mod Sparing
 pub mod ReadingLaws
 pub mod Spelling

@@ -57,9 +57,13 @@ Says P old t says.ReportMap answer new = Tells old (Map (page_map old.state)) an
 abbrev pub Does : Condition → JobValue → Name → Statement → Answer → JobValue → Type 0
 Does P old t s answer new = MatchBool (not (is_active old.state.owners t)) (Tells old NotRun answer new) (Says P old t s answer new)
 
--- the machine of a job whose requests meet a condition
+-- the machine of a job whose requests meet a condition, which may be another one in each line
+abbrev pub machine_where : (ℕ → Condition) → Machine JobValue
+machine_where P = record { starts = job_at; abended = λ job. job.abended; former = λ job. job.former; does = λ number. Does (P number) }
+
+-- the same where it is one condition
 abbrev pub job_machine : Condition → Machine JobValue
-job_machine P = record { starts = job_at; abended = λ job. job.abended; former = λ job. job.former; does = Does P }
+job_machine P = machine_where (λ number. P)
 
 -- no condition
 abbrev pub Any : Condition

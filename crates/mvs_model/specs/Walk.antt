@@ -15,13 +15,13 @@ use Rattle.mvs_model.specs.Lines.{card_of}
 use Rattle.mvs_model.specs.Reading.{LineOf, FaultOf}
 
 -- A machine that serves the statements of a step: how a step starts by its card, behind steps of which a task has abended or
--- not; whether a task of the step has abended, and of a former one; and what a statement of a task may be answered, and how it
--- leaves the step.
+-- not; whether a task of the step has abended, and of a former one; and what a statement of a task, in the line of this number,
+-- may be answered, and how it leaves the step.
 pub record Machine (J : Type 0) : Type 1 where
   pub starts : CardValue → Bool → J
   pub abended : J → Bool
   pub former : J → Bool
-  pub does : J → Name → Statement → Answer → J → Type 0
+  pub does : ℕ → J → Name → Statement → Answer → J → Type 0
 
 -- whether no step has begun, so that the next statement is the first
 abbrev pub is_first : {J : Type 0} → Option J → Bool
@@ -47,7 +47,7 @@ Serves m number old (line.Statement t (says.Region below above fill residence)) 
     × (new ≡ Some (m.starts (card_of t below above fill residence) (has_abended m old)))
 Serves m number None (line.Statement t s) events new = ⊥
 Serves {J} m number (Some step) (line.Statement t s) events new =
-    (answer : Answer) × (later : J) × m.does step t s answer later × (events ≡ Told number t answer ∷ []) × (new ≡ Some later)
+    (answer : Answer) × (later : J) × m.does number step t s answer later × (events ≡ Told number t answer ∷ []) × (new ≡ Some later)
 
 -- the same of a line as it is written
 abbrev pub ServesLine : {J : Type 0} → Machine J → ℕ → Option J → List ℕ → List Event → Option J → Type 0

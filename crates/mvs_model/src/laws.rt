@@ -4,6 +4,7 @@ ghost use Rattle.mvs_model.specs.Laws.{PagesKept, NeverStuck, PartsApart, KeptWe
 ghost use Rattle.mvs_model.specs.Sparing.{BytesStay, GrantsSpare};
 ghost use Rattle.mvs_model.specs.Tidy.{OneLabelRun, PlacesAreNotPrinted, PlacesDoNotMatter, TidyRun, TidyStep, TidyText};
 ghost use Rattle.mvs_model.specs.TidyExamples.{BusyReturn, GivenEnds, MovesInFull, MovesOverlap};
+ghost use Rattle.mvs_model.specs.Determined.{OneStep, NothingPicked, ListEitherWay, HasPlaces, PlacesDetermine, ToldDecide, TakingObeys};
 ghost use Rattle.mvs_model.specs.ReadingLaws.{InRanges, OneReading, OnlyWords};
 ghost use Rattle.mvs_model.specs.Spelling.{AllowedIsRead, CutApart, EachIsWritten, InAnyOrder};
 ghost use Rattle.mvs_model.specs.Spellings.{EachIsSaid};
@@ -72,6 +73,41 @@ pub fn one_label_run()
 pub fn places_do_not_matter()
     ensures answers { PlacesDoNotMatter }
     ensures text { PlacesAreNotPrinted }
+{}
+
+/// The addresses that a step picks determine its reply and the state that it leaves.
+pub fn one_step()
+    ensures { OneStep }
+{}
+
+/// A request that may be refused is not granted, wherever its places might lie; a request for a list aside.
+pub fn nothing_picked()
+    ensures { NothingPicked }
+{}
+
+/// A request for a list may be granted and may be refused.
+pub fn list_either_way()
+    ensures { ListEitherWay }
+{}
+
+/// Each run is one that picks some addresses, and what picks addresses is a run.
+pub fn has_places()
+    ensures { HasPlaces }
+{}
+
+/// A run is determined by the addresses that its lines pick.
+pub fn places_determine()
+    ensures { PlacesDetermine }
+{}
+
+/// A run that is told the addresses of another, which refuses no list that could be granted, is answered the same.
+pub fn told_decide()
+    ensures { ToldDecide }
+{}
+
+/// A request that takes the addresses that it is told obeys.
+pub fn taking_obeys()
+    ensures { TakingObeys }
 {}
 
 /// A script in which a task returns with a subtask is tidy.

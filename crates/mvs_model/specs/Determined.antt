@@ -1,0 +1,143 @@
+-- The places that the requests of a run are granted, and what they leave open.
+use Rattle.std.specs.Prelude.{◌≡◌, ◌≢◌, ℕ, Bool, true, false, List, [], ◌∷◌, ◌++◌, map, Option, Some, None, ◌⊎◌, nat_le}
+use Rattle.std.specs.List.{list_all}
+use Rattle.std.specs.FinMap.{get}
+use Rattle.mvs_model.specs.declared.name.Name.{Name}
+use Rattle.mvs_model.specs.declared.code.Form.{Form}
+use Rattle.mvs_model.specs.declared.code.Form.TheVariants as form
+use Rattle.mvs_model.specs.declared.want.Side.TheVariants.{Below}
+use Rattle.mvs_model.specs.declared.want.Residence.TheVariants as residence
+use Rattle.mvs_model.specs.declared.outcome.Outcome.{Outcome}
+use Rattle.mvs_model.specs.declared.request.Request.{Request}
+use Rattle.mvs_model.specs.declared.request.Request.TheVariants as request
+use Rattle.mvs_model.specs.declared.request.Reply.{Reply}
+use Rattle.mvs_model.specs.declared.request.Reply.TheVariants.{Rc4, Obtained, Listed}
+use Rattle.mvs_model.specs.Place.{PlaceValue}
+use Rattle.mvs_model.specs.Want.{AskValue, WantValue, want_of, fixed_want}
+use Rattle.mvs_model.specs.Changes.{GrantTo, ShortOf}
+use Rattle.mvs_model.specs.Owners.{keeper}
+use Rattle.mvs_model.specs.Pools.{Pool}
+use Rattle.mvs_model.specs.State.{State}
+use Rattle.mvs_model.specs.Start.{start}
+use Rattle.mvs_model.specs.Steps.{Step, IsRequest, side_for}
+use Rattle.mvs_model.specs.Lines.{lines_of, card_of}
+use Rattle.mvs_model.specs.Resolving.{places_in}
+use Rattle.mvs_model.specs.Answers.{Event}
+use Rattle.mvs_model.specs.Walk.{Walks, JobEnds}
+use Rattle.mvs_model.specs.Runs.{Condition, machine_where, IsRun}
+
+-- the addresses of the places that a reply grants
+abbrev pub granted_at : Reply → List ℕ
+granted_at reply = map (λ p. p.addr) (places_in reply)
+
+-- the addresses of the parts of a pool, where it is there
+abbrev pub parts_at : Option Pool → List ℕ
+parts_at None = []
+parts_at (Some pool) = map (λ part. part.place.addr) pool.parts
+
+-- the addresses that a step picks: of the places that its reply grants, and of the parts that the pool has behind a request
+-- that may obtain one. (no reply tells where a part lies)
+abbrev pub picked : Request → Reply → State → List ℕ
+picked (request.Build name number size primary secondary loc) reply new = parts_at (get new.pools name)
+picked (request.Get name conditional) reply new = granted_at reply ++ parts_at (get new.pools name)
+picked _ reply new = granted_at reply
+
+-- The addresses that a step picks determine its reply and the state that it leaves.
+abbrev pub OneStep : Type 0
+OneStep =
+    (old : State) (t : Name) (r : Request) (one other : Reply) (a b : State)
+    → Step old t r one a → Step old t r other b → picked r one a ≡ picked r other b → (one ≡ other) × (a ≡ b)
+
+-- whether a request is for a list
+abbrev pub is_list : Request → Bool
+is_list (request.ObtainList form number lengths start) = true
+is_list _ = false
+
+-- A request that may be refused is not granted, wherever its places might lie; a request for a list aside.
+abbrev pub NothingPicked : Type 0
+NothingPicked =
+    (old : State) (t : Name) (r : Request) (one other : Reply) (a b : State)
+    → is_list r ≡ false → IsRequest r → Step old t r one a → Step old t r other b → picked r one a ≡ [] → picked r other b ≡ []
+
+-- a step of one page below
+abbrev pub one_page : Name → State
+one_page t = start (card_of t 1 0 0 residence.Below)
+
+-- 8 and 4088 bytes of subpool 0, on doublewords
+abbrev pub page_list : Request
+page_list = request.ObtainList form.Lc 0 (8 ∷ 4088 ∷ []) 3
+
+-- That is not so of a list: where its first members lie may decide whether there is a place for the next. Two members that
+-- fill an empty page may be granted, and may be refused.
+pub record ListEitherWay : Type 0 where
+  pub refused : (t : Name) → Step (one_page t) t page_list Rc4 (one_page t)
+  pub granted : (t : Name) → (ps : List PlaceValue) × (new : State) × Step (one_page t) t page_list (Listed ps) new
+
+-- What a line's request may do, by the addresses of an entry for the line.
+abbrev pub Entered : Type 1
+Entered = List ℕ → Condition
+
+-- The events are of a run of the script whose steps meet the condition, each with the entry of its line.
+abbrev pub IsRunWhere : Entered → (ℕ → List ℕ) → List ℕ → List Event → Outcome → Type 0
+IsRunWhere P entries script events outcome =
+    Walks (machine_where (λ number. P (entries number))) (JobEnds (machine_where (λ number. P (entries number))) outcome) 1 None (lines_of script) events
+
+-- The step picks the addresses of the entry.
+abbrev pub Picks : Entered
+Picks at old t r reply new = picked r reply new ≡ at
+
+-- Each run is one that picks some addresses, and what picks addresses is a run.
+pub record HasPlaces : Type 0 where
+  pub some : (script : List ℕ) (events : List Event) (outcome : Outcome) → IsRun script events outcome → (entries : ℕ → List ℕ) × IsRunWhere Picks entries script events outcome
+  pub is : (entries : ℕ → List ℕ) (script : List ℕ) (events : List Event) (outcome : Outcome) → IsRunWhere Picks entries script events outcome → IsRun script events outcome
+
+-- A run is determined by the addresses that its lines pick.
+abbrev pub PlacesDetermine : Type 0
+PlacesDetermine =
+    (entries : ℕ → List ℕ) (script : List ℕ) (one other : List Event) (o p : Outcome)
+    → IsRunWhere Picks entries script one o → IsRunWhere Picks entries script other p → (one ≡ other) × (o ≡ p)
+
+-- The step picks the addresses of the entry, and nothing only where nothing can be picked: it refuses no list that could be
+-- granted.
+abbrev pub Needs : Entered
+Needs at old t r reply new = (picked r reply new ≡ at) × (at ≡ [] → (other : Reply) (later : State) → Step old t r other later → picked r other later ≡ [])
+
+-- The step picks the addresses that it is told, where some step does.
+abbrev pub Obeys : Entered
+Obeys told old t r reply new = told ≢ [] → (other : Reply) (later : State) → Step old t r other later → picked r other later ≡ told → picked r reply new ≡ told
+
+-- A run that is told the addresses of another, which refuses no list that could be granted, is answered the same.
+abbrev pub ToldDecide : Type 0
+ToldDecide =
+    (entries : ℕ → List ℕ) (script : List ℕ) (one other : List Event) (o p : Outcome)
+    → IsRunWhere Needs entries script one o → IsRunWhere Obeys entries script other p → (one ≡ other) × (o ≡ p)
+
+-- A grant takes the address that it is told, where a place there can be granted.
+abbrev pub TakesTold : State → Name → ℕ → WantValue → ℕ → PlaceValue → Type 0
+TakesTold old t number want told p = (q : PlaceValue) (later : State) → GrantTo old t number want q later → q.addr ≡ told → p.addr ≡ told
+
+-- Grants one after another, each of which takes the address that it is told.
+abbrev pub ListTakesTold : State → Name → ℕ → List WantValue → List ℕ → List PlaceValue → State → Type 0
+ListTakesTold old t number [] told [] new = new ≡ old
+ListTakesTold old t number [] told (p ∷ ps) new = ⊥
+ListTakesTold old t number (want ∷ wants) told [] new = ⊥
+ListTakesTold old t number (want ∷ wants) [] (p ∷ ps) new = ⊥
+ListTakesTold old t number (want ∷ wants) (a ∷ told) (p ∷ ps) new =
+    (mid : State) × GrantTo old t number want p mid × TakesTold old t number want a p × ListTakesTold mid t number wants told ps new
+
+-- Such grants for some of the front leave no place for the next.
+abbrev pub ListStops : State → Name → ℕ → List WantValue → List ℕ → Type 0
+ListStops old t number [] told = ⊥
+ListStops old t number (want ∷ wants) [] = ⊥
+ListStops old t number (want ∷ wants) (a ∷ told) =
+    ShortOf old t number want ⊎ ((p : PlaceValue) × (mid : State) × GrantTo old t number want p mid × TakesTold old t number want a p × ListStops mid t number wants told)
+
+-- A request for an area obeys, which takes the address that it is told. One for a list obeys, which takes each; and no list can
+-- be granted at the addresses at which one stops that takes each.
+pub record TakingObeys : Type 0 where
+  pub area : (old : State) (t : Name) (form : Form) (number : ℕ) (ask : AskValue) (a : ℕ) (p : PlaceValue) (new : State)
+      → TakesTold old (keeper old.owners t number) number (want_of ask (side_for old t form ask.loc)) a p → Obeys (a ∷ []) old t (request.Obtain form number ask) (Obtained p) new
+  pub areas : (old : State) (t : Name) (form : Form) (number : ℕ) (lengths : List ℕ) (start : ℕ) (told : List ℕ) (ps : List PlaceValue) (new : State)
+      → ListTakesTold old (keeper old.owners t number) number (map (λ n. fixed_want n start Below) lengths) told ps new → Obeys told old t (request.ObtainList form number lengths start) (Listed ps) new
+  pub stops : (old : State) (t : Name) (form : Form) (number : ℕ) (lengths : List ℕ) (start : ℕ) (told : List ℕ) (reply : Reply) (new : State)
+      → list_all (λ n. nat_le 1 n) lengths ≡ true → ListStops old (keeper old.owners t number) number (map (λ n. fixed_want n start Below) lengths) told → Obeys told old t (request.ObtainList form number lengths start) reply new
