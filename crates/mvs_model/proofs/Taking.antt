@@ -2,6 +2,7 @@
 use Rattle.std.proofs.Common.{◌≡◌, ◌≤◌, ◌⊎◌, ℕ, inl, inr, Bool, true, List, [], ◌∷◌, map, arith, sym, ap, ◌∙◌, subst}
 use Rattle.std.specs.Prelude.{not, ◌≢◌, ◌&&◌, nat_le}
 use Rattle.std.specs.List.{list_all}
+use Rattle.std.proofs.lemmas.Bool.{and_parts}
 use Rattle.std.proofs.lemmas.Bool.Decides.{nat_tests}
 use Rattle.mvs_model.specs.declared.name.Name.{Name}
 use Rattle.mvs_model.specs.declared.want.Side.TheVariants.{Below}
@@ -76,9 +77,6 @@ areas old t form number lengths start told ps new takes some other later x e =
     list_takes (keeper old.owners t number) number (map (λ n. fixed_want n start Below) lengths) told ps g.0 old new g.1 takes g.2 g.3
 
 -- and stops nowhere
-both_parts : (b c : Bool) → (b && c) ≡ true → (b ≡ true) × (c ≡ true)
-both_parts b c e = grind (arith, nat_tests)
-
 some_length : (n : ℕ) → nat_le 1 n ≡ true → 1 ≤ round8 n
 some_length n e = let l : 1 ≤ n = grind (arith, nat_tests) in omega arith
 
@@ -87,11 +85,11 @@ list_goes_on : (t : Name) (number start : ℕ) (lengths told : List ℕ) (qs : L
 list_goes_on t number start [] told qs old b some x y e = x
 list_goes_on t number start (n ∷ lengths) [] qs old b some x y e = x
 list_goes_on t number start (n ∷ lengths) (a ∷ told) [] old b some x y e = y
-list_goes_on t number start (n ∷ lengths) (a ∷ told) (q ∷ qs) old b some (inl x) y e = no_grant old t number (fixed_want n start Below) q y.0 (some_length n (both_parts _ _ some).0) x y.1
+list_goes_on t number start (n ∷ lengths) (a ∷ told) (q ∷ qs) old b some (inl x) y e = no_grant old t number (fixed_want n start Below) q y.0 (some_length n (and_parts _ _ some).0) x y.1
 list_goes_on t number start (n ∷ lengths) (a ∷ told) (q ∷ qs) old b some (inr x) y e =
     let here : x.0.addr ≡ a = x.3 q y.0 y.1 (ap head_of e) in
     let same = one_grant old t number (fixed_want n start Below) x.0 q x.1 y.0 x.2 y.1 (here ∙ sym (ap head_of e)) in
-    list_goes_on t number start lengths told qs y.0 b (both_parts (nat_le 1 n) _ some).1 (subst (λ m. ListStops m t number (map (λ n. fixed_want n start Below) lengths) told) same.1 x.4) y.2 (ap tail_of e)
+    list_goes_on t number start lengths told qs y.0 b (and_parts (nat_le 1 n) _ some).1 (subst (λ m. ListStops m t number (map (λ n. fixed_want n start Below) lengths) told) same.1 x.4) y.2 (ap tail_of e)
 
 pub taking_obeys : TakingObeys
 taking_obeys = record {
