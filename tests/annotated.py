@@ -12,32 +12,33 @@ from pathlib import Path
 FOLDER = Path(__file__).with_name("scripts")
 
 
+def printed(number, line):
+    """What the statement of a line prints, as it says itself."""
+    statement, _, texts = line.partition(" => ")
+    return [printed_text(number, statement.split(" ")[0], text) for text in texts.split(" / ")] if texts else []
+
+
+def printed_text(number, task, text):
+    if text.startswith("STEP ENDED"):
+        return text
+    if text.startswith("JS0") or " ENDED WITH " in text:
+        return f"{number} {text}"
+    return f"{number} {task} {text}"
+
+
 class Annotated:
     def __init__(self, path):
-        *lines, last = path.read_text().splitlines()
-        said = [line.partition(" => ")[::2] for line in lines]
+        *self.lines, last = path.read_text().splitlines()
         self.name, self.end = path.name, last.removeprefix("* ")
-        self.statements = [statement for statement, _ in said]
-        self.texts = [texts.split(" / ") if texts else [] for _, texts in said]
-        placed = re.match(r"\* (--place) (low|high)\b", lines[0])
+        self.statements = [line.partition(" => ")[0] for line in self.lines]
+        placed = re.match(r"\* (--place) (low|high)\b", self.lines[0])
         self.words = placed.groups() if placed else ()
 
     def script(self):
         return "".join(f"{statement}\n" for statement in self.statements)
 
-    def printed_by(self, k):
-        """What the statement at a place prints."""
-        number, task = k + 1, self.statements[k].split(" ")[0]
-        for text in self.texts[k]:
-            if text.startswith("STEP ENDED"):
-                yield text
-            elif text.startswith("JS0") or " ENDED WITH " in text:
-                yield f"{number} {text}"
-            else:
-                yield f"{number} {task} {text}"
-
     def printed(self):
-        return [line for k in range(len(self.statements)) for line in self.printed_by(k)] + [self.end]
+        return [line for k, said in enumerate(self.lines, 1) for line in printed(k, said)] + [self.end]
 
 
 def all_scripts():

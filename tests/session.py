@@ -4,6 +4,8 @@ import os
 import select
 import subprocess
 
+import annotated
+
 PATIENCE = 30  # seconds
 
 
@@ -42,7 +44,7 @@ def line_by_line(program, script, **names):
     """Runs an annotated script line by line: how many lines printed what they should before the next was told, and the end."""
     session, wanted, heard = Session(program, *script.words, **names), "", 0
     for k, statement in enumerate(script.statements):
-        wanted += "".join(f"{line}\n" for line in script.printed_by(k))
+        wanted += "".join(f"{line}\n" for line in annotated.printed(k + 1, script.lines[k]))
         session.tell(f"{statement}\n".encode())
         if not session.hear(wanted.encode()):
             break

@@ -1,0 +1,98 @@
+"""The lessons, and what ties the documents together.
+
+Each lesson is a sheet (`lessons/NN_name.md`) and a solution (`lessons/NN_name.job`), in which ` => ` and the answers stand
+behind the statements that the sheet asks for, as in tests/scripts. The sheet has the same script, with `?` for each answer.
+Each rule of docs/RULES.md is shown by an example or a lesson that is there and says so, and each link of a document holds.
+"""
+
+import re
+from pathlib import Path
+
+import annotated
+
+TOP = Path(__file__).resolve().parent.parent
+FOLDER = TOP / "lessons"
+LINK = re.compile(r"\]\((?!https?:)([^)#\s]*)(#[^)\s]*)?\)")
+
+
+def solutions():
+    return sorted(FOLDER.glob("*.job"))
+
+
+def printed_by_line(output):
+    """The printed lines by the number of the line that printed them; the end of a step goes with the REGION behind it."""
+    found, waiting = {}, []
+    for line in output:
+        number = re.match(r"(\d+) ", line)
+        waiting.append(line)
+        if number:
+            found.setdefault(int(number[1]), []).extend(waiting)
+            waiting = []
+    return found
+
+
+def is_answered(run, path):
+    """Whether the program answers a solution's statements as it says."""
+    lines = path.read_text().splitlines()
+    printed = printed_by_line(run("".join(f"{line}\n" for line in lines)))
+    asked = [(k, line) for k, line in enumerate(lines, 1) if " => " in line]
+    return bool(asked) and all(printed.get(k) == annotated.printed(k, line) for k, line in asked)
+
+
+def is_asked(path):
+    """Whether the sheet has the script of the solution, without its answers."""
+    blank = re.sub(r"(?m) => .*$", " => ?", path.read_text())
+    return f"```\n{blank}```\n" in path.with_suffix(".md").read_text()
+
+
+def rules():
+    """Each rule: its number, and the example or lesson that stands beside it."""
+    for line in (TOP / "docs/RULES.md").read_text().splitlines():
+        cells = [cell.strip() for cell in line.split("|")]
+        if len(cells) == 7 and cells[1].isdigit():
+            yield cells[1], cells[4]
+
+
+def cited(path):
+    """The numbers of the rules that a lesson says it shows."""
+    return re.search(r"(?m)^\*\*Rules\*\* ([\d, ]+) of ", path.read_text())[1].split(", ")
+
+
+def is_shown(number, shown):
+    if not re.fullmatch(r"\d\.\d", shown):
+        return (TOP / f"examples/{shown}.job").is_file()
+    sheets = list(FOLDER.glob(f"{shown.replace('.', '')}_*.md"))
+    return len(sheets) == 1 and number in cited(sheets[0])
+
+
+def anchors(path):
+    """The anchors of a document, as its headings make them."""
+    for heading in re.findall(r"(?m)^#+ (.*)$", path.read_text()):
+        yield "#" + re.sub(r"[^\w\- ]", "", heading.lower()).replace(" ", "-")
+
+
+def documents():
+    return [path for path in sorted(TOP.rglob("*.md")) if not {"out", ".git"} & set(path.parts)]
+
+
+def links_hold(path):
+    for file, anchor in LINK.findall(re.sub(r"(?s)```.*?```", "", path.read_text())):
+        target = path.parent / file if file else path
+        if not target.exists() or anchor and anchor not in anchors(target):
+            return False
+    return True
+
+
+def results(run):
+    for path in solutions():
+        yield path.name, is_answered(run, path)
+        yield f"{path.stem}.md", is_asked(path)
+    found = list(rules())
+    numbers = [number for number, _ in found]
+    yield "rules", numbers == [str(k) for k in range(1, len(numbers) + 1)]
+    for number, shown in found:
+        yield f"rule {number}", is_shown(number, shown)
+    taught = {number for path in FOLDER.glob("[0-9]*.md") for number in cited(path)}
+    yield "every rule has a lesson", taught == set(numbers)
+    for path in documents():
+        yield f"links of {path.relative_to(TOP)}", links_hold(path)
