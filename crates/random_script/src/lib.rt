@@ -1,0 +1,60 @@
+//! Random scripts: each statement is asked of a job before the next one is chosen, so that most requests are served.
+#![tactic(auto)]
+
+mod dice;
+mod known;
+mod maker;
+mod requests;
+
+use maker::Maker;
+use std::alloc::{AllocError, Global};
+use std::io::Write;
+
+/// What a script is mostly made of.
+#[derive(Clone, Copy, Debug, PartialEq, Eq)]
+pub enum Profile {
+    /// Areas of a task or two, and their bytes.
+    Storage,
+    /// Subtasks, and the subpools that they are given and share.
+    Tasks,
+    /// Cell pools.
+    Pools,
+    /// No statement prints an address or a length that was obtained.
+    Tidy,
+    /// One of some forty lines has a fault, and is the last one.
+    Faults,
+}
+
+/// Why a script was not written to its end.
+#[derive(Clone, Copy, Debug, PartialEq, Eq)]
+pub enum RandomFault {
+    Memory,
+    Write,
+}
+
+impl From<AllocError> for RandomFault {
+    fn from(_: AllocError) -> RandomFault {
+        RandomFault::Memory
+    }
+}
+
+/// Writes a script of so many lines, or fewer where one has a fault: the same bytes for a seed and a profile on each call.
+pub fn write_script<W: Write>(
+    alloc: Global,
+    writer: &mut W,
+    seed: u64,
+    lines: u32,
+    profile: Profile,
+) -> Result<(), RandomFault> {
+    let mut maker = Maker::new(alloc, seed, profile);
+    for _ in 0..lines {
+        if !maker.makes_line()? {
+            break;
+        }
+        let line = maker.line();
+        if writeln!(writer, "{line}").is_err() {
+            return Err(RandomFault::Write);
+        }
+    }
+    Ok(())
+}
