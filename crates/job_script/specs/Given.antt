@@ -7,7 +7,6 @@ use Rattle.mvs_model.specs.declared.line.Fault.{Fault}
 use Rattle.mvs_model.specs.Reading.{ByKey, by_key, has_key, first_of, operand_checks, with_left, if_kind, is_of, is_within}
 use Rattle.mvs_model.specs.Grammar as grammar
 use Rattle.job_script.specs.declared.given.Given.{Given}
-use Rattle.job_script.specs.declared.keys.TheConstants.{KEYS}
 use Rattle.job_script.specs.Rows.{row_at, as_keyword}
 use Rattle.job_script.specs.Places.{place_in}
 use Rattle.job_script.specs.Parted.{field_in}
@@ -44,7 +43,7 @@ pub record IsPlaced (row : grammar.Row) (place : ℕ) (text : List ℕ) : Type 0
 pub record IsGiven (g : Given) (left : List (List ℕ)) : Type 0 where
   pub table : map as_keyword g.keywords.now ≡ (row_at g.row).keywords
   pub three : length g.places ≡ 3
-  pub keys : length g.texts ≡ KEYS
+  pub keys : length g.texts ≡ 26
   pub same : by_place g ≡ by_key left
   pub keyed : g.keyed ≡ list_any has_key left
   pub plain : g.keyed ≡ false → g.count ≡ length left
