@@ -28,7 +28,8 @@ def printed_text(number, task, text):
 
 class Annotated:
     def __init__(self, path):
-        *self.lines, last = path.read_text().splitlines()
+        self.text = path.read_text()
+        *self.lines, last = self.text.splitlines()
         self.name, self.end = path.name, last.removeprefix("* ")
         self.statements = [line.partition(" => ")[0] for line in self.lines]
         placed = re.match(r"\* (--place) (low|high)\b", self.lines[0])

@@ -6,6 +6,7 @@ Each rule of docs/RULES.md is shown by an example or a lesson that is there and 
 """
 
 import re
+import subprocess
 from pathlib import Path
 
 import annotated
@@ -19,30 +20,36 @@ def solutions():
     return sorted(FOLDER.glob("*.job"))
 
 
-def printed_by_line(output):
-    """The printed lines by the number of the line that printed them; the end of a step goes with the REGION behind it."""
-    found, waiting = {}, []
-    for line in output:
-        number = re.match(r"(\d+) ", line)
-        waiting.append(line)
-        if number:
-            found.setdefault(int(number[1]), []).extend(waiting)
-            waiting = []
-    return found
+def differences(program, text, *words):
+    """What `--check` prints of a script, and its exit status."""
+    ran = subprocess.run([program, "--check", *words], input=text.encode(), capture_output=True)
+    return ran.stdout.decode(), ran.returncode
 
 
-def is_answered(run, path):
-    """Whether the program answers a solution's statements as it says."""
+def is_answered(program, path):
+    """Whether a solution's statements print what it says."""
+    text = path.read_text()
+    return " => " in text and differences(program, text) == ("", 0)
+
+
+def is_told(program, path):
+    """Whether an answer of a solution that is another one is told, with its line, and nothing else is."""
     lines = path.read_text().splitlines()
-    printed = printed_by_line(run("".join(f"{line}\n" for line in lines)))
-    asked = [(k, line) for k, line in enumerate(lines, 1) if " => " in line]
-    return bool(asked) and all(printed.get(k) == annotated.printed(k, line) for k, line in asked)
+    number = next(k for k, line in enumerate(lines, 1) if " => " in line)
+    statement, _, texts = lines[number - 1].partition(" => ")
+    lines[number - 1] = f"{statement} => NOTHING OF THAT"
+    return differences(program, "\n".join(lines)) == (f"-:{number}: expected NOTHING OF THAT, got {texts}\n", 1)
 
 
-def is_asked(path):
-    """Whether the sheet has the script of the solution, without its answers."""
-    blank = re.sub(r"(?m) => .*$", " => ?", path.read_text())
-    return f"```\n{blank}```\n" in path.with_suffix(".md").read_text()
+def blank(program, text):
+    return subprocess.run([program, "--blank"], input=text.encode(), capture_output=True).stdout.decode()
+
+
+def is_asked(program, path):
+    """Whether the sheet has the script of the solution, without its answers, as `--blank` prints it."""
+    text = path.read_text()
+    wanted = re.sub(r"(?m) => .*$", " => ?", text)
+    return blank(program, text) == wanted and f"```\n{wanted}```\n" in path.with_suffix(".md").read_text()
 
 
 def rules():
@@ -83,10 +90,13 @@ def links_hold(path):
     return True
 
 
-def results(run):
+def results(program):
     for path in solutions():
-        yield path.name, is_answered(run, path)
-        yield f"{path.stem}.md", is_asked(path)
+        yield path.name, is_answered(program, path)
+        yield f"{path.name}, an answer changed", is_told(program, path)
+        yield f"{path.stem}.md", is_asked(program, path)
+    for case in annotated.all_scripts():
+        yield f"{case.name} checked", differences(program, case.text, *case.words) == ("", 0)
     found = list(rules())
     numbers = [number for number, _ in found]
     yield "rules", numbers == [str(k) for k in range(1, len(numbers) + 1)]

@@ -10,8 +10,12 @@ _mvsjob() {
     fi
     if [ "$before" = --place ]; then
         mapfile -t COMPREPLY < <(compgen -W "low high" -- "$word")
+    elif [ "$before" = --profile ]; then
+        mapfile -t COMPREPLY < <(compgen -W "storage tasks pools tidy faults" -- "$word")
+    elif [ "$before" = --random ] || [ "$before" = --lines ]; then
+        return
     elif [[ $word == -* ]]; then
-        mapfile -t COMPREPLY < <(compgen -W "--place --help --version -h -V" -- "$word")
+        mapfile -t COMPREPLY < <(compgen -W "--place --check --blank --random --lines --profile --help --version -h -V" -- "$word")
     else
         compopt -o filenames 2> /dev/null
         mapfile -t COMPREPLY < <(compgen -f -- "$word")

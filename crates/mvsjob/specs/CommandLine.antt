@@ -1,38 +1,79 @@
 -- What the words of the command line say, the program's name first. (this project's choice)
-use Rattle.std.specs.Prelude.{◌≡◌, List, [], ◌∷◌, codes, map, Option, Some, true}
+use Rattle.std.specs.Prelude.{◌≡◌, ◌≢◌, List, [], ◌∷◌, codes, map, Option, Some, None, true}
 use Rattle.clap.specs.Words.{App, Kinds, Text, fault_of, first_of, matches_of, new_app, new_rule, takes, with_rule}
 use Rattle.clap.specs.Simple.{on_top}
 use Rattle.clap.specs.Walk.{Rule}
+use Rattle.clap.specs.declared.builder.action.ArgAction.TheVariants.{SetTrue}
 use Rattle.clap.specs.declared.builder.value_parser.ValueParser.{ValueParser}
-use Rattle.clap.specs.declared.builder.value_parser.ValueParser.TheVariants.{Names}
+use Rattle.clap.specs.declared.builder.value_parser.ValueParser.TheVariants.{Names, Unsigned}
+use Rattle.mvsjob.specs.declared.choices.Mode.{Mode}
+use Rattle.mvsjob.specs.declared.choices.Mode.TheVariants.{Run, Check, Blank, Random}
 
--- A value has to be `low` or `high`.
-abbrev pub IsLowOrHigh : ValueParser → Type 0
-IsLowOrHigh (Names names) = map (λ name. name.now) names.now ≡ codes "low" ∷ codes "high" ∷ []
-IsLowOrHigh _ = ⊥
+-- A value has to be one of these.
+abbrev pub IsOneOf : List Text → ValueParser → Type 0
+IsOneOf values (Names names) = map (λ name. name.now) names.now ≡ values
+IsOneOf values _ = ⊥
 
--- the option that says which place is taken
-abbrev pub place_rule : ValueParser → Rule
-place_rule parser = record (new_rule (codes "place")) { long = Some (codes "place"); parser = Some parser }
+-- how the values of `--place` and of `--profile` are read
+pub record Parsers : Type 0 where
+  pub place : ValueParser
+  pub profile : ValueParser
+
+-- the values of `--place`
+abbrev pub places : List Text
+places = codes "low" ∷ codes "high" ∷ []
+
+-- the values of `--profile`
+abbrev pub profiles : List Text
+profiles = codes "storage" ∷ codes "tasks" ∷ codes "pools" ∷ codes "tidy" ∷ codes "faults" ∷ []
+
+pub record AreParsers (ps : Parsers) : Type 0 where
+  pub place : IsOneOf places ps.place
+  pub profile : IsOneOf profiles ps.profile
+
+-- a word that is said or not
+abbrev pub flag_rule : Text → Rule
+flag_rule name = record (new_rule name) { long = Some name; action = Some SetTrue }
+
+-- a word with a value
+abbrev pub value_rule : Text → ValueParser → Rule
+value_rule name parser = record (new_rule name) { long = Some name; parser = Some parser }
 
 -- a command that has a version, for which `-V` and `--version` ask
 abbrev pub versioned : App → App
 versioned a = on_top (λ s. record s { has_version = true }) a
 
--- the program's command: a word and an option, which may both be left out, and a version
-abbrev pub command : ValueParser → App
-command parser = with_rule (with_rule (versioned (new_app (codes "mvsjob"))) (new_rule (codes "FILE"))) (place_rule parser)
+-- the command with what is done with the answers that a script says
+abbrev pub answers_app : App → App
+answers_app a = with_rule (with_rule a (flag_rule (codes "check"))) (flag_rule (codes "blank"))
 
--- Of the words, clap gives these to FILE and to `--place`.
-abbrev pub Assigns : List Text → Option Text → Option Text → Type 0
-Assigns words file place = (parser : ValueParser) × IsLowOrHigh parser
-    × (first_of (codes "FILE") (matches_of (command parser) words) ≡ file)
-    × (first_of (codes "place") (matches_of (command parser) words) ≡ place)
+-- and with a random script: its seed and its lines
+abbrev pub random_app : App → App
+random_app a = with_rule (with_rule a (value_rule (codes "random") (Unsigned 0 18446744073709551615))) (value_rule (codes "lines") (Unsigned 1 1000000))
+
+-- the program's command: a word and six options, which may all be left out, and a version
+abbrev pub command : Parsers → App
+command ps =
+    with_rule (random_app (answers_app
+    (with_rule (with_rule (versioned (new_app (codes "mvsjob"))) (new_rule (codes "FILE"))) (value_rule (codes "place") ps.place))))
+    (value_rule (codes "profile") ps.profile)
+
+-- what of the words clap gives to an argument
+abbrev pub assigned : Parsers → List Text → Text → Option Text
+assigned ps words name = first_of name (matches_of (command ps) words)
+
+-- A script is made where `--random` has a seed; else its answers are compared where `--check` is said, or left out where
+-- `--blank` is; else it is run.
+pub record IsMode (random check blank : Option Text) (mode : Mode) : Type 0 where
+  pub makes : (seed : Text) → random ≡ Some seed → (recipe : _) × (mode ≡ Random recipe)
+  pub checks : random ≡ None → check ≡ Some (codes "true") → mode ≡ Check
+  pub blanks : random ≡ None → check ≢ Some (codes "true") → blank ≡ Some (codes "true") → mode ≡ Blank
+  pub runs : random ≡ None → check ≢ Some (codes "true") → blank ≢ Some (codes "true") → mode ≡ Run
 
 -- Clap takes the words.
 abbrev pub IsTaken : List Text → Type 0
-IsTaken words = (parser : ValueParser) → IsLowOrHigh parser → takes (command parser) words ≡ true
+IsTaken words = (ps : Parsers) → AreParsers ps → takes (command ps) words ≡ true
 
 -- Clap finds this wrong with the words: the kinds of error that it may give, and none where it takes them.
 abbrev pub FindsWrong : List Text → Kinds → Type 0
-FindsWrong words kinds = (parser : ValueParser) × IsLowOrHigh parser × (fault_of (command parser) words ≡ kinds)
+FindsWrong words kinds = (ps : Parsers) × AreParsers ps × (fault_of (command ps) words ≡ kinds)

@@ -1,15 +1,17 @@
 //! The words of the command line, which `clap` reads.
 
-ghost use Rattle.std.specs.Prelude.{◌≡◌, ◌↔◌, ◌⊎◌, ℕ, List, [], Option, Some, IfOk, IfErr, codes, map, string_bytes};
+ghost use Rattle.std.specs.Prelude.{◌≡◌, ◌↔◌, ◌⊎◌, [], Some, IfOk, IfErr, IsTrue, codes, map, string_bytes};
 ghost use Rattle.std.specs.Option.{unwrap_or};
-ghost use Rattle.clap.specs.Words.{IsAmong, Kinds, app_of, first_value, found_of, kind_of, new_app};
-ghost use Rattle.clap.specs.declared.builder.value_parser.ValueParser.{ValueParser};
+ghost use Rattle.clap.specs.Words.{IsAmong, Kinds, app_of, first_value, found_of, kind_of, new_app, new_rule, with_rule};
 ghost use Rattle.clap.specs.declared.error.kind.ErrorKind.TheVariants.{OutOfMemory};
-ghost use Rattle.mvsjob.specs.CommandLine.{Assigns, FindsWrong, IsLowOrHigh, IsTaken, command, versioned};
+ghost use Rattle.clap.specs.declared.builder.value_parser.ValueParser.{ValueParser as Parser};
+ghost use Rattle.mvsjob.specs.CommandLine.{AreParsers, FindsWrong, IsMode, IsOneOf, IsTaken, Parsers, answers_app, assigned, command, flag_rule, places, profiles, random_app, value_rule, versioned};
 
-use crate::choices::Settings;
-use clap::{Arg, ArgMatches, Command};
+use crate::choices::{Mode, Recipe, Settings};
+use clap::builder::ValueParser;
+use clap::{Arg, ArgAction, ArgMatches, Command};
 use mvs_model::want::Placement;
+use random_script::Profile;
 use std::alloc::{AllocError, Global};
 
 const ABOUT: &str =
@@ -20,6 +22,7 @@ const VERSION: &str = "1.0.0 (rattle-kit-13f logic dac8208d650f15bf)";
 
 const STATUSES: &str = "Exit status:
   0   clean: every line was run, and no task abended
+  1   with --check: some answer is another one than the script says
   8   every line was run, and some task abended
   12  a line of the script has a fault, and no line behind it was run
   16  the job gave up, or could not begin: standard error says why
@@ -28,6 +31,9 @@ The script's language is described in mvsjob-script(5), which is docs/SCRIPT.md.
 
 /// The values of the option `--place`.
 static PLACES: [&str; 2] = ["low", "high"];
+
+/// The values of the option `--profile`.
+static PROFILES: [&str; 5] = ["storage", "tasks", "pools", "tidy", "faults"];
 
 // The command without its words: its name, its version, and what the help says around them.
 fn titled<'a>(alloc: Global) -> Command<'a>
@@ -39,17 +45,126 @@ fn titled<'a>(alloc: Global) -> Command<'a>
         .after_help(STATUSES)
 }
 
-// The command: a word and an option, which may both be left out.
-fn command<'a>(alloc: Global) -> Result<Command<'a>, AllocError>
+// The command with a word that is said or not.
+fn with_flag<'a>(
+    command: Command<'a>,
+    alloc: Global,
+    name: &'a str,
+    help: &'a str,
+) -> Result<Command<'a>, AllocError>
+    ensures { IfOk result (λ c. app_of c ≡ with_rule (app_of command.entry) (flag_rule name.now)) }
+{
+    let flag = Arg::new(alloc, name)
+        .long(name)
+        .action(ArgAction::SetTrue)
+        .help(help);
+    command.arg(flag)
+}
+
+// The command with a word that has a value.
+fn with_option<'a>(
+    command: Command<'a>,
+    alloc: Global,
+    name: &'a str,
+    parser: ValueParser<'a>,
+    help: &'a str,
+) -> Result<Command<'a>, AllocError>
     ensures { IfOk result
-        (λ c. (parser : ValueParser) × IsLowOrHigh parser × (app_of c ≡ command parser)) }
+        (λ c. app_of c ≡ with_rule (app_of command.entry) (value_rule name.now parser.entry)) }
+{
+    let option = Arg::new(alloc, name)
+        .long(name)
+        .value_parser(parser)
+        .help(help);
+    command.arg(option)
+}
+
+// The command with the script.
+fn with_script<'a>(alloc: Global) -> Result<Command<'a>, AllocError>
+    ensures { IfOk result
+        (λ c. app_of c ≡ with_rule (versioned (new_app (codes "mvsjob"))) (new_rule (codes "FILE"))) }
 {
     let file = Arg::new(alloc, "FILE").help("The script; standard input where it is left out or -");
-    let place = Arg::new(alloc, "place")
-        .long("place")
-        .value_parser(PLACES.as_slice())
-        .help("Which of the places that serve a request is taken; low where it is left out");
-    titled(alloc).arg(file)?.arg(place)
+    titled(alloc).arg(file)
+}
+
+// The command with the option that says where areas lie.
+fn with_place<'a>(command: Command<'a>, alloc: Global) -> Result<Command<'a>, AllocError>
+    ensures { IfOk result
+        (λ c. (place : Parser) × IsOneOf places place
+        × (app_of c ≡ with_rule (app_of command.entry) (value_rule (codes "place") place))) }
+{
+    with_option(
+        command,
+        alloc,
+        "place",
+        ValueParser::Names(PLACES.as_slice()),
+        "Which of the places that serve a request is taken; low where it is left out",
+    )
+}
+
+// The command with what is done with the answers that the script says.
+fn with_answers<'a>(command: Command<'a>, alloc: Global) -> Result<Command<'a>, AllocError>
+    ensures { IfOk result (λ c. app_of c ≡ answers_app (app_of command.entry)) }
+{
+    let checking = with_flag(
+        command,
+        alloc,
+        "check",
+        "Compares the answers behind => in the script with those of its run, and prints each that differs",
+    )?;
+    with_flag(
+        checking,
+        alloc,
+        "blank",
+        "Prints the script with ? for the answers behind =>, and runs nothing",
+    )
+}
+
+// The command with a random script.
+fn with_random<'a>(command: Command<'a>, alloc: Global) -> Result<Command<'a>, AllocError>
+    ensures { IfOk result (λ c. app_of c ≡ random_app (app_of command.entry)) }
+{
+    let seeded = with_option(
+        command,
+        alloc,
+        "random",
+        ValueParser::Unsigned(0, u64::MAX),
+        "Prints a random script of this seed, of whose requests most are served",
+    )?;
+    with_option(
+        seeded,
+        alloc,
+        "lines",
+        ValueParser::Unsigned(1, 1_000_000),
+        "How many lines a random script has; 100 where it is left out",
+    )
+}
+
+// The command with what a random script is made of.
+fn with_profile<'a>(command: Command<'a>, alloc: Global) -> Result<Command<'a>, AllocError>
+    ensures { IfOk result
+        (λ c. (profile : Parser) × IsOneOf profiles profile
+        × (app_of c ≡ with_rule (app_of command.entry) (value_rule (codes "profile") profile))) }
+{
+    with_option(
+        command,
+        alloc,
+        "profile",
+        ValueParser::Names(PROFILES.as_slice()),
+        "What a random script is made of; storage where it is left out",
+    )
+}
+
+// The command: a word and six options, all of which may be left out.
+fn command<'a>(alloc: Global) -> Result<Command<'a>, AllocError>
+    ensures { IfOk result (λ c. (ps : Parsers) × AreParsers ps × (app_of c ≡ command ps)) }
+{
+    let scripted = with_script(alloc)?;
+    let placed = with_place(scripted, alloc)?;
+    let answered = with_answers(placed, alloc)?;
+    let random = with_random(answered, alloc)?;
+    with_profile(random, alloc)
 }
 
 // The word for the script.
@@ -74,15 +189,63 @@ fn placement(matches: &ArgMatches<'_>) -> Placement
     }
 }
 
+// Whether a flag is set.
+fn is_set(matches: &ArgMatches<'_>, name: &str) -> bool
+    ensures { IsTrue result ↔ first_value (found_of matches.now) name.now ≡ Some (codes "true") }
+{
+    match matches.get_str(name) {
+        Some(value) => value == "true",
+        None => false,
+    }
+}
+
+// What a random script is made of.
+fn profile(matches: &ArgMatches<'_>) -> Profile {
+    match matches.get_str("profile") {
+        Some(name) if name == "tasks" => Profile::Tasks,
+        Some(name) if name == "pools" => Profile::Pools,
+        Some(name) if name == "tidy" => Profile::Tidy,
+        Some(name) if name == "faults" => Profile::Faults,
+        _ => Profile::Storage,
+    }
+}
+
+// The random script that is asked for.
+fn recipe(matches: &ArgMatches<'_>) -> Recipe {
+    Recipe {
+        seed: matches.get_one::<u64>("random").unwrap_or(0),
+        lines: matches.get_one::<u32>("lines").unwrap_or(100),
+        profile: profile(matches),
+    }
+}
+
+// What is to be done.
+fn mode(matches: &ArgMatches<'_>) -> Mode
+    ensures { IsMode (first_value (found_of matches.now) (codes "random"))
+        (first_value (found_of matches.now) (codes "check"))
+        (first_value (found_of matches.now) (codes "blank")) result }
+{
+    match matches.get_str("random") {
+        Some(_) => Mode::Random(recipe(matches)),
+        None if is_set(matches, "check") => Mode::Check,
+        None if is_set(matches, "blank") => Mode::Blank,
+        None => Mode::Run,
+    }
+}
+
 /// Reads the words of a command line, the program's name first. An error is what `clap` has to say of them, a text for the user
 /// (where it is the help that the words ask for, `use_stderr` is false), or want of memory.
 pub fn settings<'a>(alloc: Global, words: &'a [String]) -> Result<Settings<'a>, clap::Error>
     // What clap assigns the words to.
     ensures ok { IfOk result
-        (λ s. (file : Option (List ℕ)) × (place : Option (List ℕ))
-        × Assigns (map string_bytes words.entry.now) file place
-        × (s.file.now ≡ unwrap_or file (codes "-"))
-        × (s.placement ≡ Placement.High ↔ place ≡ Some (codes "high"))) }
+        (λ s. (ps : Parsers) × AreParsers ps
+        × (s.file.now
+        ≡ unwrap_or (assigned ps (map string_bytes words.entry.now) (codes "FILE")) (codes "-"))
+        × (s.placement ≡ Placement.High
+        ↔ assigned ps (map string_bytes words.entry.now) (codes "place") ≡ Some (codes "high"))
+        × IsMode (assigned ps (map string_bytes words.entry.now) (codes "random"))
+        (assigned ps (map string_bytes words.entry.now) (codes "check"))
+        (assigned ps (map string_bytes words.entry.now) (codes "blank")) s.mode) }
     // Clap finds nothing wrong with words that are taken; an error is of a kind that it finds, or want of memory.
     ensures taken { IfOk result (λ _. FindsWrong (map string_bytes words.entry.now) []) }
     ensures kinds { IfErr result
@@ -97,5 +260,6 @@ pub fn settings<'a>(alloc: Global, words: &'a [String]) -> Result<Settings<'a>, 
     Ok(Settings {
         file: file(&matches),
         placement: placement(&matches),
+        mode: mode(&matches),
     })
 }

@@ -12,6 +12,8 @@ use mvs_model::outcome::Outcome;
 pub enum GiveUp {
     /// There is no such file, or it may not be read.
     Script,
+    /// The script is no text.
+    NoText,
     /// The job gave up, or a call around it failed as one of a job does.
     Job(RunFault),
 }
@@ -27,8 +29,10 @@ impl From<RunFault> for GiveUp {
 pub enum Ending {
     /// The job ended so.
     Ran(Outcome),
-    /// The help that the words asked for was printed.
-    Helped,
+    /// The help, the version or the script that the words asked for was printed.
+    Printed,
+    /// The answers of a run were compared with those that the script says, and one differs, or none.
+    Checked { differs: bool },
     /// The words were refused, and `clap` has said why.
     Refused,
     /// The program gave up, or could not begin.
@@ -41,7 +45,8 @@ impl Ending {
         ensures { result ≡ status_of self }
     {
         match self {
-            Ending::Ran(Outcome::Clean) | Ending::Helped => 0,
+            Ending::Ran(Outcome::Clean) | Ending::Printed => 0,
+            Ending::Checked { differs } => differs as u8,
             Ending::Ran(Outcome::SomeAbend) => 8,
             Ending::Ran(Outcome::ScriptFault) => 12,
             Ending::Refused | Ending::GaveUp(_) => 16,
@@ -54,8 +59,9 @@ impl Ending {
     {
         match self {
             Ending::GaveUp(GiveUp::Script) => Some("cannot open script"),
+            Ending::GaveUp(GiveUp::NoText) => Some("script is no text"),
             Ending::GaveUp(GiveUp::Job(fault)) => Some(fault.text()),
-            Ending::Ran(_) | Ending::Helped | Ending::Refused => None,
+            Ending::Ran(_) | Ending::Printed | Ending::Checked { .. } | Ending::Refused => None,
         }
     }
 }

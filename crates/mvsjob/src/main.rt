@@ -5,11 +5,13 @@ ghost use Rattle.std.specs.Prelude.{◌≡◌};
 ghost use Rattle.std.specs.Process.{exit_status};
 ghost use Rattle.mvsjob.specs.Endings.{status_of};
 
+mod answers;
 mod choices;
 mod command_line;
 mod ending;
 
-use choices::Settings;
+use answers::{check_answers, write_made};
+use choices::{Mode, Settings};
 use command_line::settings;
 use ending::{Ending, GiveUp};
 use mvs_job::{RunFault, run_job};
@@ -61,7 +63,7 @@ fn explain(rt: &HostRuntime, error: &clap::Error) -> Result<Ending, GiveUp> {
     }
     match error.print(rt) {
         Ok(()) if error.use_stderr() => Ok(Ending::Refused),
-        Ok(()) => Ok(Ending::Helped),
+        Ok(()) => Ok(Ending::Printed),
         Err(_) => Err(GiveUp::Job(RunFault::Write)),
     }
 }
@@ -81,11 +83,20 @@ fn words(rt: &HostRuntime) -> Result<Vec<String>, GiveUp> {
     }
 }
 
+// Does what the words ask for.
+fn serve(rt: &HostRuntime, settings: &Settings<'_>) -> Result<Ending, GiveUp> {
+    match settings.mode {
+        Mode::Run => Ok(Ending::Ran(run_named(rt, settings)?)),
+        Mode::Check => check_answers(rt, settings),
+        Mode::Blank | Mode::Random(_) => write_made(rt, settings),
+    }
+}
+
 // Reads the words, then opens the script, then runs it; the first failure ends the program.
 fn run_program(rt: &HostRuntime) -> Result<Ending, GiveUp> {
     let words = words(rt)?;
     match settings(rt.alloc(), &words) {
-        Ok(settings) => Ok(Ending::Ran(run_named(rt, &settings)?)),
+        Ok(settings) => serve(rt, &settings),
         Err(error) => explain(rt, &error),
     }
 }

@@ -7,8 +7,11 @@ use std::fmt;
 
 /// How many tasks, areas, cells and pools a script names.
 pub const TASKS: usize = 6;
+
 pub const AREAS: usize = 16;
+
 pub const CELLS: usize = 8;
+
 pub const POOLS: usize = 3;
 
 /// A task by its place: the job step task, or a subtask.

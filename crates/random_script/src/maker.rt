@@ -23,8 +23,7 @@ pub struct Maker {
 }
 
 // What a name of a task stands for, if it is a subtask's.
-fn subtask(name: &[u8]) -> Option<usize>
-{
+fn subtask(name: &[u8]) -> Option<usize> {
     match name {
         [b'T', digit] if *digit >= b'1' && *digit <= b'5' => Some((*digit - b'0') as usize),
         _ => None,

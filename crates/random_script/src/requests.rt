@@ -33,11 +33,7 @@ fn length(dice: &mut Dice) -> u32 {
 }
 
 /// An obtain of one length, in one of its forms.
-pub fn obtain(
-    line: &mut String,
-    dice: &mut Dice,
-    task: Task,
-) -> Result<Change, AllocError> {
+pub fn obtain(line: &mut String, dice: &mut Dice, task: Task) -> Result<Change, AllocError> {
     let place = dice.below(AREAS as u32) as usize;
     let area = Area {
         task,
@@ -48,19 +44,21 @@ pub fn obtain(
     match dice.below(6) {
         0 => write!(line, "{task} GETMAIN R,LV={len},A=A{place},SP={number}")?,
         1 => write!(line, "{task} GETMAIN EC,LV={len},A=A{place},SP={number}")?,
-        2 => write!(line, "{task} GETMAIN RU,LV={len},A=A{place},SP={number},LOC=ANY")?,
-        3 => write!(line, "{task} STORAGE OBTAIN,LENGTH={len},ADDR=A{place},SP={number},COND=YES")?,
+        2 => write!(
+            line,
+            "{task} GETMAIN RU,LV={len},A=A{place},SP={number},LOC=ANY"
+        )?,
+        3 => write!(
+            line,
+            "{task} STORAGE OBTAIN,LENGTH={len},ADDR=A{place},SP={number},COND=YES"
+        )?,
         _ => write!(line, "{task} GETMAIN RC,LV={len},A=A{place},SP={number}")?,
     }
     Ok(Change::Obtains(place, area))
 }
 
 /// An obtain of a variable length.
-pub fn obtain_some(
-    line: &mut String,
-    dice: &mut Dice,
-    task: Task,
-) -> Result<Change, AllocError> {
+pub fn obtain_some(line: &mut String, dice: &mut Dice, task: Task) -> Result<Change, AllocError> {
     let place = dice.below(AREAS as u32) as usize;
     let area = Area {
         task,
@@ -68,7 +66,10 @@ pub fn obtain_some(
         len: length(dice),
     };
     let (number, len) = (area.number, area.len);
-    write!(line, "{task} GETMAIN VRC,LV=({len},1),A=A{place},SP={number}")?;
+    write!(
+        line,
+        "{task} GETMAIN VRC,LV=({len},1),A=A{place},SP={number}"
+    )?;
     Ok(Change::Obtains(place, area))
 }
 
@@ -80,11 +81,18 @@ pub fn release(
     found: (usize, Area),
 ) -> Result<Change, AllocError> {
     let (place, Area { task, number, len }) = found;
-    let task = if dice.is_one_of(8) { known.task(dice) } else { task };
+    let task = if dice.is_one_of(8) {
+        known.task(dice)
+    } else {
+        task
+    };
     match dice.below(4) {
         0 => write!(line, "{task} FREEMAIN RU,LV={len},A=A{place},SP={number}")?,
         1 => write!(line, "{task} FREEMAIN EC,LV={len},A=A{place},SP={number}")?,
-        2 => write!(line, "{task} STORAGE RELEASE,LENGTH={len},ADDR=A{place},SP={number}")?,
+        2 => write!(
+            line,
+            "{task} STORAGE RELEASE,LENGTH={len},ADDR=A{place},SP={number}"
+        )?,
         _ => write!(line, "{task} FREEMAIN VC,A=A{place},SP={number}")?,
     }
     Ok(Change::Releases(place))
@@ -118,7 +126,10 @@ pub fn pool(
     if !known.pools[pool] {
         let size = 4 * (1 + dice.below(30));
         let cells = 1 + dice.below(6);
-        write!(line, "{task} CPOOL BUILD,CPID=P{pool},CSIZE={size},PCELLCT={cells}")?;
+        write!(
+            line,
+            "{task} CPOOL BUILD,CPID=P{pool},CSIZE={size},PCELLCT={cells}"
+        )?;
         return Ok(Change::Builds(pool));
     }
     match known.cell(dice) {

@@ -1,7 +1,7 @@
-use Rattle.std.proofs.Common.{◌∙◌, ap, sym, map, string_bytes}
+use Rattle.std.proofs.Common.{◌∙◌, ap, sym, map, string_bytes, codes}
 use Rattle.std.proofs.lemmas.Result.{err_from_is_err_and}
 use Rattle.clap.specs.Words.{fault_of, is_simple_and_free, kind_of, takes}
-use Rattle.mvsjob.proofs.Assigning.{assigned, command_is_free, kinds_found}
+use Rattle.mvsjob.proofs.Assigning.{value_found, command_is_free, kinds_found}
 use Rattle.mvsjob.proofs.command_line.settings.Goals as goal
 
 pub returns-in_err-matches-clause-refused : goal.returns-in_err-matches-clause-refused
@@ -27,4 +27,5 @@ returns-clause-taken c =
 pub returns-clause-ok : goal.returns-clause-ok
 returns-clause-ok c =
     let made = c.in_ok-command.ensures in
-    (_, _, assigned _ _ made.0 c.in_ok-matches.matches made.1 made.2 c.in_ok-matches.ensures.matches, c.file.ensures, c.placement.ensures)
+    let found = value_found _ (map string_bytes c.args.words.now) made.0 c.in_ok-matches.matches made.2 c.in_ok-matches.ensures.matches in
+    (made.0, made.1, rw (← found (codes "FILE")) c.file.ensures, rw (← found (codes "place")) c.placement.ensures, rw (← found (codes "random"), ← found (codes "check"), ← found (codes "blank")) c.mode.ensures)
