@@ -3,6 +3,8 @@
 import re
 from pathlib import Path
 
+import annotated
+
 TOP = Path(__file__).resolve().parent.parent
 PREFIX = "JOB REGION BELOW=1\nJOB GETMAIN RU,LV=8,A=X\n"
 
@@ -26,6 +28,8 @@ def wanted(number, statement, said):
     if said.endswith("lines:"):
         return None
     task = statement.split(" ")[0]
+    if " / " in said:
+        return annotated.printed(number, f"{statement} => {said}")
     texts = re.split(r" , then ", said)
     return [t.removeprefix("the line ") if t.startswith("the line ") else f"{number} {task} {t}" for t in texts]
 
