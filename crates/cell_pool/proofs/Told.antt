@@ -1,5 +1,5 @@
 -- What is told of a pool.
-use Rattle.std.proofs.Common.{◌≡◌, ◌≢◌, ℕ, zero, suc, ◌+◌, ◌-◌, ◌*◌, ◌<◌, ◌≤◌, inl, inr, Bool, true, false, Option, Some, None, refl, sym, ap, ◌∙◌, subst, arith, is_some}
+use Rattle.std.proofs.Common.{◌≡◌, ℕ, zero, suc, ◌+◌, ◌*◌, ◌<◌, ◌≤◌, inl, inr, Bool, true, false, Option, Some, None, refl, sym, ap, ◌∙◌, subst, arith, is_some}
 use Rattle.std.specs.Prelude.{MatchBool, MatchOption}
 use Rattle.std.specs.Option.{option_map}
 use Rattle.std.proofs.lemmas.Bool.{cases_lt, and_right}
@@ -13,10 +13,10 @@ use Rattle.mvs_model.specs.Place.{place_at}
 use Rattle.mvs_model.specs.Storage.{Storage, has_address}
 use Rattle.mvs_model.specs.Pools.{Pool, first_cell, IsFreeCell}
 use Rattle.mvs_model.proofs.Decide.{Decided, found_below}
-use Rattle.cell_pool.specs.Layout.{byte_of, count_at, taken_at, flag, head_length}
+use Rattle.cell_pool.specs.Layout.{byte_of, count_at, taken_at, flag}
 use Rattle.cell_pool.specs.Roots.{Root, free_in, part_addr, part_of, is_taken, taken_of, pool_of, pools_of}
 use Rattle.cell_pool.specs.Agree.{AgreeParts, IsCounted}
-use Rattle.cell_pool.specs.Walk.{AllTaken, IsChain, IsTakenAt}
+use Rattle.cell_pool.specs.Walk.{IsChain, IsTakenAt}
 use Rattle.cell_pool.specs.declared.walk.Taken.{Taken}
 use Rattle.cell_pool.proofs.Chains.{part_contained}
 use Rattle.cell_pool.proofs.Frame.{get-pools_of, pool_from}

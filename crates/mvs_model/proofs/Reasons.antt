@@ -1,5 +1,5 @@
 -- Each reason tells the reply.
-use Rattle.std.proofs.Common.{◌≡◌, ℕ, ◌+◌, ◌-◌, ◌<◌, ◌≤◌, ◌⊎◌, inl, inr, Bool, true, false, cond, List, [], ◌∷◌, length, map, Option, Some, None, refl, sym, ap, ◌∙◌, subst, arith, ◌==◌, ◌&&◌, nat_le, MatchBool}
+use Rattle.std.proofs.Common.{◌≡◌, ℕ, ◌+◌, ◌-◌, ◌⊎◌, inl, inr, Bool, true, false, cond, List, [], ◌∷◌, length, map, Option, Some, None, refl, sym, ap, ◌∙◌, subst, arith, ◌==◌, ◌&&◌, nat_le, MatchBool}
 use Rattle.std.specs.Prelude.{not}
 use Rattle.std.specs.List.{AllByRecursion, list_all}
 use Rattle.std.specs.FinMap.{get, len, contains_key}
@@ -13,7 +13,7 @@ use Rattle.mvs_model.specs.declared.code.Code.{Code}
 use Rattle.mvs_model.specs.declared.request.Request.{Request}
 use Rattle.mvs_model.specs.declared.request.Request.TheVariants.{Obtain, ObtainList, Release, ReleaseList, ReleaseWhole, Build, Get, Free, Delete, Attach, Return, Abend, Show, Put, Move}
 use Rattle.mvs_model.specs.declared.request.Reply.{Reply}
-use Rattle.mvs_model.specs.declared.request.Reply.TheVariants.{Rc0, Rc4, Obtained, Listed, Cell, Attached, Ended, Done, Abended}
+use Rattle.mvs_model.specs.declared.request.Reply.TheVariants.{Rc0, Rc4, Obtained, Listed, Cell, Attached, Ended, Done}
 use Rattle.mvs_model.specs.declared.reason.Holder.{Holder}
 use Rattle.mvs_model.specs.declared.reason.Reason.{Reason}
 use Rattle.mvs_model.specs.declared.reason.Reason.TheVariants.{NotActive, InvalidNumber, OffDoubleword, NoSubpool, NotHeld, Overlap, WholeOfZero, PoolInUse, TooManyPools, NoPool, NoFreeCell, NoTakenCell, TaskInUse, TooManyTasks, NotOwned, ActiveSubtask, Asked, NoAccess}
@@ -26,8 +26,8 @@ use Rattle.mvs_model.specs.State.{State, granted}
 use Rattle.mvs_model.specs.Codes.{family, is_conditional, short, bad_subpool, not_held, task_in_use, too_many_tasks, not_owned}
 use Rattle.mvs_model.specs.Changes.{HeldPlain, Misses, Disjoint, Granted, with_part}
 use Rattle.mvs_model.specs.Numbers.{most_tasks, most_pools}
-use Rattle.mvs_model.specs.Steps.{Step, Acts, Abends, Fails, ObtainStep, ObtainListStep, ReleaseStep, ReleaseWholeStep, BuildStep, GetStep, FreeStep, DeleteStep, AttachCase, AttachStep, ReturnStep, Accesses, MayRelease, Plan, is_invalid, on_doubleword, whole, all_granted}
-use Rattle.mvs_model.specs.Reasons.{OfGift, IsUnheld, IsDeniedIn, Meets, IsOverlap, OfNumber, OfPlaces, OfRelease, OfWhole, OfAccess, OfBuild, OfGet, OfFree, OfDelete, OfAttach, OfReturn, OfRequest, IsReason, IsAbend, IsFailure, IsRefusal, IsGranted, IsReplyFor, ReasonsTell, form_of, obtains}
+use Rattle.mvs_model.specs.Steps.{Acts, Abends, Fails, ObtainStep, ObtainListStep, ReleaseStep, ReleaseWholeStep, BuildStep, GetStep, FreeStep, DeleteStep, AttachCase, AttachStep, ReturnStep, Accesses, MayRelease, Plan, is_invalid, on_doubleword, whole, all_granted}
+use Rattle.mvs_model.specs.Reasons.{OfGift, IsUnheld, IsDeniedIn, Meets, IsOverlap, OfNumber, OfPlaces, OfRelease, OfWhole, OfAccess, OfBuild, OfGet, OfFree, OfDelete, OfAttach, OfReturn, OfRequest, IsAbend, IsFailure, IsRefusal, IsGranted, IsReplyFor, ReasonsTell, form_of, obtains}
 use Rattle.mvs_model.proofs.Below.{below_each, each_below}
 use Rattle.mvs_model.proofs.Tests.{true_false, false_true}
 

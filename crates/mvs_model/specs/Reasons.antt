@@ -1,5 +1,5 @@
 -- Why a request is refused: statements about the state before the request, and which reply is given for them.
-use Rattle.std.specs.Prelude.{◌≡◌, ◌≢◌, ◌⊎◌, ℕ, ◌+◌, ◌*◌, ◌/◌, ◌<◌, ◌≤◌, ◌==◌, Bool, true, false, not, nat_le, List, [], ◌∷◌, length, map, Option, Some, None, MatchOption}
+use Rattle.std.specs.Prelude.{◌≡◌, ◌≢◌, ◌⊎◌, ℕ, ◌+◌, ◌*◌, ◌/◌, ◌<◌, ◌≤◌, ◌==◌, Bool, true, false, not, nat_le, List, [], ◌∷◌, length, map, Option, Some, None}
 use Rattle.std.specs.Bool.{MatchBool}
 use Rattle.std.specs.List.{AllByRecursion, list_all}
 use Rattle.std.specs.FinMap.{get, len, contains_key}
@@ -24,7 +24,7 @@ use Rattle.mvs_model.specs.Owners.{Owners, is_active, entry, owns, IsMother, has
 use Rattle.mvs_model.specs.Pools.{Pool, in_parts, IsFreeCell}
 use Rattle.mvs_model.specs.State.{State, plain, granted}
 use Rattle.mvs_model.specs.Codes.{family, is_conditional, short, bad_subpool, bad_address, not_held, whole_of_zero, pool_in_use, too_many_pools, no_such_pool, no_such_cell, active_subtask, no_access, task_in_use, too_many_tasks, not_owned}
-use Rattle.mvs_model.specs.Changes.{HeldPlain, Misses, Disjoint, Releasable, Granted}
+use Rattle.mvs_model.specs.Changes.{HeldPlain, Misses, Releasable, Granted}
 use Rattle.mvs_model.specs.Steps.{Step, is_invalid, on_doubleword, whole}
 use Rattle.mvs_model.specs.Numbers.{most_tasks, most_pools}
 

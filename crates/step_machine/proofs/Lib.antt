@@ -4,6 +4,9 @@ mod Bytes
 mod Cases
 mod Copying
 mod Ending
+mod Firsts
+mod Halves
+mod Holding
 mod Listing
 mod Obtaining
 mod Places

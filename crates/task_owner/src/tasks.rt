@@ -165,6 +165,14 @@ impl Tasks {
         }
     }
 
+    /// The name of the task whose subpool a task means by a number.
+    pub fn keeper_name(&self, t: TaskId, number: SubNo) -> Name
+        requires { IsTask self.now t }
+        ensures { result ≡ keeper self.now.owners (name_of self.now t) number }
+    {
+        seat_at(&self.active, self.keeper(t, number).key).name
+    }
+
     // The job step task, where each task means its subpool by the number.
     fn common_keeper(&self, number: SubNo) -> Option<TaskId>
         ensures { MatchOption result ((t : TheName) → keeper self.now.owners t number ≡ t)

@@ -1,8 +1,8 @@
-use Rattle.std.proofs.Common.{true, false, refl, sym, ◌∙◌, arith}
+use Rattle.std.proofs.Common.{true, false, refl, sym, ◌∙◌}
 use Rattle.mvs_model.specs.Owners.{gives_shared}
 use Rattle.task_owner.specs.Tasks.{name_of}
 use Rattle.task_owner.proofs.tasks.Tasks.refusal.Goals as goal
-use Rattle.task_owner.proofs.Refusing.{refusal_by, full, not_full}
+use Rattle.task_owner.proofs.Refusing.{refusal_by}
 
 pub returns-then-is_full : goal.returns-then-is_full
 returns-then-is_full c =
