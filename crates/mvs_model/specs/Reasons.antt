@@ -1,5 +1,5 @@
 -- Why a request is refused: statements about the state before the request, and which reply is given for them.
-use Rattle.std.specs.Prelude.{◌≡◌, ◌≢◌, ◌⊎◌, ℕ, ◌+◌, ◌*◌, ◌/◌, ◌<◌, ◌≤◌, ◌==◌, Bool, true, false, not, nat_le, List, [], ◌∷◌, length, map, Option, Some, None}
+use Rattle.std.specs.Prelude.{◌≡◌, ◌≢◌, ◌⊎◌, ℕ, ◌+◌, ◌*◌, ◌/◌, ◌%◌, ◌<◌, ◌≤◌, ◌==◌, Bool, true, false, not, nat_le, List, [], ◌∷◌, length, map, Option, Some, None, is_some}
 use Rattle.std.specs.Bool.{MatchBool}
 use Rattle.std.specs.List.{AllByRecursion, list_all}
 use Rattle.std.specs.FinMap.{get, len, contains_key}
@@ -16,17 +16,20 @@ use Rattle.mvs_model.specs.declared.request.Reply.TheVariants.{NotRun, Rc4, NoCe
 use Rattle.mvs_model.specs.declared.reason.Holder.{Holder}
 use Rattle.mvs_model.specs.declared.reason.Holder.TheVariants.{Nobody, Subpool, Unowned, Part}
 use Rattle.mvs_model.specs.declared.reason.Reason.{Reason}
-use Rattle.mvs_model.specs.declared.reason.Reason.TheVariants.{NotActive, InvalidNumber, OffDoubleword, NoSubpool, NotHeld, Overlap, WholeOfZero, PoolInUse, TooManyPools, NoPool, NoFreeCell, NoTakenCell, TaskInUse, TooManyTasks, NotOwned, ActiveSubtask, Asked, NoAccess}
+use Rattle.mvs_model.specs.declared.reason.Reason.TheVariants.{NotActive, InvalidNumber, Shortage, OffDoubleword, NoSubpool, NotHeld, Overlap, WholeOfZero, PoolInUse, TooManyPools, NoPool, NoFreeCell, NoTakenCell, TaskInUse, TooManyTasks, NotOwned, ActiveSubtask, Asked, NoAccess}
 use Rattle.mvs_model.specs.Place.{PlaceValue, place_at}
 use Rattle.mvs_model.specs.Gifts.{GiftsValue, gives}
-use Rattle.mvs_model.specs.Storage.{Covers}
-use Rattle.mvs_model.specs.Owners.{Owners, is_active, entry, owns, IsMother, has_subtask, gives_shared, keeper, subpool_meant}
+use Rattle.mvs_model.specs.Want.{WantValue, want_of}
+use Rattle.mvs_model.specs.Storage.{Regions, Covers, Places, Chosen, NoPlace}
+use Rattle.mvs_model.specs.Finite.{count_below}
+use Rattle.mvs_model.specs.Reports.{page_subpool}
+use Rattle.mvs_model.specs.Owners.{Owners, is_active, entry, owns, IsMother, has_subtask, gives_shared, keeper, subpool_meant, SubpoolOf}
 use Rattle.mvs_model.specs.Pools.{Pool, in_parts, IsFreeCell}
-use Rattle.mvs_model.specs.State.{State, plain, granted}
+use Rattle.mvs_model.specs.State.{State, holder, plain, granted}
 use Rattle.mvs_model.specs.Codes.{family, is_conditional, short, bad_subpool, bad_address, not_held, whole_of_zero, pool_in_use, too_many_pools, no_such_pool, no_such_cell, active_subtask, no_access, task_in_use, too_many_tasks, not_owned}
 use Rattle.mvs_model.specs.Changes.{HeldPlain, Misses, Releasable, Granted}
-use Rattle.mvs_model.specs.Steps.{Step, is_invalid, on_doubleword, whole}
-use Rattle.mvs_model.specs.Numbers.{most_tasks, most_pools}
+use Rattle.mvs_model.specs.Steps.{Step, IsRequest, is_invalid, on_doubleword, whole, side_for}
+use Rattle.mvs_model.specs.Numbers.{most_tasks, most_pools, first_page_below, first_page_above}
 
 -- What holds a doubleword: nothing; outside of the pools a subpool, which its owner has under a number, or which nobody owns;
 -- or a part of a pool.
@@ -111,9 +114,31 @@ OfAccess st (p ∷ ps) r =
 
 -- ---- requests that obtain, and those for cells
 
--- Why an obtain is refused, but for want of a place: its number may not be named.
+-- Why a list is not obtained, but for want of a place: its number may not be named.
 abbrev pub OfNumber : ℕ → Option Reason → Type 0
 OfNumber number r = MatchBool (is_invalid number) (r ≡ Some InvalidNumber) (r ≡ None)
+
+-- The length is the greatest one of whole doublewords for which s has a place on the boundaries and the side that are wanted,
+-- and 0 where there is none.
+pub record IsLongest (r : Regions) (holder : ℕ → Option ℕ) (s : ℕ) (want : WantValue) (n : ℕ) : Type 0 where
+  pub whole : n % 8 ≡ 0
+  pub placed : (n ≡ 0) ⊎ ((a : ℕ) × Places r holder s want n a)
+  pub greatest : (m a : ℕ) → m % 8 ≡ 0 → n < m → Places r holder s want m a → ⊥
+
+-- how many pages of a region, from its first page on, hold nothing
+abbrev pub free_pages : State → ℕ → ℕ → ℕ
+free_pages st first count = count_below count (λ p. not (is_some (page_subpool st (first + p))))
+
+-- Why no place is granted to s: there is none of the least length that is wanted.
+abbrev pub OfPlace : State → ℕ → WantValue → Option Reason → Type 0
+OfPlace st s want r =
+    ((r ≡ None) × ((p : PlaceValue) × Chosen st.regions (holder st) s want p))
+    ⊎ (NoPlace st.regions (holder st) s want
+    × ((n : ℕ) × IsLongest st.regions (holder st) s want n × (r ≡ Some (Shortage n (free_pages st first_page_below st.regions.below) (free_pages st first_page_above st.regions.above)))))
+
+-- Why an obtain is refused: its number may not be named, or there is no place in the subpool that the task has or would have.
+abbrev pub OfObtain : State → Name → ℕ → WantValue → Option Reason → Type 0
+OfObtain st t number want r = MatchBool (is_invalid number) (r ≡ Some InvalidNumber) ((s : ℕ) × SubpoolOf st.owners (keeper st.owners t number) number s × OfPlace st s want r)
 
 -- Why a pool is not made, but for want of a place: for its number, or its name is in use, or 64 pools are there.
 abbrev pub OfBuild : State → Name → ℕ → Option Reason → Type 0
@@ -161,9 +186,9 @@ OfReturn o t r = MatchBool (has_subtask o t) ((x : Name) × IsMother o t x × (r
 
 -- ---- each request
 
--- Why an active task's request is refused, if it is, but for want of a place.
+-- Why an active task's request is refused, if it is, but for want of a place for a list or a part of a pool.
 abbrev pub OfRequest : State → Name → Request → Option Reason → Type 0
-OfRequest st t (Obtain form number ask) r = OfNumber number r
+OfRequest st t (Obtain form number ask) r = OfObtain st t number (want_of ask (side_for st t form ask.loc)) r
 OfRequest st t (ObtainList form number lengths start) r = OfNumber number r
 OfRequest st t (Release form number p) r = OfRelease st t number (p ∷ []) r
 OfRequest st t (ReleaseList form number ps) r = OfRelease st t number ps r
@@ -179,7 +204,8 @@ OfRequest st t (Show a n) r = OfAccess st (place_at a n ∷ []) r
 OfRequest st t (Put a bytes) r = OfAccess st (place_at a (length bytes) ∷ []) r
 OfRequest st t (Move to from n) r = OfAccess st (place_at to n ∷ place_at from n ∷ []) r
 
--- Why a request is refused, if it is, but for want of a place: the task is not active, or what its request says.
+-- Why a request is refused, if it is, but for want of a place for a list or a part of a pool: the task is not active, or what
+-- its request says.
 abbrev pub IsReason : State → Name → Request → Option Reason → Type 0
 IsReason st t request r = MatchBool (not (is_active st.owners t)) (r ≡ Some NotActive) (OfRequest st t request r)
 
@@ -194,13 +220,20 @@ form_of (ReleaseList form number ps) = form
 form_of (ReleaseWhole form number) = form
 form_of _ = Storage
 
--- whether a request may want a place
+-- whether a request obtains storage
 abbrev pub obtains : Request → Bool
 obtains (Obtain form number ask) = true
 obtains (ObtainList form number lengths start) = true
 obtains (Build name number size primary secondary loc) = true
 obtains (Get name conditional) = true
 obtains _ = false
+
+-- whether want of a place for the request has no reason
+abbrev pub is_untold : Request → Bool
+is_untold (ObtainList form number lengths start) = true
+is_untold (Build name number size primary secondary loc) = true
+is_untold (Get name conditional) = true
+is_untold _ = false
 
 -- the code of a task that asks for an abend
 abbrev pub asked_code : Request → ℕ
@@ -218,6 +251,7 @@ IsFailure form code reply = MatchBool (is_conditional form) (reply ≡ Rc4) (IsA
 -- The reply is the one to a request that is refused for the reason.
 abbrev pub IsRefusal : Request → Reason → Reply → Type 0
 IsRefusal request NotActive reply = reply ≡ NotRun
+IsRefusal request (Shortage n below above) reply = IsFailure (form_of request) (short (family (form_of request))) reply
 IsRefusal request InvalidNumber reply = IsAbend (bad_subpool (family (form_of request)) (obtains request)) reply
 IsRefusal request (OffDoubleword a) reply = IsAbend (bad_address (family (form_of request))) reply
 IsRefusal request (NoSubpool keeper) reply = IsFailure (form_of request) (not_held (family (form_of request))) reply
@@ -236,12 +270,12 @@ IsRefusal request (ActiveSubtask x) reply = IsAbend active_subtask reply
 IsRefusal request Asked reply = IsAbend (User (asked_code request)) reply
 IsRefusal request (NoAccess a holder) reply = IsAbend no_access reply
 
--- The reply is no refusal, but for want of a place.
+-- The reply is no refusal, but for want of a place that has no reason.
 abbrev pub IsGranted : Request → Reply → Type 0
 IsGranted request NotRun = ⊥
 IsGranted request NoCell = ⊥
-IsGranted request Rc4 = obtains request ≡ true
-IsGranted request (Abended code fallen) = (obtains request ≡ true) × (code ≡ short (family (form_of request)))
+IsGranted request Rc4 = is_untold request ≡ true
+IsGranted request (Abended code fallen) = (is_untold request ≡ true) × (code ≡ short (family (form_of request)))
 IsGranted request _ = Unit {0}
 
 -- The reply is the one to a request with this reason.
@@ -251,4 +285,4 @@ IsReplyFor request (Some reason) reply = IsRefusal request reason reply
 
 -- Each reason tells the reply: a request that is refused for it, if at all, is answered so.
 abbrev pub ReasonsTell : Type 0
-ReasonsTell = (old new : State) (t : Name) (request : Request) (reply : Reply) (r : Option Reason) → IsReason old t request r → Step old t request reply new → IsReplyFor request r reply
+ReasonsTell = (old new : State) (t : Name) (request : Request) (reply : Reply) (r : Option Reason) → IsRequest request → IsReason old t request r → Step old t request reply new → IsReplyFor request r reply

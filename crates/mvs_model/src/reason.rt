@@ -24,6 +24,9 @@ pub enum Reason {
     NotActive,
     /// A program may not name the subpool number.
     InvalidNumber,
+    /// There is no place of the least length that is wanted: the greatest length that has a place on the same boundaries and
+    /// side, 0 where none has; and how many pages below and above hold nothing.
+    Shortage(u32, u32, u32),
     /// A place begins at this address, which is not on a doubleword.
     OffDoubleword(Addr),
     /// The task whose subpool is meant has none under the number.

@@ -8,6 +8,7 @@ mod Firsts
 mod Halves
 mod Holding
 mod Listing
+mod Longest
 mod Obtaining
 mod Places
 mod Pooling

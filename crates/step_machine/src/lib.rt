@@ -11,6 +11,7 @@ mod obtain_list;
 mod reason;
 mod release;
 mod report;
+mod shortage;
 mod step;
 mod subtasking;
 mod tell;

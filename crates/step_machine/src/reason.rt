@@ -189,13 +189,15 @@ impl Machine {
         self.access_reason(from)
     }
 
-    /// Why an active task's request is refused, if it is, but for want of a place.
+    /// Why an active task's request is refused, if it is, but for want of a place for a list or a part of a pool.
     pub fn reason(&self, name: Name, request: &Request) -> Option<Reason>
         requires { is_active self.now.owners name ≡ true }
         ensures { OfRequest self.now name request.now result }
     {
         match request {
-            Request::Obtain { number, .. } => number_reason(*number),
+            Request::Obtain { form, number, ask } => {
+                self.obtain_reason(name, *form, *number, ask)
+            }
             Request::ObtainList { number, .. } => number_reason(*number),
             Request::Release { number, place, .. } => self.release_reason(name, *number, &[*place]),
             Request::ReleaseList { number, places, .. } => self.release_reason(

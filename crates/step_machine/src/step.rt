@@ -7,7 +7,7 @@ ghost use Rattle.mvs_model.specs.Numbers.{subpool_numbers};
 ghost use Rattle.mvs_model.specs.Owners.{is_active};
 ghost use Rattle.mvs_model.specs.Start.{start};
 ghost use Rattle.mvs_model.specs.Changes.{Granted};
-ghost use Rattle.mvs_model.specs.Steps.{Abends, Acts, Step as MachineStep};
+ghost use Rattle.mvs_model.specs.Steps.{Abends, Acts, IsRequest, Step as MachineStep};
 ghost use Rattle.mvs_model.specs.declared.request.Reply.{Reply as TheReply};
 ghost use Rattle.mvs_model.specs.Reasons.{IsReason, IsReplyFor};
 ghost use Rattle.mvs_model.specs.State.{State};
@@ -163,11 +163,12 @@ impl Step {
         self.machine.map_run(from)
     }
 
-    /// Why a request of the task is refused, if it is, asked before it is made. None also where a place is wanting.
+    /// Why a request of the task is refused, if it is, asked before it is made. None also where a place is wanting for a list
+    /// or a part of a pool.
     pub fn reason(&self, name: &Name, request: &Request) -> Option<Reason>
         ensures reason { IsReason self.now.state name.now request.now result }
         ensures told { (reply : TheReply) (new : State)
-            → MachineStep self.now.state name.now request.now reply new
+            → IsRequest request.now → MachineStep self.now.state name.now request.now reply new
             → IsReplyFor request.now result reply }
     {
         if !self.machine.is_active(*name) {
