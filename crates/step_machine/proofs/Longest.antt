@@ -1,15 +1,14 @@
 -- The greatest length that has a place, and pages that hold nothing.
-use Rattle.std.proofs.Common.{◌≡◌, ℕ, zero, suc, ◌+◌, ◌*◌, ◌%◌, ◌<◌, ◌≤◌, inl, inr, Bool, true, false, cond, Option, Some, None, not, is_some, refl, sym, ap, ◌∙◌, subst, arith}
+use Rattle.std.proofs.Common.{◌≡◌, ℕ, suc, ◌+◌, ◌≤◌, inl, inr, Bool, true, false, cond, Option, Some, None, not, is_some, refl, sym, ap, ◌∙◌, subst, arith}
 use Rattle.std.specs.Prelude.{MatchOption}
 use Rattle.std.proofs.lemmas.Bool.{cases_lt}
 use Rattle.std.specs.FinMap.{FinMap}
-use Rattle.mvs_model.specs.declared.reason.Reason.{Reason}
 use Rattle.mvs_model.specs.declared.reason.Reason.TheVariants.{Shortage}
 use Rattle.mvs_model.specs.Name.{name_cmp}
 use Rattle.mvs_model.specs.Place.{PlaceValue}
 use Rattle.mvs_model.specs.Want.{WantValue, IsWant}
 use Rattle.mvs_model.specs.Finite.{count_below}
-use Rattle.mvs_model.specs.Storage.{Storage, IsStorage, Regions, Meets, Places, Chosen, NoPlace, holder}
+use Rattle.mvs_model.specs.Storage.{Storage, Regions, Places, Chosen, NoPlace, holder}
 use Rattle.mvs_model.specs.Owners.{Owners}
 use Rattle.mvs_model.specs.State.{holder as state_holder}
 use Rattle.mvs_model.specs.Reports.{page_subpool}

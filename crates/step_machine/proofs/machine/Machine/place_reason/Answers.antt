@@ -1,4 +1,4 @@
-use Rattle.std.proofs.Common.{◌≡◌, true, false, Some, None, is_some, sym, subst, ◌∙◌}
+use Rattle.std.proofs.Common.{sym, ◌∙◌}
 use Rattle.step_machine.proofs.Longest.{found_place, no_place, some_chosen, none_chosen}
 use Rattle.step_machine.proofs.machine.Machine.place_reason.Goals as goal
 
