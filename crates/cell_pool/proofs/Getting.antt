@@ -110,7 +110,7 @@ module _ (roots : FinMap name_cmp Root) (old : Storage) (agree : AgreeParts root
   no_pool e o t = (refl, λ reply ended a. subst (λ v. GetStep (state_of old o (pools_of roots old)) t name conditional v reply ended) (sym (get-pools_of roots old name ∙ ap (option_map (pool_of (byte_of old))) e)) a)
 
   module _ (r : Root) (is : get roots name ≡ Some r) (all : AllTaken old r) where
-    none_free : (c : ℕ) → IsFreeCell (pool_of (byte_of old) r) c → ⊥
+    pub none_free : (c : ℕ) → IsFreeCell (pool_of (byte_of old) r) c → ⊥
     none_free c f =
         let ch = chain_of roots old name r agree is in
         let j = contained_part (byte_of old) r f.0.0 f.0.1 in

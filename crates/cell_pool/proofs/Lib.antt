@@ -28,3 +28,4 @@ pub mod Released
 pub mod Deleting
 pub mod Tallied
 pub mod Pooled
+pub mod Told

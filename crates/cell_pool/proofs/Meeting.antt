@@ -21,7 +21,9 @@ use Rattle.cell_pool.proofs.Frame.{root_found, pool_from}
 use Rattle.cell_pool.proofs.Named.{named, entry_of}
 use Rattle.cell_pool.proofs.Only.{part_held}
 use Rattle.cell_pool.specs.Agree.{AgreeParts}
-use Rattle.cell_pool.specs.Cells.{Touches, TouchesNone}
+use Rattle.cell_pool.specs.Cells.{HasPart, Touches, TouchesNone}
+use Rattle.std.specs.Prelude.{MatchOption, is_some}
+use Rattle.mvs_model.specs.declared.name.Name.{Name}
 use Rattle.mvs_model.specs.Finite.{has}
 use Rattle.mvs_model.specs.State.{Holding, pooled, subpool_in}
 use Rattle.mvs_model.specs.Storage.{holder as held_by}
@@ -52,7 +54,7 @@ module _ (st : Storage) (r : Root) (ch : IsChain st r) (j : ℕ) (l : j < r.coun
 
 -- over all pools
 module _ (slots : List (Option Entry)) (roots : FinMap name_cmp Root) (view : roots_of slots ≡ roots) (distinct : IsDistinct slots) (st : Storage) (agree : AgreeParts roots st) (s : ℕ) (p : PlaceValue) where
-  pub touch_test : (b : Bool) → MatchBool b ((k : ℕ) × (x : Entry) × (item_at slots k ≡ Some x) × (x.root.subpool ≡ s) × Meets st x.root p) ((k : ℕ) (x : Entry) → item_at slots k ≡ Some x → x.root.subpool ≡ s → Meets st x.root p → ⊥)
+  touch_test : (b : Bool) → MatchBool b ((k : ℕ) × (x : Entry) × (item_at slots k ≡ Some x) × (x.root.subpool ≡ s) × Meets st x.root p) ((k : ℕ) (x : Entry) → item_at slots k ≡ Some x → x.root.subpool ≡ s → Meets st x.root p → ⊥)
       → MatchBool b (Touches st (pools_of roots st) s p) (TouchesNone st (pools_of roots st) s p)
   touch_test true h =
       let x = h.1 in let m = h.4 in
@@ -73,3 +75,30 @@ module _ (slots : List (Option Entry)) (roots : FinMap name_cmp Root) (view : ro
         let same : Some r.0.subpool ≡ Some s = sym (part_held roots st agree q.0 r.0 j.0 d r.1 j.1 covered) ∙ ev ∙ ap (λ h. subpool_in h) f in
         let is : r.0.subpool ≡ s = cc in
         none x.0 x.1 x.2 (ap (λ (w : Root). w.subpool) x.4 ∙ is) (subst (λ q. Meets st q p) (sym x.4) (j.0, d, j.1, covered, c))
+
+  -- the part of a pool that was met
+  pub met_part : (name : Name) → (k : ℕ) × (x : Entry) × (item_at slots k ≡ Some x) × (x.root.subpool ≡ s) × Meets st x.root p × (x.name ≡ name) → (d : ℕ) × Covers p d × HasPart (pools_of roots st) name d
+  met_part name h =
+      let x = h.1 in let m = h.4 in
+      let is : get roots x.name ≡ Some x.root = sym (ap (λ t. get t x.name) view) ∙ named slots h.0 x distinct h.2 in (
+        m.1,
+        m.4,
+        (
+          pool_of (byte_of st) x.root,
+          ap (get (pools_of roots st)) (sym h.5) ∙ pool_from roots st x.name x.root is,
+          part_from (pool_of (byte_of st) x.root) m.1 (part_of (byte_of st) x.root m.0) (part_contained (byte_of st) x.root m.0 m.2) m.3,
+        ),
+      )
+
+  -- whether one was met, and which
+  abbrev Met : Option Name → Type 0
+  Met v = MatchOption v ((k : ℕ) (x : Entry) → item_at slots k ≡ Some x → x.root.subpool ≡ s → Meets st x.root p → ⊥)
+      (λ name. (k : ℕ) × (x : Entry) × (item_at slots k ≡ Some x) × (x.root.subpool ≡ s) × Meets st x.root p × (x.name ≡ name))
+
+  pub met_test : (v : Option Name) → Met v → (b : Bool) → b ≡ is_some v → MatchBool b (Touches st (pools_of roots st) s p) (TouchesNone st (pools_of roots st) s p)
+  met_test None none b e = subst (λ b. MatchBool b (Touches st (pools_of roots st) s p) (TouchesNone st (pools_of roots st) s p)) (sym e) (touch_test false none)
+  met_test (Some name) h b e = subst (λ b. MatchBool b (Touches st (pools_of roots st) s p) (TouchesNone st (pools_of roots st) s p)) (sym e) (touch_test true (h.0, h.1, h.2, h.3, h.4))
+
+  pub met_told : (v : Option Name) → Met v → MatchOption v (TouchesNone st (pools_of roots st) s p) (λ name. (d : ℕ) × Covers p d × HasPart (pools_of roots st) name d)
+  met_told None none = touch_test false none
+  met_told (Some name) h = met_part name h

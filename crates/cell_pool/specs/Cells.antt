@@ -6,7 +6,7 @@ use Rattle.mvs_model.specs.declared.name.Name.{Name}
 use Rattle.mvs_model.specs.Name.{name_cmp}
 use Rattle.mvs_model.specs.Place.{PlaceValue}
 use Rattle.mvs_model.specs.Storage.{Storage, Covers}
-use Rattle.mvs_model.specs.Pools.{Pool, cell_at}
+use Rattle.mvs_model.specs.Pools.{Pool, cell_at, in_parts}
 use Rattle.mvs_model.specs.State.{pooled}
 use Rattle.mvs_model.specs.View.{holding}
 
@@ -25,3 +25,7 @@ Touches st pools s p = (d : ℕ) × Covers p d × (holding st pools d ≡ Some (
 -- No doubleword of the place is.
 abbrev pub TouchesNone : Storage → FinMap name_cmp Pool → ℕ → PlaceValue → Type 0
 TouchesNone st pools s p = (d : ℕ) → Covers p d → holding st pools d ≢ Some (pooled s)
+
+-- A part of the pool of this name has the doubleword.
+abbrev pub HasPart : FinMap name_cmp Pool → Name → ℕ → Type 0
+HasPart pools name d = (pool : Pool) × (get pools name ≡ Some pool) × (in_parts pool d ≡ true)

@@ -1,14 +1,14 @@
 //! The cell pools of a step.
 
-ghost use Rattle.std.specs.Prelude.{◌≡◌, ◌≢◌, ◌<◌, ◌≤◌, ◌+◌, ◌-◌, ◌*◌, ◌^◌, ◌==◌, ℕ, not, Some, None, IsSome, true, false, IfOk, IfErr, OnOk, OnErr, MatchOption, MatchBool, if◌then◌else◌};
+ghost use Rattle.std.specs.Prelude.{◌≡◌, ◌≢◌, ◌<◌, ◌≤◌, ◌+◌, ◌-◌, ◌*◌, ◌^◌, ◌==◌, ℕ, nat_le, not, Some, None, IsSome, true, false, IfOk, IfErr, OnOk, OnErr, MatchOption, MatchBool, if◌then◌else◌};
 ghost use Rattle.slab.specs.Slab.{get as slab_get};
-ghost use Rattle.mvs_model.specs.Pools.{in_taken};
+ghost use Rattle.mvs_model.specs.Pools.{IsFreeCell, Pool, in_taken};
 ghost use Rattle.mvs_model.specs.Place.{place_at};
 ghost use Rattle.cell_pool.specs.Layout.{byte_of, count_at, head_length};
 ghost use Rattle.cell_pool.specs.Marks.{Marks};
 ghost use Rattle.cell_pool.specs.Walk.{Fills, IsChain, IsFreeAt, IsTakenAt, Meets};
 ghost use Rattle.cell_pool.specs.declared.entry.Entry.{Entry as TheEntry};
-ghost use Rattle.std.specs.FinMap.{get, empty, len};
+ghost use Rattle.std.specs.FinMap.{get, empty, len, contains_key};
 ghost use Rattle.mvs_model.specs.Name.{same_name};
 ghost use Rattle.mvs_model.specs.Numbers.{most_pools};
 ghost use Rattle.mvs_model.specs.Finite.{Keeps};
@@ -19,8 +19,8 @@ ghost use Rattle.mvs_model.specs.declared.request.Reply.TheVariants.{Rc0};
 ghost use Rattle.mvs_model.specs.Owners.{Owners};
 ghost use Rattle.mvs_model.specs.Reports.{bytes_held};
 ghost use Rattle.mvs_model.specs.View.{state_of};
-ghost use Rattle.mvs_model.specs.Storage.{Storage, has_address, is_one_of};
-ghost use Rattle.cell_pool.specs.Cells.{IsTakenCell, Touches, TouchesNone};
+ghost use Rattle.mvs_model.specs.Storage.{Covers, Storage, has_address, is_one_of};
+ghost use Rattle.cell_pool.specs.Cells.{HasPart, IsTakenCell, Touches, TouchesNone};
 ghost use Rattle.std.specs.FinSet as set;
 ghost use Rattle.mvs_model.specs.State.{in_cell};
 ghost use Rattle.mvs_model.specs.Steps.{DeleteStep, FreeStep, GetStep};
@@ -124,50 +124,54 @@ fn cell_of(
     cell_round(store, &entry.root, addr)
 }
 
-// Whether a part of the pool at a key, where it is one of the subpool, has a doubleword of the place.
+// The name of the pool at a key, where it is one of the subpool and a part of it has a doubleword of the place.
 fn entry_meets(
     entries: &Slab<Entry>,
     store: &Store,
     key: usize,
     subpool: SubpoolId,
     place: Place,
-) -> bool
+) -> Option<Name>
     requires { (k : ℕ) (x : TheEntry) → slab_get entries.now k ≡ Some x
         → IsChain store.now.storage x.root }
-    ensures { MatchBool result
-        ((x : TheEntry) × (slab_get entries.now key ≡ Some x) × (x.root.subpool ≡ subpool)
-        × Meets store.now.storage x.root place)
+    ensures { MatchOption result
         ((x : TheEntry) → slab_get entries.now key ≡ Some x → x.root.subpool ≡ subpool
-        → Meets store.now.storage x.root place → ⊥) }
+        → Meets store.now.storage x.root place → ⊥)
+        (λ name. (x : TheEntry) × (slab_get entries.now key ≡ Some x) × (x.root.subpool ≡ subpool)
+        × Meets store.now.storage x.root place × (x.name ≡ name)) }
 {
     let Some(entry) = entries.get(key) else {
-        return false;
+        return None;
     };
     if !entry.root.is_of(subpool) {
-        return false;
+        return None;
     }
-    meets(store, &entry.root, place)
+    if !meets(store, &entry.root, place) {
+        return None;
+    }
+    Some(entry.name)
 }
 
-// Whether a part of one of the subpool's pools has a doubleword of the place.
-fn any_meets(entries: &Slab<Entry>, store: &Store, subpool: SubpoolId, place: Place) -> bool
+// The name of a pool of the subpool of which a part has a doubleword of the place.
+fn any_meets(entries: &Slab<Entry>, store: &Store, subpool: SubpoolId, place: Place) -> Option<Name>
     requires { (k : ℕ) (x : TheEntry) → slab_get entries.now k ≡ Some x
         → IsChain store.now.storage x.root }
-    ensures { MatchBool result
-        ((k : ℕ) × (x : TheEntry) × (slab_get entries.now k ≡ Some x) × (x.root.subpool ≡ subpool)
-        × Meets store.now.storage x.root place)
+    ensures { MatchOption result
         ((k : ℕ) (x : TheEntry) → slab_get entries.now k ≡ Some x → x.root.subpool ≡ subpool
-        → Meets store.now.storage x.root place → ⊥) }
+        → Meets store.now.storage x.root place → ⊥)
+        (λ name. (k : ℕ) × (x : TheEntry) × (slab_get entries.now k ≡ Some x)
+        × (x.root.subpool ≡ subpool) × Meets store.now.storage x.root place × (x.name ≡ name)) }
 {
     if has_none(entries) {
-        return false;
+        return None;
     }
     for key in 0..entries.capacity() {
-        if entry_meets(entries, store, key, subpool, place) {
-            return true;
+        let met = entry_meets(entries, store, key, subpool, place);
+        if met.is_some() {
+            return met;
         }
     }
-    false
+    None
 }
 
 // The part before which all parts are full once the cell is given back.
@@ -487,7 +491,59 @@ impl Pools {
             (Touches store.now.storage (pools_of self.now store.now.storage) subpool place)
             (TouchesNone store.now.storage (pools_of self.now store.now.storage) subpool place) }
     {
+        any_meets(&self.entries, store, subpool, place).is_some()
+    }
+
+    /// The name of a pool of the subpool of which a part has a doubleword of the place, which the subpool holds.
+    pub fn part_in(&self, store: &Store, subpool: SubpoolId, place: Place) -> Option<Name>
+        requires { Agree self.now store.now.storage }
+        ensures { MatchOption result
+            (TouchesNone store.now.storage (pools_of self.now store.now.storage) subpool place)
+            (λ name. (d : ℕ) × Covers place d
+            × HasPart (pools_of self.now store.now.storage) name d) }
+    {
         any_meets(&self.entries, store, subpool, place)
+    }
+
+    /// Whether a pool has the name.
+    pub fn contains(&self, name: &Name) -> bool
+        ensures { (st : Storage) → result ≡ contains_key (pools_of self.now st) name.now }
+    {
+        self.find(name).is_some()
+    }
+
+    /// Whether no more pools can be there.
+    pub fn is_full(&self) -> bool
+        ensures { (st : Storage) → result ≡ nat_le most_pools (len (pools_of self.now st)) }
+    {
+        self.len() >= MOST_POOLS
+    }
+
+    /// Whether a cell of the pool is free. None where no pool has the name.
+    pub fn has_free(&self, name: &Name) -> Option<bool>
+        ensures { (st : Storage) → Agree self.now st
+            → MatchOption result (get (pools_of self.now st) name.now ≡ None)
+            (λ free. (pool : Pool) × (get (pools_of self.now st) name.now ≡ Some pool)
+            × MatchBool free ((c : ℕ) × IsFreeCell pool c) ((c : ℕ) → IsFreeCell pool c → ⊥)) }
+    {
+        let Some(root) = self.find(name) else {
+            return None;
+        };
+        Some(root.has_free())
+    }
+
+    /// Whether a taken cell of the pool begins at the address. None where no pool has the name.
+    pub fn is_taken(&self, store: &Store, name: &Name, cell: Addr) -> Option<bool>
+        requires { Agree self.now store.now.storage }
+        ensures { MatchOption result (get (pools_of self.now store.now.storage) name.now ≡ None)
+            (λ taken. (pool : Pool)
+            × (get (pools_of self.now store.now.storage) name.now ≡ Some pool)
+            × (taken ≡ set.contains pool.taken cell)) }
+    {
+        let Some(root) = self.find(name) else {
+            return None;
+        };
+        Some(find_taken(store, &root, cell.get()).is_some())
     }
 
     /// How many bytes the subpool holds in parts of pools.

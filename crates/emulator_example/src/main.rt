@@ -1,19 +1,20 @@
 //! How an emulator uses the library: each supervisor call of its program is a line, and the answer comes back as a value.
 #![tactic(auto)]
 
-use mvs_job::{LineTold, Session};
+use mvs_job::{LineTold, Session, Why};
 use mvs_model::answer::Answer;
 use mvs_model::code::Code;
 use mvs_model::want::Placement;
 use std::io;
 
 /// What the emulated program asks for.
-const CALLS: [&str; 6] = [
+const CALLS: [&str; 7] = [
     "JOB REGION BELOW=1",
     "JOB GETMAIN RC,LV=16,A=X",
     "JOB PUT X,X'C1C2'",
     "JOB SHOW X,2",
     "JOB WHERE X",
+    "JOB FREEMAIN RC,LV=32,A=X",
     "JOB GETMAIN R,LV=4096,A=Y",
 ];
 
@@ -50,9 +51,13 @@ fn take(rt: &HostRuntime, session: &Session, told: &LineTold) -> io::Result<()> 
 
 fn main(rt: HostRuntime) -> io::Result<()> {
     let mut session = Session::new(rt.alloc(), Placement::Low);
+    let mut why = Why::new();
     for call in CALLS {
         if !session.takes_line() {
             break;
+        }
+        if let Some(reason) = why.reason(session.walk(), call.as_bytes()) {
+            println!(rt; "this will be refused: {reason:?}")?;
         }
         match session.line(call.as_bytes()) {
             Ok(told) => take(&rt, &session, &told)?,

@@ -6,3 +6,4 @@ pub mod Resolved
 pub mod Running
 pub mod Serving
 pub mod Steady
+pub mod Whys

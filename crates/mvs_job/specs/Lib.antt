@@ -5,3 +5,4 @@ pub mod Sessions
 pub mod Steady
 pub mod Streams
 pub mod Telling
+pub mod Why

@@ -20,6 +20,7 @@ ghost use Rattle.mvs_model.specs.State.{State};
 ghost use Rattle.mvs_model.specs.View.{IsBounded};
 ghost use Rattle.step_machine.specs.Reports.{HasNone, IsMapEnd, IsMapRun, IsSubpoolLine};
 ghost use Rattle.mvs_job.specs.Telling.{IsLentBy, card_said};
+ghost use Rattle.mvs_job.specs.Why.{OfStatement};
 
 use job_script::{Names, resolve, set_names};
 use mvs_model::answer::Answer;
@@ -28,6 +29,7 @@ use mvs_model::error::OutOfMemory;
 use mvs_model::line::{Statement, Written};
 use mvs_model::name::Name;
 use mvs_model::place::{Addr, Place};
+use mvs_model::reason::Reason;
 use mvs_model::report::{MapRun, SubpoolLine};
 use mvs_model::request::{Reply, Request};
 use mvs_model::want::Placement;
@@ -176,6 +178,29 @@ impl Job {
         ensures bounded { IsBounded self.now.state.regions }
     {
         self.step.map_run(from)
+    }
+
+    /// Why a statement of the step is refused, if it is, asked before it is served. The request that it asks for is written
+    /// over `request`. A statement with a name that is not set has no reason.
+    pub fn reason(
+        &self,
+        task: &Name,
+        statement: &Statement,
+        request: &mut Request,
+    ) -> Option<Reason>
+        ensures { OfStatement self.now task.now statement.now result }
+    {
+        let active = self.step.is_active(task);
+        if !active {
+            return Some(Reason::NotActive);
+        }
+        let Statement::Request(written) = statement else {
+            return None;
+        };
+        let Some(()) = resolve(&self.names, written, request) else {
+            return None;
+        };
+        self.step.reason(task, request)
     }
 
     // Serves a request of an active task.

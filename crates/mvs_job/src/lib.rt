@@ -8,9 +8,11 @@ mod run;
 mod session;
 mod stream;
 mod walk;
+mod why;
 
 pub use job::Job;
 pub use printing::{Stop, print_closing, print_line};
 pub use run::{RunFault, run_job};
 pub use session::Session;
 pub use walk::{Closing, LineTold, Stopped, Walk};
+pub use why::Why;

@@ -80,7 +80,7 @@ impl Model for Walk {
 }
 
 // The card of a REGION statement of a task; the other statements have none.
-fn card_of(task: &Name, statement: &Statement) -> Option<Card>
+pub(crate) fn card_of(task: &Name, statement: &Statement) -> Option<Card>
     requires { (first : Bool) × IsStatement first task.now statement.now }
     ensures card { result ≡ card_said task.now statement.now }
     ensures in_range { IfSome result IsCard }

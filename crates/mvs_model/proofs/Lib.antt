@@ -1,6 +1,7 @@
 pub mod Types
 pub mod Tests
 pub mod Below
+pub mod Reasons
 pub mod Requested
 pub mod CellPlaces
 pub mod Decide

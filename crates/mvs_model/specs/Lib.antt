@@ -15,6 +15,7 @@ pub mod Start
 pub mod Changes
 pub mod Steps
 pub mod Answered
+pub mod Reasons
 -- The script: how a line is read, what is printed, the runs of a job, and the label machine.
 pub mod Grammar
 pub mod Reading

@@ -1,6 +1,7 @@
 //! Laws of the machine, over every run: each function has an empty body, and its contract is the law.
 
 ghost use Rattle.mvs_model.specs.Laws.{PagesKept, NeverStuck, PartsApart, KeptWellFormed, EachIsPrinted, SameFault};
+ghost use Rattle.mvs_model.specs.Reasons.{ReasonsTell};
 ghost use Rattle.mvs_model.specs.Sparing.{BytesStay, GrantsSpare};
 ghost use Rattle.mvs_model.specs.Tidy.{OneLabelRun, PlacesAreNotPrinted, PlacesDoNotMatter, TidyRun, TidyStep, TidyText};
 ghost use Rattle.mvs_model.specs.TidyExamples.{BusyReturn, GivenEnds, MovesInFull, MovesOverlap};
@@ -38,6 +39,12 @@ pub fn bytes_stay()
 /// An obtain that is granted is a request that neither writes nor releases any byte, and ends no owner.
 pub fn grants_spare()
     ensures { GrantsSpare }
+{}
+
+/// A request that has a reason is answered with the refusal for it, and one that has none is not refused, but for want of a
+/// place.
+pub fn reasons_tell()
+    ensures { ReasonsTell }
 {}
 
 /// Each script has a printing.

@@ -14,6 +14,7 @@ pub mod name;
 pub mod numbers;
 pub mod outcome;
 pub mod place;
+pub mod reason;
 pub mod report;
 pub mod request;
 pub mod short_list;

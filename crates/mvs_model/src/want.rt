@@ -74,6 +74,14 @@ impl Want {
         }
     }
 
+    /// The same from a doubleword on.
+    pub fn from_doubleword(&self) -> Want
+        ensures same { result ≡ record self.now { least = 8 } }
+        ensures wanted { IsWant self.now }
+    {
+        Want { least: 8, ..*self }
+    }
+
     /// The least length in bytes.
     pub fn least(&self) -> u32
         ensures least { result ≡ self.now.least }

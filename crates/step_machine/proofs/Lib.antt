@@ -4,7 +4,11 @@ mod Bytes
 mod Cases
 mod Copying
 mod Ending
+mod Firsts
+mod Halves
+mod Holding
 mod Listing
+mod Longest
 mod Obtaining
 mod Places
 mod Pooling

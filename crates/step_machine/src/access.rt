@@ -71,7 +71,7 @@ fn is_plain(store: &Store, pools: &Pools, place: Place) -> bool
 }
 
 // Whether each byte of a place may be read and written.
-fn may_access(store: &Store, pools: &Pools, place: Place) -> bool
+pub(crate) fn may_access(store: &Store, pools: &Pools, place: Place) -> bool
     requires { Agree pools.now store.now.storage }
     ensures granted { (o : Owners)
         → IsTrue result ↔ Granted (machine_state pools.now store.now.storage o) place }

@@ -4,13 +4,17 @@
 mod access;
 mod cells;
 mod codes;
+mod holder;
 mod machine;
 mod obtain;
 mod obtain_list;
+mod reason;
 mod release;
 mod report;
+mod shortage;
 mod step;
 mod subtasking;
 mod tell;
+mod unreleased;
 
 pub use step::Step;

@@ -30,14 +30,14 @@ use std::ops::Range;
 use subpool_store::{NotHeld, Store};
 
 // The place with its length rounded up to doublewords.
-fn whole(place: Place) -> Place
+pub(crate) fn whole(place: Place) -> Place
     ensures { result ≡ step.whole place }
 {
     Place::new(place.addr(), place.len().div_ceil(8) * 8)
 }
 
 // Whether the place begins on a doubleword.
-fn is_on_doubleword(place: Place) -> bool
+pub(crate) fn is_on_doubleword(place: Place) -> bool
     ensures { result ≡ step.on_doubleword place }
 {
     place.addr().get() % 8 == 0
@@ -78,7 +78,7 @@ pub(crate) fn is_outside_pools(
 }
 
 // Whether the subpool holds a place outside of cell pools.
-fn holds_plain(store: &Store, pools: &Pools, subpool: SubpoolId, place: Place) -> bool
+pub(crate) fn holds_plain(store: &Store, pools: &Pools, subpool: SubpoolId, place: Place) -> bool
     requires agree { Agree pools.now store.now.storage }
     requires whole { IsWhole place }
     ensures { (o : Owners)
@@ -109,7 +109,7 @@ fn holds_each(store: &Store, pools: &Pools, subpool: SubpoolId, places: &[Place]
 }
 
 // The doublewords that a place has a byte of, its length rounded up.
-fn doublewords(place: Place) -> Range<u32>
+pub(crate) fn doublewords(place: Place) -> Range<u32>
     ensures first { result.start ≡ place.addr / 8 }
     ensures end { result.end ≡ (place.addr + round8 place.len + 7) / 8 }
     ensures some { 1 ≤ place.len }

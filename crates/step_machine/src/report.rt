@@ -64,7 +64,7 @@ fn first_entry(tasks: &Tasks, t: TaskId, from: u8) -> Option<(SubNo, SubpoolId)>
 }
 
 // The subpool that a page is assigned to.
-fn page_owner(store: &Store, page: u32) -> Option<SubpoolId>
+pub(crate) fn page_owner(store: &Store, page: u32) -> Option<SubpoolId>
     requires storage { IsStorage store.now.storage }
     requires low { page < first_page_above + most_pages_above }
     ensures { result ≡ page_holder store.now.storage page }

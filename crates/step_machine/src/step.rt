@@ -7,7 +7,10 @@ ghost use Rattle.mvs_model.specs.Numbers.{subpool_numbers};
 ghost use Rattle.mvs_model.specs.Owners.{is_active};
 ghost use Rattle.mvs_model.specs.Start.{start};
 ghost use Rattle.mvs_model.specs.Changes.{Granted};
-ghost use Rattle.mvs_model.specs.Steps.{Abends, Acts, Step as MachineStep};
+ghost use Rattle.mvs_model.specs.Steps.{Abends, Acts, IsRequest, Step as MachineStep};
+ghost use Rattle.mvs_model.specs.declared.request.Reply.{Reply as TheReply};
+ghost use Rattle.mvs_model.specs.Reasons.{IsReason, IsReplyFor};
+ghost use Rattle.mvs_model.specs.State.{State};
 ghost use Rattle.mvs_model.specs.Replies.{is_abend};
 ghost use Rattle.mvs_model.specs.Answered.{Answered};
 ghost use Rattle.step_machine.specs.Reports.{HasNone, IsMapEnd, IsMapRun, IsSubpoolLine};
@@ -21,6 +24,7 @@ use mvs_model::code::Code;
 use mvs_model::error::OutOfMemory;
 use mvs_model::name::Name;
 use mvs_model::place::{Addr, Place};
+use mvs_model::reason::Reason;
 use mvs_model::report::{MapRun, SubpoolLine};
 use mvs_model::request::{Reply, Request};
 use mvs_model::want::Placement;
@@ -157,6 +161,20 @@ impl Step {
         ensures { MatchOption result (IsMapEnd self.now.state from) (IsMapRun self.now.state from) }
     {
         self.machine.map_run(from)
+    }
+
+    /// Why a request of the task is refused, if it is, asked before it is made. None also where a place is wanting for a list
+    /// or a part of a pool.
+    pub fn reason(&self, name: &Name, request: &Request) -> Option<Reason>
+        ensures reason { IsReason self.now.state name.now request.now result }
+        ensures told { (reply : TheReply) (new : State)
+            → IsRequest request.now → MachineStep self.now.state name.now request.now reply new
+            → IsReplyFor request.now result reply }
+    {
+        if !self.machine.is_active(*name) {
+            return Some(Reason::NotActive);
+        }
+        self.machine.reason(*name, request)
     }
 
     // Ends a task that abends, and writes the reply. It stands alone, since the compiler clears the place of the names in the

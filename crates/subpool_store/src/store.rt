@@ -159,6 +159,15 @@ impl Store {
         Found::new(longer(above.place, below.place), above.steps + below.steps)
     }
 
+    /// The place that an `obtain` takes, which is not made.
+    pub fn find(&self, subpool: SubpoolId, want: &Want) -> Option<Place>
+        ensures { MatchOption result
+            (NoPlace self.now.storage.regions (holder self.now.storage) subpool want.now)
+            (Chosen self.now.storage.regions (holder self.now.storage) subpool want.now) }
+    {
+        self.search(subpool, want).place
+    }
+
     // Gives an open place to the subpool and fills it.
     fn take(&mut self, subpool: SubpoolId, place: Place)
         requires open { Open self.old.storage.regions (holder self.old.storage) subpool place }

@@ -1,5 +1,6 @@
 -- The subtasks that a task attached.
-use Rattle.std.proofs.Common.{◌≡◌, ℕ, Bool, true, false, List, Option, Some, None, is_some, IsTrue, sym, ap, refl, ◌∙◌}
+use Rattle.std.proofs.Common.{◌≡◌, ℕ, Bool, true, false, List, Option, Some, None, is_some, IsTrue, sym, ap, subst, refl, ◌∙◌, ◌≢◌}
+use Rattle.std.specs.Prelude.{MatchOption, IfSome}
 use Rattle.std.proofs.lemmas.List.Folds.{Any-from_list_any, list_any-from_Any}
 use Rattle.std.proofs.lemmas.Map.Views.{Contains-from_any}
 use Rattle.std.specs.List.{list_any, Contains}
@@ -8,7 +9,7 @@ use Rattle.std.specs.FinMap.{FinMap, get, keys, contains_key-keys}
 use Rattle.mvs_model.specs.declared.name.Name.{Name}
 use Rattle.mvs_model.specs.Name.{name_cmp, same_name}
 use Rattle.mvs_model.specs.Finite.{has}
-use Rattle.mvs_model.specs.Owners.{Task, has_subtask}
+use Rattle.mvs_model.specs.Owners.{Task, IsMother, has_subtask}
 use Rattle.mvs_model.proofs.Orders.{same_name_is, same_name_self}
 use Rattle.task_owner.specs.Tasks.{TasksValue, IsTask, name_of}
 use Rattle.task_owner.specs.Seats.{item_at, seat_named, mother_of, task_of, directory, IsSound, Distinct}
@@ -66,3 +67,26 @@ subtask_test seats owned d key id e f sound active r there back = same_test r (h
       let y = of_mapped (task_of seats) (seat_named seats q.0) q.1 (sym (view-task seats owned q.0) ∙ ap (λ (v : TasksValue). get v.owners.tasks q.0) e ∙ q.2) in
       let at = found_at seats q.0 y.0 y.1 in
       back (at.0, y.0, at.1, mother_key seats sound.distinct y.0.mother key mother.0 mother.1 (ap (λ n. has (same_name n) (mother_of seats y.0.mother)) (sym named) ∙ ap (λ (t : Task). has (same_name (name_of d id)) t.mother) y.2 ∙ q.3))
+
+-- what is told of a subtask that was looked for
+pub child_test : (seats : List (Option Seat)) (owned : List (Option Owned)) (d : TasksValue) (key id : ℕ) (e : directory seats owned ≡ d) (f : key ≡ id) (sound : IsSound seats owned) (active : IsTask d id)
+    → (r : Option Name) → MatchOption r ((k : ℕ) (x : Seat) → item_at seats k ≡ Some x → x.mother ≢ Some key) (λ name. (k : ℕ) × (x : Seat) × (item_at seats k ≡ Some x) × (x.mother ≡ Some key) × (x.name ≡ name))
+    → is_some r ≡ has_subtask d.owners (name_of d id)
+child_test seats owned d key id e f sound active None none = subtask_test seats owned d key id e f sound active false (λ t. absurd (let g : false ≡ true = t in cc)) (λ c. absurd (none c.0 c.1 c.2 c.3))
+child_test seats owned d key id e f sound active (Some name) h = subtask_test seats owned d key id e f sound active true (λ _. (h.0, h.1, h.2, h.3)) (λ _. refl)
+
+child_mother : (seats : List (Option Seat)) (owned : List (Option Owned)) (d : TasksValue) (key id : ℕ) (e : directory seats owned ≡ d) (f : key ≡ id) (sound : IsSound seats owned) (active : IsTask d id)
+    → (name : Name) → (k : ℕ) × (x : Seat) × (item_at seats k ≡ Some x) × (x.mother ≡ Some key) × (x.name ≡ name) → IsMother d.owners (name_of d id) name
+child_mother seats owned d key id e f sound active name h =
+    let mother = the_seat seats owned d key id e f active in
+    subst (λ n. IsMother d.owners (name_of d id) n) h.4 (
+      task_of seats h.1,
+      a_task seats owned d h.0 h.1 e sound h.2,
+      ap (mother_of seats) h.3 ∙ ap (option_map (λ y. y.name)) mother.1 ∙ ap Some (sym (name_is seats owned d key id e f sound mother.0 mother.1)),
+    )
+
+pub child_told : (seats : List (Option Seat)) (owned : List (Option Owned)) (d : TasksValue) (key id : ℕ) (e : directory seats owned ≡ d) (f : key ≡ id) (sound : IsSound seats owned) (active : IsTask d id)
+    → (r : Option Name) → MatchOption r ((k : ℕ) (x : Seat) → item_at seats k ≡ Some x → x.mother ≢ Some key) (λ name. (k : ℕ) × (x : Seat) × (item_at seats k ≡ Some x) × (x.mother ≡ Some key) × (x.name ≡ name))
+    → IfSome r (λ name. IsMother d.owners (name_of d id) name)
+child_told seats owned d key id e f sound active None h = tt
+child_told seats owned d key id e f sound active (Some name) h = child_mother seats owned d key id e f sound active name h

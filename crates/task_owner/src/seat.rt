@@ -91,17 +91,19 @@ pub(crate) fn find_first(active: &Slab<Seat>) -> Option<usize>
     None
 }
 
-// Whether a task has the mother at the key.
-pub(crate) fn has_child(active: &Slab<Seat>, mother: usize) -> bool
-    ensures { IsTrue result
-        ↔ ((k : ℕ) × (x : Seat) × (get active.now k ≡ Some x) × (x.mother ≡ Some mother)) }
+// The name of a task that has the mother at the key.
+pub(crate) fn find_child(active: &Slab<Seat>, mother: usize) -> Option<Name>
+    ensures { MatchOption result
+        ((k : ℕ) (x : Seat) → get active.now k ≡ Some x → x.mother ≢ Some mother)
+        (λ name. (k : ℕ) × (x : Seat) × (get active.now k ≡ Some x) × (x.mother ≡ Some mother)
+        × (x.name ≡ name)) }
 {
     for (_, seat) in active.iter() {
         if seat.mother == Some(mother) {
-            return true;
+            return Some(seat.name);
         }
     }
-    false
+    None
 }
 
 // The lowest subpool without an owner.

@@ -1,14 +1,15 @@
 //! The active tasks and their subpools.
 
-ghost use Rattle.std.specs.Prelude.{◌≡◌, ◌≢◌, ◌<◌, ◌≤◌, ◌↔◌, ℕ, true, false, not, IsTrue, is_some, IfSome, IfOk, IfErr, OnOk, OnErr, MatchOption, Some, None, [], length, slice_index_or};
+ghost use Rattle.std.specs.Prelude.{◌≡◌, ◌≢◌, ◌<◌, ◌≤◌, ◌↔◌, ℕ, nat_le, true, false, not, IsTrue, is_some, IfSome, IfOk, IfErr, OnOk, OnErr, MatchOption, Some, None, [], length, slice_index_or};
 ghost use Rattle.std.specs.List.{Contains};
 ghost use Rattle.std.specs.List.Sorted.{IsStrictlySortedBy};
 ghost use Rattle.std.specs.Ordering.{nat_cmp};
 ghost use Rattle.std.specs.FinMap.{get, len};
 ghost use Rattle.mvs_model.specs.Finite.{has, kept};
+ghost use Rattle.mvs_model.specs.Gifts.{gives};
 ghost use Rattle.mvs_model.specs.Kept.{OwnersKept};
 ghost use Rattle.mvs_model.specs.Numbers.{most_subpools, most_tasks, subpool_numbers, task_numbers};
-ghost use Rattle.mvs_model.specs.Owners.{entry, keeper, subpool_meant, is_active, has_subtask, owns, IsSpare, Binds, IsFallen, goes, ends_with, Ends, Attach, attach_refusal, gives_shared};
+ghost use Rattle.mvs_model.specs.Owners.{entry, keeper, subpool_meant, is_active, has_subtask, owns, IsMother, IsSpare, Binds, IsFallen, goes, ends_with, Ends, Attach, attach_refusal, gives_shared};
 ghost use Rattle.mvs_model.specs.declared.name.Name.{Name as TheName};
 ghost use Rattle.mvs_model.specs.Start.{first_owners};
 ghost use Rattle.task_owner.specs.Handing.{GetsEntry, SharesBelow, Admits};
@@ -18,7 +19,7 @@ use crate::family::{remove_alone, remove_family};
 use crate::freed::free_subpools;
 use crate::handing::{hand_over, pass_on};
 use crate::seat::{
-    Owned, SLOTS, Seat, enter, find_first, find_key, first_spare, has_child, no_owners, seat_at,
+    Owned, SLOTS, Seat, enter, find_child, find_first, find_key, first_spare, no_owners, seat_at,
 };
 use mvs_model::code::Code;
 use mvs_model::error::OutOfMemory;
@@ -131,7 +132,17 @@ impl Tasks {
         requires { IsTask self.now t }
         ensures { result ≡ has_subtask self.now.owners (name_of self.now t) }
     {
-        has_child(&self.active, t.key)
+        self.subtask(t).is_some()
+    }
+
+    /// A subtask of the task that is active.
+    pub fn subtask(&self, t: TaskId) -> Option<Name>
+        requires { IsTask self.now t }
+        ensures active { is_some result ≡ has_subtask self.now.owners (name_of self.now t) }
+        ensures subtask { IfSome result
+            (λ x. IsMother self.now.owners (name_of self.now t) x) }
+    {
+        find_child(&self.active, t.key)
     }
 
     /// Where the task's program resides (Assembler Services Reference, GETMAIN, LOC=RES).
@@ -152,6 +163,14 @@ impl Tasks {
             Some(first) => first,
             None => t,
         }
+    }
+
+    /// The name of the task whose subpool a task means by a number.
+    pub fn keeper_name(&self, t: TaskId, number: SubNo) -> Name
+        requires { IsTask self.now t }
+        ensures { result ≡ keeper self.now.owners (name_of self.now t) number }
+    {
+        seat_at(&self.active, self.keeper(t, number).key).name
     }
 
     // The job step task, where each task means its subpool by the number.
@@ -295,28 +314,42 @@ impl Tasks {
         if self.find(name).is_some() {
             return Some(Code::TASK_IN_USE);
         }
-        if self.active.len() >= MOST_TASKS {
+        if self.is_full() {
             return Some(Code::TOO_MANY_TASKS);
         }
-        if self.gives_shared(mother, gifts) {
+        if self.shared_gift(mother, gifts).is_some() {
             return Some(Code::NOT_OWNED);
         }
         None
     }
 
-    // Whether the task gives a subpool that it does not own.
-    fn gives_shared(&self, mother: TaskId, gifts: &Gifts) -> bool
+    /// Whether no more tasks can be active.
+    pub fn is_full(&self) -> bool
+        ensures { result ≡ nat_le most_tasks (len self.now.owners.tasks) }
+    {
+        self.active.len() >= MOST_TASKS
+    }
+
+    /// A number that the task gives, under which it has a subpool that it does not own.
+    pub fn shared_gift(&self, mother: TaskId, gifts: &Gifts) -> Option<SubNo>
         requires { IsTask self.now mother }
-        ensures { result ≡ gives_shared self.now.owners (name_of self.now mother) gifts.now }
+        ensures given { is_some result
+            ≡ gives_shared self.now.owners (name_of self.now mother) gifts.now }
+        ensures gift { IfSome result
+            (λ n. (gives gifts.now n ≡ true)
+            × (has (λ s. not (owns self.now.owners (name_of self.now mother) s))
+            (entry self.now.owners (name_of self.now mother) n)
+            ≡ true)) }
     {
         let mut from = 0;
         'given: while let Some(number) = gifts.first_given(from) {
-            if self.is_shared(mother, SubNo::of(number)) {
-                return true;
+            let shared = SubNo::of(number);
+            if self.is_shared(mother, shared) {
+                return Some(shared);
             }
             from = number + 1;
         }
-        false
+        None
     }
 
     // Whether the task has a subpool under the number and does not own it.

@@ -2,7 +2,7 @@ use Rattle.std.proofs.Common.{◌≡◌, ◌≤◌, ◌-◌, false}
 use Rattle.mvs_model.specs.Finite.{any_below}
 use Rattle.task_owner.specs.Tasks.{name_of}
 use Rattle.task_owner.specs.Handing.{is_shared_gift}
-use Rattle.task_owner.proofs.tasks.Tasks.gives_shared.Given as goal
+use Rattle.task_owner.proofs.tasks.Tasks.shared_gift.Given as goal
 
 abbrev pub invariant-given : goal.invariant-given
 invariant-given l = record {

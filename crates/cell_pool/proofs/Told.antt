@@ -1,0 +1,95 @@
+-- What is told of a pool.
+use Rattle.std.proofs.Common.{◌≡◌, ℕ, zero, suc, ◌+◌, ◌*◌, ◌<◌, ◌≤◌, inl, inr, Bool, true, false, Option, Some, None, refl, sym, ap, ◌∙◌, subst, arith, is_some}
+use Rattle.std.specs.Prelude.{MatchBool, MatchOption}
+use Rattle.std.specs.Option.{option_map}
+use Rattle.std.proofs.lemmas.Bool.{cases_lt, and_right}
+use Rattle.std.proofs.lemmas.Bool.Decides.{nat_tests}
+use Rattle.std.specs.FinMap.{FinMap, get}
+use Rattle.std.specs.FinSet as set
+use Rattle.mvs_model.specs.declared.name.Name.{Name}
+use Rattle.mvs_model.specs.Name.{name_cmp}
+use Rattle.mvs_model.specs.Finite.{count_below}
+use Rattle.mvs_model.specs.Place.{place_at}
+use Rattle.mvs_model.specs.Storage.{Storage, has_address}
+use Rattle.mvs_model.specs.Pools.{Pool, first_cell, IsFreeCell}
+use Rattle.mvs_model.proofs.Decide.{Decided, found_below}
+use Rattle.cell_pool.specs.Layout.{byte_of, count_at, taken_at, flag}
+use Rattle.cell_pool.specs.Roots.{Root, free_in, part_addr, part_of, is_taken, taken_of, pool_of, pools_of}
+use Rattle.cell_pool.specs.Agree.{AgreeParts, IsCounted}
+use Rattle.cell_pool.specs.Walk.{IsChain, IsTakenAt}
+use Rattle.cell_pool.specs.declared.walk.Taken.{Taken}
+use Rattle.cell_pool.proofs.Chains.{part_contained}
+use Rattle.cell_pool.proofs.Frame.{get-pools_of, pool_from}
+use Rattle.cell_pool.proofs.Getting.{none_free}
+use Rattle.cell_pool.proofs.Opening.{all_taken, counts, not_all}
+use Rattle.cell_pool.proofs.Taken.{contains-taken, set_from}
+use Rattle.cell_pool.proofs.Walking.{chain_of, has_cell, not_set}
+
+-- where some cell is free, a part has more cells than are taken
+some_part : (m : ℕ → ℕ) (first n : ℕ) → 1 ≤ free_in m first n → (j : ℕ) × (j < n) × (taken_at m (part_addr m first j) < count_at m (part_addr m first j))
+unfolding free_in
+some_part m first zero l = absurd (omega arith)
+some_part m first (suc n) l = elim (cases_lt (taken_at m (part_addr m first n)) (count_at m (part_addr m first n))) [
+  | inl k ↦ (n, omega arith, k)
+  | inr k ↦ (let r = some_part m first n (omega arith) in (r.0, (let h : r.0 < n = r.1 in omega arith), r.2))
+]
+
+flag_decided : (b : Bool) → Decided (b ≡ false)
+flag_decided true = inr (λ e. let f : true ≡ false = e in cc)
+flag_decided false = inl refl
+
+is_set : (b : Bool) → (b ≡ false → ⊥) → b ≡ true
+is_set true h = refl
+is_set false h = absurd (h refl)
+
+-- and a cell of it is free
+clear_flag : (count : ℕ) (f : ℕ → Bool) → count_below count f < count → (i : ℕ) × (i < count) × (f i ≡ false)
+clear_flag count f l = elim (found_below (λ i. f i ≡ false) (λ i. flag_decided (f i)) count) [ inl g ↦ g | inr none ↦ absurd (not_all count f l (λ i k. is_set (f i) (none i k))) ]
+
+module _ (roots : FinMap name_cmp Root) (st : Storage) (agree : AgreeParts roots st) (name : Name) where
+  pub no_pool : get roots name ≡ None → get (pools_of roots st) name ≡ None
+  no_pool e = get-pools_of roots st name ∙ ap (option_map (pool_of (byte_of st))) e
+
+  module _ (r : Root) (is : get roots name ≡ Some r) where
+    ch : IsChain st r
+    ch = chain_of roots st name r agree is
+
+    some_cell : IsCounted (byte_of st) r → 1 ≤ r.free → (c : ℕ) × IsFreeCell (pool_of (byte_of st) r) c
+    some_cell counted l =
+        let m = byte_of st in
+        let free = counted.free in
+        let j = some_part m r.first r.count (omega arith) in
+        let a = part_addr m r.first j.0 in
+        let taken = counts st r ch j.0 j.1 a refl in
+        let few : taken_at m a < count_at m a = j.2 in
+        let i = clear_flag (count_at m a) (flag m a) (omega arith) in
+        let c = first_cell r.cell_size (part_of m r j.0) + i.0 * r.cell_size in (
+          c,
+          (
+            (part_of m r j.0, part_contained m r j.0 j.1, (i.0, i.1, refl)),
+            contains-taken m r c ∙ and_right _ _
+                (not_set st r ch a (count_at m a) (taken_at m a) c (record { number = j.0; is_part = j.1; addr = refl; cells = refl; of_taken = refl; of_past = refl }) (has_cell st r ch j.0 i.0 c j.1 i.1 refl)
+                (first_cell r.cell_size (part_of m r j.0)) r.cell_size i.0 (omega arith) refl refl i.2),
+          ),
+        )
+
+    -- whether a cell is free
+    pub free_told : IsCounted (byte_of st) r → (b : Bool) → MatchBool b (1 ≤ r.free) (r.free ≡ 0)
+        → (pool : Pool) × (get (pools_of roots st) name ≡ Some pool) × MatchBool b ((c : ℕ) × IsFreeCell pool c) ((c : ℕ) → IsFreeCell pool c → ⊥)
+    free_told counted true l = (pool_of (byte_of st) r, pool_from roots st name r is, some_cell counted l)
+    free_told counted false e = (pool_of (byte_of st) r, pool_from roots st name r is, none_free roots st agree name true r is (all_taken st r ch counted e))
+
+    cell_set : (a i taken : ℕ) {past : Bool} (c : ℕ) → IsTakenAt st r a i taken past c → set.contains (taken_of (byte_of st) r) c ≡ true
+    cell_set a i taken c spot =
+        let low : i < count_at (byte_of st) (part_addr (byte_of st) r.first spot.number) = subst (λ b. i < count_at (byte_of st) b) spot.addr spot.is_cell in
+        let has : has_address (part_of (byte_of st) r spot.number).place c ≡ true = has_cell st r ch spot.number i c spot.is_part low spot.at in
+        set_from (byte_of st) r c (small c _ _ has (ch.low spot.number spot.is_part))
+        (record { part = spot.number; cell = i; is_part = spot.is_part; is_cell = low; at = spot.at; set = subst (λ b. flag (byte_of st) b i ≡ true) spot.addr spot.set }) where
+          small : (c a n : ℕ) → has_address (place_at a n) c ≡ true → a + n ≤ 0x3000000 → c < 2147483648
+          small c a n e l = let h : c < a + n = grind (arith, nat_tests) in omega arith
+
+    -- whether a taken cell begins at an address
+    pub taken_told : (x c : ℕ) (v : Option Taken) (b : Bool) → x ≡ c → b ≡ is_some v → MatchOption v (is_taken (byte_of st) r x ≡ false) (λ s. IsTakenAt st r s.part s.cell s.taken s.past x)
+        → (pool : Pool) × (get (pools_of roots st) name ≡ Some pool) × (b ≡ set.contains pool.taken c)
+    taken_told x c None b same e h = (pool_of (byte_of st) r, pool_from roots st name r is, e ∙ sym (ap (set.contains (taken_of (byte_of st) r)) (sym same) ∙ contains-taken (byte_of st) r x ∙ and_right _ _ h))
+    taken_told x c (Some s) b same e h = (pool_of (byte_of st) r, pool_from roots st name r is, e ∙ sym (ap (set.contains (taken_of (byte_of st) r)) (sym same) ∙ cell_set s.part s.cell s.taken x h))

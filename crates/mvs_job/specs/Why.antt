@@ -1,0 +1,47 @@
+-- Why the next line of a job is refused.
+use Rattle.std.specs.Prelude.{◌≡◌, ◌⊎◌, false, not, List, ℕ, Option, Some, None}
+use Rattle.std.specs.Bool.{MatchBool}
+use Rattle.mvs_model.specs.declared.name.Name.{Name}
+use Rattle.mvs_model.specs.declared.line.Line.{Line}
+use Rattle.mvs_model.specs.declared.line.Line.TheVariants as line
+use Rattle.mvs_model.specs.declared.line.Statement.{Statement}
+use Rattle.mvs_model.specs.declared.line.Statement.TheVariants as says
+use Rattle.mvs_model.specs.declared.line.Fault.{Fault}
+use Rattle.mvs_model.specs.declared.request.Request.{Request}
+use Rattle.mvs_model.specs.declared.reason.Reason.{Reason}
+use Rattle.mvs_model.specs.declared.reason.Reason.TheVariants.{NotActive}
+use Rattle.mvs_model.specs.Job.{JobValue}
+use Rattle.mvs_model.specs.Owners.{is_active}
+use Rattle.mvs_model.specs.Reading.{LineOf, FaultOf}
+use Rattle.mvs_model.specs.Reasons.{OfRequest}
+use Rattle.mvs_model.specs.Resolving.{resolved}
+use Rattle.mvs_model.specs.State.{State}
+
+-- Why a request is refused whose names are looked up: where one is not set there is none to refuse.
+abbrev pub OfAsked : State → Name → Option Request → Option Reason → Type 0
+OfAsked st t None r = r ≡ None
+OfAsked st t (Some request) r = OfRequest st t request r
+
+-- Why an active task's statement is refused: only a request can be.
+abbrev pub OfSaid : JobValue → Name → Statement → Option Reason → Type 0
+OfSaid job t (says.Request a) r = OfAsked job.state t (resolved job.names a) r
+OfSaid job t _ r = r ≡ None
+
+-- Why a task's statement is refused: the task is not active, or for what it says.
+abbrev pub OfStatement : JobValue → Name → Statement → Option Reason → Type 0
+OfStatement job t s r = MatchBool (not (is_active job.state.owners t)) (r ≡ Some NotActive) (OfSaid job t s r)
+
+-- Why a line is refused: REGION is of no step, and so never is.
+abbrev pub OfLine : JobValue → Line → Option Reason → Type 0
+OfLine job line.Nothing r = r ≡ None
+OfLine job (line.Statement t (says.Region below above fill residence)) r = r ≡ None
+OfLine job (line.Statement t s) r = OfStatement job t s r
+
+-- The same of a line as it is written; one with a fault is not served.
+abbrev pub OfBytes : JobValue → List ℕ → Option Reason → Type 0
+OfBytes job bytes r = ((l : Line) × LineOf false bytes l × OfLine job l r) ⊎ ((fault : Fault) × FaultOf false bytes fault × (r ≡ None))
+
+-- The same of the next line of a job: before its first step nothing is refused.
+abbrev pub OfNext : Option JobValue → List ℕ → Option Reason → Type 0
+OfNext None bytes r = r ≡ None
+OfNext (Some job) bytes r = OfBytes job bytes r

@@ -1,0 +1,55 @@
+//! Why the next line of a job is refused.
+
+ghost use Rattle.std.specs.Prelude.{Some};
+ghost use Rattle.mvs_job.specs.Why.{OfBytes, OfNext};
+
+use crate::job::Job;
+use crate::walk::{Walk, card_of};
+use job_script::read_line;
+use mvs_model::line::Line;
+use mvs_model::reason::Reason;
+use mvs_model::request::Request;
+
+/// Room for what a line says and for what it asks for, which are long, while it is asked why the line is refused.
+#[derive(Drop)]
+pub struct Why {
+    read: Line,
+    request: Request,
+}
+
+impl Why {
+    pub fn new() -> Why {
+        Why {
+            read: Line::Nothing,
+            request: Request::Return,
+        }
+    }
+
+    // Why a line is refused in a step.
+    fn reason_in(&mut self, job: &Job, line: &[u8]) -> Option<Reason>
+        ensures { OfBytes job.now line.now result }
+    {
+        let Ok(()) = read_line(line, false, &mut self.read) else {
+            return None;
+        };
+        let Line::Statement(task, statement) = &self.read else {
+            return None;
+        };
+        if card_of(task, statement).is_some() {
+            return None;
+        }
+        job.reason(task, statement, &mut self.request)
+    }
+
+    /// Why the next line, which is given without its end, is refused, if it is; the job stands as before. A line that asks for
+    /// nothing, that has a fault, or in which a name is not set has no reason, and so has want of a place for a list or a part
+    /// of a pool.
+    pub fn reason(&mut self, walk: &Walk, line: &[u8]) -> Option<Reason>
+        ensures { OfNext walk.now.step line.now result }
+    {
+        match walk.job() {
+            Some(job) => self.reason_in(job, line),
+            None => None,
+        }
+    }
+}

@@ -1,0 +1,286 @@
+-- Each reason tells the reply.
+use Rattle.std.proofs.Common.{◌≡◌, ℕ, ◌+◌, ◌-◌, ◌⊎◌, inl, inr, Bool, true, false, cond, List, [], ◌∷◌, length, map, Option, Some, None, refl, sym, ap, ◌∙◌, subst, arith, ◌==◌, ◌&&◌, nat_le, MatchBool, ◌<◌, ◌≤◌, ◌*◌, ◌/◌}
+use Rattle.std.specs.Prelude.{not, IfSome, MatchOption, is_some, ◌^◌}
+use Rattle.std.proofs.Math.Nat.{le-div_iff_mul-le, div-mul-le_self}
+use Rattle.std.proofs.lemmas.Nat.{pow_pos}
+use Rattle.std.proofs.lemmas.Bool.{cases_lt}
+use Rattle.std.specs.List.{AllByRecursion, list_all}
+use Rattle.std.specs.FinMap.{get, len, contains_key}
+use Rattle.std.specs.FinSet as set
+use Rattle.std.proofs.lemmas.Bool.{false_from_ne_true}
+use Rattle.mvs_model.specs.declared.name.Name.{Name}
+use Rattle.mvs_model.specs.declared.want.Residence.{Residence}
+use Rattle.mvs_model.specs.declared.code.Form.{Form}
+use Rattle.mvs_model.specs.declared.code.Form.TheVariants.{Storage}
+use Rattle.mvs_model.specs.declared.code.Code.{Code}
+use Rattle.mvs_model.specs.declared.request.Request.{Request}
+use Rattle.mvs_model.specs.declared.request.Request.TheVariants.{Obtain, ObtainList, Release, ReleaseList, ReleaseWhole, Build, Get, Free, Delete, Attach, Return, Abend, Show, Put, Move}
+use Rattle.mvs_model.specs.declared.request.Reply.{Reply}
+use Rattle.mvs_model.specs.declared.request.Reply.TheVariants.{Rc0, Rc4, Obtained, Listed, Cell, Attached, Ended, Done}
+use Rattle.mvs_model.specs.declared.reason.Holder.{Holder}
+use Rattle.mvs_model.specs.declared.reason.Reason.{Reason}
+use Rattle.mvs_model.specs.declared.reason.Reason.TheVariants.{NotActive, InvalidNumber, Shortage, OffDoubleword, NoSubpool, NotHeld, Overlap, WholeOfZero, PoolInUse, TooManyPools, NoPool, NoFreeCell, NoTakenCell, TaskInUse, TooManyTasks, NotOwned, ActiveSubtask, Asked, NoAccess}
+use Rattle.mvs_model.specs.Place.{PlaceValue, place_at, round8}
+use Rattle.mvs_model.specs.Storage.{Regions, InRegion, Places, Chosen, NoPlace}
+use Rattle.mvs_model.specs.Want.{AskValue, WantValue}
+use Rattle.mvs_model.specs.Gifts.{GiftsValue}
+use Rattle.mvs_model.specs.Owners.{Owners, is_active, entry, keeper, subpool_meant, has_subtask, gives_shared, IsSpare, SubpoolOf}
+use Rattle.mvs_model.specs.Pools.{Pool, cell_at}
+use Rattle.mvs_model.specs.State.{State, holder, granted}
+use Rattle.mvs_model.specs.Codes.{family, is_conditional, short, bad_subpool, not_held, task_in_use, too_many_tasks, not_owned}
+use Rattle.mvs_model.specs.Changes.{HeldPlain, Misses, Disjoint, Granted, GrantTo, ShortOf, with_part}
+use Rattle.mvs_model.specs.Numbers.{most_tasks, most_pools}
+use Rattle.mvs_model.specs.Steps.{IsRequest, Acts, Abends, Fails, ObtainStep, ObtainListStep, ReleaseStep, ReleaseWholeStep, BuildStep, GetStep, FreeStep, DeleteStep, AttachCase, AttachStep, ReturnStep, Accesses, MayRelease, Plan, is_invalid, on_doubleword, whole, all_granted}
+use Rattle.mvs_model.specs.Reasons.{OfGift, OfObtain, OfPlace, free_pages, is_untold, IsUnheld, IsDeniedIn, Meets, IsOverlap, OfNumber, OfPlaces, OfRelease, OfWhole, OfAccess, OfBuild, OfGet, OfFree, OfDelete, OfAttach, OfReturn, OfRequest, IsAbend, IsFailure, IsRefusal, IsGranted, IsReplyFor, ReasonsTell, form_of, obtains}
+use Rattle.mvs_model.proofs.Below.{below_each, each_below}
+use Rattle.mvs_model.proofs.Tests.{true_false, false_true}
+
+-- what two statements say by one test
+both : {P Q S T R : Type 0} (b : Bool) → MatchBool b P Q → MatchBool b S T → (b ≡ true → P → S → R) → (b ≡ false → Q → T → R) → R
+both true h k y n = y refl h k
+both false h k y n = n refl h k
+
+-- ---- places that are not held, that overlap, that may not be read
+
+unheld_not : (st : State) (s : ℕ) (ps : List PlaceValue) (d : ℕ) → IsUnheld st s ps d → AllByRecursion (HeldPlain st s) ps → ⊥
+unheld_not st s [] d u a = u
+unheld_not st s (p ∷ ps) d (inl u) a = u.unheld (a.0 d u.inside)
+unheld_not st s (p ∷ ps) d (inr u) a = unheld_not st s ps d u.1 a.1
+
+meets_not : (p : PlaceValue) (ps : List PlaceValue) (a d : ℕ) → Meets p ps a d → AllByRecursion (Misses p) ps → ⊥
+meets_not p [] a d m h = m
+meets_not p (q ∷ qs) a d (inl m) h = h.0 d m.1.in_one m.1.in_other
+meets_not p (q ∷ qs) a d (inr m) h = meets_not p qs a d m.1 h.1
+
+overlap_not : (ps : List PlaceValue) (one other d : ℕ) → IsOverlap ps one other d → Disjoint ps → ⊥
+overlap_not [] one other d o h = o
+overlap_not (p ∷ ps) one other d (inl o) h = meets_not p ps other d o.1 h.0
+overlap_not (p ∷ ps) one other d (inr o) h = overlap_not ps one other d o.1 h.1
+
+granted_all : (st : State) (p : PlaceValue) → Granted st p → all_granted st p ≡ true
+granted_all st p h = each_below (λ i. granted st (p.addr + i)) p.len (λ i l. h (p.addr + i) (omega arith) (omega arith))
+
+denied_not : (st : State) (p : PlaceValue) (a : ℕ) → IsDeniedIn st p a → all_granted st p ≡ false
+denied_not st p a h = false_from_ne_true (all_granted st p) (λ e. no e) where
+  no : all_granted st p ≡ true → ⊥
+  no e =
+      let low = h.behind in let high = h.inside in
+      let at : granted st (p.addr + (a - p.addr)) ≡ true = below_each (λ i. granted st (p.addr + i)) p.len e (a - p.addr) (omega arith) in
+      let same : a ≡ p.addr + (a - p.addr) = omega arith in
+      true_false (sym (ap (granted st) same ∙ at) ∙ h.denied)
+
+-- ---- places
+
+quotient_mono : (a b m : ℕ) → 0 < m → a ≤ b → a / m ≤ b / m
+quotient_mono a b m some l = (le-div_iff_mul-le some).1 (let h : a / m * m ≤ a = div-mul-le_self a m in omega arith)
+
+-- where there is a place there is a shorter one
+pub shorter : (r : Regions) (holder : ℕ → Option ℕ) (s : ℕ) (want : WantValue) (n m a : ℕ) → 1 ≤ m → m ≤ n → Places r holder s want n a → Places r holder s want m a
+shorter r holder s want n m a some l p =
+    let opens = p.0 in let meets = p.1 in (
+      record {
+        inside = in_region opens.inside;
+        each = λ d c. opens.each d (c.0, (let h : 8 * d < a + m = c.1 in omega arith));
+      },
+      record { on_doubleword = meets.on_doubleword; start = meets.start; within = in_boundary want.within meets.within; side = meets.side },
+    ) where
+      in_region : InRegion r (place_at a n) → InRegion r (place_at a m)
+      in_region (inl h) = inl (h.0, (let e : a + n ≤ 24576 + 4096 * r.below = h.1 in omega arith))
+      in_region (inr h) = inr (h.0, (let e : a + n ≤ 16777216 + 4096 * r.above = h.1 in omega arith))
+
+      in_boundary : (v : Option ℕ) → IfSome v (λ k. a / 2 ^ k ≡ (a + n - 1) / 2 ^ k) → IfSome v (λ k. a / 2 ^ k ≡ (a + m - 1) / 2 ^ k)
+      in_boundary None h = tt
+      in_boundary (Some k) h =
+          let low : a / 2 ^ k ≤ (a + m - 1) / 2 ^ k = quotient_mono a (a + m - 1) (2 ^ k) (pow_pos k) (omega arith) in
+          let high : (a + m - 1) / 2 ^ k ≤ (a + n - 1) / 2 ^ k = quotient_mono (a + m - 1) (a + n - 1) (2 ^ k) (pow_pos k) (omega arith) in
+          omega (arith, h)
+
+pub chosen_not : (r : Regions) (holder : ℕ → Option ℕ) (s : ℕ) (want : WantValue) (p : PlaceValue) → 1 ≤ want.least → Chosen r holder s want p → NoPlace r holder s want → ⊥
+chosen_not r holder s want p some c none = none p.addr (shorter r holder s want p.len want.least p.addr some c.length.least c.placed)
+
+-- the subpool that a task has or would have is one
+one_subpool : (o : Owners) (t : Name) (number s u : ℕ) → SubpoolOf o t number s → SubpoolOf o t number u → s ≡ u
+one_subpool o t number s u = at (entry o t number) where
+  spare : IsSpare o s → IsSpare o u → s ≡ u
+  spare a b = elim (cases_lt s u) [
+    | inl l ↦ absurd (let f : is_some (get o.owner s) ≡ true = b.least s l in let g : false ≡ true = sym (ap is_some a.spare) ∙ f in cc)
+    | inr l ↦ elim (cases_lt u s) [ inl k ↦ absurd (let f : is_some (get o.owner u) ≡ true = a.least u k in let g : false ≡ true = sym (ap is_some b.spare) ∙ f in cc) | inr k ↦ omega arith ]
+  ]
+
+  at : (v : Option ℕ) → MatchOption v (IsSpare o s) (λ r. s ≡ r) → MatchOption v (IsSpare o u) (λ r. u ≡ r) → s ≡ u
+  at None a b = spare a b
+  at (Some r) a b = a ∙ sym b
+
+least_some : (n : ℕ) → 1 ≤ n → 1 ≤ round8 n
+least_some n h = omega arith
+
+module _ (old new : State) (t : Name) (reply : Reply) where
+  told_as : (request : Request) (reason : Reason) (r : Option Reason) → r ≡ Some reason → IsRefusal request reason reply → IsReplyFor request r reply
+  told_as request reason r e h = subst (λ x. IsReplyFor request x reply) (sym e) h
+
+  told_none : (request : Request) (r : Option Reason) → r ≡ None → IsGranted request reply → IsReplyFor request r reply
+  told_none request r e h = subst (λ x. IsReplyFor request x reply) (sym e) h
+
+  answered : (request : Request) (answer : Reply) → reply ≡ answer → IsGranted request answer → IsGranted request reply
+  answered request answer e h = subst (IsGranted request) (sym e) h
+
+  abend : (code : Code) → Abends old t code reply new → IsAbend code reply
+  abend code a = (a.0.fallen, a.1)
+
+  failure : (form : Form) (code : Code) → Fails (is_conditional form) old t code reply new → IsFailure form code reply
+  failure form code = at (is_conditional form) where
+    at : (b : Bool) → Fails b old t code reply new → MatchBool b (reply ≡ Rc4) (IsAbend code reply)
+    at true f = f.0
+    at false f = abend code f
+
+  short_abend : (request : Request) → is_untold request ≡ true → Abends old t (short (family (form_of request))) reply new → IsGranted request reply
+  short_abend request o a = subst (IsGranted request) (sym a.1) (o, refl)
+
+  shortage : (request : Request) (b : Bool) → is_untold request ≡ true → Fails b old t (short (family (form_of request))) reply new → IsGranted request reply
+  shortage request true o f = subst (IsGranted request) (sym f.0) o
+  shortage request false o f = short_abend request o f
+
+  -- ---- one request after another
+
+  obtain_tells : (form : Form) (number : ℕ) (ask : AskValue) (want : WantValue) (r : Option Reason) → 1 ≤ want.least → OfObtain old t number want r → ObtainStep old t form number want reply new → IsReplyFor (Obtain form number ask) r reply
+  obtain_tells form number ask want r some of step =
+      both (is_invalid number) of step (λ _ is a. told_as (Obtain form number ask) InvalidNumber r is (abend _ a)) (λ _ h s. at h s) where
+        at : (s : ℕ) × SubpoolOf old.owners (keeper old.owners t number) number s × OfPlace old s want r
+            → (ShortOf old (keeper old.owners t number) number want × Fails (is_conditional form) old t (short (family form)) reply new) ⊎ ((p : PlaceValue) × (reply ≡ Obtained p) × GrantTo old (keeper old.owners t number) number want p new)
+            → IsReplyFor (Obtain form number ask) r reply
+        at (s, is, inl c) (inl f) = absurd (subst (λ u. NoPlace old.regions (holder old) u want → ⊥) (one_subpool old.owners (keeper old.owners t number) number s f.0.0 is f.0.1) (chosen_not old.regions (holder old) s want c.1.0 some c.1.1) f.0.2)
+        at (s, is, inl c) (inr g) = told_none (Obtain form number ask) r c.0 (answered (Obtain form number ask) (Obtained g.0) g.1 tt)
+        at (s, is, inr n) (inl f) = told_as (Obtain form number ask) (Shortage n.1.0 (free_pages old 6 old.regions.below) (free_pages old 4096 old.regions.above)) r n.1.2 (failure form _ f.1)
+        at (s, is, inr n) (inr g) = absurd (subst (λ u. NoPlace old.regions (holder old) u want) (one_subpool old.owners (keeper old.owners t number) number s g.2.subpool is g.2.is_subpool) n.0 g.0.addr (shorter old.regions (holder old) g.2.subpool want g.0.len want.least g.0.addr some g.2.chosen.length.least g.2.chosen.placed))
+
+  list_tells : (form : Form) (number : ℕ) (lengths : List ℕ) (start : ℕ) (wants : List WantValue) (r : Option Reason) → OfNumber number r → ObtainListStep old t form number wants reply new → IsReplyFor (ObtainList form number lengths start) r reply
+  list_tells form number lengths start wants r of step =
+      both (is_invalid number) of step (λ _ is a. told_as (ObtainList form number lengths start) InvalidNumber r is (abend _ a))
+      (λ _ is s. told_none (ObtainList form number lengths start) r is (elim s [
+        | inl f ↦ shortage (ObtainList form number lengths start) (is_conditional form) refl f.1
+        | inr g ↦ answered (ObtainList form number lengths start) (Listed g.0) g.1 tt
+      ]))
+
+  -- what becomes of a release by what the subpool holds
+  abbrev Releases : Request → Option ℕ → List PlaceValue → Type 0 → Type 0
+  Releases request v ps done = ((MayRelease old v ps → ⊥) × Fails (is_conditional (form_of request)) old t (not_held (family (form_of request))) reply new) ⊎ (MayRelease old v ps × (reply ≡ Rc0) × done)
+
+  places_tell : (request : Request) (holder : Name) (v : Option ℕ) (ps : List PlaceValue) (done : Type 0) (r : Option Reason) → OfPlaces old holder v ps r → Releases request v ps done → IsReplyFor request r reply
+  places_tell request holder None ps done r of (inl f) = told_as request (NoSubpool holder) r of (failure (form_of request) _ f.1)
+  places_tell request holder None ps done r of (inr g) = absurd g.0
+  places_tell request holder (Some s) ps done None of (inl f) = absurd (f.0 of)
+  places_tell request holder (Some s) ps done None of (inr g) = answered request Rc0 g.1 tt
+  places_tell request holder (Some s) ps done (Some (NotHeld a h)) of (inl f) = failure (form_of request) _ f.1
+  places_tell request holder (Some s) ps done (Some (NotHeld a h)) of (inr g) = absurd (unheld_not old s ps of.0 of.2 g.0.0)
+  places_tell request holder (Some s) ps done (Some (Overlap one other a)) of (inl f) = failure (form_of request) _ f.1
+  places_tell request holder (Some s) ps done (Some (Overlap one other a)) of (inr g) = absurd (overlap_not ps one other of.0 of.3 g.0.1)
+  places_tell request holder (Some s) ps done (Some _) of step = absurd of
+
+  release_tells : (request : Request) (number : ℕ) (ps : List PlaceValue) (r : Option Reason) → obtains request ≡ false → OfRelease old t number ps r → ReleaseStep old t (form_of request) number ps reply new → IsReplyFor request r reply
+  release_tells request number ps r o of step =
+      both (is_invalid number) of step
+      (λ _ is a. told_as request InvalidNumber r is (subst (λ b. IsAbend (bad_subpool (family (form_of request)) b) reply) (sym o) (abend _ a)))
+      (λ _ of_places s. both (not (list_all on_doubleword ps)) of_places s
+      (λ _ off a. told_as request (OffDoubleword off.0) r off.2 (abend _ a))
+      (λ _ p q. places_tell request (keeper old.owners t number) (subpool_meant old.owners t number) (map whole ps) _ r p q))
+
+  whole_tells : (form : Form) (number : ℕ) (r : Option Reason) → OfWhole number r → ReleaseWholeStep old t form number reply new → IsReplyFor (ReleaseWhole form number) r reply
+  whole_tells form number r of step =
+      both (is_invalid number) of step (λ _ is a. told_as (ReleaseWhole form number) InvalidNumber r is (abend _ a))
+      (λ _ zero s. both (number == 0) zero s
+      (λ _ is a. told_as (ReleaseWhole form number) WholeOfZero r is (abend _ a))
+      (λ _ is d. told_none (ReleaseWhole form number) r is (answered (ReleaseWhole form number) Rc0 d.0 tt)))
+
+  -- an access that is refused, and one that is not
+  denied_tells : (request : Request) (r : Option Reason) (a : ℕ) (h : Holder) (allowed : Bool) (done : Type 0) → r ≡ Some (NoAccess a h) → allowed ≡ false → Accesses old t allowed done reply new → IsReplyFor request r reply
+  denied_tells request r a h true done is e step = true_false e
+  denied_tells request r a h false done is e step = told_as request (NoAccess a h) r is (abend _ step)
+
+  allowed_tells : (request : Request) (r : Option Reason) (allowed : Bool) (done : Type 0) → IsGranted request Done → r ≡ None → allowed ≡ true → Accesses old t allowed done reply new → IsReplyFor request r reply
+  allowed_tells request r true done g is e step = told_none request r is (answered request Done step.0 g)
+  allowed_tells request r false done g is e step = false_true e
+
+  access_tells : (request : Request) (p : PlaceValue) (done : Type 0) (r : Option Reason) → IsGranted request Done → OfAccess old (p ∷ []) r → Accesses old t (all_granted old p) done reply new → IsReplyFor request r reply
+  access_tells request p done r g (inl d) step = denied_tells request r d.0 d.1 (all_granted old p) done d.4 (denied_not old p d.0 d.2) step
+  access_tells request p done r g (inr h) step = allowed_tells request r (all_granted old p) done g h.1 (granted_all old p h.0) step
+
+  move_tells : (request : Request) (p q : PlaceValue) (done : Type 0) (r : Option Reason) → IsGranted request Done → OfAccess old (p ∷ q ∷ []) r → Accesses old t (all_granted old p && all_granted old q) done reply new → IsReplyFor request r reply
+  move_tells request p q done r g (inl d) step = denied_tells request r d.0 d.1 (all_granted old p && all_granted old q) done d.4 (no_first (all_granted old p) (all_granted old q) (denied_not old p d.0 d.2)) step where
+    no_first : (a b : Bool) → a ≡ false → (a && b) ≡ false
+    no_first true b e = true_false e
+    no_first false b e = refl
+  move_tells request p q done r g (inr (h, inl d)) step = denied_tells request r d.0 d.1 (all_granted old p && all_granted old q) done d.4 (no_second (all_granted old p) (all_granted old q) (denied_not old q d.0 d.2)) step where
+    no_second : (a b : Bool) → b ≡ false → (a && b) ≡ false
+    no_second true b e = e
+    no_second false b e = refl
+  move_tells request p q done r g (inr (h, inr k)) step = allowed_tells request r (all_granted old p && all_granted old q) done g k.1 (two (all_granted old p) (all_granted old q) (granted_all old p h) (granted_all old q k.0)) step where
+    two : (a b : Bool) → a ≡ true → b ≡ true → (a && b) ≡ true
+    two true b e f = f
+    two false b e f = false_true e
+
+  build_tells : (request : Request) (name : Name) (number : ℕ) (plan : Plan) (r : Option Reason) → obtains request ≡ true → is_untold request ≡ true → form_of request ≡ Storage → IsGranted request Rc0 → OfBuild old name number r → BuildStep old t name number plan reply new → IsReplyFor request r reply
+  build_tells request name number plan r o u f g of step =
+      both (is_invalid number) of step
+      (λ _ is a. told_as request InvalidNumber r is (subst (λ b. IsAbend (bad_subpool (family (form_of request)) b) reply) (sym o) (subst (λ x. IsAbend (bad_subpool (family x) true) reply) (sym f) (abend _ a))))
+      (λ _ of_name s. both (contains_key old.pools name) of_name s (λ _ is a. told_as request PoolInUse r is (abend _ a))
+      (λ _ of_len x. both (nat_le most_pools (len old.pools)) of_len x (λ _ is a. told_as request TooManyPools r is (abend _ a))
+      (λ _ is v. told_none request r is (elim v [
+        | inl w ↦ short_abend request u (subst (λ x. Abends old t (short (family x)) reply new) (sym f) w.1)
+        | inr w ↦ answered request Rc0 w.1 g
+      ]))))
+
+  get_tells : (name : Name) (conditional : Bool) (v : Option Pool) (r : Option Reason) → OfGet conditional v r → GetStep old t name conditional v reply new → IsReplyFor (Get name conditional) r reply
+  get_tells name conditional None r of step = told_as (Get name conditional) NoPool r of (abend _ step)
+  get_tells name false (Some pool) r of (inl g) = told_none (Get name false) r of (answered (Get name false) (Cell (cell_at pool g.0)) g.2.1 tt)
+  get_tells name false (Some pool) r of (inr (none, inl s)) = told_none (Get name false) r of (short_abend (Get name false) refl s.1)
+  get_tells name false (Some pool) r of (inr (none, inr m)) = told_none (Get name false) r of (answered (Get name false) (Cell (cell_at (with_part pool pool.secondary m.0) m.3.0)) m.3.2.1 tt)
+  get_tells name true (Some pool) r (inl n) (inl g) = absurd (n.1 g.0 g.1)
+  get_tells name true (Some pool) r (inl n) (inr s) = told_as (Get name true) NoFreeCell r n.0 s.1.0
+  get_tells name true (Some pool) r (inr f) (inl g) = told_none (Get name true) r f.0 (answered (Get name true) (Cell (cell_at pool g.0)) g.2.1 tt)
+  get_tells name true (Some pool) r (inr f) (inr s) = absurd (s.0 f.1.0 f.1.1)
+
+  free_tells : (name : Name) (c : ℕ) (v : Option Pool) (r : Option Reason) → OfFree c v r → FreeStep old t name c v reply new → IsReplyFor (Free name c) r reply
+  free_tells name c None r of step = told_as (Free name c) NoPool r of (abend _ step)
+  free_tells name c (Some pool) r of step =
+      both (not (set.contains pool.taken c)) of step (λ _ is a. told_as (Free name c) NoTakenCell r is (abend _ a))
+      (λ _ is d. told_none (Free name c) r is (answered (Free name c) Rc0 d.0 tt))
+
+  delete_tells : (name : Name) (v : Option Pool) (r : Option Reason) → OfDelete v r → DeleteStep old t name v reply new → IsReplyFor (Delete name) r reply
+  delete_tells name None r of step = told_as (Delete name) NoPool r of (abend _ step)
+  delete_tells name (Some pool) r of step = told_none (Delete name) r of (answered (Delete name) Rc0 step.0 tt)
+
+  attach_tells : (name : Name) (gifts : GiftsValue) (residence : Residence) (r : Option Reason) → OfAttach old.owners t name gifts r → AttachStep old t name gifts residence reply new → IsReplyFor (Attach name gifts residence) r reply
+  attach_tells name gifts residence r = at (is_active old.owners name) (nat_le most_tasks (len old.owners.tasks)) (gives_shared old.owners t gifts) where
+    at : (a b c : Bool)
+        → MatchBool a (r ≡ Some TaskInUse) (MatchBool b (r ≡ Some TooManyTasks) (MatchBool c (OfGift old.owners t gifts r) (r ≡ None)))
+        → AttachCase old t name gifts residence (cond a (Some task_in_use) (cond b (Some too_many_tasks) (cond c (Some not_owned) None))) reply new → IsReplyFor (Attach name gifts residence) r reply
+    at true b c of step = told_as (Attach name gifts residence) TaskInUse r of (abend _ step)
+    at false true c of step = told_as (Attach name gifts residence) TooManyTasks r of (abend _ step)
+    at false false true of step = told_as (Attach name gifts residence) (NotOwned of.0 of.2) r of.7 (abend _ step)
+    at false false false of step = told_none (Attach name gifts residence) r of (answered (Attach name gifts residence) Attached step.0 tt)
+
+  return_tells : (r : Option Reason) → OfReturn old.owners t r → ReturnStep old t reply new → IsReplyFor Return r reply
+  return_tells r of step =
+      both (has_subtask old.owners t) of step (λ _ x a. told_as Return (ActiveSubtask x.0) r x.2 (abend _ a))
+      (λ _ is e. told_none Return r is (answered Return Ended e.0 tt))
+
+  each_tells : (request : Request) (r : Option Reason) → IsRequest request → OfRequest old t request r → Acts old t request reply new → IsReplyFor request r reply
+  each_tells (Obtain form number ask) r ask_is of step = obtain_tells form number ask _ r (least_some ask.least ask_is.some) of step
+  each_tells (ObtainList form number lengths start) r ask_is of step = list_tells form number lengths start _ r of step
+  each_tells (Release form number p) r ask_is of step = release_tells (Release form number p) number (p ∷ []) r refl of step
+  each_tells (ReleaseList form number ps) r ask_is of step = release_tells (ReleaseList form number ps) number ps r refl of step
+  each_tells (ReleaseWhole form number) r ask_is of step = whole_tells form number r of step
+  each_tells (Build name number size primary secondary loc) r ask_is of step = build_tells (Build name number size primary secondary loc) name number _ r refl refl refl tt of step
+  each_tells (Get name conditional) r ask_is of step = get_tells name conditional (get old.pools name) r of step
+  each_tells (Free name c) r ask_is of step = free_tells name c (get old.pools name) r of step
+  each_tells (Delete name) r ask_is of step = delete_tells name (get old.pools name) r of step
+  each_tells (Attach name gifts residence) r ask_is of step = attach_tells name gifts residence r of step
+  each_tells Return r ask_is of step = return_tells r of step
+  each_tells (Abend n) r ask_is of step = told_as (Abend n) Asked r of (abend _ step)
+  each_tells (Show a n) r ask_is of step = access_tells (Show a n) (place_at a n) _ r tt of step
+  each_tells (Put a bytes) r ask_is of step = access_tells (Put a bytes) (place_at a (length bytes)) _ r tt of step
+  each_tells (Move to from n) r ask_is of step = move_tells (Move to from n) (place_at to n) (place_at from n) _ r tt of step
+
+pub reasons_tell : ReasonsTell
+reasons_tell old new t request reply r ask is step =
+    both (not (is_active old.owners t)) is step (λ _ e f. told_as old new t reply request NotActive r e f.0) (λ _ of s. each_tells old new t reply request r ask of s)
