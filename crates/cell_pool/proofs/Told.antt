@@ -2,7 +2,7 @@
 use Rattle.std.proofs.Common.{◌≡◌, ℕ, zero, suc, ◌+◌, ◌*◌, ◌<◌, ◌≤◌, inl, inr, Bool, true, false, Option, Some, None, refl, sym, ap, ◌∙◌, subst, arith, is_some}
 use Rattle.std.specs.Prelude.{MatchBool, MatchOption}
 use Rattle.std.specs.Option.{option_map}
-use Rattle.std.proofs.lemmas.Bool.{cases_lt, and_right}
+use Rattle.std.proofs.lemmas.Bool.{cases_lt, and_right, true_from_ne_false}
 use Rattle.std.proofs.lemmas.Bool.Decides.{nat_tests}
 use Rattle.std.specs.FinMap.{FinMap, get}
 use Rattle.std.specs.FinSet as set
@@ -13,6 +13,7 @@ use Rattle.mvs_model.specs.Place.{place_at}
 use Rattle.mvs_model.specs.Storage.{Storage, has_address}
 use Rattle.mvs_model.specs.Pools.{Pool, first_cell, IsFreeCell}
 use Rattle.mvs_model.proofs.Decide.{Decided, found_below}
+use Rattle.mvs_model.proofs.Stuck.{decided_false}
 use Rattle.cell_pool.specs.Layout.{byte_of, count_at, taken_at, flag}
 use Rattle.cell_pool.specs.Roots.{Root, free_in, part_addr, part_of, is_taken, taken_of, pool_of, pools_of}
 use Rattle.cell_pool.specs.Agree.{AgreeParts, IsCounted}
@@ -34,17 +35,9 @@ some_part m first (suc n) l = elim (cases_lt (taken_at m (part_addr m first n)) 
   | inr k ↦ (let r = some_part m first n (omega arith) in (r.0, (let h : r.0 < n = r.1 in omega arith), r.2))
 ]
 
-flag_decided : (b : Bool) → Decided (b ≡ false)
-flag_decided true = inr (λ e. let f : true ≡ false = e in cc)
-flag_decided false = inl refl
-
-is_set : (b : Bool) → (b ≡ false → ⊥) → b ≡ true
-is_set true h = refl
-is_set false h = absurd (h refl)
-
 -- and a cell of it is free
 clear_flag : (count : ℕ) (f : ℕ → Bool) → count_below count f < count → (i : ℕ) × (i < count) × (f i ≡ false)
-clear_flag count f l = elim (found_below (λ i. f i ≡ false) (λ i. flag_decided (f i)) count) [ inl g ↦ g | inr none ↦ absurd (not_all count f l (λ i k. is_set (f i) (none i k))) ]
+clear_flag count f l = elim (found_below (λ i. f i ≡ false) (λ i. decided_false (f i)) count) [ inl g ↦ g | inr none ↦ absurd (not_all count f l (λ i k. true_from_ne_false (f i) (none i k))) ]
 
 module _ (roots : FinMap name_cmp Root) (st : Storage) (agree : AgreeParts roots st) (name : Name) where
   pub no_pool : get roots name ≡ None → get (pools_of roots st) name ≡ None

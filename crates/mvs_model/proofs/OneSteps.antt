@@ -307,7 +307,7 @@ pub no_grant : (old : State) (t : Name) (number : ℕ) (want : WantValue) (p : P
 no_grant old t number want p new some s g =
     none_chosen old.regions (holder old) s.0 want p some s.2 (subst (λ u. Chosen old.regions (holder old) u want p) (one_subpool old.owners t number g.subpool s.0 g.is_subpool s.1) g.chosen)
 
-round8_some : (n : ℕ) → 1 ≤ n → 1 ≤ round8 n
+pub round8_some : (n : ℕ) → 1 ≤ n → 1 ≤ round8 n
 round8_some n l = omega arith
 
 module _ (old : State) (t : Name) (one other : Reply) (a b : State) where

@@ -1,13 +1,13 @@
 -- Each reason tells the reply.
 use Rattle.std.proofs.Common.{◌≡◌, ℕ, ◌+◌, ◌-◌, ◌⊎◌, inl, inr, Bool, true, false, cond, List, [], ◌∷◌, length, map, Option, Some, None, refl, sym, ap, ◌∙◌, subst, arith, ◌==◌, ◌&&◌, nat_le, MatchBool, ◌<◌, ◌≤◌, ◌*◌, ◌/◌}
 use Rattle.std.specs.Prelude.{not, IfSome, MatchOption, is_some, ◌^◌}
-use Rattle.std.proofs.Math.Nat.{le-div_iff_mul-le, div-mul-le_self}
-use Rattle.std.proofs.lemmas.Nat.{pow_pos}
-use Rattle.std.proofs.lemmas.Bool.{cases_lt}
+use Rattle.std.proofs.lemmas.Bool.{and_from, and_left, and_right, false_from_ne_true}
 use Rattle.std.specs.List.{AllByRecursion, list_all}
 use Rattle.std.specs.FinMap.{get, len, contains_key}
 use Rattle.std.specs.FinSet as set
-use Rattle.std.proofs.lemmas.Bool.{false_from_ne_true}
+use Rattle.mvs_model.proofs.OneOwners.{one_subpool}
+use Rattle.mvs_model.proofs.OneSteps.{none_chosen, round8_some}
+use Rattle.mvs_model.proofs.StorageLaws.{shorter_place}
 use Rattle.mvs_model.specs.declared.name.Name.{Name}
 use Rattle.mvs_model.specs.declared.want.Residence.{Residence}
 use Rattle.mvs_model.specs.declared.code.Form.{Form}
@@ -69,51 +69,6 @@ denied_not st p a h = false_from_ne_true (all_granted st p) (λ e. no e) where
       let same : a ≡ p.addr + (a - p.addr) = omega arith in
       true_false (sym (ap (granted st) same ∙ at) ∙ h.denied)
 
--- ---- places
-
-quotient_mono : (a b m : ℕ) → 0 < m → a ≤ b → a / m ≤ b / m
-quotient_mono a b m some l = (le-div_iff_mul-le some).1 (let h : a / m * m ≤ a = div-mul-le_self a m in omega arith)
-
--- where there is a place there is a shorter one
-pub shorter : (r : Regions) (holder : ℕ → Option ℕ) (s : ℕ) (want : WantValue) (n m a : ℕ) → 1 ≤ m → m ≤ n → Places r holder s want n a → Places r holder s want m a
-shorter r holder s want n m a some l p =
-    let opens = p.0 in let meets = p.1 in (
-      record {
-        inside = in_region opens.inside;
-        each = λ d c. opens.each d (c.0, (let h : 8 * d < a + m = c.1 in omega arith));
-      },
-      record { on_doubleword = meets.on_doubleword; start = meets.start; within = in_boundary want.within meets.within; side = meets.side },
-    ) where
-      in_region : InRegion r (place_at a n) → InRegion r (place_at a m)
-      in_region (inl h) = inl (h.0, (let e : a + n ≤ 24576 + 4096 * r.below = h.1 in omega arith))
-      in_region (inr h) = inr (h.0, (let e : a + n ≤ 16777216 + 4096 * r.above = h.1 in omega arith))
-
-      in_boundary : (v : Option ℕ) → IfSome v (λ k. a / 2 ^ k ≡ (a + n - 1) / 2 ^ k) → IfSome v (λ k. a / 2 ^ k ≡ (a + m - 1) / 2 ^ k)
-      in_boundary None h = tt
-      in_boundary (Some k) h =
-          let low : a / 2 ^ k ≤ (a + m - 1) / 2 ^ k = quotient_mono a (a + m - 1) (2 ^ k) (pow_pos k) (omega arith) in
-          let high : (a + m - 1) / 2 ^ k ≤ (a + n - 1) / 2 ^ k = quotient_mono (a + m - 1) (a + n - 1) (2 ^ k) (pow_pos k) (omega arith) in
-          omega (arith, h)
-
-pub chosen_not : (r : Regions) (holder : ℕ → Option ℕ) (s : ℕ) (want : WantValue) (p : PlaceValue) → 1 ≤ want.least → Chosen r holder s want p → NoPlace r holder s want → ⊥
-chosen_not r holder s want p some c none = none p.addr (shorter r holder s want p.len want.least p.addr some c.length.least c.placed)
-
--- the subpool that a task has or would have is one
-one_subpool : (o : Owners) (t : Name) (number s u : ℕ) → SubpoolOf o t number s → SubpoolOf o t number u → s ≡ u
-one_subpool o t number s u = at (entry o t number) where
-  spare : IsSpare o s → IsSpare o u → s ≡ u
-  spare a b = elim (cases_lt s u) [
-    | inl l ↦ absurd (let f : is_some (get o.owner s) ≡ true = b.least s l in let g : false ≡ true = sym (ap is_some a.spare) ∙ f in cc)
-    | inr l ↦ elim (cases_lt u s) [ inl k ↦ absurd (let f : is_some (get o.owner u) ≡ true = a.least u k in let g : false ≡ true = sym (ap is_some b.spare) ∙ f in cc) | inr k ↦ omega arith ]
-  ]
-
-  at : (v : Option ℕ) → MatchOption v (IsSpare o s) (λ r. s ≡ r) → MatchOption v (IsSpare o u) (λ r. u ≡ r) → s ≡ u
-  at None a b = spare a b
-  at (Some r) a b = a ∙ sym b
-
-least_some : (n : ℕ) → 1 ≤ n → 1 ≤ round8 n
-least_some n h = omega arith
-
 module _ (old new : State) (t : Name) (reply : Reply) where
   told_as : (request : Request) (reason : Reason) (r : Option Reason) → r ≡ Some reason → IsRefusal request reason reply → IsReplyFor request r reply
   told_as request reason r e h = subst (λ x. IsReplyFor request x reply) (sym e) h
@@ -148,10 +103,10 @@ module _ (old new : State) (t : Name) (reply : Reply) where
         at : (s : ℕ) × SubpoolOf old.owners (keeper old.owners t number) number s × OfPlace old s want r
             → (ShortOf old (keeper old.owners t number) number want × Fails (is_conditional form) old t (short (family form)) reply new) ⊎ ((p : PlaceValue) × (reply ≡ Obtained p) × GrantTo old (keeper old.owners t number) number want p new)
             → IsReplyFor (Obtain form number ask) r reply
-        at (s, is, inl c) (inl f) = absurd (subst (λ u. NoPlace old.regions (holder old) u want → ⊥) (one_subpool old.owners (keeper old.owners t number) number s f.0.0 is f.0.1) (chosen_not old.regions (holder old) s want c.1.0 some c.1.1) f.0.2)
+        at (s, is, inl c) (inl f) = absurd (subst (λ u. NoPlace old.regions (holder old) u want → ⊥) (one_subpool old.owners (keeper old.owners t number) number s f.0.0 is f.0.1) (λ none. none_chosen old.regions (holder old) s want c.1.0 some none c.1.1) f.0.2)
         at (s, is, inl c) (inr g) = told_none (Obtain form number ask) r c.0 (answered (Obtain form number ask) (Obtained g.0) g.1 tt)
         at (s, is, inr n) (inl f) = told_as (Obtain form number ask) (Shortage n.1.0 (free_pages old 6 old.regions.below) (free_pages old 4096 old.regions.above)) r n.1.2 (failure form _ f.1)
-        at (s, is, inr n) (inr g) = absurd (subst (λ u. NoPlace old.regions (holder old) u want) (one_subpool old.owners (keeper old.owners t number) number s g.2.subpool is g.2.is_subpool) n.0 g.0.addr (shorter old.regions (holder old) g.2.subpool want g.0.len want.least g.0.addr some g.2.chosen.length.least g.2.chosen.placed))
+        at (s, is, inr n) (inr g) = absurd (subst (λ u. NoPlace old.regions (holder old) u want) (one_subpool old.owners (keeper old.owners t number) number s g.2.subpool is g.2.is_subpool) n.0 g.0.addr (shorter_place old.regions (holder old) g.2.subpool want want.least g.0.len g.0.addr some g.2.chosen.length.least g.2.chosen.placed))
 
   list_tells : (form : Form) (number : ℕ) (lengths : List ℕ) (start : ℕ) (wants : List WantValue) (r : Option Reason) → OfNumber number r → ObtainListStep old t form number wants reply new → IsReplyFor (ObtainList form number lengths start) r reply
   list_tells form number lengths start wants r of step =
@@ -205,18 +160,9 @@ module _ (old new : State) (t : Name) (reply : Reply) where
   access_tells request p done r g (inr h) step = allowed_tells request r (all_granted old p) done g h.1 (granted_all old p h.0) step
 
   move_tells : (request : Request) (p q : PlaceValue) (done : Type 0) (r : Option Reason) → IsGranted request Done → OfAccess old (p ∷ q ∷ []) r → Accesses old t (all_granted old p && all_granted old q) done reply new → IsReplyFor request r reply
-  move_tells request p q done r g (inl d) step = denied_tells request r d.0 d.1 (all_granted old p && all_granted old q) done d.4 (no_first (all_granted old p) (all_granted old q) (denied_not old p d.0 d.2)) step where
-    no_first : (a b : Bool) → a ≡ false → (a && b) ≡ false
-    no_first true b e = true_false e
-    no_first false b e = refl
-  move_tells request p q done r g (inr (h, inl d)) step = denied_tells request r d.0 d.1 (all_granted old p && all_granted old q) done d.4 (no_second (all_granted old p) (all_granted old q) (denied_not old q d.0 d.2)) step where
-    no_second : (a b : Bool) → b ≡ false → (a && b) ≡ false
-    no_second true b e = e
-    no_second false b e = refl
-  move_tells request p q done r g (inr (h, inr k)) step = allowed_tells request r (all_granted old p && all_granted old q) done g k.1 (two (all_granted old p) (all_granted old q) (granted_all old p h) (granted_all old q k.0)) step where
-    two : (a b : Bool) → a ≡ true → b ≡ true → (a && b) ≡ true
-    two true b e f = f
-    two false b e f = false_true e
+  move_tells request p q done r g (inl d) step = denied_tells request r d.0 d.1 (all_granted old p && all_granted old q) done d.4 (and_left (all_granted old p) (all_granted old q) (denied_not old p d.0 d.2)) step
+  move_tells request p q done r g (inr (h, inl d)) step = denied_tells request r d.0 d.1 (all_granted old p && all_granted old q) done d.4 (and_right (all_granted old p) (all_granted old q) (denied_not old q d.0 d.2)) step
+  move_tells request p q done r g (inr (h, inr k)) step = allowed_tells request r (all_granted old p && all_granted old q) done g k.1 (and_from (all_granted old p) (all_granted old q) (granted_all old p h) (granted_all old q k.0)) step
 
   build_tells : (request : Request) (name : Name) (number : ℕ) (plan : Plan) (r : Option Reason) → obtains request ≡ true → is_untold request ≡ true → form_of request ≡ Storage → IsGranted request Rc0 → OfBuild old name number r → BuildStep old t name number plan reply new → IsReplyFor request r reply
   build_tells request name number plan r o u f g of step =
@@ -265,7 +211,7 @@ module _ (old new : State) (t : Name) (reply : Reply) where
       (λ _ is e. told_none Return r is (answered Return Ended e.0 tt))
 
   each_tells : (request : Request) (r : Option Reason) → IsRequest request → OfRequest old t request r → Acts old t request reply new → IsReplyFor request r reply
-  each_tells (Obtain form number ask) r ask_is of step = obtain_tells form number ask _ r (least_some ask.least ask_is.some) of step
+  each_tells (Obtain form number ask) r ask_is of step = obtain_tells form number ask _ r (round8_some ask.least ask_is.some) of step
   each_tells (ObtainList form number lengths start) r ask_is of step = list_tells form number lengths start _ r of step
   each_tells (Release form number p) r ask_is of step = release_tells (Release form number p) number (p ∷ []) r refl of step
   each_tells (ReleaseList form number ps) r ask_is of step = release_tells (ReleaseList form number ps) number ps r refl of step

@@ -137,7 +137,7 @@ pooled_in : Option Holding → Option Bool
 pooled_in None = None
 pooled_in (Some h) = Some h.pooled
 
-decided_false : (b : Bool) → Decided (b ≡ false)
+pub decided_false : (b : Bool) → Decided (b ≡ false)
 decided_false b = grind (arith, nat_tests)
 
 -- whether a place may be released

@@ -80,10 +80,3 @@ first_not_granted st p k n e most front none = record {
   ]));
   before = λ b low l. front b low l;
 }
-
--- what a test of a place says
-pub test_yes : {P : Type 0} (b : Bool) → b ≡ true → IsTrue b ↔ P → P
-test_yes b e h = h.0 e
-
-pub test_no : {P : Type 0} (b : Bool) → b ≡ false → IsTrue b ↔ P → P → ⊥
-test_no b e h p = let t : b ≡ true = h.1 p in absurd (let f : false ≡ true = sym e ∙ t in cc)

@@ -13,7 +13,7 @@ use Rattle.mvs_model.specs.Owners.{Owners}
 use Rattle.mvs_model.specs.State.{holder as state_holder}
 use Rattle.mvs_model.specs.Reports.{page_subpool}
 use Rattle.mvs_model.specs.Reasons.{IsLongest, OfPlace, free_pages}
-use Rattle.mvs_model.proofs.Reasons.{shorter}
+use Rattle.mvs_model.proofs.StorageLaws.{shorter_place}
 use Rattle.cell_pool.specs.Agree.{Agree}
 use Rattle.cell_pool.specs.Roots.{Root, pools_of}
 use Rattle.mvs_model.proofs.Seen.{same_holder}
@@ -31,7 +31,7 @@ module _ (r : Regions) (held : ℕ → Option ℕ) (s : ℕ) (want : WantValue) 
 
   -- no place is as long as what is wanted
   too_long : (m a : ℕ) → want.least ≤ m → Places r held s want m a → ⊥
-  too_long m a l p = let some = is.some in none a (shorter r held s want m want.least a (omega arith) l p)
+  too_long m a l p = let some = is.some in none a (shorter_place r held s want want.least m a (omega arith) l p)
 
   longest_is : (p : PlaceValue) → Chosen r held s (record want { least = 8 }) p → IsLongest r held s want p.len
   longest_is p c = record {
@@ -47,7 +47,7 @@ module _ (r : Regions) (held : ℕ → Option ℕ) (s : ℕ) (want : WantValue) 
   none_is h = record {
     whole = refl;
     placed = inl refl;
-    greatest = λ m a w l q. h a (from_eight 8 a (shorter r held s want m 8 a (omega arith) (omega arith) q));
+    greatest = λ m a w l q. h a (from_eight 8 a (shorter_place r held s want 8 m a (omega arith) (omega arith) q));
   }
 
   pub longest_told : (eight : WantValue) (v : Option PlaceValue) → eight ≡ record want { least = 8 } → MatchOption v (NoPlace r held s eight) (Chosen r held s eight) → MatchOption v (IsLongest r held s want 0) (λ p. IsLongest r held s want p.len)
@@ -62,10 +62,6 @@ some_chosen r held s want (Some p) e h = (p, h)
 pub none_chosen : (r : Regions) (held : ℕ → Option ℕ) (s : ℕ) (want : WantValue) (v : Option PlaceValue) → is_some v ≡ false → MatchOption v (NoPlace r held s want) (Chosen r held s want) → NoPlace r held s want
 none_chosen r held s want None e h = h
 none_chosen r held s want (Some p) e h = absurd (let f : true ≡ false = e in cc)
-
-pub not_not : (b : Bool) → not (not b) ≡ b
-not_not true = refl
-not_not false = refl
 
 -- no page
 pub no_pages : (test : ℕ → Bool) → 0 ≡ count_below 0 test

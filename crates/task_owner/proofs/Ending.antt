@@ -1,4 +1,5 @@
 -- A task ends, with its descendants.
+use mathlib.Core.Bool.{not-not}
 use Rattle.std.proofs.Common.{◌≡◌, ℕ, Bool, true, false, cond, not, ◌||◌, List, Option, Some, None, is_some, IsSome, sym, ap, subst, refl, ◌∙◌}
 use Rattle.std.specs.Option.{option_map}
 use Rattle.std.specs.FinMap.{get}
@@ -144,15 +145,11 @@ module _ (seats mid next : List (Option Seat)) (owned left : List (Option Owned)
   -- whether a subpool falls free
   pub freed_test : (s : ℕ) → has (λ (o : Owned). not (is_some (item_at mid o.owner))) (item_at owned s) ≡ has (goes t fallen) (owner_name seats (item_at owned s))
   freed_test s = by (item_at owned s) refl where
-    twice : (b : Bool) → not (not b) ≡ b
-    twice true = refl
-    twice false = refl
-
     by : (o : Option Owned) → item_at owned s ≡ o → has (λ (o : Owned). not (is_some (item_at mid o.owner))) o ≡ has (goes t fallen) (owner_name seats o)
     by None e = refl
     by (Some o) e =
         let x = sound.owners s o e in
-        ap not (owner_stays s o x.0 x.1) ∙ twice (goes t fallen x.0.name) ∙ sym (ap (λ p. has (goes t fallen) (option_map (λ (y : Seat). y.name) p)) x.1)
+        ap not (owner_stays s o x.0 x.1) ∙ not-not (goes t fallen x.0.name) ∙ sym (ap (λ p. has (goes t fallen) (option_map (λ (y : Seat). y.name) p)) x.1)
 
   -- whether a subpool that a task has keeps its owner
   owner_left : (s : ℕ) (o : Owned) → item_at owned s ≡ Some o → has_owner left s ≡ not (has (goes t fallen) (owner_name seats (item_at owned s)))

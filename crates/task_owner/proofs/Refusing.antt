@@ -25,22 +25,9 @@ pub refusal_by : (o : Owners) (mother name : Name) (gifts : GiftsValue) (a b c :
     → cond a (Some (User 4009)) (cond b (Some (User 4005)) (cond c (Some (User 4003)) None)) ≡ attach_refusal o mother name gifts
 refusal_by o mother name gifts a b c e f g = λ i. cond (e i) (Some (User 4009)) (cond (f i) (Some (User 4005)) (cond (g i) (Some (User 4003)) None))
 
-tested_true : (m n : ℕ) → m ≤ n → true ≡ nat_le m n
-tested_true m n h = grind (arith, nat_tests)
-
-tested_false : (m n : ℕ) → n < m → false ≡ nat_le m n
-tested_false m n h = grind (arith, nat_tests)
-
 module _ (seats : List (Option Seat)) (owned : List (Option Owned)) (d : TasksValue) (e : directory seats owned ≡ d) (sound : IsSound seats owned) where
   pub len_is : len d.owners.tasks ≡ count_by is_some seats
   len_is = ap (λ (v : TasksValue). len v.owners.tasks) (sym e) ∙ tasks_len seats owned sound
-
-  -- whether 32 tasks are active
-  pub full : 32 ≤ count_by is_some seats → true ≡ nat_le 32 (len d.owners.tasks)
-  full h = tested_true 32 (count_by is_some seats) h ∙ ap (nat_le 32) (sym len_is)
-
-  pub not_full : count_by is_some seats < 32 → false ≡ nat_le 32 (len d.owners.tasks)
-  not_full h = tested_false 32 (count_by is_some seats) h ∙ ap (nat_le 32) (sym len_is)
 
 -- what holds where an attach is not refused
 module _ (o : Owners) (mother name : Name) (gifts : GiftsValue) where

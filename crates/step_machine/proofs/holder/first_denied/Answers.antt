@@ -4,11 +4,12 @@ use Rattle.mvs_model.specs.Changes.{Granted}
 use Rattle.mvs_model.specs.Reasons.{IsDeniedIn}
 use Rattle.step_machine.specs.Machine.{machine_state}
 use Rattle.step_machine.proofs.Bytes.{some_owners}
-use Rattle.step_machine.proofs.Halves.{none_granted, denied_address, first_not_granted, test_yes, test_no}
+use Rattle.step_machine.proofs.Halves.{none_granted, denied_address, first_not_granted}
+use Rattle.step_machine.proofs.Places.{decided, refuted}
 use Rattle.step_machine.proofs.holder.first_denied.Goals as goal
 
 pub returns-then-may_access : goal.returns-then-may_access
-returns-then-may_access c = λ o. test_yes {P = Granted (machine_state c.args.pools.now c.args.store.now.storage o) c.args.place} c.may_access.result c.if-may_access.true (c.may_access.ensures.granted o)
+returns-then-may_access c = λ o. decided {P = Granted (machine_state c.args.pools.now c.args.store.now.storage o) c.args.place} c.may_access.result c.if-may_access.true (c.may_access.ensures.granted o)
 
 pub halves-init : goal.halves-init
 halves-init c =
@@ -16,7 +17,7 @@ halves-init c =
       ordered = omega (arith, c.len-end.ensures.some);
       most = omega arith;
       front = λ o. none_granted (machine_state c.args.pools.now c.args.store.now.storage o) p.addr;
-      not_more = λ o h. test_no {P = Granted (machine_state c.args.pools.now c.args.store.now.storage o) p} c.may_access.result c.if-may_access.false (c.may_access.ensures.granted o)
+      not_more = λ o h. refuted {P = Granted (machine_state c.args.pools.now c.args.store.now.storage o) p} c.may_access.result c.if-may_access.false (c.may_access.ensures.granted o)
           (subst (Granted (machine_state c.args.pools.now c.args.store.now.storage o)) (ap (place_at p.addr) len) h);
     }
 
@@ -27,7 +28,7 @@ halves-preserved-then-may_access-2 c =
       ordered = omega (arith, c.halves-test.true, c.halves.invariant.ordered);
       most = c.halves.invariant.most;
       front = λ o. subst (Granted (machine_state c.args.pools.now c.args.store.now.storage o)) is
-          (test_yes {P = Granted (machine_state c.args.pools.now c.args.store.now.storage o) c.new.result} c.may_access-in-halves.result c.if-may_access-2.true (c.may_access-in-halves.ensures.granted o));
+          (decided {P = Granted (machine_state c.args.pools.now c.args.store.now.storage o) c.new.result} c.may_access-in-halves.result c.if-may_access-2.true (c.may_access-in-halves.ensures.granted o));
       not_more = c.halves.invariant.not_more;
     }
 
@@ -38,7 +39,7 @@ halves-preserved c =
       ordered = omega (arith, c.halves-test.true, c.halves.invariant.ordered);
       most = omega (arith, c.halves.invariant.most, c.halves.invariant.ordered);
       front = c.halves.invariant.front;
-      not_more = λ o h. test_no {P = Granted (machine_state c.args.pools.now c.args.store.now.storage o) c.new.result} c.may_access-in-halves.result c.if-may_access-2.false (c.may_access-in-halves.ensures.granted o)
+      not_more = λ o h. refuted {P = Granted (machine_state c.args.pools.now c.args.store.now.storage o) c.new.result} c.may_access-in-halves.result c.if-may_access-2.false (c.may_access-in-halves.ensures.granted o)
           (subst (Granted (machine_state c.args.pools.now c.args.store.now.storage o)) (sym is) h);
     }
 

@@ -3,11 +3,12 @@ use Rattle.mvs_model.specs.Place.{place_at}
 use Rattle.mvs_model.specs.Changes.{HeldPlain}
 use Rattle.step_machine.specs.Machine.{machine_state}
 use Rattle.step_machine.proofs.Bytes.{some_owners}
-use Rattle.step_machine.proofs.Halves.{none_held, as_whole, unheld_address, first_not_held, test_yes, test_no}
+use Rattle.step_machine.proofs.Halves.{none_held, as_whole, unheld_address, first_not_held}
+use Rattle.step_machine.proofs.Places.{decided, refuted}
 use Rattle.step_machine.proofs.holder.first_unheld.Goals as goal
 
 pub returns-then-holds_plain : goal.returns-then-holds_plain
-returns-then-holds_plain c = λ o. test_yes {P = HeldPlain (machine_state c.args.pools.now c.args.store.now.storage o) c.args.subpool c.args.place} c.holds_plain.result c.if-holds_plain.true (c.holds_plain.ensures o)
+returns-then-holds_plain c = λ o. decided {P = HeldPlain (machine_state c.args.pools.now c.args.store.now.storage o) c.args.subpool c.args.place} c.holds_plain.result c.if-holds_plain.true (c.holds_plain.ensures o)
 
 pub halves-init : goal.halves-init
 halves-init c =
@@ -16,7 +17,7 @@ halves-init c =
       ordered = omega (arith, c.len-end.ensures.some);
       most = omega arith;
       front = λ o. none_held (machine_state c.args.pools.now c.args.store.now.storage o) c.args.subpool p.addr w0;
-      not_more = λ o h. test_no {P = HeldPlain (machine_state c.args.pools.now c.args.store.now.storage o) c.args.subpool p} c.holds_plain.result c.if-holds_plain.false (c.holds_plain.ensures o)
+      not_more = λ o h. refuted {P = HeldPlain (machine_state c.args.pools.now c.args.store.now.storage o) c.args.subpool p} c.holds_plain.result c.if-holds_plain.false (c.holds_plain.ensures o)
           (subst (HeldPlain (machine_state c.args.pools.now c.args.store.now.storage o) c.args.subpool) (as_whole p (c.len-end.result / 8) (omega arith)) h);
     }
 
@@ -27,7 +28,7 @@ halves-preserved-then-holds_plain-2 c =
       ordered = omega (arith, c.halves-test.true, c.halves.invariant.ordered);
       most = c.halves.invariant.most;
       front = λ o. subst (HeldPlain (machine_state c.args.pools.now c.args.store.now.storage o) c.args.subpool) is
-          (test_yes {P = HeldPlain (machine_state c.args.pools.now c.args.store.now.storage o) c.args.subpool c.new.result} c.holds_plain-in-halves.result c.if-holds_plain-2.true (c.holds_plain-in-halves.ensures o));
+          (decided {P = HeldPlain (machine_state c.args.pools.now c.args.store.now.storage o) c.args.subpool c.new.result} c.holds_plain-in-halves.result c.if-holds_plain-2.true (c.holds_plain-in-halves.ensures o));
       not_more = c.halves.invariant.not_more;
     }
 
@@ -38,7 +39,7 @@ halves-preserved c =
       ordered = omega (arith, c.halves-test.true, c.halves.invariant.ordered);
       most = omega (arith, c.halves.invariant.most, c.halves.invariant.ordered);
       front = c.halves.invariant.front;
-      not_more = λ o h. test_no {P = HeldPlain (machine_state c.args.pools.now c.args.store.now.storage o) c.args.subpool c.new.result} c.holds_plain-in-halves.result c.if-holds_plain-2.false (c.holds_plain-in-halves.ensures o)
+      not_more = λ o h. refuted {P = HeldPlain (machine_state c.args.pools.now c.args.store.now.storage o) c.args.subpool c.new.result} c.holds_plain-in-halves.result c.if-holds_plain-2.false (c.holds_plain-in-halves.ensures o)
           (subst (HeldPlain (machine_state c.args.pools.now c.args.store.now.storage o) c.args.subpool) (sym is) h);
     }
 

@@ -1,6 +1,7 @@
 use Rattle.std.proofs.Common.{◌≡◌, ℕ, ◌+◌, Bool, Option, not, is_some, sym, ap, ◌∙◌, arith}
 use Rattle.step_machine.specs.Reports.{page_holder}
-use Rattle.step_machine.proofs.Longest.{not_not, no_pages, one_more, none_more}
+use mathlib.Core.Bool.{not-not}
+use Rattle.step_machine.proofs.Longest.{no_pages, one_more, none_more}
 use Rattle.step_machine.proofs.shortage.free_pages.Goals as goal
 use Rattle.step_machine.proofs.shortage.free_pages.Goals.{then-is_none, else-is_none}
 
@@ -15,7 +16,7 @@ pub loop-page-preserved : goal.loop-page-preserved
 loop-page-preserved c =
     let test = λ (p : ℕ). is_free (page_holder c.args.store.now.storage (c.args.first + p)) in
     let page = c.loop-page.page in
-    let tested : test page ≡ c.is_none.result = ap is_free (sym c.page_owner.ensures) ∙ ap not c.is_none.ensures ∙ not_not c.is_none.result in
+    let tested : test page ≡ c.is_none.result = ap is_free (sym c.page_owner.ensures) ∙ ap not c.is_none.ensures ∙ not-not c.is_none.result in
     let free = c.loop-page.free in
     let few = c.loop-page.invariant.few in
     elim c.if-is_none.branch [
