@@ -97,16 +97,31 @@ def without_errors(package):
     return ran.returncode == 0
 
 
+def linked(root, program):
+    """Whether pkg-config leads a compiler to the library below a folder; None where either is not there."""
+    if not shutil.which("pkg-config") or not shutil.which("cc"):
+        yield "pkg-config", None
+        return
+    env = os.environ | {"PKG_CONFIG_LIBDIR": str(root / "lib/pkgconfig")}
+    words = output("pkg-config", f"--define-variable=prefix={root}", "--cflags", "--libs", "--static", "mvs", env=env).split()
+    source = next(root.glob("share/doc/*/examples/c/handler.c"))
+    output("cc", "-std=c99", "-o", program, source, *words)
+    yield "pkg-config", output(program).startswith("SVC 4: R15=00000000")
+
+
 def packages(folder):
     """The packages, made twice."""
     made = [sorted(Path(path) for path in output(TOP / "package", folder / name).split()) for name in ("once", "again")]
     for once, again in zip(*made):
         yield f"{once.name}, the same bytes twice", once.read_bytes() == again.read_bytes()
-    archive, package = made[0]
-    listed = [line.split() for line in output("dpkg-deb", "-c", package).splitlines()]
-    yield "lintian", without_errors(package)
-    yield "all files are root's", {words[1] for words in listed} == {"root/root"}
-    yield "modes", {words[0] for words in listed} == {"drwxr-xr-x", "-rw-r--r--", "-rwxr-xr-x"}
+    library, archive, package = made[0]
+    for each, files in ((package, {"-rw-r--r--", "-rwxr-xr-x"}), (library, {"-rw-r--r--"})):
+        listed = [line.split() for line in output("dpkg-deb", "-c", each).splitlines()]
+        yield f"lintian, {each.name}", without_errors(each)
+        yield f"all files are root's, {each.name}", {words[1] for words in listed} == {"root/root"}
+        yield f"modes, {each.name}", {words[0] for words in listed} == {"drwxr-xr-x"} | files
+    output("dpkg-deb", "-x", library, folder / "library")
+    yield from linked(folder / "library/usr", folder / "handler")
     output("dpkg-deb", "-x", package, folder / "debian")
     output("tar", "-xzf", archive, "-C", folder)
     yield "the archive's program", example(folder / archive.name.removesuffix(".tar.gz") / "bin/mvsjob", TOP / "examples/first.job")
@@ -135,6 +150,7 @@ def by_build(folder):
         root = folder / "staged" / prefix
         output(TOP / "build", *words, env=os.environ | {"DESTDIR": str(folder / "staged")})
         yield f"./build {' '.join(words)}", example(root / "bin/mvsjob", TOP / "examples/first.job")
+        yield from ((f"{prefix}, {name}", well) for name, well in linked(root, folder / f"handler {root.name}"))
         for page in PAGES:
             yield f"{prefix}, {page}", rendered(root / "share/man" / page)
 

@@ -1,0 +1,61 @@
+-- What a call tells C. The numbers of the kinds are this project's choice.
+use Rattle.std.specs.Prelude.{ℕ, ◌*◌, Bool, true, false, Option, Some, None, Result, Ok, Err, replicate}
+use Rattle.mvs_model.specs.declared.answer.Answer.{Answer}
+use Rattle.mvs_model.specs.declared.answer.Answer.TheVariants as answer
+use Rattle.mvs_model.specs.declared.code.Code.{Code}
+use Rattle.mvs_model.specs.declared.code.Code.TheVariants.{System, User}
+use Rattle.mvs_model.specs.declared.name.Name.{Name}
+use Rattle.mvs_model.specs.Texts.{fault_number}
+use Rattle.mvs_job.specs.declared.walk.LineTold.{LineTold}
+use Rattle.mvs_job.specs.declared.walk.LineTold.TheVariants as told
+use Rattle.mvs_job.specs.declared.walk.Stopped.{Stopped}
+use Rattle.mvs_c.specs.declared.event.Event.{Event}
+
+-- an event of a kind, and no more
+abbrev pub of_kind : ℕ → Event
+of_kind kind = record { kind = kind; code = 0; address = 0; length = 0; ended = 0; task = replicate 8 32 }
+
+-- an event of a task
+abbrev pub of_task : ℕ → Name → Event
+of_task kind t = record { kind = kind; code = 0; address = 0; length = 0; ended = 0; task = t }
+
+-- how a step ended: 0 where none did, 1 where no task of it had abended, 2 where a task had
+abbrev pub step_number : Option Bool → ℕ
+step_number None = 0
+step_number (Some false) = 1
+step_number (Some true) = 2
+
+-- a completion code of 24 bits: a system code in the upper twelve, or a user code in the lower
+abbrev pub completion : Code → ℕ
+completion (System n) = n * 4096
+completion (User n) = n
+
+-- the answer to a statement of a task
+abbrev pub answer_event : Name → Answer → Event
+answer_event t answer.NotRun = of_task 2 t
+answer_event t answer.NoName = of_task 3 t
+answer_event t (answer.At a) = record (of_task 4 t) { address = a }
+answer_event t answer.Rc0 = of_task 5 t
+answer_event t (answer.Granted n) = record (of_task 6 t) { length = n }
+answer_event t answer.Rc4 = of_task 7 t
+answer_event t answer.Cell = of_task 8 t
+answer_event t answer.NoCell = of_task 9 t
+answer_event t answer.Attached = of_task 10 t
+answer_event t answer.Ended = of_task 11 t
+answer_event t answer.Done = of_task 12 t
+answer_event t (answer.Data p) = record (of_task 13 t) { address = p.addr; length = p.len }
+answer_event t (answer.Abended code) = record (of_task 14 t) { code = completion code }
+answer_event t answer.Subpools = of_task 15 t
+answer_event t answer.Map = of_task 16 t
+
+-- what a line told, or that memory was wanting for it
+abbrev pub line_event : Result LineTold Stopped → Event
+line_event (Ok told.Nothing) = of_kind 0
+line_event (Ok (told.Began end card)) = record (of_task 1 card.name) { ended = step_number end }
+line_event (Ok (told.Answered t a)) = answer_event t a
+line_event (Ok (told.Faulted fault)) = record (of_kind 17) { code = fault_number fault }
+line_event (Err stopped) = record (of_kind 18) { ended = step_number stopped.ended }
+
+-- the end of a job
+abbrev pub end_event : Option Bool → Event
+end_event end = record (of_kind 19) { ended = step_number end }

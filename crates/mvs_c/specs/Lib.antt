@@ -1,0 +1,6 @@
+pub mod Access
+pub mod Events
+pub mod Exports
+pub mod Handle
+pub mod Opens
+pub mod Whole

@@ -1,0 +1,50 @@
+-- What a handle of C holds.
+use Rattle.std.specs.Prelude.{refl, ◌≡◌, ℕ, ◌+◌, ◌^◌, ◌<◌, List, [], true, Result, Ok, Err}
+use Rattle.std.specs.Coded.{Coded, code_by, coded×}
+use Rattle.mvs_model.specs.Answers.{Event}
+use Rattle.mvs_model.specs.Texts.{printing}
+use Rattle.mvs_job.specs.declared.walk.LineTold.{LineTold}
+use Rattle.mvs_job.specs.declared.walk.Stopped.{Stopped}
+use Rattle.mvs_job.specs.Sessions.{SessionValue, session_code, new_session}
+use Rattle.mvs_job.specs.Telling.{WalkValue, IsLent, events_told, ended, closing}
+use Rattle.mvs_c.specs.declared.last.Last.{Last}
+use Rattle.mvs_c.specs.declared.last.Last.TheVariants as last
+use Rattle.mvs_c.specs.contracts.last.Last.{the_row}
+
+-- a session, and what it told last
+pub record OpenValue : Type 0 where
+  pub session : SessionValue
+  pub last : Last
+
+-- a code, for a model's value
+abbrev pub open_code : Coded OpenValue
+open_code = code_by (SessionValue × Last) (coded× session_code the_row.coded) (λ o. (o.session, o.last)) (λ p. record { session = p.0; last = p.1 }) (λ _. refl)
+
+-- a session that was told no line
+abbrev pub new_open : OpenValue
+new_open = record { session = new_session; last = last.Nothing }
+
+-- the events that were told last
+abbrev pub events_of : WalkValue → Last → List Event
+events_of w last.Nothing = []
+events_of w (last.Line number told) = events_told number w told
+events_of w (last.Stopped end) = ended end
+events_of w (last.Closed number end) = closing number end
+
+-- their text
+abbrev pub text_of : OpenValue → List ℕ
+text_of o = printing (events_of o.session.walk o.last)
+
+-- The session lends what it told last.
+abbrev pub LendsLast : WalkValue → Last → Type 0
+LendsLast w (last.Line number told) = IsLent w told
+LendsLast w _ = Unit {0}
+
+-- what the line of this number told
+abbrev pub last_of : ℕ → Result LineTold Stopped → Last
+last_of number (Ok told) = last.Line number told
+last_of number (Err stopped) = last.Stopped stopped.ended
+
+-- The job has not ended, and there is a number for the line behind the next.
+abbrev pub TakesLine : SessionValue → Type 0
+TakesLine s = (s.goes_on ≡ true) × (s.walk.number + 1 < 2 ^ 32)

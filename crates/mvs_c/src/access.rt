@@ -1,0 +1,170 @@
+//! What C reads of the step that runs: bytes, and the lines of the reports.
+
+ghost use Rattle.std.specs.Prelude.{◌≡◌, ◌<◌, ◌≤◌, ◌^◌, Option, MatchOption, slice_get};
+ghost use Rattle.mvs_model.specs.Place.{IsPlace, place_at};
+ghost use Rattle.mvs_model.specs.declared.report.SubpoolLine.{SubpoolLine};
+ghost use Rattle.mvs_model.specs.declared.report.MapRun.{MapRun};
+ghost use Rattle.mvs_c.specs.Access.{FindsRun, FindsSubpool, Reads, TellsOne, run_told, subpool_told};
+
+use crate::open::Open;
+use mvs_model::name::Name;
+use mvs_model::place::{Addr, Place};
+use mvs_model::report::{MapRun, SubpoolLine};
+
+/// The call was served.
+const OK: u32 = 0;
+/// A byte may not be read.
+const NO_ACCESS: u32 = 36;
+/// There is no more of what was asked for.
+const NO_MORE: u32 = 40;
+
+/// The first address that is none.
+const ADDRESSES: u32 = 1 << 31;
+
+/// A line of REPORT SP.
+#[repr(C)]
+#[derive(Clone, Copy)]
+pub struct Subpool {
+    pub number: u32,
+    pub owned: bool,
+    /// The bytes outside and inside of cell pools.
+    pub plain: u32,
+    pub pool: u32,
+}
+
+/// A line of REPORT MAP.
+#[repr(C)]
+#[derive(Clone, Copy)]
+pub struct Run {
+    pub address: u32,
+    pub length: u32,
+    /// Whether the pages are assigned to a subpool.
+    pub assigned: bool,
+    pub number: u32,
+    pub owner: [u8; 8],
+}
+
+// An address of 31 bits; None where a number is none.
+fn addr_of(number: u32) -> Option<Addr>
+    ensures { MatchOption result (2 ^ 31 ≤ number) (λ addr. (number < 2 ^ 31) × (addr ≡ number)) }
+{
+    if number < ADDRESSES {
+        Some(Addr::new(number))
+    } else {
+        None
+    }
+}
+
+// So many bytes from an address on; None where they are no place.
+fn place_of(address: u32, len: usize) -> Option<Place>
+    ensures { MatchOption result (IsPlace (place_at address len) → ⊥)
+        (λ place. IsPlace place × (place ≡ place_at address len)) }
+{
+    match u32::try_from(len) {
+        Ok(len) if address < ADDRESSES && 1 <= len && len <= ADDRESSES => {
+            Some(Place::new(Addr::new(address), len))
+        }
+        _ => None,
+    }
+}
+
+/// Copies the bytes from an address on.
+pub fn read(held: &Open, address: u32, out: &mut [u8]) -> u32
+    ensures { Reads held.now address out.old out.new result }
+{
+    let Some(job) = held.job() else {
+        return NO_ACCESS;
+    };
+    let Some(place) = place_of(address, out.len()) else {
+        return NO_ACCESS;
+    };
+    match job.bytes(place) {
+        Some(bytes) => {
+            out.copy_from_slice(bytes);
+            OK
+        }
+        None => NO_ACCESS,
+    }
+}
+
+/// Copies the name of one of the tasks that ended with the one that abended last.
+pub fn tell_fallen(held: &Open, index: usize, name: &mut [u8; 8]) -> u32
+    ensures { TellsOne (slice_get held.now.session.walk.fallen index) (λ t. t) name.old name.new
+        result }
+{
+    match held.fallen().get(index) {
+        Some(task) => {
+            *name = task.bytes();
+            OK
+        }
+        None => NO_MORE,
+    }
+}
+
+// The line of a task's first subpool number at or after one.
+fn find_subpool(held: &Open, name: &[u8], from: u8) -> Option<SubpoolLine>
+    ensures { FindsSubpool held.now name.now from result }
+{
+    let job = held.job()?;
+    let task = Name::new(name)?;
+    job.subpool_line(&task, from)
+}
+
+/// Tells of a task's first subpool number at or after one.
+pub fn tell_subpool(held: &Open, name: &[u8], from: u8, told: &mut Subpool) -> u32
+    ensures { (found : Option SubpoolLine) × FindsSubpool held.now name.now from found
+        × TellsOne found subpool_told told.old told.new result }
+{
+    match find_subpool(held, name, from) {
+        Some(line) => {
+            *told = Subpool {
+                number: u32::from(line.number.get()),
+                owned: line.owned,
+                plain: line.plain,
+                pool: line.pool,
+            };
+            OK
+        }
+        None => NO_MORE,
+    }
+}
+
+// The first run of pages at or after an address.
+fn find_run(held: &Open, from: u32) -> Option<MapRun>
+    ensures { FindsRun held.now from result }
+{
+    let job = held.job()?;
+    let from = addr_of(from)?;
+    job.map_run(from)
+}
+
+// A run of pages, for C.
+fn run_told(run: &MapRun) -> Run
+    ensures { result ≡ run_told run.now }
+{
+    let (assigned, number, owner) = match run.holder {
+        Some((number, owner)) => (true, u32::from(number.get()), owner.bytes()),
+        None => (false, 0, [b' '; 8]),
+    };
+    Run {
+        address: run.addr.get(),
+        length: run.len,
+        assigned,
+        number,
+        owner,
+    }
+}
+
+/// Tells of the first run of pages at or after an address.
+pub fn tell_run(held: &Open, from: u32, told: &mut Run) -> u32
+    ensures { (found : Option MapRun) × FindsRun held.now from found
+        × TellsOne found run_told told.old told.new result }
+{
+    match find_run(held, from) {
+        Some(run) => {
+            *told = run_told(&run);
+            OK
+        }
+        None => NO_MORE,
+    }
+}

@@ -1,0 +1,12 @@
+//! The machine for programs in C, C++ and Rust: include/mvs.h declares the functions that this library exports.
+#![tactic(auto)]
+
+mod access;
+mod box_parts;
+mod buffer;
+mod event;
+mod exports;
+mod handle;
+mod last;
+mod open;
+mod whole;

@@ -1,0 +1,133 @@
+//! A session, and what it told last.
+
+ghost use Rattle.std.specs.Prelude.{◌≡◌, ◌+◌, ◌^◌, ◌<◌, ◌∷◌, [], true, false, IfOk, MatchBool, MatchOption, MatchResult};
+ghost use Rattle.mvs_model.specs.Memory.{StopsForMemory};
+ghost use Rattle.mvs_model.specs.Runs.{machine};
+ghost use Rattle.mvs_model.specs.Walk.{Closes};
+ghost use Rattle.job_script.specs.Writing.{Prints};
+ghost use Rattle.mvs_job.specs.Telling.{IsTold, closing, ended, goes_on};
+ghost use Rattle.mvs_c.specs.declared.last.Last.TheVariants as last;
+ghost use Rattle.mvs_c.specs.Opens.{TakesLine, last_of, new_open, text_of};
+
+use crate::last::Last;
+use mvs_job::{Closing, Job, LineTold, Session, Stopped, print_closing, print_line};
+use mvs_model::name::Name;
+use mvs_model::want::Placement;
+use mvs_model::watched::{Failed, Watched};
+use std::alloc::Global;
+use std::io::Write;
+use std::marker::Model;
+
+/// A session, and what it told last.
+#[derive(Drop)]
+pub struct Open {
+    session: Session,
+    last: Last,
+}
+
+impl Model for Open {
+    ghost use Rattle.mvs_c.specs.Opens.{LendsLast, OpenValue, open_code};
+
+    ghost Value = { OpenValue };
+
+    ghost coded = { open_code };
+
+    ghost view = { λ o. record { session = o.session; last = o.last } };
+
+    ghost invariant = { λ o. LendsLast o.session.walk o.last };
+}
+
+impl Open {
+    /// A session that was told no line.
+    pub fn new(alloc: Global, placement: Placement) -> Open
+        ensures { result ≡ new_open }
+    {
+        Open {
+            session: Session::new(alloc, placement),
+            last: Last::Nothing,
+        }
+    }
+
+    /// Whether the job takes a line.
+    pub fn takes_line(&self) -> bool
+        ensures { MatchBool result (TakesLine self.now.session) (TakesLine self.now.session → ⊥) }
+    {
+        self.session.takes_line()
+    }
+
+    /// Whether the job goes on.
+    pub fn goes_on(&self) -> bool
+        ensures { result ≡ self.now.session.goes_on }
+    {
+        self.session.goes_on()
+    }
+
+    /// The step that runs; None before the first.
+    pub fn job(&self) -> Option<&Job>
+        ensures { MatchOption result (self.now.session.walk.step ≡ None)
+            (λ job. self.now.session.walk.step ≡ Some job.now) }
+    {
+        self.session.walk().job()
+    }
+
+    /// The tasks that ended with the one that abended, where the last request that was made abended.
+    pub fn fallen(&self) -> &[Name]
+        ensures { result.now ≡ self.now.session.walk.fallen }
+    {
+        self.session.walk().fallen()
+    }
+
+    /// Serves a line, as a session does.
+    pub fn line(&mut self, line: &[u8]) -> Result<LineTold, Stopped>
+        requires { TakesLine self.old.session }
+        ensures told { MatchResult result
+            (λ told. IsTold self.old.session.walk line.now told self.new.session.walk)
+            (λ stopped. StopsForMemory self.old.session.walk.number self.old.session.walk.step
+            (line.now ∷ []) (ended stopped.ended)) }
+        ensures number { self.new.session.walk.number ≡ self.old.session.walk.number + 1 }
+        ensures goes_on { self.new.session.goes_on ≡ goes_on result }
+        ensures last { self.new.last ≡ last_of self.old.session.walk.number result }
+    {
+        let number = self.session.walk().number();
+        let told = self.session.line(line);
+        self.last = match &told {
+            Ok(told) => Last::Line {
+                number,
+                told: *told,
+            },
+            Err(stopped) => Last::Stopped(stopped.ended),
+        };
+        told
+    }
+
+    /// Ends the job, as a session does.
+    pub fn close(&mut self) -> Closing
+        requires { self.old.session.goes_on ≡ true }
+        ensures closed { Closes machine self.old.session.walk.number self.old.session.walk.step
+            (closing self.old.session.walk.number result.ended) result.outcome }
+        ensures walk { self.new.session.walk ≡ self.old.session.walk }
+        ensures over { self.new.session.goes_on ≡ false }
+        ensures last { self.new.last ≡ last.Closed self.old.session.walk.number result.ended }
+    {
+        let number = self.session.walk().number();
+        let closing = self.session.close();
+        self.last = Last::Closed {
+            number,
+            ended: closing.ended,
+        };
+        closing
+    }
+
+    /// Prints what was told last.
+    pub fn print<W: Write>(&self, writer: &mut Watched<W>) -> Result<(), Failed>
+        ensures { Prints W.contents writer.old writer.new result (text_of self.now) }
+    {
+        match &self.last {
+            Last::Nothing => Ok(()),
+            Last::Line { number, told } => print_line(writer, *number, self.session.walk(), told),
+            Last::Stopped(None) => Ok(()),
+            Last::Stopped(ended) => print_closing(writer, 1, *ended),
+            Last::Closed { number, ended } => print_closing(writer, *number, *ended),
+        }
+    }
+}

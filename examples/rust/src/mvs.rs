@@ -1,0 +1,104 @@
+//! A session, safe: each call keeps the rules of mvs.h for every input.
+use std::marker::PhantomData;
+
+#[repr(C)]
+struct Raw {
+    held: *mut u8,
+}
+
+/// What a line was answered: `mvs_event` of mvs.h.
+#[repr(C)]
+#[derive(Clone, Copy, Debug, Default, PartialEq, Eq)]
+pub struct Event {
+    pub kind: u32,
+    pub code: u32,
+    pub address: u32,
+    pub length: u32,
+    pub ended: u32,
+    pub task: [u8; 8],
+}
+
+unsafe extern "C" {
+    fn mvs_new(session: *mut Raw, place: u32) -> u32;
+    fn mvs_line(session: *mut Raw, line: *const u8, length: usize, event: *mut Event) -> u32;
+    fn mvs_end(session: *mut Raw, event: *mut Event) -> u32;
+    fn mvs_text(session: *mut Raw, out: *mut u8, room: usize, wanted: *mut usize) -> u32;
+    fn mvs_free(session: *mut Raw);
+}
+
+#[derive(Clone, Copy, Debug, PartialEq, Eq)]
+pub enum Status {
+    Ok = 0,
+    SomeAbend = 8,
+    ScriptFault = 12,
+    NoMemory = 16,
+    Over = 24,
+    TooSmall = 32,
+}
+
+fn status(number: u32) -> Status {
+    match number {
+        0 => Status::Ok,
+        8 => Status::SomeAbend,
+        12 => Status::ScriptFault,
+        16 => Status::NoMemory,
+        24 => Status::Over,
+        32 => Status::TooSmall,
+        _ => unreachable!("mvs.h names no such status of a session"),
+    }
+}
+
+/// A session. It stays on its thread: a raw pointer makes it neither `Send` nor `Sync`.
+pub struct Session {
+    raw: Raw,
+    here: PhantomData<*mut u8>,
+}
+
+impl Session {
+    pub fn new() -> Result<Session, Status> {
+        let mut raw = Raw { held: std::ptr::null_mut() };
+        // SAFETY: `raw` holds no session, and is this call's own.
+        match status(unsafe { mvs_new(&mut raw, 0) }) {
+            Status::Ok => Ok(Session { raw, here: PhantomData }),
+            refused => Err(refused),
+        }
+    }
+
+    pub fn line(&mut self, line: &[u8]) -> (Status, Event) {
+        let mut event = Event::default();
+        // SAFETY: the pointer of a slice is not null, and nothing here overlaps.
+        let number = unsafe { mvs_line(&mut self.raw, line.as_ptr(), line.len(), &mut event) };
+        (status(number), event)
+    }
+
+    pub fn end(&mut self) -> (Status, Event) {
+        let mut event = Event::default();
+        // SAFETY: as above.
+        let number = unsafe { mvs_end(&mut self.raw, &mut event) };
+        (status(number), event)
+    }
+
+    /// Prints what was told last.
+    pub fn text(&mut self) -> Result<Vec<u8>, Status> {
+        let mut text = Vec::new();
+        loop {
+            let mut wanted = 0;
+            // SAFETY: as above; the buffer is initialised.
+            match status(unsafe { mvs_text(&mut self.raw, text.as_mut_ptr(), text.len(), &mut wanted) }) {
+                Status::Ok => {
+                    text.truncate(wanted);
+                    return Ok(text);
+                }
+                Status::TooSmall => text.resize(wanted, 0),
+                refused => return Err(refused),
+            }
+        }
+    }
+}
+
+impl Drop for Session {
+    fn drop(&mut self) {
+        // SAFETY: the session is this value's own, and is not used again.
+        unsafe { mvs_free(&mut self.raw) }
+    }
+}
