@@ -90,7 +90,15 @@ def links_hold(path):
     return True
 
 
+def is_written_out(path):
+    """Whether docs/FROM-ASSEMBLER.md has the statements of a solution."""
+    statements = "".join(line.partition(" => ")[0].rstrip() + "\n" for line in path.read_text().splitlines())
+    return f"```\n{statements}```\n" in (TOP / "docs/FROM-ASSEMBLER.md").read_text()
+
+
 def results(program):
+    for name in ("63_payroll", "64_messages"):
+        yield f"{name} in FROM-ASSEMBLER.md", is_written_out(FOLDER / f"{name}.job")
     for path in solutions():
         yield path.name, is_answered(program, path)
         yield f"{path.name}, an answer changed", is_told(program, path)
