@@ -1,7 +1,8 @@
 /* mvs.h: the virtual storage services of an MVS program's own region, for C and C++.
  *
  * A session is a job that is told its statements one by one: mvs_line serves a statement and tells what it was answered as an
- * mvs_event; mvs_text prints the same as text. mvs_run runs a whole script in one call.
+ * mvs_event; mvs_text prints the same as text. mvs_request serves a request that is given by values, without a text. mvs_run
+ * runs a whole script in one call.
  *
  * Each function answers for every input that meets the rules below; none of them ends the program, and none keeps a pointer.
  *
@@ -33,12 +34,14 @@ enum {
     MVS_SCRIPT_FAULT = 12, /* mvs_line, mvs_end, mvs_run: the script has a fault, and the job is over */
     MVS_NO_MEMORY = 16,    /* malloc refused. Of mvs_line: the job is over. Of the others: all is as it was */
     MVS_NO_SESSION = 20,   /* there is no session; nothing is done */
-    MVS_OVER = 24,         /* the job is over, or has had 4,294,967,294 lines; nothing is done */
+    MVS_OVER = 24,         /* the job is over; of mvs_line also: it has had 4,294,967,294 lines; nothing is done */
     MVS_TOO_SMALL = 32,    /* the buffer has no room for all, and stays as it was; how many bytes it needs is told */
-    MVS_NO_ACCESS = 36,    /* no step runs, there is no byte to read, or one of them may not be read (0C4) */
+    MVS_NO_ACCESS = 36,    /* no step runs, there is no byte, or one of them may not be read and written (0C4) */
     MVS_NO_MORE = 40,      /* there is no more of what was asked for */
     MVS_TOO_LONG = 44,     /* mvs_run: the script has more than 16,777,215 bytes */
-    MVS_NOT_READ = 48      /* mvs_run: does not happen, which is not proved */
+    MVS_NOT_READ = 48,     /* mvs_run: does not happen, which is not proved */
+    MVS_NO_REQUEST = 52,   /* mvs_request: a name or a number is out of its range; nothing is done */
+    MVS_NO_STEP_RUNS = 56  /* mvs_request: no step runs; nothing is done */
 };
 
 /* What an event tells. What is not named is 0, and the task blank. */
@@ -49,14 +52,14 @@ enum {
     MVS_NO_NAME = 3,     /* a name in the statement is not set */
     MVS_AT = 4,          /* WHERE: address */
     MVS_RC_0 = 5,        /* return code 0 */
-    MVS_GRANTED = 6,     /* return code 0 of a variable request: length */
+    MVS_GRANTED = 6,     /* return code 0 of a variable request: length; of an obtain by values: address, length */
     MVS_RC_4 = 7,        /* return code 4 */
-    MVS_CELL = 8,        /* CPOOL GET: a cell is taken */
+    MVS_CELL = 8,        /* CPOOL GET: a cell is taken; by values: address, length */
     MVS_NO_CELL = 9,     /* CPOOL GET: there is none */
     MVS_ATTACHED = 10,
     MVS_ENDED = 11,
-    MVS_DONE = 12,       /* bytes were written */
-    MVS_DATA = 13,       /* SHOW: address, length; mvs_read reads the bytes */
+    MVS_DONE = 12,       /* bytes were written; by values: or read */
+    MVS_DATA = 13,       /* SHOW in a line: address, length; mvs_read reads the bytes */
     MVS_ABENDED = 14,    /* code: the completion code; mvs_fallen names the tasks that ended too */
     MVS_SUBPOOLS = 15,   /* REPORT SP; mvs_subpool tells its lines */
     MVS_MAP = 16,        /* REPORT MAP; mvs_map tells its lines */
@@ -80,6 +83,56 @@ typedef struct mvs_event {
     uint32_t ended;
     uint8_t task[8]; /* padded with blanks */
 } mvs_event;
+
+/* What is asked for, and of an mvs_ask which fields it reads beside kind and task. */
+enum {
+    MVS_OBTAIN = 0,         /* form, subpool, length, least, boundary, within, location */
+    MVS_RELEASE = 1,        /* form, subpool, address, length */
+    MVS_RELEASE_WHOLE = 2,  /* form, subpool */
+    MVS_POOL_BUILD = 3,     /* name, subpool, length, primary, secondary, location */
+    MVS_POOL_GET = 4,       /* name, conditional */
+    MVS_POOL_FREE = 5,      /* name, address */
+    MVS_POOL_DELETE = 6,    /* name */
+    MVS_ATTACH = 7,         /* name, given_.., shared_.., keeps_zero, above */
+    MVS_RETURN = 8,
+    MVS_ABEND = 9,          /* code */
+    MVS_SHOW = 10,          /* address, length, up to 4,096: whether the bytes may be read */
+    MVS_MOVE = 11           /* address, source, length, up to 65,536 */
+};
+
+/* The forms of GETMAIN and FREEMAIN, and STORAGE with COND=NO and COND=YES. */
+enum {
+    MVS_R = 0, MVS_RC = 1, MVS_RU = 2, MVS_VRC = 3, MVS_VRU = 4, MVS_EC = 5, MVS_EU = 6, MVS_VC = 7, MVS_VU = 8,
+    MVS_STORAGE = 9, MVS_STORAGE_CONDITIONAL = 10
+};
+
+/* LOC=. */
+enum { MVS_LOC_RES = 0, MVS_LOC_BELOW = 1, MVS_LOC_ANY = 2 };
+
+/* A request by values. What is 0 is as where a statement leaves the operand out. A name is padded with blanks or zero bytes, and
+ * ends before the first of them. */
+typedef struct mvs_ask {
+    uint32_t kind;
+    uint32_t form;
+    uint32_t subpool;
+    uint32_t length;    /* in bytes: of a variable obtain the greatest; of a pool those of a cell */
+    uint32_t least;     /* the least length of a variable obtain; 0: the same */
+    uint32_t boundary;  /* STARTBDY: a power of two, 3 to 31; 0: 3 */
+    uint32_t within;    /* CONTBDY: the same; 0: none */
+    uint32_t location;
+    uint32_t address;
+    uint32_t source;    /* where MVS_MOVE reads */
+    uint32_t primary;   /* how many cells the first part of a pool has */
+    uint32_t secondary; /* and each further part; 0: the same */
+    uint32_t code;      /* a user completion code, 0 to 4095 */
+    bool conditional;   /* of MVS_POOL_GET */
+    bool keeps_zero;    /* SZERO=NO */
+    bool above;         /* RES=ABOVE of a subtask */
+    uint64_t given_low, given_high;   /* GSPV, GSPL: a bit for each number, 1 to 63 and 64 to 127 */
+    uint64_t shared_low, shared_high; /* SHSPV, SHSPL */
+    uint8_t task[8];
+    uint8_t name[8];    /* of a pool or a subtask */
+} mvs_ask;
 
 /* A subpool number that a task has: whether the task owns the subpool, and the bytes that this holds outside and inside of cell
  * pools. */
@@ -116,6 +169,11 @@ uint32_t mvs_new(mvs_session *session, uint32_t place);
  * MVS_OK, MVS_SCRIPT_FAULT or MVS_NO_MEMORY; or MVS_NO_SESSION or MVS_OVER, and then *event is as it was. */
 uint32_t mvs_line(mvs_session *session, const uint8_t *line, size_t length, mvs_event *event);
 
+/* Serves a request of a task, as a line does that asks for the same; it has no number and sets no name, and mvs_text has nothing to
+ * print of it. *event is what it was answered. MVS_OK; or MVS_NO_REQUEST, MVS_NO_STEP_RUNS, MVS_NO_SESSION or MVS_OVER, and then
+ * *event is as it was. */
+uint32_t mvs_request(mvs_session *session, const mvs_ask *ask, mvs_event *event);
+
 /* Tells the session that there are no more lines. MVS_OK, MVS_SOME_ABEND, or MVS_SCRIPT_FAULT where no step was begun; or
  * MVS_NO_SESSION or MVS_OVER, and then *event is as it was. */
 uint32_t mvs_end(mvs_session *session, mvs_event *event);
@@ -128,6 +186,10 @@ uint32_t mvs_text(mvs_session *session, uint8_t *out, size_t room, size_t *wante
 /* Copies the length bytes from an address on, at least one. MVS_OK; MVS_NO_ACCESS or MVS_NO_SESSION, and then the buffer is
  * as it was. */
 uint32_t mvs_read(mvs_session *session, uint32_t address, uint8_t *out, size_t length);
+
+/* Writes length bytes, at least one, over those from an address on. MVS_OK; MVS_NO_ACCESS, MVS_NO_SESSION or MVS_OVER, and then all
+ * is as it was. The text of what was told last is gone. */
+uint32_t mvs_write(mvs_session *session, uint32_t address, const uint8_t *bytes, size_t length);
 
 /* Tells the name, padded with blanks, of the task of this index, from 0 on, among those that ended with the one that abended,
  * where the last request that was made abended. MVS_OK; MVS_NO_MORE or MVS_NO_SESSION, and then the name is as it was. */

@@ -11,6 +11,7 @@ import tempfile
 from functools import partial
 from pathlib import Path
 
+import mistakes
 import random_scripts
 import session
 
@@ -19,6 +20,7 @@ MOST_BYTES = 16_777_215
 CUT = [f"example {name}.job" for name in ("first", "contents", "pools", "steps")]
 CUT += ["script storage_a_run_is_joined_across_pages.job"]
 FED = ("lists.job", "pool_parts.job", "report_given_and_shared.job", "job_two_steps.job")
+NO_STATEMENT = "-:16777216:1: JS09: the script has no statement\n"
 END = {0: "STEP ENDED RC 0", 8: "STEP ENDED RC 8", 12: "JOB FAULT RC 12"}
 SAYS = {
     "alloc": "mvsjob: out of memory\n",
@@ -132,7 +134,7 @@ def cut(failing, script):
         status, out, err = failing.run(script[:at])
         before = front(whole, script[:at].count(b"\n"))
         last = out.decode().splitlines()[-1]
-        if err or last != END[status] and not (status == 8 and last == END[0]) or not out.startswith(before):
+        if not mistakes.tells(out.decode(), err) or last != END[status] and not (status == 8 and last == END[0]) or not out.startswith(before):
             return False
         if before and script[:at].endswith(b"\n") and out != before + f"{last}\n".encode():
             return False
@@ -140,11 +142,11 @@ def cut(failing, script):
 
 
 def is_sound(failing, script, seed):
-    """Whatever the bytes are: the last line goes with the status, nothing is said on standard error, and few bytes a call
+    """Whatever the bytes are: the last line goes with the status, standard error tells a fault alone, and few bytes a call
     print the same."""
     status, out, err = failing.run(script)
     last = out.decode().splitlines()[-1]
-    return last == END.get(status) and err == "" and failing.run(script, PIECES=str(1 + seed % 9)) == (status, out, err)
+    return last == END.get(status) and mistakes.tells(out.decode(), err) and failing.run(script, PIECES=str(1 + seed % 9)) == (status, out, err)
 
 
 def damaged(seed):
@@ -178,7 +180,7 @@ def at_the_limit(program):
     printed = f"1 JOB REGION BELOW 1 ABOVE 0\n2 JOB RC 0\n{lines + 3} JOB AT 00006000\n".encode()
     plain = lambda text: subprocess.run([program], input=text, capture_output=True, timeout=60)
     said = lambda ran: (ran.returncode, ran.stdout, ran.stderr.decode())
-    yield "a script of newlines", said(plain(b"\n" * MOST_BYTES)) == (12, b"16777216 JS09\nJOB FAULT RC 12\n", "")
+    yield "a script of newlines", said(plain(b"\n" * MOST_BYTES)) == (12, b"16777216 JS09\nJOB FAULT RC 12\n", NO_STATEMENT)
     yield "one newline more", said(plain(b"\n" * (MOST_BYTES + 1))) == (16, b"", "mvsjob: script too long\n")
     yield "the longest script", said(plain(script)) == (0, printed + b"STEP ENDED RC 0\n", "")
     yield "one byte more", said(plain(script + b"\n")) == (16, printed, "mvsjob: script too long\n")

@@ -70,6 +70,87 @@ static int events(void) {
     return 0;
 }
 
+/* What a request by values is answered: the kind of the event, or else the status. */
+static mvs_ask asked(uint32_t kind, const char *task) {
+    mvs_ask ask;
+    memset(&ask, 0, sizeof ask);
+    ask.kind = kind;
+    memcpy(ask.task, task, strlen(task));
+    return ask;
+}
+
+static uint32_t requested(mvs_ask ask) {
+    uint32_t status = mvs_request(&session, &ask, &event);
+    return status == MVS_OK ? event.kind : 1000 + status;
+}
+
+/* Storage by values. */
+static int areas(void) {
+    uint8_t bytes[4] = {1, 2, 3, 4}, read[4] = {0};
+    mvs_ask obtain = asked(MVS_OBTAIN, "JOB"), release = asked(MVS_RELEASE, "JOB"), show = asked(MVS_SHOW, "JOB"), copy = asked(MVS_MOVE, "JOB");
+    if (requested(obtain) != 1000 + MVS_NO_SESSION || mvs_write(&session, 0x6000, bytes, 4) != MVS_NO_SESSION) return 70;
+    if (mvs_new(&session, MVS_LOW) != MVS_OK) return 71;
+    obtain.length = 20;
+    if (requested(obtain) != 1000 + MVS_NO_STEP_RUNS || mvs_write(&session, 0x6000, bytes, 4) != MVS_NO_ACCESS) return 72;
+    if (answered("JOB REGION BELOW=2") != MVS_STEP_BEGAN) return 73;
+    if (requested(obtain) != MVS_GRANTED || event.address != 0x6000 || event.length != 24 || memcmp(event.task, "JOB     ", 8) != 0) return 74;
+    if (mvs_write(&session, 0x6002, bytes, 4) != MVS_OK || mvs_read(&session, 0x6002, read, 4) != MVS_OK || memcmp(read, bytes, 4) != 0) return 75;
+    if (mvs_write(&session, 0x6016, bytes, 4) != MVS_NO_ACCESS || mvs_write(&session, 0x6000, bytes, 0) != MVS_NO_ACCESS) return 76;
+    copy.address = 0x6010, copy.source = 0x6002, copy.length = 4;
+    if (requested(copy) != MVS_DONE || mvs_read(&session, 0x6010, read, 4) != MVS_OK || memcmp(read, bytes, 4) != 0) return 77;
+    show.address = 0x6014, show.length = 4;
+    if (requested(show) != MVS_DONE) return 78;
+    release.address = 0x6000, release.length = 32, release.form = MVS_RC;
+    if (requested(release) != MVS_RC_4) return 79;
+    release.length = 20;
+    if (requested(release) != MVS_RC_0 || mvs_write(&session, 0x6000, bytes, 4) != MVS_NO_ACCESS) return 80;
+    obtain.form = MVS_VRC, obtain.length = 8192, obtain.least = 8, obtain.within = 12, obtain.subpool = 131;
+    if (requested(obtain) != MVS_GRANTED || event.length != 4096) return 81;
+    obtain.least = 9000;
+    if (requested(obtain) != 1000 + MVS_NO_REQUEST || event.kind != MVS_GRANTED) return 82;
+    obtain.least = 0, obtain.subpool = 256;
+    if (requested(obtain) != 1000 + MVS_NO_REQUEST) return 83;
+    obtain.subpool = 0, obtain.boundary = 2;
+    if (requested(obtain) != 1000 + MVS_NO_REQUEST) return 84;
+    obtain.boundary = 0, obtain.task[0] = 0;
+    if (requested(obtain) != 1000 + MVS_NO_REQUEST) return 85;
+    obtain.task[0] = 'X';
+    if (requested(obtain) != MVS_NOT_RUN) return 86;
+    release = asked(MVS_RELEASE_WHOLE, "JOB"), release.subpool = 131, release.form = MVS_STORAGE_CONDITIONAL;
+    if (requested(release) != MVS_RC_0 || requested(asked(12, "JOB")) != 1000 + MVS_NO_REQUEST) return 87;
+    return 0;
+}
+
+/* Pools and tasks by values, behind areas. */
+static int pools_and_tasks(void) {
+    uint8_t name[8] = {0};
+    mvs_ask pool = asked(MVS_POOL_BUILD, "JOB"), attach = asked(MVS_ATTACH, "JOB");
+    memcpy(pool.name, "POOL    ", 8);
+    pool.length = 12, pool.primary = 2;
+    if (requested(pool) != MVS_RC_0) return 90;
+    pool.kind = MVS_POOL_GET, pool.conditional = true;
+    if (requested(pool) != MVS_CELL || event.length != 12 || requested(pool) != MVS_CELL) return 91;
+    pool.address = event.address;
+    if (requested(pool) != MVS_NO_CELL) return 92;
+    pool.kind = MVS_POOL_FREE;
+    if (requested(pool) != MVS_RC_0) return 93;
+    memcpy(attach.name, "SUB", 3);
+    attach.given_low = 4, attach.shared_low = 4;
+    if (requested(attach) != 1000 + MVS_NO_REQUEST) return 94;
+    attach.shared_low = 8;
+    if (requested(attach) != MVS_ATTACHED || answered("SUB REPORT SP") != MVS_SUBPOOLS) return 95;
+    memcpy(attach.task, "SUB", 3), memcpy(attach.name, "SUB2", 4);
+    if (requested(attach) != MVS_ATTACHED || requested(asked(MVS_RETURN, "SUB2")) != MVS_ENDED) return 96;
+    if (requested(attach) != MVS_ATTACHED) return 97;
+    attach = asked(MVS_ABEND, "SUB"), attach.code = 7;
+    if (requested(attach) != MVS_ABENDED || event.code != 7 || mvs_fallen(&session, 0, name) != MVS_OK || memcmp(name, "SUB2    ", 8) != 0) return 98;
+    pool.kind = MVS_POOL_DELETE;
+    if (requested(pool) != MVS_RC_0 || requested(pool) != MVS_ABENDED || event.code != 4002) return 99;
+    if (mvs_end(&session, &event) != MVS_SOME_ABEND || requested(attach) != 1000 + MVS_OVER || mvs_write(&session, 0x6000, name, 1) != MVS_OVER) return 100;
+    mvs_free(&session);
+    return 0;
+}
+
 /* Text, and the end of a job. */
 static int text(void) {
     uint8_t out[64] = {7};
@@ -112,5 +193,7 @@ int main(void) {
     if (!failed) failed = events();
     if (!failed) failed = text();
     if (!failed) failed = whole();
+    if (!failed) failed = areas();
+    if (!failed) failed = pools_and_tasks();
     return failed;
 }

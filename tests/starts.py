@@ -20,6 +20,8 @@ PLACED = {
     "--place high": "00006FF8",
     "--place=high -": "00006FF8",
 }
+BEGUN = "1 JOB REGION BELOW 1 ABOVE 0\n"
+NO_SCRIPT = "1 JS09\nJOB FAULT RC 12\n"
 BIG = "JOB REGION BELOW=1\nJOB GETMAIN R,LV=4096,A=X\n" + "JOB SHOW X,4096\n" * 300
 
 
@@ -31,7 +33,7 @@ def shell(command, cwd=None, stdin=None, **names):
 
 def ends_at_a_fault():
     """Whether the program ends behind a line that is too long, though more could be read."""
-    with subprocess.Popen([TOP / "run"], stdin=subprocess.PIPE, stdout=subprocess.PIPE) as run:
+    with subprocess.Popen([TOP / "run"], stdin=subprocess.PIPE, stdout=subprocess.PIPE, stderr=subprocess.DEVNULL) as run:
         run.stdin.write(ONE_AREA.encode() + 256 * b"*")
         run.stdin.flush()
         return run.wait(60) == 12 and run.stdout.read().endswith(b"\n4 JS01\nJOB FAULT RC 12\n")
@@ -48,12 +50,15 @@ def cases(folder):
     for words, address in PLACED.items():
         status, out, err = shell(f'"$RUN" {words}', cwd=folder, stdin=ONE_AREA.encode())
         yield f"settings_always_refuses, {words}", (status, err) == (0, "") and f"3 JOB AT {address}\n" in out
-    yield "a file that is named as an option", shell('"$RUN" -- --help', cwd=folder) == (16, "", "mvsjob: cannot open script\n")
+    yield "a file that is named as an option", shell('"$RUN" -- --help', cwd=folder) == (16, "", "mvsjob: --help: no such file\n")
     yield "a dash", shell('"$RUN" -', stdin=FIRST.read_bytes()) == (0, printed, "")
     yield "another folder", shell('"$RUN" first.job', cwd=FIRST.parent) == (0, printed, "")
     yield "a link", shell(f'"{link}" "$FIRST"', cwd=folder) == (0, printed, "")
-    yield "no such file", shell('"$RUN" nowhere.job') == (16, "", "mvsjob: cannot open script\n")
-    yield "a folder", shell(f'"$RUN" "{folder}"') == (16, "", "mvsjob: read failed\n")
+    yield "no such file", shell('"$RUN" nowhere.job') == (16, "", "mvsjob: nowhere.job: no such file\n")
+    yield "a folder", shell(f'"$RUN" "{folder}"') == (16, "", f"mvsjob: {folder}: is a directory\n")
+    yield "a folder that is checked", shell(f'"$RUN" --check "{folder}"') == (16, "", f"mvsjob: {folder}: is a directory\n")
+    yield "no script", shell('"$RUN" /dev/null') == (12, NO_SCRIPT, "/dev/null:1:1: JS09: the script has no statement\n")
+    yield "a closed pipe", shell('yes "JOB REGION BELOW=1" | head -99999 | "$RUN" | head -1; echo ${PIPESTATUS[2]}') == (0, f"{BEGUN}141\n", "")
     yield "closed input", shell('"$RUN" <&-') == (16, "", "mvsjob: read failed\n")
     yield "closed output", shell('"$RUN" "$FIRST" >&-') == (16, "", "mvsjob: write failed\n")
     yield "a full device", shell('"$RUN" "$FIRST" > /dev/full') == (16, "", "mvsjob: write failed\n")

@@ -11,7 +11,7 @@ use Rattle.boundary_loc.specs.Starts.{Serves, IsStarts}
 use Rattle.boundary_loc.proofs.Multiples.{lower_power}
 
 -- at a start in the run, what fits is what serves
-serving : (run : PlaceValue) (want : WantValue) (a n : ℕ) → IsRun run → IsWant want → Allows want.side run.addr → run.addr ≤ a → a % 2 ^ want.start ≡ 0 → 0 < n →
+pub serving : (run : PlaceValue) (want : WantValue) (a n : ℕ) → IsRun run → IsWant want → Allows want.side run.addr → run.addr ≤ a → a % 2 ^ want.start ≡ 0 → 0 < n →
     Fits want.within (run.addr + run.len) n a ↔ Serves run want (place_at a n)
 serving run want a n is_run is_want allowed from on some = (
   λ fits. (

@@ -5,7 +5,7 @@ ghost use Rattle.std.specs.Prelude.{◌≡◌, ◌<◌, ◌≤◌, ◌+◌, ◌%
 ghost use Rattle.mvs_model.specs.Place.{PlaceValue, place_at};
 ghost use Rattle.mvs_model.specs.Storage.{Meets, IsLength, IsRun, InRun};
 ghost use Rattle.boundary_loc.specs.Boundary.{IsWithin, Fits, IsLeastMultiple, IsGreatestMultiple, IsNextStart, IsLastStart, Allows};
-ghost use Rattle.boundary_loc.specs.Starts.{IsStarts};
+ghost use Rattle.boundary_loc.specs.Starts.{IsStarts, Serves};
 ghost use Rattle.mvs_model.specs.Want.{side_of};
 
 use mvs_model::bounded::Exponent;
@@ -226,6 +226,36 @@ pub fn longest_in(run: Place, want: &Want) -> Option<Place>
     } else {
         Some(place(starts.next, len))
     }
+}
+
+// Whether so many bytes from an address on lie in the run and meet what is wanted.
+fn serves_at(run: Place, want: &Want, addr: Addr, len: u32) -> bool
+    requires run { IsRun run }
+    requires some { 1 ≤ len }
+    ensures { IsTrue result ↔ Serves run want.now (place_at addr len) }
+{
+    let from = run.addr().get();
+    if !allows(want.side(), from) || addr.get() < from {
+        return false;
+    }
+    let at = u64::from(addr.get());
+    let end = u64::from(from) + u64::from(run.len());
+    at % power(want.start()) == 0 && u64::from(len) <= room(at, want.within(), end)
+}
+
+/// The place of a length in bytes at an address, where it lies in the run and meets what is wanted but for its
+/// lengths.
+pub fn at_in(run: Place, want: &Want, len: u32, addr: Addr) -> Option<Place>
+    requires run { IsRun run }
+    requires some { 1 ≤ len }
+    ensures { MatchOption result
+        (Serves run want.now (place_at addr len) → ⊥)
+        (λ p. (p ≡ place_at addr len) × Serves run want.now p) }
+{
+    if !serves_at(run, want, addr, len) {
+        return None;
+    }
+    Some(Place::new(addr, len))
 }
 
 /// The side of a location: BELOW is below, ANY is either, and RES follows the residence of the task (Assembler

@@ -45,7 +45,7 @@ pub(crate) fn obtain_part(
         return None;
     }
     let want = Want::fixed(Length::new(bytes as u32), Exponent::new(3), side);
-    store.obtain(subpool, &want)
+    store.obtain(subpool, &want, None)
 }
 
 // Writes a word.

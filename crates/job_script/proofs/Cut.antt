@@ -1,13 +1,13 @@
 -- Texts, parted at the first byte that passes a test.
-use Rattle.std.proofs.Common.{◌≡◌, ℕ, suc, ◌+◌, ◌≤◌, ◌<◌, List, [], ◌∷◌, length, take, drop, arith, refl, sym, ap, subst, ◌∙◌, true, false, Bool, cond, Some, None}
+use Rattle.std.proofs.Common.{◌≡◌, ℕ, suc, ◌+◌, ◌≤◌, ◌<◌, List, [], ◌∷◌, ◌++◌, length, take, drop, arith, refl, sym, ap, subst, ◌∙◌, true, false, Bool, cond, Some, None, append_assoc}
 use Rattle.std.specs.Prelude.{nat_lt, not, position, ◌==◌, ◌||◌, filter, unwrap_or, slice_get}
 use Rattle.std.specs.List.{list_any, position_or_len, before_first, after_first, slice_split, onto_first}
-use Rattle.std.proofs.lemmas.List.{take_all, drop_all}
+use Rattle.std.proofs.lemmas.List.{take_all, drop_all, take-append-drop}
 use Rattle.std.proofs.lemmas.List.Splits.{slice_split_first}
 use Rattle.std.proofs.lemmas.Bool.Decides.{nat_tests}
 use Rattle.std.proofs.lemmas.Bool.{not-true}
 use Rattle.mvs_model.specs.Reading.{words, is_empty}
-use Rattle.job_script.specs.Parted.{starts_word, field_in}
+use Rattle.job_script.specs.Parted.{IsEnd, starts_word, field_in}
 
 -- where there is no place before the end, no byte passes
 none_passes : (p : ℕ → Bool) (xs : List ℕ) → length xs ≤ position_or_len p xs → list_any p xs ≡ false
@@ -105,3 +105,11 @@ pub field_first : (text : List ℕ) → starts_word text ≡ true → field_in t
 field_first text s =
     let more = behind_field text in
     (first_word text (field_in text) more.0 s (at_blank text) more.1).0
+
+-- What stands behind the first byte that passes ends the text.
+pub after_ends : (p : ℕ → Bool) (xs : List ℕ) → IsEnd xs (after_first p xs)
+after_ends p xs = (take (position_or_len p xs + 1) xs, sym (take-append-drop (position_or_len p xs + 1) xs))
+
+-- the end of an end
+pub end_of_end : (text end last : List ℕ) → IsEnd text end → IsEnd end last → IsEnd text last
+end_of_end text end last (front, e) (more, f) = (front ++ more, e ∙ ap (λ xs. front ++ xs) f ∙ sym (append_assoc front more last))

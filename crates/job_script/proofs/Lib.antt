@@ -1,17 +1,17 @@
 -- Lemmas of this crate; Appending serves the crates above too.
 mod Parts
-mod Cut
+pub mod Cut
 mod SameNumbers
 mod ListItems
 mod Unknown
 mod KeyPlaces
-mod Taking
+pub mod Taking
 mod Conflicts
 mod ListsRead
 mod Gifted
 mod Facts
-mod Rowing
-mod Stating
+pub mod Rowing
+pub mod Stating
 mod InRanges
 pub mod Appending
 pub mod PrintedDigits

@@ -30,7 +30,7 @@ kept_some [] = refl
 kept_some ([] ∷ ws) = kept_some ws
 kept_some ((b ∷ bs) ∷ ws) = refl
 
-first_field : (text : List ℕ) → operands_in (slice_get (words text) 0) ≡ operands_in (as_field (unwrap_or (slice_get (words text) 0) []))
+pub first_field : (text : List ℕ) → operands_in (slice_get (words text) 0) ≡ operands_in (as_field (unwrap_or (slice_get (words text) 0) []))
 first_field text = kept_some (slice_split (λ b. b == 32) text)
 
 behind_first : (ws : List (List ℕ)) → slice_get ws 1 ≡ slice_get (drop 1 ws) 0
@@ -38,7 +38,7 @@ behind_first [] = refl
 behind_first (w ∷ ws) = refl
 
 -- the operands of a line by its operation
-operands_by : (o : Operation) (field : Option (List ℕ)) (rest : List ℕ) → operands_in field ≡ operands_in (as_field (unwrap_or (slice_get (words rest) 0) []))
+pub operands_by : (o : Operation) (field : Option (List ℕ)) (rest : List ℕ) → operands_in field ≡ operands_in (as_field (unwrap_or (slice_get (words rest) 0) []))
     → (if list_any (λ row. row.has_field) (rows_of (operation_text o)) then operands_in field else []) ≡ operands_in (as_field (field_of o rest))
 operands_by operation.Region field rest e = e
 operands_by operation.Getmain field rest e = e

@@ -15,3 +15,4 @@ pub mod LineBuffers
 pub mod Areas
 pub mod Resolving
 pub mod Writing
+pub mod ReasonTexts

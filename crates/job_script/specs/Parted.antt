@@ -1,5 +1,9 @@
 -- Texts, parted at bytes.
-use Rattle.std.specs.Prelude.{ℕ, suc, ◌+◌, ◌-◌, List, [], ◌∷◌, ◌==◌, ◌&&◌, ◌||◌, not, Bool, true, if◌then◌else◌}
+use Rattle.std.specs.Prelude.{◌≡◌, ◌++◌, ℕ, suc, ◌+◌, ◌-◌, List, [], ◌∷◌, ◌==◌, ◌&&◌, ◌||◌, not, Bool, true, if◌then◌else◌}
+
+-- The text ends with another one.
+abbrev pub IsEnd : List ℕ → List ℕ → Type 0
+IsEnd text end = (front : List ℕ) × (text ≡ front ++ end)
 
 -- whether no blank comes first
 abbrev pub starts_word : List ℕ → Bool

@@ -102,8 +102,8 @@ impl<'a> Given<'a> {
         Ok(())
     }
 
-    // Takes an operand, or answers what is wrong with it.
-    fn take(&mut self, operand: &'a [u8]) -> Result<(), Fault>
+    /// Takes an operand, or answers what is wrong with it.
+    pub fn take(&mut self, operand: &'a [u8]) -> Result<(), Fault>
         ensures { Takes self.old self.new operand.now result }
     {
         let (key, text) = parted(operand, b'=');

@@ -48,6 +48,40 @@ impl Key {
         self as usize
     }
 
+    /// The key as a script writes it.
+    pub fn text(self) -> &'static str
+        ensures { result.now ≡ key_text self }
+    {
+        match self {
+            Key::Below => "BELOW",
+            Key::Above => "ABOVE",
+            Key::Fill => "FILL",
+            Key::Res => "RES",
+            Key::Lv => "LV",
+            Key::A => "A",
+            Key::Sp => "SP",
+            Key::Bndry => "BNDRY",
+            Key::Loc => "LOC",
+            Key::Startbdy => "STARTBDY",
+            Key::Contbdy => "CONTBDY",
+            Key::La => "LA",
+            Key::Length => "LENGTH",
+            Key::Addr => "ADDR",
+            Key::Cond => "COND",
+            Key::Cpid => "CPID",
+            Key::Csize => "CSIZE",
+            Key::Pcellct => "PCELLCT",
+            Key::Scellct => "SCELLCT",
+            Key::Cell => "CELL",
+            Key::Task => "TASK",
+            Key::Gspv => "GSPV",
+            Key::Gspl => "GSPL",
+            Key::Shspv => "SHSPV",
+            Key::Shspl => "SHSPL",
+            Key::Szero => "SZERO",
+        }
+    }
+
     /// Whether a text is the key as a script writes it.
     pub fn is(self, text: &[u8]) -> bool
         ensures { result ≡ bytes_eq (key_text self) text.now }

@@ -1,6 +1,6 @@
 //! What an operand may be.
 
-ghost use Rattle.std.specs.Prelude.{◌≡◌, ◌<◌, ℕ, length, true, false};
+ghost use Rattle.std.specs.Prelude.{◌≡◌, ◌<◌, ℕ, length, map, true, false};
 ghost use Rattle.mvs_model.specs.Grammar as grammar;
 ghost use Rattle.mvs_model.specs.Reading.{is_number, is_one_of, is_bytes, is_pair, is_pair_in_range, is_of, is_quoted, repeats, is_within, first_of};
 ghost use Rattle.job_script.specs.Items.{is_list_of, has_twice, has_items_in_range, has_items};
@@ -25,6 +25,31 @@ pub enum Words {
     Residence,
     /// COND, C, UNCOND or U.
     Conditional,
+}
+
+const BOUNDARY_WORDS: [&str; 2] = ["DBLWD", "PAGE"];
+
+const LOCATION_WORDS: [&str; 5] = ["BELOW", "24", "ANY", "31", "RES"];
+
+const YES_NO_WORDS: [&str; 2] = ["YES", "NO"];
+
+const RESIDENCE_WORDS: [&str; 2] = ["BELOW", "ABOVE"];
+
+const CONDITIONAL_WORDS: [&str; 4] = ["COND", "C", "UNCOND", "U"];
+
+impl Words {
+    /// The words.
+    pub fn texts(self) -> &'static [&'static str]
+        ensures { map (λ word. word.now) result.now ≡ as_words self }
+    {
+        match self {
+            Words::Boundary => &BOUNDARY_WORDS,
+            Words::Location => &LOCATION_WORDS,
+            Words::YesNo => &YES_NO_WORDS,
+            Words::Residence => &RESIDENCE_WORDS,
+            Words::Conditional => &CONDITIONAL_WORDS,
+        }
+    }
 }
 
 /// What the text of an operand has to be.

@@ -1,6 +1,6 @@
 //! Operations and their forms.
 
-ghost use Rattle.std.specs.Prelude.{◌≡◌, [], option_map, bytes_eq, find, not, false, IfSome, MatchOption};
+ghost use Rattle.std.specs.Prelude.{◌≡◌, [], option_map, bytes_eq, find, not, false, map, flat_map, IfSome, MatchOption};
 ghost use Rattle.mvs_model.specs.Reading.{is_empty, rows_of, takes_form};
 ghost use Rattle.job_script.specs.Rows.{row_at};
 ghost use Rattle.job_script.specs.Operations.{operation_text, row_with};
@@ -24,6 +24,35 @@ pub enum Operation {
     Where,
     Report,
 }
+
+/// All operations.
+pub const OPERATIONS: [Operation; 13] = [
+    Operation::Region,
+    Operation::Getmain,
+    Operation::Freemain,
+    Operation::Storage,
+    Operation::Cpool,
+    Operation::Attach,
+    Operation::Return,
+    Operation::Abend,
+    Operation::Put,
+    Operation::Show,
+    Operation::Move,
+    Operation::Where,
+    Operation::Report,
+];
+
+const GETMAIN_FORMS: [&str; 11] = [
+    "R", "EC", "EU", "RC", "RU", "VC", "VU", "VRC", "VRU", "LC", "LU",
+];
+
+const FREEMAIN_FORMS: [&str; 9] = ["R", "RC", "RU", "EC", "EU", "VC", "VU", "LC", "LU"];
+
+const STORAGE_FORMS: [&str; 2] = ["OBTAIN", "RELEASE"];
+
+const CPOOL_FORMS: [&str; 4] = ["BUILD", "GET", "FREE", "DELETE"];
+
+const REPORT_FORMS: [&str; 2] = ["SP", "MAP"];
 
 // The one operation that a word may name, by its first letters.
 fn likely(word: &[u8]) -> Operation
@@ -151,6 +180,42 @@ impl Operation {
             Operation::Move => word == b"MOVE".as_slice(),
             Operation::Where => word == b"WHERE".as_slice(),
             Operation::Report => word == b"REPORT".as_slice(),
+        }
+    }
+
+    /// The operation as a script writes it.
+    pub fn text(self) -> &'static str
+        ensures { result.now ≡ operation_text self }
+    {
+        match self {
+            Operation::Region => "REGION",
+            Operation::Getmain => "GETMAIN",
+            Operation::Freemain => "FREEMAIN",
+            Operation::Storage => "STORAGE",
+            Operation::Cpool => "CPOOL",
+            Operation::Attach => "ATTACH",
+            Operation::Return => "RETURN",
+            Operation::Abend => "ABEND",
+            Operation::Put => "PUT",
+            Operation::Show => "SHOW",
+            Operation::Move => "MOVE",
+            Operation::Where => "WHERE",
+            Operation::Report => "REPORT",
+        }
+    }
+
+    /// The forms that it takes.
+    pub fn forms(self) -> &'static [&'static str]
+        ensures { map (λ form. form.now) result.now
+            ≡ flat_map (λ row. row.forms) (rows_of (operation_text self)) }
+    {
+        match self {
+            Operation::Getmain => &GETMAIN_FORMS,
+            Operation::Freemain => &FREEMAIN_FORMS,
+            Operation::Storage => &STORAGE_FORMS,
+            Operation::Cpool => &CPOOL_FORMS,
+            Operation::Report => &REPORT_FORMS,
+            _ => &[],
         }
     }
 

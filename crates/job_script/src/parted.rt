@@ -1,9 +1,9 @@
 //! Texts, parted at bytes.
 
-ghost use Rattle.std.specs.Prelude.{◌≡◌, ◌≤◌, ◌<◌, ◌+◌, ◌^◌, ◌==◌, ◌∷◌, [], true, false, length, drop, position, slice_get, unwrap_or, MatchOption, IfSome};
+ghost use Rattle.std.specs.Prelude.{◌≡◌, ◌≤◌, ◌<◌, ◌+◌, ◌^◌, ◌==◌, ◌∷◌, ◌++◌, [], true, false, length, drop, position, slice_get, unwrap_or, MatchOption, IfSome};
 ghost use Rattle.std.specs.List.{before_first, after_first, list_any, slice_split};
 ghost use Rattle.mvs_model.specs.Reading.{words, parts_within};
-ghost use Rattle.job_script.specs.Parted.{starts_word, field_in, ends_at, opened_after, end_from};
+ghost use Rattle.job_script.specs.Parted.{IsEnd, starts_word, field_in, ends_at, opened_after, end_from};
 
 // Where the first of these bytes stands.
 fn place(text: &[u8], byte: u8) -> Option<usize>
@@ -34,6 +34,7 @@ pub fn parted(text: &[u8], byte: u8) -> (&[u8], Option<&[u8]>)
 /// The text from its first byte on that is no blank.
 pub fn behind_blanks(text: &[u8]) -> &[u8]
     ensures words { words result.now ≡ words text.now }
+    ensures end { IsEnd text.now result.now }
     ensures start { starts_word result.now ≡ true }
 {
     for (i, byte) in text.iter().enumerate() {
@@ -48,6 +49,7 @@ pub fn behind_blanks(text: &[u8]) -> &[u8]
 pub fn next_word(text: &[u8]) -> (&[u8], &[u8])
     ensures word { result.0.now ≡ unwrap_or (slice_get (words text.now) 0) [] }
     ensures rest { words result.1.now ≡ drop 1 (words text.now) }
+    ensures end { IsEnd text.now result.1.now }
 {
     let (word, rest) = parted(behind_blanks(text), b' ');
     match rest {
@@ -100,6 +102,7 @@ pub fn next_operand(text: &[u8]) -> (&[u8], Option<&[u8]>)
         (λ rest.
         (parts_within 0 (field_in text.now)
         ≡ result.0.now ∷ parts_within 0 (field_in rest.now))) }
+    ensures cut { IfSome result.1 (λ rest. text.now ≡ result.0.now ++ 44 ∷ rest.now) }
     ensures less { IfSome result.1 (λ rest. length rest.now < length text.now) }
 {
     let end = operand_end(text);

@@ -12,13 +12,15 @@ use Rattle.mvs_model.specs.Place.{IsPlace, place_at}
 use Rattle.step_machine.specs.Reports.{HasNone, IsMapEnd, IsMapRun, IsSubpoolLine}
 use Rattle.mvs_c.specs.declared.access.Subpool.{Subpool}
 use Rattle.mvs_c.specs.declared.access.Run.{Run}
-use Rattle.mvs_c.specs.Opens.{OpenValue}
+use Rattle.mvs_job.specs.Telling.{WalkValue}
+use Rattle.mvs_job.specs.Valued.{WritesOf}
+use Rattle.mvs_c.specs.Opens.{OpenValue, without_line}
 
 -- P holds of the step that runs, and one does.
 abbrev pub InStep : OpenValue → (JobValue → Type 0) → Type 0
 InStep o P = MatchOption o.session.walk.step ⊥ P
 
--- So many bytes from an address on are a place, each byte of which may be read.
+-- So many bytes from an address on are a place, each byte of which may be read and written.
 abbrev pub MayRead : OpenValue → ℕ → ℕ → Type 0
 MayRead o address n = InStep o (λ job. IsPlace (place_at address n) × Granted job.state (place_at address n))
 
@@ -31,6 +33,13 @@ pub record Reads (o : OpenValue) (address : ℕ) (before after : List ℕ) (stat
   pub len : length after ≡ length before
   pub filled : MayRead o address (length before) → AreAt o address after × (status ≡ 0)
   pub refused : (MayRead o address (length before) → ⊥) → (after ≡ before) × (status ≡ 36)
+
+-- Bytes are written from an address on; or the job has ended, or one of them may not be written, and all stays as it was.
+pub record WritesAt (old : OpenValue) (address : ℕ) (bytes : List ℕ) (new : OpenValue) (status : ℕ) : Type 0 where
+  pub over : old.session.goes_on ≡ false → (new ≡ old) × (status ≡ 24)
+  pub written : old.session.goes_on ≡ true → MayRead old address (length bytes)
+      → (later : WalkValue) × WritesOf old.session.walk (place_at address (length bytes)) bytes true later × (new ≡ without_line later) × (status ≡ 0)
+  pub refused : old.session.goes_on ≡ true → (MayRead old address (length bytes) → ⊥) → (new ≡ old) × (status ≡ 36)
 
 -- One of several things is told, or there is none, and all stays as it was.
 abbrev pub TellsOne : {X Y : Type 0} → Option X → (X → Y) → Y → Y → ℕ → Type 0

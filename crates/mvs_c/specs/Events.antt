@@ -5,6 +5,9 @@ use Rattle.mvs_model.specs.declared.answer.Answer.TheVariants as answer
 use Rattle.mvs_model.specs.declared.code.Code.{Code}
 use Rattle.mvs_model.specs.declared.code.Code.TheVariants.{System, User}
 use Rattle.mvs_model.specs.declared.name.Name.{Name}
+use Rattle.mvs_model.specs.declared.request.Reply.{Reply}
+use Rattle.mvs_model.specs.declared.request.Reply.TheVariants as reply
+use Rattle.mvs_model.specs.Place.{PlaceValue}
 use Rattle.mvs_model.specs.Texts.{fault_number}
 use Rattle.mvs_job.specs.declared.walk.LineTold.{LineTold}
 use Rattle.mvs_job.specs.declared.walk.LineTold.TheVariants as told
@@ -18,6 +21,10 @@ of_kind kind = record { kind = kind; code = 0; address = 0; length = 0; ended = 
 -- an event of a task
 abbrev pub of_task : ℕ → Name → Event
 of_task kind t = record { kind = kind; code = 0; address = 0; length = 0; ended = 0; task = t }
+
+-- an event of a task that has a place
+abbrev pub of_place : ℕ → Name → PlaceValue → Event
+of_place kind t p = record (of_task kind t) { address = p.addr; length = p.len }
 
 -- how a step ended: 0 where none did, 1 where no task of it had abended, 2 where a task had
 abbrev pub step_number : Option Bool → ℕ
@@ -43,10 +50,24 @@ answer_event t answer.NoCell = of_task 9 t
 answer_event t answer.Attached = of_task 10 t
 answer_event t answer.Ended = of_task 11 t
 answer_event t answer.Done = of_task 12 t
-answer_event t (answer.Data p) = record (of_task 13 t) { address = p.addr; length = p.len }
+answer_event t (answer.Data p) = of_place 13 t p
 answer_event t (answer.Abended code) = record (of_task 14 t) { code = completion code }
 answer_event t answer.Subpools = of_task 15 t
 answer_event t answer.Map = of_task 16 t
+
+-- the reply to a request of a task that was given by values, which is for no list
+abbrev pub reply_event : Name → Reply → Event
+reply_event t reply.NotRun = of_task 2 t
+reply_event t reply.Rc0 = of_task 5 t
+reply_event t (reply.Listed ps) = of_task 5 t
+reply_event t (reply.Obtained p) = of_place 6 t p
+reply_event t reply.Rc4 = of_task 7 t
+reply_event t (reply.Cell p) = of_place 8 t p
+reply_event t reply.NoCell = of_task 9 t
+reply_event t reply.Attached = of_task 10 t
+reply_event t reply.Ended = of_task 11 t
+reply_event t reply.Done = of_task 12 t
+reply_event t (reply.Abended code fallen) = record (of_task 14 t) { code = completion code }
 
 -- what a line told, or that memory was wanting for it
 abbrev pub line_event : Result LineTold Stopped → Event

@@ -1,5 +1,7 @@
 -- What the calls of C do. The numbers of the statuses are this project's choice.
-use Rattle.std.specs.Prelude.{◌≡◌, ℕ, ◌+◌, ◌<◌, ◌≤◌, List, [], ◌∷◌, ◌++◌, drop, length, Option, Some, None, Result, Ok, Err, MatchResult, true, false}
+use Rattle.std.specs.Prelude.{◌≡◌, ℕ, ◌+◌, ◌<◌, ◌≤◌, List, [], ◌∷◌, ◌++◌, drop, length, Option, Some, None, Result, Ok, Err, MatchBool, MatchOption, MatchResult, true, false}
+use Rattle.mvs_model.specs.declared.name.Name.{Name}
+use Rattle.mvs_model.specs.declared.request.Request.{Request}
 use Rattle.mvs_model.specs.declared.outcome.Outcome.{Outcome}
 use Rattle.mvs_model.specs.declared.outcome.Outcome.TheVariants.{Clean, SomeAbend, ScriptFault}
 use Rattle.mvs_model.specs.Memory.{StopsForMemory}
@@ -9,11 +11,14 @@ use Rattle.mvs_job.specs.declared.walk.LineTold.{LineTold}
 use Rattle.mvs_job.specs.declared.walk.LineTold.TheVariants as told
 use Rattle.mvs_job.specs.declared.walk.Stopped.{Stopped}
 use Rattle.mvs_job.specs.declared.walk.Closing.{Closing}
-use Rattle.mvs_job.specs.Telling.{IsTold, closing, ended, goes_on}
+use Rattle.mvs_job.specs.Telling.{WalkValue, IsTold, closing, ended, goes_on}
+use Rattle.mvs_job.specs.Valued.{RequestsOf}
 use Rattle.mvs_c.specs.declared.event.Event.{Event}
 use Rattle.mvs_c.specs.declared.last.Last.TheVariants as last
-use Rattle.mvs_c.specs.Events.{line_event, end_event}
-use Rattle.mvs_c.specs.Opens.{OpenValue, TakesLine, last_of}
+use Rattle.mvs_c.specs.declared.ask.Ask.{Ask}
+use Rattle.mvs_c.specs.Asks.{TaskAsks}
+use Rattle.mvs_c.specs.Events.{line_event, end_event, reply_event}
+use Rattle.mvs_c.specs.Opens.{OpenValue, TakesLine, last_of, without_line}
 
 -- how a job ended
 abbrev pub outcome_status : Outcome → ℕ
@@ -44,6 +49,23 @@ abbrev pub AnswersLine : OpenValue → List ℕ → OpenValue → Event → Even
 AnswersLine old line new before after status =
     (TakesLine old.session → (told : Result LineTold Stopped) × TellsLine old line told new × (after ≡ line_event told) × (status ≡ line_status told))
     × ((TakesLine old.session → ⊥) → (new ≡ old) × (after ≡ before) × (status ≡ 24))
+
+-- A call leaves all as it was, and answers this status.
+abbrev pub Leaves : OpenValue → OpenValue → Event → Event → ℕ → ℕ → Type 0
+Leaves old new before after status answered = (new ≡ old) × (after ≡ before) × (answered ≡ status)
+
+-- A session answers a request that is given by values; where the numbers say none, or no step runs, it leaves all as it was.
+abbrev pub AnswersAsked : OpenValue → Option (Name × Request) → OpenValue → Event → Event → ℕ → Type 0
+AnswersAsked old None new before after status = Leaves old new before after 52 status
+AnswersAsked old (Some asked) new before after status = MatchOption old.session.walk.step
+    (Leaves old new before after 56 status)
+    (λ _. (later : WalkValue) × RequestsOf old.session.walk asked.0 asked.1 true later × (new ≡ without_line later) × (after ≡ reply_event asked.0 later.reply) × (status ≡ 0))
+
+-- What a call answers that gives a session a request by values: a job that has ended takes none.
+abbrev pub AnswersRequest : OpenValue → Ask → OpenValue → Event → Event → ℕ → Type 0
+AnswersRequest old a new before after status = MatchBool old.session.goes_on
+    ((asked : Option (Name × Request)) × TaskAsks a asked × AnswersAsked old asked new before after status)
+    (Leaves old new before after 24 status)
 
 -- A session ends its job so.
 abbrev pub TellsEnd : OpenValue → Closing → OpenValue → Type 0

@@ -1,4 +1,5 @@
 pub mod Access
+pub mod Asks
 pub mod Events
 pub mod Exports
 pub mod Handle

@@ -35,6 +35,10 @@ events_of w (last.Closed number end) = closing number end
 abbrev pub text_of : OpenValue → List ℕ
 text_of o = printing (events_of o.session.walk o.last)
 
+-- a session that goes on, whose job stands so, and which told no line last
+abbrev pub without_line : WalkValue → OpenValue
+without_line w = record { session = record { walk = w; goes_on = true }; last = last.Nothing }
+
 -- The session lends what it told last.
 abbrev pub LendsLast : WalkValue → Last → Type 0
 LendsLast w (last.Line number told) = IsLent w told

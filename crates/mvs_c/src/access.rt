@@ -1,10 +1,11 @@
 //! What C reads of the step that runs: bytes, and the lines of the reports.
 
 ghost use Rattle.std.specs.Prelude.{◌≡◌, ◌<◌, ◌≤◌, ◌^◌, Option, MatchOption, slice_get};
+ghost use Rattle.mvs_model.specs.Lent.{fallen_in};
 ghost use Rattle.mvs_model.specs.Place.{IsPlace, place_at};
 ghost use Rattle.mvs_model.specs.declared.report.SubpoolLine.{SubpoolLine};
 ghost use Rattle.mvs_model.specs.declared.report.MapRun.{MapRun};
-ghost use Rattle.mvs_c.specs.Access.{FindsRun, FindsSubpool, Reads, TellsOne, run_told, subpool_told};
+ghost use Rattle.mvs_c.specs.Access.{FindsRun, FindsSubpool, Reads, TellsOne, WritesAt, run_told, subpool_told};
 
 use crate::open::Open;
 use mvs_model::name::Name;
@@ -13,7 +14,9 @@ use mvs_model::report::{MapRun, SubpoolLine};
 
 /// The call was served.
 const OK: u32 = 0;
-/// A byte may not be read.
+/// The job is over.
+const OVER: u32 = 24;
+/// A byte may not be read or written.
 const NO_ACCESS: u32 = 36;
 /// There is no more of what was asked for.
 const NO_MORE: u32 = 40;
@@ -87,9 +90,26 @@ pub fn read(held: &Open, address: u32, out: &mut [u8]) -> u32
     }
 }
 
+/// Writes bytes from an address on.
+pub fn write(held: &mut Open, address: u32, bytes: &[u8]) -> u32
+    ensures { WritesAt held.old address bytes.now held.new result }
+{
+    if !held.goes_on() {
+        return OVER;
+    }
+    let Some(place) = place_of(address, bytes.len()) else {
+        return NO_ACCESS;
+    };
+    if held.write(place, bytes) {
+        OK
+    } else {
+        NO_ACCESS
+    }
+}
+
 /// Copies the name of one of the tasks that ended with the one that abended last.
 pub fn tell_fallen(held: &Open, index: usize, name: &mut [u8; 8]) -> u32
-    ensures { TellsOne (slice_get held.now.session.walk.fallen index) (λ t. t) name.old name.new
+    ensures { TellsOne (slice_get (fallen_in held.now.session.walk.reply) index) (λ t. t) name.old name.new
         result }
 {
     match held.fallen().get(index) {

@@ -2,13 +2,15 @@
 
 ghost use Rattle.std.specs.Prelude.{◌≡◌};
 ghost use Rattle.mvs_model.specs.Texts.{fault_number};
-ghost use Rattle.mvs_c.specs.Events.{answer_event, completion, end_event, line_event, of_kind, of_task, step_number};
+ghost use Rattle.mvs_c.specs.Events.{answer_event, completion, end_event, line_event, of_kind, of_place, of_task, reply_event, step_number};
 
 use mvs_job::{LineTold, Stopped};
 use mvs_model::answer::Answer;
 use mvs_model::code::Code;
 use mvs_model::line::Fault;
 use mvs_model::name::Name;
+use mvs_model::place::Place;
+use mvs_model::request::Reply;
 
 /// What a call tells: its kind, and what goes with that; all else is 0, and the task blank.
 #[repr(C)]
@@ -45,6 +47,17 @@ fn of_task(kind: u32, task: &Name) -> Event
     Event {
         task: task.bytes(),
         ..of_kind(kind)
+    }
+}
+
+// An event of a task that has a place.
+fn of_place(kind: u32, task: &Name, place: &Place) -> Event
+    ensures { result ≡ of_place kind task.now place.now }
+{
+    Event {
+        address: place.addr().get(),
+        length: place.len(),
+        ..of_task(kind, task)
     }
 }
 
@@ -108,17 +121,34 @@ pub fn answer_event(task: &Name, answer: &Answer) -> Event
         Answer::Attached => of_task(10, task),
         Answer::Ended => of_task(11, task),
         Answer::Done => of_task(12, task),
-        Answer::Data(place) => Event {
-            address: place.addr().get(),
-            length: place.len(),
-            ..of_task(13, task)
-        },
+        Answer::Data(place) => of_place(13, task, place),
         Answer::Abended(code) => Event {
             code: completion(*code),
             ..of_task(14, task)
         },
         Answer::Subpools => of_task(15, task),
         Answer::Map => of_task(16, task),
+    }
+}
+
+/// The reply to a request of a task that was given by values.
+pub fn reply_event(task: &Name, reply: &Reply) -> Event
+    ensures { result ≡ reply_event task.now reply.now }
+{
+    match reply {
+        Reply::NotRun => of_task(2, task),
+        Reply::Rc0 | Reply::Listed(_) => of_task(5, task),
+        Reply::Obtained(place) => of_place(6, task, place),
+        Reply::Rc4 => of_task(7, task),
+        Reply::Cell(place) => of_place(8, task, place),
+        Reply::NoCell => of_task(9, task),
+        Reply::Attached => of_task(10, task),
+        Reply::Ended => of_task(11, task),
+        Reply::Done => of_task(12, task),
+        Reply::Abended(code, _) => Event {
+            code: completion(*code),
+            ..of_task(14, task)
+        },
     }
 }
 

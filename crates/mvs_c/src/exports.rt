@@ -1,15 +1,17 @@
 //! The functions that C calls. A handle is taken apart for the time of a call.
 
 ghost use Rattle.std.specs.Prelude.{◌≡◌, ◌≢◌, ◌≤◌, ◌<◌, Some, None, Option, slice_get, true, false, IfSome};
+ghost use Rattle.mvs_model.specs.Lent.{fallen_in};
 ghost use Rattle.mvs_model.specs.declared.report.SubpoolLine.{SubpoolLine};
 ghost use Rattle.mvs_model.specs.declared.report.MapRun.{MapRun};
-ghost use Rattle.mvs_c.specs.Access.{FindsRun, FindsSubpool, Reads, TellsOne, run_told, subpool_told};
+ghost use Rattle.mvs_c.specs.Access.{FindsRun, FindsSubpool, Reads, TellsOne, WritesAt, run_told, subpool_told};
 ghost use Rattle.mvs_c.specs.Opens.{TakesLine, new_open, text_of};
-ghost use Rattle.mvs_c.specs.Exports.{AnswersEnd, AnswersLine, HandsOver, WithSession, line_status, outcome_status};
+ghost use Rattle.mvs_c.specs.Exports.{AnswersEnd, AnswersLine, AnswersRequest, HandsOver, WithSession, line_status, outcome_status};
 
 use crate::access::{self, Run, Subpool};
+use crate::ask::Ask;
 use crate::buffer::{OK, hand_over};
-use crate::event::{Event, end_event, line_event};
+use crate::event::{Event, end_event, line_event, reply_event};
 use crate::handle::Handle;
 use crate::open::Open;
 use mvs_job::{LineTold, Stopped};
@@ -25,6 +27,10 @@ const NO_MEMORY: u32 = 16;
 const NO_SESSION: u32 = 20;
 /// The job is over, or there is no number for another line.
 const OVER: u32 = 24;
+/// A request has a name or a number out of its range.
+const NO_REQUEST: u32 = 52;
+/// No step runs.
+const NO_STEP: u32 = 56;
 
 /// The status of an outcome.
 pub fn outcome_status(outcome: Outcome) -> u32
@@ -86,6 +92,23 @@ fn tell_line(held: &mut Open, line: &[u8], event: &mut Event) -> u32
     line_status(&told)
 }
 
+// Gives a session a request, if it goes on and a step runs.
+fn tell_request(held: &mut Open, ask: &Ask, event: &mut Event) -> u32
+    ensures { AnswersRequest held.old ask.now held.new event.old event.new result }
+{
+    if !held.goes_on() {
+        return OVER;
+    }
+    let Some((task, request)) = ask.task_request() else {
+        return NO_REQUEST;
+    };
+    if !held.request(&task, &request) {
+        return NO_STEP;
+    }
+    *event = reply_event(&task, held.reply());
+    OK
+}
+
 // Tells a session that there are no more lines, if it goes on.
 fn tell_end(held: &mut Open, event: &mut Event) -> u32
     ensures { AnswersEnd held.old held.new event.old event.new result }
@@ -141,6 +164,26 @@ pub extern "C" fn mvs_line(
         return NO_SESSION;
     };
     let status = tell_line(&mut held, line, event);
+    put(alloc, session, held);
+    status
+}
+
+/// Gives a request by values.
+#[unsafe(no_mangle)]
+pub extern "C" fn mvs_request(
+    alloc: Global,
+    session: &mut Handle,
+    ask: &Ask,
+    event: &mut Event,
+) -> u32
+    ensures { WithSession session.old.open session.new.open
+        ((result ≡ 20) × (event.new ≡ event.old))
+        (λ old new. AnswersRequest old ask.now new event.old event.new result) }
+{
+    let Some(mut held) = take_out(alloc, session) else {
+        return NO_SESSION;
+    };
+    let status = tell_request(&mut held, ask, event);
     put(alloc, session, held);
     status
 }
@@ -206,6 +249,20 @@ pub extern "C" fn mvs_read(alloc: Global, session: &mut Handle, address: u32, ou
     status
 }
 
+/// Writes bytes from an address on.
+#[unsafe(no_mangle)]
+pub extern "C" fn mvs_write(alloc: Global, session: &mut Handle, address: u32, bytes: &[u8]) -> u32
+    ensures { WithSession session.old.open session.new.open (result ≡ 20)
+        (λ old new. WritesAt old address bytes.now new result) }
+{
+    let Some(mut held) = take_out(alloc, session) else {
+        return NO_SESSION;
+    };
+    let status = access::write(&mut held, address, bytes);
+    put(alloc, session, held);
+    status
+}
+
 /// Tells the name of one of the tasks that ended with the one that abended last.
 #[unsafe(no_mangle)]
 pub extern "C" fn mvs_fallen(
@@ -217,7 +274,7 @@ pub extern "C" fn mvs_fallen(
     ensures session { session.new.open ≡ session.old.open }
     ensures none { session.old.open ≡ None → (result ≡ 20) × (name.new ≡ name.old) }
     ensures told { IfSome session.old.open
-        (λ old. TellsOne (slice_get old.session.walk.fallen index) (λ t. t) name.old name.new
+        (λ old. TellsOne (slice_get (fallen_in old.session.walk.reply) index) (λ t. t) name.old name.new
         result) }
 {
     let Some(held) = take_out(alloc, session) else {

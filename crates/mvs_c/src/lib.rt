@@ -2,6 +2,7 @@
 #![tactic(auto)]
 
 mod access;
+mod ask;
 mod box_parts;
 mod buffer;
 mod event;

@@ -1,17 +1,21 @@
 //! A session, and what it told last.
 
-ghost use Rattle.std.specs.Prelude.{◌≡◌, ◌+◌, ◌^◌, ◌<◌, ◌∷◌, [], true, false, IfOk, MatchBool, MatchOption, MatchResult};
+ghost use Rattle.std.specs.Prelude.{◌≡◌, ◌+◌, ◌^◌, ◌<◌, ◌∷◌, [], true, false, None, length, IfOk, MatchBool, MatchOption, MatchResult};
+ghost use Rattle.mvs_model.specs.Lent.{fallen_in};
 ghost use Rattle.mvs_model.specs.Memory.{StopsForMemory};
 ghost use Rattle.mvs_model.specs.Runs.{machine};
 ghost use Rattle.mvs_model.specs.Walk.{Closes};
 ghost use Rattle.job_script.specs.Writing.{Prints};
 ghost use Rattle.mvs_job.specs.Telling.{IsTold, closing, ended, goes_on};
+ghost use Rattle.mvs_job.specs.Valued.{RequestsOf, WritesOf};
 ghost use Rattle.mvs_c.specs.declared.last.Last.TheVariants as last;
-ghost use Rattle.mvs_c.specs.Opens.{TakesLine, last_of, new_open, text_of};
+ghost use Rattle.mvs_c.specs.Opens.{TakesLine, last_of, new_open, text_of, without_line};
 
 use crate::last::Last;
 use mvs_job::{Closing, Job, LineTold, Session, Stopped, print_closing, print_line};
 use mvs_model::name::Name;
+use mvs_model::place::Place;
+use mvs_model::request::{Reply, Request};
 use mvs_model::want::Placement;
 use mvs_model::watched::{Failed, Watched};
 use std::alloc::Global;
@@ -72,7 +76,7 @@ impl Open {
 
     /// The tasks that ended with the one that abended, where the last request that was made abended.
     pub fn fallen(&self) -> &[Name]
-        ensures { result.now ≡ self.now.session.walk.fallen }
+        ensures { result.now ≡ fallen_in self.now.session.walk.reply }
     {
         self.session.walk().fallen()
     }
@@ -98,6 +102,44 @@ impl Open {
             Err(stopped) => Last::Stopped(stopped.ended),
         };
         told
+    }
+
+    /// Serves a request that is given by values, as a session does, and then has told no line; false where no step runs.
+    pub fn request(&mut self, task: &Name, request: &Request) -> bool
+        requires { self.old.session.goes_on ≡ true }
+        ensures no_step { result ≡ false → (self.old.session.walk.step ≡ None) × (self.new ≡ self.old) }
+        ensures served { result ≡ true
+            → RequestsOf self.old.session.walk task.now request.now true self.new.session.walk
+            × (self.new ≡ without_line self.new.session.walk) }
+    {
+        if self.job().is_none() {
+            return false;
+        }
+        let served = self.session.request(task, request);
+        self.last = Last::Nothing;
+        served
+    }
+
+    /// Writes bytes, as a session does, and then has told no line; false where it does not write them.
+    pub fn write(&mut self, place: Place, bytes: &[u8]) -> bool
+        requires goes_on { self.old.session.goes_on ≡ true }
+        requires len { length bytes.now ≡ place.len }
+        ensures walk { WritesOf self.old.session.walk place bytes.now result self.new.session.walk }
+        ensures written { result ≡ true → self.new ≡ without_line self.new.session.walk }
+        ensures refused { result ≡ false → self.new ≡ self.old }
+    {
+        let written = self.session.write(place, bytes);
+        if written {
+            self.last = Last::Nothing;
+        }
+        written
+    }
+
+    /// The reply to the last request that was made.
+    pub fn reply(&self) -> &Reply
+        ensures { result.now ≡ self.now.session.walk.reply }
+    {
+        self.session.walk().reply()
     }
 
     /// Ends the job, as a session does.

@@ -8,7 +8,7 @@ ghost use Rattle.mvs_c.specs.Whole.{Runs};
 
 use crate::buffer::hand_over;
 use crate::exports::{outcome_status, placement};
-use mvs_job::{RunFault, run_job};
+use mvs_job::{RunFault, Told, run_job};
 use mvs_model::outcome::Outcome;
 use mvs_model::want::Placement;
 use mvs_model::watched::Watched;
@@ -26,7 +26,7 @@ fn printing_of(
 {
     let mut reader = Watched::new(script);
     let mut writer = Watched::new(Vec::new(alloc));
-    let ran = run_job(alloc, &mut reader, &mut writer, place);
+    let ran = run_job(alloc, &mut reader, &mut writer, place, Told::nothing(alloc));
     (ran, writer.into_inner())
 }
 

@@ -65,7 +65,7 @@ all_both : (xs ys : List ℕ) → AllByRecursion (λ b. b ≢ 10) xs → AllByRe
 all_both [] ys p q = q
 all_both (x ∷ xs) ys p q = (p.0, all_both xs ys p.1 q)
 
-all_before : (bytes : List ℕ) (end : ℕ) → ((k : ℕ) → k < end → get_or bytes k 0 ≢ 10) → end ≤ length bytes → AllByRecursion (λ b. b ≢ 10) (take end bytes)
+pub all_before : (bytes : List ℕ) (end : ℕ) → ((k : ℕ) → k < end → get_or bytes k 0 ≢ 10) → end ≤ length bytes → AllByRecursion (λ b. b ≢ 10) (take end bytes)
 all_before bytes zero none fits = tt
 all_before [] (suc end) none fits = absurd (omega arith)
 all_before (b ∷ bytes) (suc end) none fits = (none 0 (omega arith), all_before bytes end (λ k h. none (suc k) (omega arith)) (omega arith))

@@ -1,3 +1,4 @@
+pub mod Explained
 pub mod Feeding
 pub mod FirstLine
 pub mod Mapping
@@ -6,4 +7,5 @@ pub mod Resolved
 pub mod Running
 pub mod Serving
 pub mod Steady
+pub mod Valuing
 pub mod Whys

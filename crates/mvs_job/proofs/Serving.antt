@@ -1,9 +1,9 @@
 -- A statement is served, and what a line tells.
 use Rattle.std.proofs.Common.{◌≡◌, ℕ, List, [], ◌∷◌, ◌++◌, append-nil, Option, Some, None, Bool, true, false, Result, Ok, Err, inl, inr, ◌⊎◌, refl, sym, ap, ◌∙◌, subst}
 use Rattle.std.specs.Prelude.{◌||◌, not, OnErr, IfOk, MatchResult, is_some}
-use Rattle.std.specs.Io.KnownBytes.{Keeps}
+use Rattle.std.specs.Io.KnownBytes.{Appends, Keeps}
 use Rattle.std.proofs.KnownBytes.{Appends-trans}
-use Rattle.mvs_job.specs.Serving.{LineTells}
+use Rattle.mvs_job.specs.Serving.{LineTells, RunsLine}
 use Rattle.mvs_model.specs.declared.name.Name.{Name}
 use Rattle.mvs_model.specs.declared.line.Line.{Line}
 use Rattle.mvs_model.specs.declared.line.Line.TheVariants as line
@@ -23,24 +23,26 @@ use Rattle.mvs_model.specs.Memory.{TakesMemory, StopsForMemory}
 use Rattle.mvs_model.specs.Reading.{LineOf, IsReading}
 use Rattle.mvs_model.specs.Replies.{is_abend, answer_of}
 use Rattle.mvs_model.specs.Resolving.{resolved, all_set, names_set, places_in}
-use Rattle.mvs_model.specs.Runs.{Any, Asks, Does, machine}
+use Rattle.mvs_model.specs.Runs.{Condition, Any, Asks, Does, job_machine, machine}
 use Rattle.mvs_model.specs.Steps.{Step}
 use Rattle.mvs_model.specs.Texts.{text_of, printing}
-use Rattle.mvs_model.specs.Walk.{Serves, ending, is_first}
+use Rattle.mvs_model.specs.Walk.{Serves, Faults, ending, is_first}
 use Rattle.mvs_model.specs.Watched.{WatchedValue}
+use Rattle.mvs_model.proofs.Determined.{line_other}
 use Rattle.mvs_model.proofs.Going.{printed_both}
 use Rattle.job_script.specs.Writing.{Prints, AppendsFront}
 use Rattle.job_script.proofs.Appending.{front_longer, front_more}
+use Rattle.mvs_job.specs.declared.walk.Stopped.{Stopped}
 use Rattle.mvs_job.specs.declared.walk.LineTold.{LineTold}
 use Rattle.mvs_job.specs.declared.walk.LineTold.TheVariants as told
-use Rattle.mvs_job.specs.Telling.{WalkValue, IsTold, IsLentBy, card_said, ended, events_told, lent_in}
+use Rattle.mvs_job.specs.Telling.{WalkValue, IsTold, IsToldBy, IsLentBy, card_said, ended, events_told, lent_in}
 
 -- A request that is made, and whose names are set.
-pub made : (old : JobValue) (t : Name) (a : Written) (r : Request) (reply : Reply) (new : JobValue) → resolved old.names a ≡ Some r → Step old.state t r reply new.state
+pub made : (P : Condition) (old : JobValue) (t : Name) (a : Written) (r : Request) (reply : Reply) (new : JobValue) → resolved old.names a ≡ Some r → Step old.state t r reply new.state → P old.state t r reply new.state
     → new.names ≡ all_set old.names (names_set a) (places_in reply) → new.abended ≡ (old.abended || is_abend reply) → new.former ≡ old.former
-    → Asks Any old t a (resolved old.names a) (answer_of old.state a r reply) new
-made old t a r reply new is step names abended former =
-    subst (λ o. Asks Any old t a o (answer_of old.state a r reply) new) (sym is) (record { reply = reply; step = step; meets = tt; names = names; abended = abended; former = former; told = refl })
+    → Asks P old t a (resolved old.names a) (answer_of old.state a r reply) new
+made P old t a r reply new is step meets names abended former =
+    subst (λ o. Asks P old t a o (answer_of old.state a r reply) new) (sym is) (record { reply = reply; step = step; meets = meets; names = names; abended = abended; former = former; told = refl })
 
 -- whether no statement came before
 pub first_is : (o : Option JobValue) (b : Bool) → is_some o ≡ not b → b ≡ is_first o
@@ -53,10 +55,10 @@ first_is (Some job) false e = refl
 said_so : (first before : Bool) (bytes : List ℕ) (read : Result Line Fault) (l : Line) → first ≡ before → IsReading first bytes read → read ≡ Ok l → LineOf before bytes l
 said_so first before bytes read l same reading is = subst (λ first. LineOf first bytes l) same (subst (IsReading first bytes) is reading)
 
-module _ (old new : WalkValue) (bytes : List ℕ) (first : Bool) (read : Result Line Fault) (same : first ≡ is_first old.step) (reading : IsReading first bytes read) where
+module _ (P : Condition) (old new : WalkValue) (bytes : List ℕ) (first : Bool) (read : Result Line Fault) (same : first ≡ is_first old.step) (reading : IsReading first bytes read) where
   -- a statement of the step
-  step_served : (t : Name) (s : Statement) (step later : JobValue) (answer : Answer) → card_said t s ≡ None → Does Any step t s answer later
-      → Serves machine old.number (Some step) (line.Statement t s) (Told old.number t answer ∷ []) (Some later)
+  step_served : (t : Name) (s : Statement) (step later : JobValue) (answer : Answer) → card_said t s ≡ None → Does P step t s answer later
+      → Serves (job_machine P) old.number (Some step) (line.Statement t s) (Told old.number t answer ∷ []) (Some later)
   step_served t (says.Region below above fill residence) step later answer is does = absurd (let f : Some (card_of t below above fill residence) ≡ None = is in cc)
   step_served t (says.Request a) step later answer is does = (answer, later, does, refl, refl)
   step_served t (says.Where name) step later answer is does = (answer, later, does, refl, refl)
@@ -64,16 +66,37 @@ module _ (old new : WalkValue) (bytes : List ℕ) (first : Bool) (read : Result 
   step_served t says.ReportMap step later answer is does = (answer, later, does, refl, refl)
 
   pub told_answered : (l : Line) (t : Name) (s : Statement) (step later : JobValue) (a : Short) → read ≡ Ok l → l ≡ line.Statement t s → card_said t s ≡ None → old.step ≡ Some step → new.step ≡ Some later
-      → Does Any step t s (lent later.state new.fallen t a) later → IsTold old bytes (told.Answered t a) new
+      → Does P step t s (lent later.state (fallen_in new.reply) t a) later → IsToldBy P old bytes (told.Answered t a) new
   told_answered l t s step later a is l_is of_step e f does = (
     line.Statement t s,
     said_so first (is_first old.step) bytes read (line.Statement t s) same reading (is ∙ ap (λ x. Ok x) l_is),
-    subst (λ o. Serves machine old.number old.step (line.Statement t s) (Told old.number t (lent_in o new.fallen t a) ∷ []) o) (sym f)
-        (subst (λ o. Serves machine old.number o (line.Statement t s) (Told old.number t (lent later.state new.fallen t a) ∷ []) (Some later)) (sym e) (step_served t s step later (lent later.state new.fallen t a) of_step does)),
+    subst (λ o. Serves (job_machine P) old.number old.step (line.Statement t s) (Told old.number t (lent_in o (fallen_in new.reply) t a) ∷ []) o) (sym f)
+        (subst (λ o. Serves (job_machine P) old.number o (line.Statement t s) (Told old.number t (lent later.state (fallen_in new.reply) t a) ∷ []) (Some later)) (sym e) (step_served t s step later (lent later.state (fallen_in new.reply) t a) of_step does)),
   )
 
   pub stops_at_request : (l : Line) (t : Name) (s : Statement) → read ≡ Ok l → l ≡ line.Statement t s → TakesMemory old.step (line.Statement t s) [] → StopsForMemory old.number old.step (bytes ∷ []) (ended None)
   stops_at_request l t s is l_is takes = (line.Statement t s, said_so first (is_first old.step) bytes read (line.Statement t s) same reading (is ∙ ap (λ x. Ok x) l_is), takes)
+
+-- what a line tells by a step that meets a condition it tells by a step
+pub told_by : (P : Condition) (old new : WalkValue) (bytes : List ℕ) (t : LineTold) → IsToldBy P old bytes t new → IsTold old bytes t new
+told_by P old new bytes (told.Faulted fault) h = h
+told_by P old new bytes told.Nothing h = (h.0, h.1, line_other (λ _. P) (λ _. Any) old.number (λ _ _ _ _ _ _. tt) old.step h.0 _ new.step h.2)
+told_by P old new bytes (told.Began end card) h = (h.0, h.1, line_other (λ _. P) (λ _. Any) old.number (λ _ _ _ _ _ _. tt) old.step h.0 _ new.step h.2)
+told_by P old new bytes (told.Answered t a) h = (h.0, h.1, line_other (λ _. P) (λ _. Any) old.number (λ _ _ _ _ _ _. tt) old.step h.0 _ new.step h.2)
+
+pub told_each : (P : Condition) (old new : WalkValue) (bytes : List ℕ) (r : Result LineTold Stopped) (Q : Stopped → Type 0) → MatchResult r (λ t. IsToldBy P old bytes t new) Q → MatchResult r (λ t. IsTold old bytes t new) Q
+told_each P old new bytes (Ok t) Q h = told_by P old new bytes t h
+told_each P old new bytes (Err e) Q h = h
+
+-- what a call did that printed what a line tells
+pub ran_fault : (before after : Option (List ℕ)) (old new : WalkValue) (bytes : List ℕ) (t : LineTold) (fault : Fault) → t ≡ told.Faulted fault → IsTold old bytes t new → Appends before after (printing (events_told old.number new t)) → RunsLine before after old bytes new (Ok false)
+ran_fault before after old new bytes t fault is h appended = (events_told old.number new t, appended, subst (λ x. Faults old.number (is_first old.step) bytes (events_told old.number new x)) (sym is) (fault, (subst (λ x. IsTold old bytes x new) is h).0, refl))
+
+pub ran_served : (before after : Option (List ℕ)) (old new : WalkValue) (bytes : List ℕ) (t : LineTold) → ((fault : Fault) → t ≡ told.Faulted fault → ⊥) → IsTold old bytes t new → Appends before after (printing (events_told old.number new t)) → RunsLine before after old bytes new (Ok true)
+ran_served before after old new bytes (told.Faulted fault) other h appended = absurd (other fault refl)
+ran_served before after old new bytes told.Nothing other h appended = (events_told old.number new told.Nothing, appended, h)
+ran_served before after old new bytes (told.Began end card) other h appended = (events_told old.number new (told.Began end card), appended, h)
+ran_served before after old new bytes (told.Answered t a) other h appended = (events_told old.number new (told.Answered t a), appended, h)
 
 -- what a line that was served or has a fault may tell
 pub line_tells : (old new : WalkValue) (bytes : List ℕ) (t : LineTold) → IsTold old bytes t new → LineTells old bytes (events_told old.number new t)
@@ -115,12 +138,12 @@ stopped_front w bytes events a b h f = at w.step h.0 h.1 h.2 refl where
   at (Some job) (line.Statement t says.ReportMap) is h same = absurd h
 
 -- what a step serves, where it is the one that runs
-pub served_in_step : (o : Option JobValue) (step later : JobValue) (t : Name) (s : Statement) (reply : Reply) (r : Result Short OutOfMemory) → o ≡ Some step
-    → MatchResult r (λ answer. Does Any step t s (lent later.state (fallen_in reply) t answer) later) (λ _. TakesMemory (Some step) (line.Statement t s) [])
+pub served_in_step : (P : Condition) (o : Option JobValue) (step later : JobValue) (t : Name) (s : Statement) (reply : Reply) (r : Result Short OutOfMemory) → o ≡ Some step
+    → MatchResult r (λ answer. Does P step t s (lent later.state (fallen_in reply) t answer) later) (λ _. TakesMemory (Some step) (line.Statement t s) [])
     → IfOk r (IsLentBy later.state)
-    → MatchResult r (λ answer. (x : JobValue) × (y : JobValue) × (o ≡ Some x) × (◌≡◌ {A = Option JobValue} (Some later) (Some y)) × Does Any x t s (lent y.state (fallen_in reply) t answer) y × IsLentBy y.state answer) (λ _. TakesMemory o (line.Statement t s) [])
-served_in_step o step later t s reply (Ok answer) is does lent = (step, later, is, refl, does, lent)
-served_in_step o step later t s reply (Err e) is takes lent = subst (λ o. TakesMemory o (line.Statement t s) []) (sym is) takes
+    → MatchResult r (λ answer. (x : JobValue) × (y : JobValue) × (o ≡ Some x) × (◌≡◌ {A = Option JobValue} (Some later) (Some y)) × Does P x t s (lent y.state (fallen_in reply) t answer) y × IsLentBy y.state answer) (λ _. TakesMemory o (line.Statement t s) [])
+served_in_step P o step later t s reply (Ok answer) is does lent = (step, later, is, refl, does, lent)
+served_in_step P o step later t s reply (Err e) is takes lent = subst (λ o. TakesMemory o (line.Statement t s) []) (sym is) takes
 
 -- texts that are printed by two calls, one behind the other
 both_written : {W X Y E F : Type 0} (contents : W → Option (List ℕ)) (old mid new : WatchedValue W) (u : X) (result : Result Y F) (first second : List ℕ) → Prints {W = W} {X = X} {E = E} contents old mid (Ok u) first → Prints {W = W} {X = Y} {E = F} contents mid new result second
@@ -139,8 +162,8 @@ err_of (Ok x) other h = absurd (other x refl)
 err_of (Err e) other h = h
 
 -- what holds where memory was wanting
-pub not_answered : (o new : Option JobValue) (t : Name) (s : Statement) (reply : Reply) (r : Result Short OutOfMemory) → ((x : Short) → r ≡ Ok x → ⊥)
-    → MatchResult r (λ answer. (x : JobValue) × (y : JobValue) × (o ≡ Some x) × (new ≡ Some y) × Does Any x t s (lent y.state (fallen_in reply) t answer) y × IsLentBy y.state answer) (λ _. TakesMemory o (line.Statement t s) [])
+pub not_answered : (P : Condition) (o new : Option JobValue) (t : Name) (s : Statement) (reply : Reply) (r : Result Short OutOfMemory) → ((x : Short) → r ≡ Ok x → ⊥)
+    → MatchResult r (λ answer. (x : JobValue) × (y : JobValue) × (o ≡ Some x) × (new ≡ Some y) × Does P x t s (lent y.state (fallen_in reply) t answer) y × IsLentBy y.state answer) (λ _. TakesMemory o (line.Statement t s) [])
     → TakesMemory o (line.Statement t s) []
-not_answered o new t s reply (Ok x) other h = absurd (other x refl)
-not_answered o new t s reply (Err e) other h = h
+not_answered P o new t s reply (Ok x) other h = absurd (other x refl)
+not_answered P o new t s reply (Err e) other h = h

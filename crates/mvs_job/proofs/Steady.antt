@@ -1,6 +1,7 @@
 -- What the state of a job keeps, and the cells that it gives.
-use Rattle.std.proofs.Common.{◌≡◌, ℕ, ◌+◌, ◌-◌, ◌/◌, ◌≤◌, true, Some, sym, ap, ◌∙◌, subst, arith}
-use Rattle.std.specs.Prelude.{◌||◌}
+use Rattle.std.proofs.Common.{◌≡◌, ℕ, ◌+◌, ◌-◌, ◌/◌, ◌≤◌, Bool, true, false, List, length, Some, sym, ap, ◌∙◌, subst, arith}
+use Rattle.std.specs.Prelude.{◌||◌, MatchBool}
+use Rattle.std.proofs.lemmas.Grind.{common_steps}
 use Rattle.std.specs.Cmp.{nat_cmp_total}
 use Rattle.std.specs.FinMap.{get}
 use Rattle.std.specs.FinSet as set
@@ -8,15 +9,18 @@ use Rattle.mvs_model.specs.declared.name.Name.{Name}
 use Rattle.mvs_model.specs.declared.request.Request.{Request}
 use Rattle.mvs_model.specs.declared.request.Reply.{Reply}
 use Rattle.mvs_model.specs.Card.{CardValue, IsCard}
-use Rattle.mvs_model.specs.Changes.{TakesCell}
+use Rattle.mvs_model.specs.Changes.{Granted, TakesCell, Writes}
+use Rattle.mvs_model.specs.Place.{PlaceValue, place_at}
 use Rattle.mvs_model.specs.Pools.{Pool, cell_at}
 use Rattle.mvs_model.specs.Start.{start}
-use Rattle.mvs_model.specs.State.{State}
-use Rattle.mvs_model.specs.Steps.{Step, IsRequest}
+use Rattle.mvs_model.specs.State.{State, granted}
+use Rattle.mvs_model.specs.Steps.{Step, IsRequest, all_granted, bytes_from}
 use Rattle.mvs_model.specs.View.{IsBounded}
+use Rattle.mvs_model.proofs.Below.{each_below}
 use Rattle.mvs_model.proofs.CellPlaces.{cell_inside}
 use Rattle.mvs_model.proofs.Going.{start_sized}
-use Rattle.mvs_model.proofs.Kept.{step_keeps, plan_in_range}
+use Rattle.mvs_model.proofs.Kept.{HasPlan, step_keeps, plan_in_range}
+use Rattle.mvs_model.proofs.Operands.{HasBytes, bytes_put}
 use Rattle.mvs_model.proofs.PartsApart.{StaysApart, apart_closed, start_apart}
 use Rattle.mvs_model.proofs.PartsTaken.{same_number}
 use Rattle.mvs_model.proofs.PoolPut.{put_here}
@@ -24,11 +28,11 @@ use Rattle.mvs_model.proofs.RegionsKept.{regions_stay}
 use Rattle.mvs_model.proofs.WithinKept.{Placed, placed_closed, start_placed}
 use Rattle.job_script.specs.Areas.{IsArea}
 use Rattle.mvs_job.specs.Steady.{IsSteady}
+use Rattle.mvs_job.specs.Valued.{BuildsInRange}
 
 -- a step keeps it
-pub steady_step : (old : State) (t : Name) (r : Request) (reply : Reply) (new : State) → IsRequest r → Step old t r reply new → IsSteady old → IsSteady new
-steady_step old t r reply new is step s =
-    let plan = plan_in_range r is in
+step_by_plan : (old : State) (t : Name) (r : Request) (reply : Reply) (new : State) → HasPlan r → Step old t r reply new → IsSteady old → IsSteady new
+step_by_plan old t r reply new plan step s =
     let placed = step_keeps Placed placed_closed old t r reply new plan step (s.within, s.bounded.below) in
     let apart = step_keeps StaysApart apart_closed old t r reply new plan step (s.apart, s.sized) in
     record {
@@ -37,6 +41,35 @@ steady_step old t r reply new is step s =
       apart = apart.0;
       sized = apart.1;
     }
+
+pub steady_step : (old : State) (t : Name) (r : Request) (reply : Reply) (new : State) → IsRequest r → Step old t r reply new → IsSteady old → IsSteady new
+steady_step old t r reply new is = step_by_plan old t r reply new (plan_in_range r is)
+
+-- the same of a request that is given by values
+has_plan : (r : Request) → BuildsInRange r → HasPlan r
+has_plan r h = grind (arith, common_steps)
+
+pub steady_request : (old : State) (t : Name) (r : Request) (reply : Reply) (new : State) → BuildsInRange r → Step old t r reply new → IsSteady old → IsSteady new
+steady_request old t r reply new is = step_by_plan old t r reply new (has_plan r is)
+
+-- bytes that are written change nothing of it
+steady_over : (old : State) (p : PlaceValue) (bytes : List ℕ) (new : State) → length bytes ≡ p.len → Granted old p → Writes old p (bytes_from p.addr bytes) new → IsSteady old → IsSteady new
+steady_over old p bytes new len may w s =
+    let all : all_granted old p ≡ true = each_below (λ i. granted old (p.addr + i)) p.len (λ i l. may (p.addr + i) (omega arith) (omega arith)) in
+    let some : HasBytes old p (bytes_from p.addr bytes) = subst (λ n. HasBytes old (place_at p.addr n) (bytes_from p.addr bytes)) len (bytes_put old p.addr bytes) in
+    let placed = placed_closed.written old p _ new all some w (s.within, s.bounded.below) in
+    let apart = apart_closed.written old p _ new all some w (s.apart, s.sized) in
+    record {
+      bounded = subst IsBounded (sym w.regions) s.bounded;
+      within = placed.0;
+      apart = apart.0;
+      sized = apart.1;
+    }
+
+pub steady_write : (written : Bool) (old : State) (p : PlaceValue) (bytes : List ℕ) (new : State) → length bytes ≡ p.len
+    → MatchBool written (Granted old p × Writes old p (bytes_from p.addr bytes) new) ((Granted old p → ⊥) × (new ≡ old)) → IsSteady old → IsSteady new
+steady_write true old p bytes new len h s = steady_over old p bytes new len h.0 h.1 s
+steady_write false old p bytes new len h s = subst IsSteady (sym h.1) s
 
 pub steady_start : (card : CardValue) → IsCard card → IsBounded (start card).regions → IsSteady (start card)
 steady_start card is bounded = record { bounded = bounded; within = (start_placed card is).0; apart = start_apart card; sized = start_sized card }

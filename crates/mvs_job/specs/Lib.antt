@@ -1,8 +1,10 @@
 pub mod Exchanging
+pub mod Explaining
 pub mod Giving
 pub mod Serving
 pub mod Sessions
 pub mod Steady
 pub mod Streams
 pub mod Telling
+pub mod Valued
 pub mod Why

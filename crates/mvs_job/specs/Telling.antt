@@ -1,6 +1,6 @@
 -- What a line tells, and how a job stands between two lines.
 use Rattle.std.specs.Prelude.{refl, ◌≡◌, ◌≤◌, ℕ, List, [], ◌∷◌, ◌++◌, Option, Some, None, Bool, true, false, Result, Ok, Err}
-use Rattle.std.specs.Coded.{Coded, code_by, coded×, coded_bool, coded_ℕ, coded_option, coded_list}
+use Rattle.std.specs.Coded.{Coded, code_by, coded×, coded_bool, coded_ℕ, coded_option}
 use Rattle.std.specs.FinMap as map
 use Rattle.mvs_model.specs.declared.name.Name.{Name}
 use Rattle.mvs_model.specs.declared.line.Fault.TheVariants.{OutOfPlace}
@@ -12,36 +12,40 @@ use Rattle.mvs_model.specs.Answers.{Answer, NotRun, Region, Event, Told, StepEnd
 use Rattle.mvs_model.specs.Card.{CardValue}
 use Rattle.mvs_model.specs.Changes.{Granted}
 use Rattle.mvs_model.specs.Job.{JobValue}
-use Rattle.mvs_model.specs.Lent.{lent}
+use Rattle.mvs_model.specs.declared.request.Request.{Request}
+use Rattle.mvs_model.specs.declared.request.Reply.{Reply}
+use Rattle.mvs_model.specs.declared.request.Reply.TheVariants as reply
+use Rattle.mvs_model.specs.contracts.request.Reply.{the_row}
+use Rattle.mvs_model.specs.Lent.{lent, fallen_in}
 use Rattle.mvs_model.specs.Lines.{card_of}
 use Rattle.mvs_model.specs.Name.{name_cmp, name_code}
 use Rattle.mvs_model.specs.Numbers.{most_shown}
 use Rattle.mvs_model.specs.Place.{PlaceValue, place_code}
 use Rattle.mvs_model.specs.Reading.{FaultOf}
-use Rattle.mvs_model.specs.Runs.{machine}
+use Rattle.mvs_model.specs.Runs.{Condition, Any, job_machine}
 use Rattle.mvs_model.specs.State.{State, state_code}
 use Rattle.mvs_model.specs.Walk.{ServesLine, is_first}
 use Rattle.mvs_job.specs.declared.walk.Stopped.{Stopped}
 use Rattle.mvs_job.specs.declared.walk.LineTold.{LineTold}
 use Rattle.mvs_job.specs.declared.walk.LineTold.TheVariants as told
 
--- A job between two lines: its step, none before the first; the number of the next line; and the tasks that ended with the one
--- that abended, where the last request that was made abended.
+-- A job between two lines: its step, none before the first; the number of the next line; and the reply to the last request that
+-- was made.
 pub record WalkValue : Type 0 where
   pub step : Option JobValue
   pub number : ℕ
-  pub fallen : List Name
+  pub reply : Reply
 
 -- codes, for models' values
 abbrev pub job_code : Coded JobValue
 job_code = code_by (State × (map.FinMap name_cmp PlaceValue × (Bool × Bool))) (coded× state_code (coded× (map.code name_code place_code) (coded× coded_bool coded_bool))) (λ j. (j.state, (j.names, (j.abended, j.former)))) (λ p. record { state = p.0; names = p.1.0; abended = p.1.1.0; former = p.1.1.1 }) (λ _. refl)
 
 abbrev pub walk_code : Coded WalkValue
-walk_code = code_by (Option JobValue × (ℕ × List Name)) (coded× (coded_option job_code) (coded× coded_ℕ (coded_list name_code))) (λ w. (w.step, (w.number, w.fallen))) (λ p. record { step = p.0; number = p.1.0; fallen = p.1.1 }) (λ _. refl)
+walk_code = code_by (Option JobValue × (ℕ × Reply)) (coded× (coded_option job_code) (coded× coded_ℕ the_row.coded)) (λ w. (w.step, (w.number, w.reply))) (λ p. record { step = p.0; number = p.1.0; reply = p.1.1 }) (λ _. refl)
 
 -- a job before its first line
 abbrev pub new_walk : WalkValue
-new_walk = record { step = None; number = 1; fallen = [] }
+new_walk = record { step = None; number = 1; reply = reply.NotRun }
 
 -- the card of a REGION statement of a task
 abbrev pub card_said : Name → Statement → Option CardValue
@@ -72,13 +76,18 @@ lent_in (Some job) fallen t a = lent job.state fallen t a
 abbrev pub events_told : ℕ → WalkValue → LineTold → List Event
 events_told number w told.Nothing = []
 events_told number w (told.Began end card) = ended end ++ Told number card.name (Region card) ∷ []
-events_told number w (told.Answered t a) = Told number t (lent_in w.step w.fallen t a) ∷ []
+events_told number w (told.Answered t a) = Told number t (lent_in w.step (fallen_in w.reply) t a) ∷ []
 events_told number w (told.Faulted fault) = Faulted number fault ∷ []
 
--- The line tells this: it has a fault, and the step is as before; or it is served.
+-- The line tells this: it has a fault, and the step is as before; or it is served, by a step that meets the condition where it
+-- makes a request.
+abbrev pub IsToldBy : Condition → WalkValue → List ℕ → LineTold → WalkValue → Type 0
+IsToldBy P old bytes (told.Faulted fault) new = FaultOf (is_first old.step) bytes fault × (new.step ≡ old.step)
+IsToldBy P old bytes told new = ServesLine (job_machine P) old.number old.step bytes (events_told old.number new told) new.step
+
+-- the same with no condition
 abbrev pub IsTold : WalkValue → List ℕ → LineTold → WalkValue → Type 0
-IsTold old bytes (told.Faulted fault) new = FaultOf (is_first old.step) bytes fault × (new.step ≡ old.step)
-IsTold old bytes told new = ServesLine machine old.number old.step bytes (events_told old.number new told) new.step
+IsTold = IsToldBy Any
 
 -- The bytes of which an answer speaks may be read, and are few.
 abbrev pub IsLentBy : State → Short → Type 0

@@ -15,11 +15,14 @@ ghost use Rattle.mvs_model.specs.Owners.{is_active};
 ghost use Rattle.mvs_model.specs.Place.{PlaceValue};
 ghost use Rattle.mvs_model.specs.Replies as replies;
 ghost use Rattle.mvs_model.specs.Resolving.{resolved};
-ghost use Rattle.mvs_model.specs.Runs.{Any, Asks, Does};
+ghost use Rattle.mvs_model.specs.Runs.{Asks, Does};
 ghost use Rattle.mvs_model.specs.State.{State};
 ghost use Rattle.mvs_model.specs.View.{IsBounded};
+ghost use Rattle.step_machine.specs.Taking.{Takes};
 ghost use Rattle.step_machine.specs.Reports.{HasNone, IsMapEnd, IsMapRun, IsSubpoolLine};
 ghost use Rattle.mvs_job.specs.Telling.{IsLentBy, card_said};
+ghost use Rattle.mvs_job.specs.Explaining.{SpeaksOf};
+ghost use Rattle.mvs_job.specs.Valued.{BuildsInRange, MayWrite, Requests};
 ghost use Rattle.mvs_job.specs.Why.{OfStatement};
 
 use job_script::{Names, resolve, set_names};
@@ -57,6 +60,21 @@ impl Model for Job {
     ghost view = { λ r. record { state = r.step.state; names = r.names; abended = r.step.abended; former = r.former } };
 
     ghost invariant = { λ r. IsSteady r.step.state };
+}
+
+// The numbers of a pool that a request builds are in their ranges, as their types say.
+fn builds_in_range(request: &Request)
+    ensures { BuildsInRange request.now }
+{
+    if let Request::Build {
+        size,
+        primary,
+        secondary,
+        ..
+    } = request
+    {
+        let _ = (size.get(), primary.get(), secondary.get());
+    }
 }
 
 // What a grant tells: its length, where the request is variable.
@@ -188,7 +206,8 @@ impl Job {
         statement: &Statement,
         request: &mut Request,
     ) -> Option<Reason>
-        ensures { OfStatement self.now task.now statement.now result }
+        ensures reason { OfStatement self.now task.now statement.now result }
+        ensures request { IfSome result (SpeaksOf self.now statement.now request.new) }
     {
         let active = self.step.is_active(task);
         if !active {
@@ -203,18 +222,40 @@ impl Job {
         self.step.reason(task, request)
     }
 
+    /// Serves a request that is given by values, and writes the reply to it over another one. It sets no name.
+    pub fn request(&mut self, task: &Name, request: &Request, reply: &mut Reply)
+        ensures { Requests self.old task.now request.now reply.new self.new }
+    {
+        builds_in_range(request);
+        if self.step.is_active(task) {
+            self.step.request(task, request, &[], reply);
+        } else {
+            *reply = Reply::NotRun;
+        }
+    }
+
+    /// Writes bytes over those of a place, and answers whether it did: where one of them may not be written, all stay.
+    pub fn write(&mut self, place: Place, bytes: &[u8]) -> bool
+        requires { length bytes.now ≡ place.len }
+        ensures { MayWrite self.old place bytes.now result self.new }
+    {
+        self.step.write(place, bytes)
+    }
+
     // Serves a request of an active task.
     fn ask(
         &mut self,
         task: &Name,
         written: &Written,
+        told: &[Addr],
         request: &mut Request,
         reply: &mut Reply,
     ) -> Result<Answer, OutOfMemory>
         requires written { IsWritten written.now }
         requires active { is_active self.old.state.owners task.now ≡ true }
         ensures served { MatchResult result
-            (λ answer. Asks Any self.old task.now written.now (resolved self.old.names written.now)
+            (λ answer. Asks (Takes told.now) self.old task.now written.now
+            (resolved self.old.names written.now)
             (lent self.new.state (fallen_in reply.new) task.now answer) self.new)
             (λ _. SetsName self.old task.now written.now) }
         ensures lent { IfOk result (IsLentBy self.new.state) }
@@ -222,7 +263,7 @@ impl Job {
         let Some(()) = resolve(&self.names, written, request) else {
             return Ok(Answer::NoName);
         };
-        self.step.request(task, request, reply);
+        self.step.request(task, request, told, reply);
         let Ok(()) = set_names(&mut self.names, written, reply) else {
             return Err(OutOfMemory);
         };
@@ -230,18 +271,20 @@ impl Job {
     }
 
     /// Serves a statement of the step, which is not REGION. The request that it asks for and the reply to that are written over
-    /// `request` and `reply`, which are long; the reply has the names of the tasks that ended with one that abended.
+    /// `request` and `reply`, which are long; the reply has the names of the tasks that ended with one that abended. An area that
+    /// is granted lies at the address that is told, where the machine allows that; those of a list lie each at its own.
     pub fn serve(
         &mut self,
         task: &Name,
         statement: &Statement,
+        told: &[Addr],
         request: &mut Request,
         reply: &mut Reply,
     ) -> Result<Answer, OutOfMemory>
         requires in_range { IsStatement false task.now statement.now }
         requires of_step { card_said task.now statement.now ≡ None }
         ensures served { MatchResult result
-            (λ answer. Does Any self.old task.now statement.now
+            (λ answer. Does (Takes told.now) self.old task.now statement.now
             (lent self.new.state (fallen_in reply.new) task.now answer) self.new)
             (λ _. TakesMemory (Some self.old) (line.Statement task.now statement.now) []) }
         ensures lent { IfOk result (IsLentBy self.new.state) }
@@ -250,7 +293,7 @@ impl Job {
             return Ok(Answer::NotRun);
         }
         match statement {
-            Statement::Request(written) => self.ask(task, written, request, reply),
+            Statement::Request(written) => self.ask(task, written, told, request, reply),
             Statement::Where(name) => Ok(where_answer(self.names.get(name))),
             Statement::ReportSubpools => Ok(Answer::Subpools),
             Statement::ReportMap => Ok(Answer::Map),

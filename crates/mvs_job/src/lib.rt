@@ -1,18 +1,22 @@
 //! Runs jobs: a whole script from a reader to a writer, or line by line.
 #![tactic(auto)]
 
+mod explaining;
 mod job;
 mod printing;
 mod reports;
 mod run;
 mod session;
 mod stream;
+mod told;
 mod walk;
 mod why;
 
+pub use explaining::explain_script;
 pub use job::Job;
 pub use printing::{Stop, print_closing, print_line};
 pub use run::{RunFault, run_job};
 pub use session::Session;
+pub use told::Told;
 pub use walk::{Closing, LineTold, Stopped, Walk};
 pub use why::Why;

@@ -15,7 +15,7 @@ use job_script::{print_abend, print_data, print_fault, print_region, print_said,
 use mvs_model::answer::Answer;
 use mvs_model::line::Fault;
 use mvs_model::name::Name;
-use mvs_model::place::Place;
+use mvs_model::place::{Addr, Place};
 use mvs_model::watched::{Failed, Watched};
 use std::io::Write;
 
@@ -107,6 +107,7 @@ pub fn print_line<W: Write>(
 pub fn run_line<W: Write>(
     walk: &mut Walk,
     line: &[u8],
+    told: &[Addr],
     writer: &mut Watched<W>,
 ) -> Result<bool, Stop>
     requires { walk.old.number + 1 < 2 ^ 32 }
@@ -117,7 +118,7 @@ pub fn run_line<W: Write>(
     ensures write { IsErrOf result Stop.Write → writer.new.failed ≡ true }
 {
     let line_number = walk.number();
-    match walk.line(line) {
+    match walk.line(line, told) {
         Ok(told) => match print_line(writer, line_number, walk, &told) {
             Ok(()) => Ok(!matches!(told, LineTold::Faulted(_))),
             Err(_) => Err(Stop::Write),

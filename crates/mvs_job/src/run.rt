@@ -11,6 +11,7 @@ ghost use Rattle.mvs_job.specs.Exchanging.{Exchanges};
 ghost use Rattle.mvs_job.specs.Giving.{fault_text};
 
 use crate::stream::{Stream, Turn};
+use crate::told::Told;
 use mvs_model::numbers::MOST_SCRIPT_BYTES;
 use mvs_model::outcome::Outcome;
 use mvs_model::want::Placement;
@@ -59,12 +60,14 @@ impl Error for RunFault {}
 const CHUNK: usize = 65_536;
 
 /// Runs a script as it comes: 16,777,215 bytes at most, and a byte more to see that there are too many. It keeps no more of it than a
-/// line, passes on what it printed before each read, and reads no further behind a fault of the script.
+/// line, passes on what it printed before each read, and reads no further behind a fault of the script. Areas that are granted lie at
+/// the addresses that are told of their lines, where the machine allows that, and else where the placement says.
 pub fn run_job<R: Read, W: Write>(
     alloc: Global,
     reader: &mut Watched<R>,
     writer: &mut Watched<W>,
     placement: Placement,
+    told: Told,
 ) -> Result<Outcome, RunFault>
     requires reader { reader.old.failed ≡ false }
     requires writer { writer.old.failed ≡ false }
@@ -107,7 +110,7 @@ pub fn run_job<R: Read, W: Write>(
     ensures read { IsErrOf result RunFault.Read → reader.new.failed ≡ true }
     ensures write { IsErrOf result RunFault.Write → writer.new.failed ≡ true }
 {
-    let mut stream = Stream::new(alloc, placement);
+    let mut stream = Stream::new(alloc, placement, told);
     let mut chunk = [0u8; CHUNK];
     let mut count = 0usize;
     'reading: while count < MOST_SCRIPT_BYTES {

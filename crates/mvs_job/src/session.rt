@@ -10,9 +10,12 @@ ghost use Rattle.mvs_model.specs.Runs.{machine};
 ghost use Rattle.mvs_model.specs.Walk.{Closes};
 ghost use Rattle.mvs_job.specs.Sessions.{new_session};
 ghost use Rattle.mvs_job.specs.Telling.{IsLent, IsTold, closing, ended, goes_on};
+ghost use Rattle.mvs_job.specs.Valued.{RequestsOf, WritesOf};
 
 use crate::walk::{Closing, LineTold, Stopped, Walk};
 use mvs_model::name::Name;
+use mvs_model::place::Place;
+use mvs_model::request::Request;
 use mvs_model::want::Placement;
 use std::alloc::Global;
 use std::marker::Model;
@@ -80,13 +83,34 @@ impl Session {
         ensures number { self.new.walk.number ≡ self.old.walk.number + 1 }
         ensures goes_on { self.new.goes_on ≡ goes_on result }
     {
-        let told = self.walk.line(line);
+        let told = self.walk.line(line, &[]);
         self.goes_on = match &told {
             Ok(LineTold::Faulted(_)) => false,
             Ok(_) => true,
             Err(_) => false,
         };
         told
+    }
+
+    /// Serves a request of a task that is given by values, and keeps the reply; false where no step runs. It is no line: it has no
+    /// number, and sets no name.
+    pub fn request(&mut self, task: &Name, request: &Request) -> bool
+        requires { self.old.goes_on ≡ true }
+        ensures served { RequestsOf self.old.walk task.now request.now result self.new.walk }
+        ensures goes_on { self.new.goes_on ≡ true }
+    {
+        self.walk.request(task, request)
+    }
+
+    /// Writes bytes over those of a place, and answers whether it did: not where no step runs, nor where one of them may not be
+    /// written, and then all stay.
+    pub fn write(&mut self, place: Place, bytes: &[u8]) -> bool
+        requires goes_on { self.old.goes_on ≡ true }
+        requires len { length bytes.now ≡ place.len }
+        ensures written { WritesOf self.old.walk place bytes.now result self.new.walk }
+        ensures goes_on { self.new.goes_on ≡ true }
+    {
+        self.walk.write(place, bytes)
     }
 
     /// Ends a job that has no more lines, and answers how it ends.

@@ -8,6 +8,7 @@ ghost use Rattle.mvs_job.specs.Streams.{Feeds, FeedsSome, Finishes, HasBroken, H
 
 use crate::printing::{Stop, print_closing, run_line};
 use crate::run::RunFault;
+use crate::told::Told;
 use crate::walk::Walk;
 use job_script::{LineBuffer, Pushed};
 use memchr::memchr;
@@ -32,6 +33,7 @@ pub struct Stream {
     walk: Walk,
     /// What was told of a line that has not ended.
     line: LineBuffer,
+    told: Told,
 }
 
 // What is written is passed on before a read that may wait.
@@ -77,13 +79,14 @@ fn fault_of(stop: Stop) -> RunFault
 
 impl Stream {
     /// A job before its first line.
-    pub fn new(alloc: Global, placement: Placement) -> Stream
+    pub fn new(alloc: Global, placement: Placement, told: Told) -> Stream
         ensures walk { result.walk ≡ new_walk }
         ensures line { result.line ≡ [] }
     {
         Stream {
             walk: Walk::new(alloc, placement),
             line: LineBuffer::new(),
+            told,
         }
     }
 
@@ -97,7 +100,8 @@ impl Stream {
         ensures ok { OnOk result (writer.new.failed ≡ writer.old.failed) }
         ensures write { IsErrOf result Stop.Write → writer.new.failed ≡ true }
     {
-        let goes_on = run_line(&mut self.walk, self.line.bytes(), writer);
+        let told = self.told.of(self.walk.number());
+        let goes_on = run_line(&mut self.walk, self.line.bytes(), told, writer);
         self.line.clear();
         goes_on
     }
@@ -153,7 +157,8 @@ impl Stream {
         ensures ok { OnOk result (writer.new.failed ≡ writer.old.failed) }
         ensures write { IsErrOf result Stop.Write → writer.new.failed ≡ true }
     {
-        match run_line(&mut self.walk, &bytes[..end], writer) {
+        let told = self.told.of(self.walk.number());
+        match run_line(&mut self.walk, &bytes[..end], told, writer) {
             Ok(true) => Ok(Some(end + 1)),
             Ok(false) => Ok(None),
             Err(stop) => Err(stop),

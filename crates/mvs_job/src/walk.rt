@@ -1,15 +1,17 @@
 //! The walk over the lines of a script: each line is read and served, and tells what it is answered.
 
-ghost use Rattle.std.specs.Prelude.{◌≡◌, ◌<◌, ◌+◌, ◌^◌, ◌∷◌, [], Bool, Some, None, IfOk, IfSome, MatchOption, MatchResult};
+ghost use Rattle.std.specs.Prelude.{◌≡◌, ◌<◌, ◌+◌, ◌^◌, ◌∷◌, [], Bool, Some, None, IfOk, IfSome, MatchOption, MatchResult, length};
 ghost use Rattle.mvs_model.specs.declared.line.Line.TheVariants as line;
 ghost use Rattle.mvs_model.specs.Card.{IsCard};
 ghost use Rattle.mvs_model.specs.Job.{JobValue, job_at};
 ghost use Rattle.mvs_model.specs.Lent.{fallen_in, lent};
 ghost use Rattle.mvs_model.specs.Lines.{IsStatement};
 ghost use Rattle.mvs_model.specs.Memory.{StopsForMemory, TakesMemory};
-ghost use Rattle.mvs_model.specs.Runs.{Any, Does, machine};
+ghost use Rattle.mvs_model.specs.Runs.{Does, machine};
 ghost use Rattle.mvs_model.specs.Walk.{Closes, has_abended, is_first};
-ghost use Rattle.mvs_job.specs.Telling.{IsLent, IsLentBy, IsTold, card_said, closing, end_told, ended, new_walk};
+ghost use Rattle.step_machine.specs.Taking.{Takes};
+ghost use Rattle.mvs_job.specs.Telling.{IsLent, IsLentBy, IsToldBy, card_said, closing, end_told, ended, new_walk};
+ghost use Rattle.mvs_job.specs.Valued.{RequestsOf, WritesOf};
 
 use crate::job::Job;
 use job_script::read_line;
@@ -19,6 +21,7 @@ use mvs_model::error::OutOfMemory;
 use mvs_model::line::{Fault, Line, Statement};
 use mvs_model::name::Name;
 use mvs_model::outcome::Outcome;
+use mvs_model::place::{Addr, Place};
 use mvs_model::request::{Reply, Request};
 use mvs_model::want::Placement;
 use std::alloc::Global;
@@ -69,14 +72,13 @@ pub struct Walk {
 }
 
 impl Model for Walk {
-    ghost use Rattle.mvs_model.specs.Lent.{fallen_in};
     ghost use Rattle.mvs_job.specs.Telling.{WalkValue, walk_code};
 
     ghost Value = { WalkValue };
 
     ghost coded = { walk_code };
 
-    ghost view = { λ w. record { step = w.job; number = w.number; fallen = fallen_in w.reply } };
+    ghost view = { λ w. record { step = w.job; number = w.number; reply = w.reply } };
 }
 
 // The card of a REGION statement of a task; the other statements have none.
@@ -143,6 +145,7 @@ fn serve(
     job: &mut Option<Job>,
     task: &Name,
     statement: &Statement,
+    told: &[Addr],
     request: &mut Request,
     reply: &mut Reply,
 ) -> Result<Answer, OutOfMemory>
@@ -151,13 +154,13 @@ fn serve(
     ensures served { MatchResult result
         (λ answer. (step : JobValue) × (later : JobValue) × (job.old ≡ Some step)
         × (job.new ≡ Some later)
-        × Does Any step task.now statement.now
+        × Does (Takes told.now) step task.now statement.now
         (lent later.state (fallen_in reply.new) task.now answer) later
         × IsLentBy later.state answer)
         (λ _. TakesMemory job.old (line.Statement task.now statement.now) []) }
 {
     match job {
-        Some(job) => job.serve(task, statement, request, reply),
+        Some(job) => job.serve(task, statement, told, request, reply),
         None => unreachable!(),
     }
 }
@@ -194,7 +197,7 @@ impl Walk {
 
     /// The tasks that ended with the one that abended, where the last request that was made abended.
     pub fn fallen(&self) -> &[Name]
-        ensures { result.now ≡ self.now.fallen }
+        ensures { result.now ≡ fallen_in self.now.reply }
     {
         match &self.reply {
             Reply::Abended(_, fallen) => fallen.names(),
@@ -202,10 +205,43 @@ impl Walk {
         }
     }
 
-    /// Serves one line, which is given without its end.
-    pub fn line(&mut self, line: &[u8]) -> Result<LineTold, Stopped>
+    /// The reply to the last request that was made.
+    pub fn reply(&self) -> &Reply
+        ensures { result.now ≡ self.now.reply }
+    {
+        &self.reply
+    }
+
+    /// Serves a request of a task that is given by values, and keeps the reply; false where no step runs.
+    pub fn request(&mut self, task: &Name, request: &Request) -> bool
+        ensures { RequestsOf self.old task.now request.now result self.new }
+    {
+        match &mut self.job {
+            Some(job) => {
+                job.request(task, request, &mut self.reply);
+                true
+            }
+            None => false,
+        }
+    }
+
+    /// Writes bytes over those of a place, and answers whether it did: not where no step runs, nor where one of them may not be
+    /// written, and then all stay.
+    pub fn write(&mut self, place: Place, bytes: &[u8]) -> bool
+        requires { length bytes.now ≡ place.len }
+        ensures { WritesOf self.old place bytes.now result self.new }
+    {
+        match &mut self.job {
+            Some(job) => job.write(place, bytes),
+            None => false,
+        }
+    }
+
+    /// Serves one line, which is given without its end. The areas that it is granted lie at the addresses that are told, where the
+    /// machine allows that.
+    pub fn line(&mut self, line: &[u8], told: &[Addr]) -> Result<LineTold, Stopped>
         requires { self.old.number + 1 < 2 ^ 32 }
-        ensures told { MatchResult result (λ told. IsTold self.old line.now told self.new)
+        ensures told { MatchResult result (λ answered. IsToldBy (Takes told.now) self.old line.now answered self.new)
             (λ stopped. StopsForMemory self.old.number self.old.step (line.now ∷ [])
             (ended stopped.ended)) }
         ensures lent { IfOk result (IsLent self.new) }
@@ -229,6 +265,7 @@ impl Walk {
             &mut self.job,
             task,
             statement,
+            told,
             &mut self.request,
             &mut self.reply,
         );

@@ -1,14 +1,18 @@
 //! Why the next line of a job is refused.
 
 ghost use Rattle.std.specs.Prelude.{Some};
+ghost use Rattle.job_script.specs.Writing.{Prints};
+ghost use Rattle.mvs_job.specs.Explaining.{IsExplanation, said_of};
 ghost use Rattle.mvs_job.specs.Why.{OfBytes, OfNext};
 
 use crate::job::Job;
 use crate::walk::{Walk, card_of};
-use job_script::read_line;
+use job_script::{print_reason, read_line};
 use mvs_model::line::Line;
 use mvs_model::reason::Reason;
 use mvs_model::request::Request;
+use mvs_model::watched::{Failed, Watched};
+use std::io::Write;
 
 /// Room for what a line says and for what it asks for, which are long, while it is asked why the line is refused.
 #[derive(Drop)]
@@ -27,7 +31,9 @@ impl Why {
 
     // Why a line is refused in a step.
     fn reason_in(&mut self, job: &Job, line: &[u8]) -> Option<Reason>
-        ensures { OfBytes job.now line.now result }
+        ensures reason { OfBytes job.now line.now result }
+        ensures text { IsExplanation (Some job.now) line.now
+            (said_of self.new.read self.new.request result) }
     {
         let Ok(()) = read_line(line, false, &mut self.read) else {
             return None;
@@ -41,15 +47,42 @@ impl Why {
         job.reason(task, statement, &mut self.request)
     }
 
+    // Why the next line is refused, and what is printed of that.
+    pub(crate) fn ask(&mut self, walk: &Walk, line: &[u8]) -> Option<Reason>
+        ensures reason { OfNext walk.now.step line.now result }
+        ensures text { IsExplanation walk.now.step line.now
+            (said_of self.new.read self.new.request result) }
+    {
+        match walk.job() {
+            Some(job) => self.reason_in(job, line),
+            None => None,
+        }
+    }
+
     /// Why the next line, which is given without its end, is refused, if it is; the job stands as before. A line that asks for
     /// nothing, that has a fault, or in which a name is not set has no reason, and so has want of a place for a list or a part
     /// of a pool.
     pub fn reason(&mut self, walk: &Walk, line: &[u8]) -> Option<Reason>
         ensures { OfNext walk.now.step line.now result }
     {
-        match walk.job() {
-            Some(job) => self.reason_in(job, line),
-            None => None,
+        self.ask(walk, line)
+    }
+
+    // Prints why the line is refused that was asked about last.
+    pub(crate) fn print<W: Write>(
+        &self,
+        writer: &mut Watched<W>,
+        reason: &Option<Reason>,
+    ) -> Result<(), Failed>
+        ensures { Prints W.contents writer.old writer.new result
+            (said_of self.now.read self.now.request reason.now) }
+    {
+        let Some(reason) = reason else {
+            return Ok(());
+        };
+        match &self.read {
+            Line::Statement(task, _) => print_reason(writer, task, &self.request, reason),
+            Line::Nothing => Ok(()),
         }
     }
 }

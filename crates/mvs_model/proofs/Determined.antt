@@ -92,7 +92,7 @@ module _ (C D : Condition) (meets : Meets C D) where
 
 -- so does a line, and a walk whose lines do
 module _ (C D : ℕ → Condition) where
-  line_other : (number : ℕ) → Meets (C number) (D number) → (old : Option JobValue) (l : Line) (events : List Event) (new : Option JobValue) → Serves (machine_where C) number old l events new → Serves (machine_where D) number old l events new
+  pub line_other : (number : ℕ) → Meets (C number) (D number) → (old : Option JobValue) (l : Line) (events : List Event) (new : Option JobValue) → Serves (machine_where C) number old l events new → Serves (machine_where D) number old l events new
   line_other number meets old line.Nothing events new x = x
   line_other number meets None (line.Statement t s) events new x =
       served_first (machine_where C) (λ _. Unit {0}) (λ s. Serves (machine_where D) number None (line.Statement t s) events new) number t s events new x tt (λ below above fill residence _ x. x)

@@ -66,7 +66,7 @@ pub mod OneWalk
 pub mod OneLabels
 pub mod OneSteps
 mod EitherWay
-mod Determined
+pub mod Determined
 mod Taking
 pub mod TidyMoves
 mod InFull

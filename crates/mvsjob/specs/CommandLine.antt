@@ -5,9 +5,9 @@ use Rattle.clap.specs.Simple.{on_top}
 use Rattle.clap.specs.Walk.{Rule}
 use Rattle.clap.specs.declared.builder.action.ArgAction.TheVariants.{SetTrue}
 use Rattle.clap.specs.declared.builder.value_parser.ValueParser.{ValueParser}
-use Rattle.clap.specs.declared.builder.value_parser.ValueParser.TheVariants.{Names, Unsigned}
+use Rattle.clap.specs.declared.builder.value_parser.ValueParser.TheVariants.{Names, NonEmptyString, Unsigned}
 use Rattle.mvsjob.specs.declared.choices.Mode.{Mode}
-use Rattle.mvsjob.specs.declared.choices.Mode.TheVariants.{Run, Check, Blank, Random}
+use Rattle.mvsjob.specs.declared.choices.Mode.TheVariants.{Run, Check, Judge, Blank, Ask, Random}
 
 -- A value has to be one of these.
 abbrev pub IsOneOf : List Text → ValueParser → Type 0
@@ -47,28 +47,38 @@ versioned a = on_top (λ s. record s { has_version = true }) a
 abbrev pub answers_app : App → App
 answers_app a = with_rule (with_rule a (flag_rule (codes "check"))) (flag_rule (codes "blank"))
 
+-- with what is asked of the output of another program
+abbrev pub judging_app : App → App
+judging_app a = with_rule (with_rule a (value_rule (codes "judge") NonEmptyString)) (flag_rule (codes "ask"))
+
 -- and with a random script: its seed and its lines
 abbrev pub random_app : App → App
 random_app a = with_rule (with_rule a (value_rule (codes "random") (Unsigned 0 18446744073709551615))) (value_rule (codes "lines") (Unsigned 1 1000000))
 
--- the program's command: a word and six options, which may all be left out, and a version
+-- and with what else a run tells, and how
+abbrev pub telling_app : App → App
+telling_app a = with_rule (with_rule a (flag_rule (codes "explain"))) (flag_rule (codes "json"))
+
+-- the program's command: a word and ten options, which may all be left out, and a version
 abbrev pub command : Parsers → App
 command ps =
-    with_rule (random_app (answers_app
-    (with_rule (with_rule (versioned (new_app (codes "mvsjob"))) (new_rule (codes "FILE"))) (value_rule (codes "place") ps.place))))
-    (value_rule (codes "profile") ps.profile)
+    telling_app (with_rule (random_app (judging_app (answers_app
+    (with_rule (with_rule (versioned (new_app (codes "mvsjob"))) (new_rule (codes "FILE"))) (value_rule (codes "place") ps.place)))))
+    (value_rule (codes "profile") ps.profile))
 
 -- what of the words clap gives to an argument
 abbrev pub assigned : Parsers → List Text → Text → Option Text
 assigned ps words name = first_of name (matches_of (command ps) words)
 
--- A script is made where `--random` has a seed; else its answers are compared where `--check` is said, or left out where
--- `--blank` is; else it is run.
-pub record IsMode (random check blank : Option Text) (mode : Mode) : Type 0 where
+-- A script is made where `--random` has a seed; else an output is judged where `--judge` names one; else the answers of the script
+-- are compared where `--check` is said, or left out where `--blank` is, or questions are put in where `--ask` is; else it is run.
+pub record IsMode (random judge check blank ask : Option Text) (mode : Mode) : Type 0 where
   pub makes : (seed : Text) → random ≡ Some seed → (recipe : _) × (mode ≡ Random recipe)
-  pub checks : random ≡ None → check ≡ Some (codes "true") → mode ≡ Check
-  pub blanks : random ≡ None → check ≢ Some (codes "true") → blank ≡ Some (codes "true") → mode ≡ Blank
-  pub runs : random ≡ None → check ≢ Some (codes "true") → blank ≢ Some (codes "true") → mode ≡ Run
+  pub judges : (output : Text) → random ≡ None → judge ≡ Some output → mode ≡ Judge
+  pub checks : random ≡ None → judge ≡ None → check ≡ Some (codes "true") → mode ≡ Check
+  pub blanks : random ≡ None → judge ≡ None → check ≢ Some (codes "true") → blank ≡ Some (codes "true") → mode ≡ Blank
+  pub asks : random ≡ None → judge ≡ None → check ≢ Some (codes "true") → blank ≢ Some (codes "true") → ask ≡ Some (codes "true") → mode ≡ Ask
+  pub runs : random ≡ None → judge ≡ None → check ≢ Some (codes "true") → blank ≢ Some (codes "true") → ask ≢ Some (codes "true") → mode ≡ Run
 
 -- Clap takes the words.
 abbrev pub IsTaken : List Text → Type 0

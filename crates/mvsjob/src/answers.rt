@@ -1,9 +1,11 @@
-//! What the program does with a script besides running it: its answers are compared, or left out; or a random one is made.
+//! What the program does with a script besides running it: its answers are compared, or left out; questions are put in; or a random
+//! one is made.
 
 use crate::choices::{Mode, Settings};
-use crate::ending::{Ending, GiveUp};
+use crate::ending::{Ending, GiveUp, Unread};
 use annotated::{write_blank, write_differences, write_statements};
-use mvs_job::{RunFault, run_job};
+use judge::write_asking;
+use mvs_job::{RunFault, Told, run_job};
 use mvs_model::watched::Watched;
 use random_script::{RandomFault, write_script};
 use std::fs;
@@ -14,12 +16,12 @@ fn give_up(error: &io::Error) -> GiveUp {
     match error.kind() {
         ErrorKind::OutOfMemory => GiveUp::Job(RunFault::Memory),
         ErrorKind::InvalidData => GiveUp::NoText,
-        _ => GiveUp::Script,
+        kind => GiveUp::Script(Unread::from(kind)),
     }
 }
 
 // The script as a text.
-fn script(rt: &HostRuntime, settings: &Settings<'_>) -> Result<String, GiveUp> {
+pub(crate) fn script(rt: &HostRuntime, settings: &Settings<'_>) -> Result<String, GiveUp> {
     let read = if settings.file == "-" {
         io::read_to_string(rt.alloc(), rt.stdin())
     } else {
@@ -34,7 +36,14 @@ fn printed(rt: &HostRuntime, script: &str, settings: &Settings<'_>) -> Result<St
     write_statements(&mut statements, script).map_err(|_| RunFault::Memory)?;
     let mut reader = Watched::new(statements.as_slice());
     let mut writer = Watched::new(Vec::new(rt.alloc()));
-    run_job(rt.alloc(), &mut reader, &mut writer, settings.placement)?;
+    let told = Told::nothing(rt.alloc());
+    run_job(
+        rt.alloc(),
+        &mut reader,
+        &mut writer,
+        settings.placement,
+        told,
+    )?;
     String::from_utf8(writer.into_inner()).map_err(|_| GiveUp::NoText)
 }
 
@@ -52,7 +61,7 @@ pub fn check_answers(rt: &HostRuntime, settings: &Settings<'_>) -> Result<Ending
     }
 }
 
-// Writes the script without its answers, or a random one.
+// Writes the script without its answers, or with questions, or a random one.
 fn write_to<W: Write>(
     rt: &HostRuntime,
     writer: &mut W,
@@ -60,7 +69,11 @@ fn write_to<W: Write>(
 ) -> Result<(), GiveUp> {
     let Mode::Random(recipe) = settings.mode else {
         let script = script(rt, settings)?;
-        return write_blank(writer, &script).map_err(|_| GiveUp::Job(RunFault::Write));
+        let written = match settings.mode {
+            Mode::Ask => write_asking(writer, &script),
+            _ => write_blank(writer, &script),
+        };
+        return written.map_err(|_| GiveUp::Job(RunFault::Write));
     };
     match write_script(
         rt.alloc(),
@@ -75,7 +88,7 @@ fn write_to<W: Write>(
     }
 }
 
-/// Writes the script without its answers, or a random one.
+/// Writes the script without its answers, or with questions, or a random one.
 pub fn write_made(rt: &HostRuntime, settings: &Settings<'_>) -> Result<Ending, GiveUp> {
     let Ok(mut writer) = BufWriter::new(rt.alloc(), io::writer(rt)) else {
         return Err(GiveUp::Job(RunFault::Memory));

@@ -18,8 +18,12 @@ pub enum Mode {
     Run,
     /// The script is run, and what it says of its answers is compared with them.
     Check,
+    /// An output is judged by the runs of the script.
+    Judge,
     /// The script is written without its answers.
     Blank,
+    /// The script is written with questions where its areas lie.
+    Ask,
     /// A random script is written.
     Random(Recipe),
 }
@@ -31,5 +35,11 @@ pub struct Settings<'a> {
     pub file: &'a str,
     /// Which of the places that serve is taken.
     pub placement: Placement,
+    /// The name of the file with the output that is judged; empty where none is.
+    pub judged: &'a str,
     pub mode: Mode,
+    /// Whether a run says why requests are refused.
+    pub explains: bool,
+    /// Whether a run tells its events as lines of JSON.
+    pub json: bool,
 }

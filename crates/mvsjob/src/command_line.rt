@@ -5,7 +5,7 @@ ghost use Rattle.std.specs.Option.{unwrap_or};
 ghost use Rattle.clap.specs.Words.{IsAmong, Kinds, app_of, first_value, found_of, kind_of, new_app, new_rule, with_rule};
 ghost use Rattle.clap.specs.declared.error.kind.ErrorKind.TheVariants.{OutOfMemory};
 ghost use Rattle.clap.specs.declared.builder.value_parser.ValueParser.{ValueParser as Parser};
-ghost use Rattle.mvsjob.specs.CommandLine.{AreParsers, FindsWrong, IsMode, IsOneOf, IsTaken, Parsers, answers_app, assigned, command, flag_rule, places, profiles, random_app, value_rule, versioned};
+ghost use Rattle.mvsjob.specs.CommandLine.{AreParsers, FindsWrong, IsMode, IsOneOf, IsTaken, Parsers, answers_app, assigned, command, flag_rule, judging_app, places, profiles, random_app, telling_app, value_rule, versioned};
 
 use crate::choices::{Mode, Recipe, Settings};
 use clap::builder::ValueParser;
@@ -23,6 +23,7 @@ const VERSION: &str = "1.0.0 (rattle-kit-13f logic dac8208d650f15bf)";
 const STATUSES: &str = "Exit status:
   0   clean: every line was run, and no task abended
   1   with --check: some answer is another one than the script says
+  2   with --judge: it is not decided whether a run of the script prints OUTPUT
   8   every line was run, and some task abended
   12  a line of the script has a fault, and no line behind it was run
   16  the job gave up, or could not begin: standard error says why
@@ -121,6 +122,25 @@ fn with_answers<'a>(command: Command<'a>, alloc: Global) -> Result<Command<'a>, 
     )
 }
 
+// The command with what is asked of the output of another program.
+fn with_judging<'a>(command: Command<'a>, alloc: Global) -> Result<Command<'a>, AllocError>
+    ensures { IfOk result (λ c. app_of c ≡ judging_app (app_of command.entry)) }
+{
+    let judging = with_option(
+        command,
+        alloc,
+        "judge",
+        ValueParser::NonEmptyString,
+        "Says whether the file of this name is what a run of the script prints, wherever its areas lie",
+    )?;
+    with_flag(
+        judging,
+        alloc,
+        "ask",
+        "Prints the script with a WHERE behind each request for areas, and runs nothing",
+    )
+}
+
 // The command with a random script.
 fn with_random<'a>(command: Command<'a>, alloc: Global) -> Result<Command<'a>, AllocError>
     ensures { IfOk result (λ c. app_of c ≡ random_app (app_of command.entry)) }
@@ -156,15 +176,35 @@ fn with_profile<'a>(command: Command<'a>, alloc: Global) -> Result<Command<'a>, 
     )
 }
 
-// The command: a word and six options, all of which may be left out.
+// The command with what else a run tells, and how.
+fn with_telling<'a>(command: Command<'a>, alloc: Global) -> Result<Command<'a>, AllocError>
+    ensures { IfOk result (λ c. app_of c ≡ telling_app (app_of command.entry)) }
+{
+    let explaining = with_flag(
+        command,
+        alloc,
+        "explain",
+        "Says behind the answer to a request why it is refused, in a line that begins with *",
+    )?;
+    with_flag(
+        explaining,
+        alloc,
+        "json",
+        "Prints each event of the run as a line of JSON; with --explain also why a request is refused",
+    )
+}
+
+// The command: a word and ten options, all of which may be left out.
 fn command<'a>(alloc: Global) -> Result<Command<'a>, AllocError>
     ensures { IfOk result (λ c. (ps : Parsers) × AreParsers ps × (app_of c ≡ command ps)) }
 {
     let scripted = with_script(alloc)?;
     let placed = with_place(scripted, alloc)?;
     let answered = with_answers(placed, alloc)?;
-    let random = with_random(answered, alloc)?;
-    with_profile(random, alloc)
+    let judged = with_judging(answered, alloc)?;
+    let random = with_random(judged, alloc)?;
+    let profiled = with_profile(random, alloc)?;
+    with_telling(profiled, alloc)
 }
 
 // The word for the script.
@@ -176,6 +216,13 @@ fn file<'a>(matches: &ArgMatches<'a>) -> &'a str
         Some(file) => file,
         None => "-",
     }
+}
+
+// The word for the output that is judged.
+fn judged<'a>(matches: &ArgMatches<'a>) -> &'a str
+    ensures { result.now ≡ unwrap_or (first_value (found_of matches.now) (codes "judge")) [] }
+{
+    matches.get_str("judge").unwrap_or("")
 }
 
 // Which place is taken.
@@ -222,13 +269,17 @@ fn recipe(matches: &ArgMatches<'_>) -> Recipe {
 // What is to be done.
 fn mode(matches: &ArgMatches<'_>) -> Mode
     ensures { IsMode (first_value (found_of matches.now) (codes "random"))
+        (first_value (found_of matches.now) (codes "judge"))
         (first_value (found_of matches.now) (codes "check"))
-        (first_value (found_of matches.now) (codes "blank")) result }
+        (first_value (found_of matches.now) (codes "blank"))
+        (first_value (found_of matches.now) (codes "ask")) result }
 {
     match matches.get_str("random") {
         Some(_) => Mode::Random(recipe(matches)),
+        None if matches.get_str("judge").is_some() => Mode::Judge,
         None if is_set(matches, "check") => Mode::Check,
         None if is_set(matches, "blank") => Mode::Blank,
+        None if is_set(matches, "ask") => Mode::Ask,
         None => Mode::Run,
     }
 }
@@ -243,9 +294,17 @@ pub fn settings<'a>(alloc: Global, words: &'a [String]) -> Result<Settings<'a>, 
         ≡ unwrap_or (assigned ps (map string_bytes words.entry.now) (codes "FILE")) (codes "-"))
         × (s.placement ≡ Placement.High
         ↔ assigned ps (map string_bytes words.entry.now) (codes "place") ≡ Some (codes "high"))
+        × (s.judged.now
+        ≡ unwrap_or (assigned ps (map string_bytes words.entry.now) (codes "judge")) [])
         × IsMode (assigned ps (map string_bytes words.entry.now) (codes "random"))
+        (assigned ps (map string_bytes words.entry.now) (codes "judge"))
         (assigned ps (map string_bytes words.entry.now) (codes "check"))
-        (assigned ps (map string_bytes words.entry.now) (codes "blank")) s.mode) }
+        (assigned ps (map string_bytes words.entry.now) (codes "blank"))
+        (assigned ps (map string_bytes words.entry.now) (codes "ask")) s.mode
+        × (IsTrue s.explains
+        ↔ assigned ps (map string_bytes words.entry.now) (codes "explain") ≡ Some (codes "true"))
+        × (IsTrue s.json
+        ↔ assigned ps (map string_bytes words.entry.now) (codes "json") ≡ Some (codes "true"))) }
     // Clap finds nothing wrong with words that are taken; an error is of a kind that it finds, or want of memory.
     ensures taken { IfOk result (λ _. FindsWrong (map string_bytes words.entry.now) []) }
     ensures kinds { IfErr result
@@ -260,6 +319,9 @@ pub fn settings<'a>(alloc: Global, words: &'a [String]) -> Result<Settings<'a>, 
     Ok(Settings {
         file: file(&matches),
         placement: placement(&matches),
+        judged: judged(&matches),
         mode: mode(&matches),
+        explains: is_set(&matches, "explain"),
+        json: is_set(&matches, "json"),
     })
 }

@@ -4,16 +4,42 @@ ghost use Rattle.std.specs.Prelude.{◌≡◌};
 ghost use Rattle.std.specs.Option.{option_map};
 ghost use Rattle.mvsjob.specs.Endings.{status_of, text_of};
 
-use mvs_job::RunFault;
+use event_json::JsonFault;
+use mvs_job::{RunFault, Stop};
 use mvs_model::outcome::Outcome;
+use std::io::ErrorKind;
+
+/// Why a script cannot be read.
+#[derive(Clone, Copy, Debug, PartialEq, Eq)]
+pub enum Unread {
+    Missing,
+    Forbidden,
+    Directory,
+    Other,
+}
+
+impl From<ErrorKind> for Unread {
+    fn from(kind: ErrorKind) -> Unread {
+        match kind {
+            ErrorKind::NotFound => Unread::Missing,
+            ErrorKind::PermissionDenied => Unread::Forbidden,
+            ErrorKind::IsADirectory => Unread::Directory,
+            _ => Unread::Other,
+        }
+    }
+}
 
 /// Why the program gives up.
 #[derive(Clone, Copy, Debug, PartialEq, Eq)]
 pub enum GiveUp {
-    /// There is no such file, or it may not be read.
-    Script,
+    /// There is no such file, or it cannot be read.
+    Script(Unread),
     /// The script is no text.
     NoText,
+    /// The output that is to be judged cannot be read as a text.
+    Output,
+    /// Nobody reads what is written.
+    Pipe,
     /// The job gave up, or a call around it failed as one of a job does.
     Job(RunFault),
 }
@@ -21,6 +47,24 @@ pub enum GiveUp {
 impl From<RunFault> for GiveUp {
     fn from(fault: RunFault) -> GiveUp {
         GiveUp::Job(fault)
+    }
+}
+
+impl From<JsonFault> for GiveUp {
+    fn from(fault: JsonFault) -> GiveUp {
+        GiveUp::Job(match fault {
+            JsonFault::Memory => RunFault::Memory,
+            JsonFault::Write => RunFault::Write,
+        })
+    }
+}
+
+impl From<Stop> for GiveUp {
+    fn from(stop: Stop) -> GiveUp {
+        match stop {
+            Stop::Write => GiveUp::Job(RunFault::Write),
+            Stop::Memory => GiveUp::Job(RunFault::Memory),
+        }
     }
 }
 
@@ -33,6 +77,8 @@ pub enum Ending {
     Printed,
     /// The answers of a run were compared with those that the script says, and one differs, or none.
     Checked { differs: bool },
+    /// An output was judged, and it was accepted, or this is not decided.
+    Judged { accepted: bool },
     /// The words were refused, and `clap` has said why.
     Refused,
     /// The program gave up, or could not begin.
@@ -47,21 +93,40 @@ impl Ending {
         match self {
             Ending::Ran(Outcome::Clean) | Ending::Printed => 0,
             Ending::Checked { differs } => differs as u8,
+            Ending::Judged { accepted } => { if accepted { 0 } else { 2 } }
             Ending::Ran(Outcome::SomeAbend) => 8,
             Ending::Ran(Outcome::ScriptFault) => 12,
+            Ending::GaveUp(GiveUp::Pipe) => 141,
             Ending::Refused | Ending::GaveUp(_) => 16,
         }
     }
 
-    /// What standard error says behind the program's name, if the program gave up. This project's choice.
+    /// Whether what standard error says is said of the script.
+    pub fn is_of_script(self) -> bool {
+        matches!(
+            self,
+            Ending::GaveUp(GiveUp::Script(_)) | Ending::GaveUp(GiveUp::NoText)
+        )
+    }
+
+    /// What standard error says behind the names of the program and of the script, if the program gave up. This project's choice.
     pub fn text(self) -> Option<&'static str>
         ensures { option_map (λ text. text.now) result ≡ text_of self }
     {
         match self {
-            Ending::GaveUp(GiveUp::Script) => Some("cannot open script"),
+            Ending::GaveUp(GiveUp::Script(Unread::Missing)) => Some("no such file"),
+            Ending::GaveUp(GiveUp::Script(Unread::Forbidden)) => Some("permission denied"),
+            Ending::GaveUp(GiveUp::Script(Unread::Directory)) => Some("is a directory"),
+            Ending::GaveUp(GiveUp::Script(Unread::Other)) => Some("cannot open script"),
             Ending::GaveUp(GiveUp::NoText) => Some("script is no text"),
+            Ending::GaveUp(GiveUp::Output) => Some("cannot read output"),
             Ending::GaveUp(GiveUp::Job(fault)) => Some(fault.text()),
-            Ending::Ran(_) | Ending::Printed | Ending::Checked { .. } | Ending::Refused => None,
+            Ending::GaveUp(GiveUp::Pipe)
+            | Ending::Ran(_)
+            | Ending::Printed
+            | Ending::Checked { .. }
+            | Ending::Judged { .. }
+            | Ending::Refused => None,
         }
     }
 }

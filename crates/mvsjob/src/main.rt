@@ -9,51 +9,82 @@ mod answers;
 mod choices;
 mod command_line;
 mod ending;
+mod explained;
+mod json;
+mod judging;
+mod kept;
+mod piped;
 
 use answers::{check_answers, write_made};
 use choices::{Mode, Settings};
 use command_line::settings;
-use ending::{Ending, GiveUp};
-use mvs_job::{RunFault, run_job};
+use diagnosis::diagnose;
+use ending::{Ending, GiveUp, Unread};
+use explained::run_explained;
+use json::run_json;
+use judging::judge_output;
+use kept::{Faulty, Kept};
+use mvs_job::{RunFault, Told, run_job};
 use mvs_model::outcome::Outcome;
-use mvs_model::want::Placement;
 use mvs_model::watched::Watched;
+use piped::Piped;
 use std::env;
 use std::fs::File;
 use std::io::{self, BufWriter, ErrorKind, Read, Write};
 use std::process::ExitCode;
 
-// Runs the script that a reader tells, and flushes what it printed. A flush that fails is a write that failed.
-fn run_from<R: Read + Drop>(
+// Tells a faulty line on standard error. A failure to do so changes nothing.
+pub(crate) fn tell(rt: &HostRuntime, name: &str, faulty: &Faulty<'_>) {
+    let diagnosis = diagnose(rt.alloc(), faulty.line, faulty.fault);
+    let _ = eprint!(rt; "{name}:{}:{diagnosis}", faulty.number);
+}
+
+// Runs the script that a reader tells, flushes what it printed, and tells the line that ended it, if one did. A flush that fails is a
+// write that failed.
+pub(crate) fn run_from<R: Read + Drop>(
     rt: &HostRuntime,
     reader: R,
-    placement: Placement,
-) -> Result<Outcome, RunFault> {
-    let Ok(writer) = BufWriter::new(rt.alloc(), io::writer(rt)) else {
-        return Err(RunFault::Memory);
+    settings: &Settings<'_>,
+) -> Result<Outcome, GiveUp> {
+    let Ok(writer) = BufWriter::new(rt.alloc(), Piped::new(io::writer(rt))) else {
+        return Err(GiveUp::Job(RunFault::Memory));
     };
-    let mut reader = Watched::new(reader);
+    let mut reader = Watched::new(Kept::new(reader));
     let mut writer = Watched::new(writer);
-    let ended = run_job(rt.alloc(), &mut reader, &mut writer, placement);
+    let told = Told::nothing(rt.alloc());
+    let ended = run_job(
+        rt.alloc(),
+        &mut reader,
+        &mut writer,
+        settings.placement,
+        told,
+    );
     let mut writer = writer.into_inner();
-    match writer.flush() {
-        Ok(()) => ended,
-        Err(_) => match ended {
-            Ok(_) => Err(RunFault::Write),
-            Err(fault) => Err(fault),
-        },
+    let flushed = writer.flush();
+    let kept = reader.into_inner();
+    match ended {
+        Ok(outcome) if flushed.is_ok() => {
+            if outcome == Outcome::ScriptFault {
+                tell(rt, settings.file, &kept.faulty());
+            }
+            Ok(outcome)
+        }
+        Ok(_) | Err(RunFault::Write) if writer.get_ref().is_closed() => Err(GiveUp::Pipe),
+        Ok(_) => Err(GiveUp::Job(RunFault::Write)),
+        Err(RunFault::Read) if kept.is_directory() => Err(GiveUp::Script(Unread::Directory)),
+        Err(fault) => Err(GiveUp::Job(fault)),
     }
 }
 
 // Runs the script that the words name.
 fn run_named(rt: &HostRuntime, settings: &Settings<'_>) -> Result<Outcome, GiveUp> {
     if settings.file == "-" {
-        return Ok(run_from(rt, rt.stdin(), settings.placement)?);
+        return run_from(rt, rt.stdin(), settings);
     }
-    let Ok(script) = File::open(rt, settings.file) else {
-        return Err(GiveUp::Script);
-    };
-    Ok(run_from(rt, script, settings.placement)?)
+    match File::open(rt, settings.file) {
+        Ok(script) => run_from(rt, script, settings),
+        Err(error) => Err(GiveUp::Script(Unread::from(error.kind()))),
+    }
 }
 
 // Prints what `clap` says of the words.
@@ -79,42 +110,59 @@ fn words(rt: &HostRuntime) -> Result<Vec<String>, GiveUp> {
             Ok(words)
         }
         Err(error) if error.kind() == ErrorKind::OutOfMemory => Err(GiveUp::Job(RunFault::Memory)),
-        Err(_) => Err(GiveUp::Script),
+        Err(_) => Err(GiveUp::Script(Unread::Other)),
     }
 }
 
 // Does what the words ask for.
 fn serve(rt: &HostRuntime, settings: &Settings<'_>) -> Result<Ending, GiveUp> {
     match settings.mode {
+        Mode::Run if settings.json => Ok(Ending::Ran(run_json(rt, settings)?)),
+        Mode::Run if settings.explains => Ok(Ending::Ran(run_explained(rt, settings)?)),
         Mode::Run => Ok(Ending::Ran(run_named(rt, settings)?)),
         Mode::Check => check_answers(rt, settings),
-        Mode::Blank | Mode::Random(_) => write_made(rt, settings),
-    }
-}
-
-// Reads the words, then opens the script, then runs it; the first failure ends the program.
-fn run_program(rt: &HostRuntime) -> Result<Ending, GiveUp> {
-    let words = words(rt)?;
-    match settings(rt.alloc(), &words) {
-        Ok(settings) => serve(rt, &settings),
-        Err(error) => explain(rt, &error),
+        Mode::Judge => judge_output(rt, settings),
+        Mode::Blank | Mode::Ask | Mode::Random(_) => write_made(rt, settings),
     }
 }
 
 // Says why the program gave up, if it did. A failure to say so changes nothing.
-fn finish(rt: &HostRuntime, ending: Ending) -> ExitCode
+fn finish(rt: &HostRuntime, name: &str, ending: Ending) -> ExitCode
     ensures { exit_status result ≡ status_of ending }
 {
     if let Some(text) = ending.text() {
-        let _ = eprintln!(rt; "mvsjob: {text}");
+        let _ = if ending.is_of_script() && name != "-" {
+            eprintln!(rt; "mvsjob: {name}: {text}")
+        } else {
+            eprintln!(rt; "mvsjob: {text}")
+        };
     }
     ExitCode::from(ending.status())
 }
 
+// Does what the words ask for, and ends.
+fn serve_words(rt: &HostRuntime, words: &[String]) -> ExitCode {
+    match settings(rt.alloc(), words) {
+        Ok(settings) => {
+            let ending = serve(rt, &settings);
+            finish(
+                rt,
+                settings.file,
+                ending.unwrap_or_else(|why| Ending::GaveUp(why)),
+            )
+        }
+        Err(error) => finish(
+            rt,
+            "-",
+            explain(rt, &error).unwrap_or_else(|why| Ending::GaveUp(why)),
+        ),
+    }
+}
+
+// Reads the words, then opens the script, then runs it; the first failure ends the program.
 fn main(rt: HostRuntime) -> ExitCode {
-    let ending = match run_program(&rt) {
-        Ok(ending) => ending,
-        Err(why) => Ending::GaveUp(why),
-    };
-    finish(&rt, ending)
+    match words(&rt) {
+        Ok(words) => serve_words(&rt, &words),
+        Err(why) => finish(&rt, "-", Ending::GaveUp(why)),
+    }
 }

@@ -1,6 +1,6 @@
 -- What a request for bytes is answered.
-use Rattle.std.proofs.Common.{◌≡◌, ℕ, ◌+◌, ◌-◌, ◌≤◌, Bool, true, false, cond, List, length, Option, Ok, Err, refl, sym, subst, ◌∙◌}
-use Rattle.std.specs.Prelude.{◌&&◌, ◌↔◌, IsTrue}
+use Rattle.std.proofs.Common.{◌≡◌, ℕ, ◌+◌, ◌-◌, ◌≤◌, Bool, true, false, cond, List, length, Option, Ok, Err, refl, sym, ap, subst, ◌∙◌}
+use Rattle.std.specs.Prelude.{◌&&◌, ◌↔◌, IsTrue, MatchBool}
 use Rattle.std.proofs.lemmas.Bool.{and_from}
 use Rattle.mvs_model.specs.declared.name.Name.{Name}
 use Rattle.std.specs.FinMap.{FinMap, get}
@@ -58,6 +58,19 @@ module _ (roots : FinMap name_cmp Root) (st : Storage) (agree : Agree roots st) 
   pub copy_agrees : (new : Storage) (to from n : ℕ) → Copied st to from n new → Granted (machine_state roots st o) (place_at to n) → Agree roots new
   copy_agrees new to from n copied h = (write_agrees new (place_at to n) (λ x. get st.bytes (from + (x - to))) copied.storage copied.regions copied.held copied.bytes h).0
 
+  -- bytes that are put over those of a place are written there
+  put_written : (new : Storage) (p : PlaceValue) (bytes : List ℕ) → length bytes ≡ p.len → Granted (machine_state roots st o) p → Puts st p bytes new → Writes (machine_state roots st o) p (bytes_from p.addr bytes) (machine_state roots new o)
+  put_written new p bytes len h puts = subst (λ n. Granted (machine_state roots st o) (place_at p.addr n) → Puts st (place_at p.addr n) bytes new → Writes (machine_state roots st o) (place_at p.addr n) (bytes_from p.addr bytes) (machine_state roots new o)) len
+      (λ h puts. subst (λ pools. Writes (machine_state roots st o) (place_at p.addr (length bytes)) (bytes_from p.addr bytes) (state_of new o pools)) (sym (write_agrees new (place_at p.addr (length bytes)) _ puts.storage puts.regions puts.held puts.bytes h).1)
+      (puts_seen st o (pools_of roots st) agree.parts.storage new p.addr bytes puts.storage h puts.regions puts.held puts.bytes)) h puts
+
+  -- what a write tells
+  pub write_told : (written : Bool) (new : Storage) (p : PlaceValue) (bytes : List ℕ) → length bytes ≡ p.len
+      → MatchBool written (Granted (machine_state roots st o) p × Puts st p bytes new) ((Granted (machine_state roots st o) p → ⊥) × (new ≡ st))
+      → MatchBool written (Granted (machine_state roots st o) p × Writes (machine_state roots st o) p (bytes_from p.addr bytes) (machine_state roots new o)) ((Granted (machine_state roots st o) p → ⊥) × (machine_state roots new o ≡ machine_state roots st o))
+  write_told true new p bytes len (h, puts) = (h, put_written new p bytes len h puts)
+  write_told false new p bytes len (none, same) = (none, ap (λ s. machine_state roots s o) same)
+
   module _ (t : Name) where
     pub show_denied : (from n : ℕ) → (Granted (machine_state roots st o) (place_at from n) → ⊥) → Answered {A = Unit {0}} (λ _. Done) (Acts (machine_state roots st o) t (Show from n)) (machine_state roots st o) t (Err no_access) (machine_state roots st o)
     show_denied from n none = denied (machine_state roots st o) t _ (λ new. new ≡ machine_state roots st o) (not_granted st o (pools_of roots st) agree.parts.storage (place_at from n) none)
@@ -72,8 +85,7 @@ module _ (roots : FinMap name_cmp Root) (st : Storage) (agree : Agree roots st) 
     pub put_done : (new : Storage) (to : ℕ) (bytes : List ℕ) → Granted (machine_state roots st o) (place_at to (length bytes)) → Puts st (place_at to (length bytes)) bytes new → Answered {A = Unit {0}} (λ _. Done) (Acts (machine_state roots st o) t (Put to bytes)) (machine_state roots st o) t (Ok tt) (machine_state roots new o)
     put_done new to bytes h puts =
         allowed_done (machine_state roots st o) (machine_state roots new o) t _ (Writes (machine_state roots st o) (place_at to (length bytes)) (bytes_from to bytes)) (all_granted_is st o (pools_of roots st) agree.parts.storage (place_at to (length bytes)) h)
-        (subst (λ pools. Writes (machine_state roots st o) (place_at to (length bytes)) (bytes_from to bytes) (state_of new o pools)) (sym (write_agrees new (place_at to (length bytes)) _ puts.storage puts.regions puts.held puts.bytes h).1)
-        (puts_seen st o (pools_of roots st) agree.parts.storage new to bytes puts.storage h puts.regions puts.held puts.bytes))
+        (put_written new (place_at to (length bytes)) bytes refl h puts)
 
     pub move_denied : (to from n : ℕ) → (Granted (machine_state roots st o) (place_at to n) × Granted (machine_state roots st o) (place_at from n) → ⊥) → Answered {A = Unit {0}} (λ _. Done) (Acts (machine_state roots st o) t (Move to from n)) (machine_state roots st o) t (Err no_access) (machine_state roots st o)
     move_denied to from n none =

@@ -1,6 +1,6 @@
 -- What is obtained from a store is obtained from the machine.
 use Rattle.std.proofs.Common.{◌≡◌, ℕ, inl, Bool, true, false, cond, Option, Some, None, Ok, Err, refl, sym, ap, subst, ◌∙◌}
-use Rattle.std.specs.Prelude.{MatchOption}
+use Rattle.std.specs.Prelude.{MatchOption, IfSome}
 use Rattle.mvs_model.specs.declared.name.Name.{Name}
 use Rattle.mvs_model.specs.declared.code.Form.{Form}
 use Rattle.mvs_model.specs.declared.want.Loc.{Loc}
@@ -12,15 +12,18 @@ use Rattle.std.specs.FinMap.{FinMap, get}
 use Rattle.mvs_model.specs.declared.request.Reply.TheVariants.{Rc4}
 use Rattle.mvs_model.specs.Place.{PlaceValue}
 use Rattle.mvs_model.specs.Want.{AskValue, WantValue, side_of, want_of}
-use Rattle.mvs_model.specs.Storage.{Storage, holder, IsStorage, NoPlace, Grant}
+use Rattle.mvs_model.specs.Storage.{Storage, holder, IsStorage, Chosen, NoPlace, Grant}
 use Rattle.mvs_model.specs.Owners.{Owners, entry, keeper, IsSpare, SubpoolOf, Binds, Enters}
+use Rattle.mvs_model.specs.State as state
 use Rattle.mvs_model.specs.State.{State}
 use Rattle.mvs_model.specs.Name.{name_cmp}
 use Rattle.mvs_model.specs.Codes.{family, form_side, is_conditional, short, bad_subpool}
 use Rattle.mvs_model.specs.Changes.{GrantTo, ShortOf}
 use Rattle.mvs_model.specs.Subpool.{is_subpool_number}
 use Rattle.mvs_model.specs.Steps.{Fails, side_for, is_invalid, ObtainStep}
-use Rattle.mvs_model.proofs.Seen.{no_place_seen}
+use Rattle.mvs_model.specs.Determined.{TakesTold}
+use Rattle.mvs_model.proofs.OneOwners.{one_subpool}
+use Rattle.mvs_model.proofs.Seen.{no_place_seen, same_holder}
 use Rattle.cell_pool.specs.Agree.{Agree}
 use Rattle.cell_pool.specs.Roots.{Root, pools_of}
 use Rattle.mvs_model.specs.Answered.{Answered, obtain_reply}
@@ -83,3 +86,17 @@ want_seen st t found form ask r loc meant served want named resides lies means s
 -- a subpool is entered for a task that was found by its name
 pub bound_keeper : (o : Owners) (t found : Name) (number s : ℕ) (new : Owners) → found ≡ t → Binds o (keeper o found number) number s new → Binds o (keeper o t number) number s new
 bound_keeper o t found number s new named binds = subst (λ n. Binds o (keeper o n number) number s new) named binds
+
+-- an area takes the address that is told, where it takes it from the store
+pub takes_told : (roots : FinMap name_cmp Root) (st : Storage) (o : Owners) (t : Name) (number s : ℕ) (want : WantValue) (told : Option ℕ) (p : PlaceValue) → Agree roots st → SubpoolOf o t number s
+    → ((q : PlaceValue) → told ≡ Some q.addr → Chosen st.regions (holder st) s want q → Some p ≡ Some q) → (a : ℕ) → told ≡ Some a → TakesTold (machine_state roots st o) t number want a p
+takes_told roots st o t number s want told p agree sub takes a is q later g e =
+    let same : g.subpool ≡ s = one_subpool o t number g.subpool s g.is_subpool sub in
+    let chosen : Chosen st.regions (holder st) s want q = subst (λ h. Chosen st.regions h s want q) (same_holder st o (pools_of roots st) agree.parts.storage) (subst (λ u. Chosen st.regions (state.holder (machine_state roots st o)) u want q) same g.chosen) in
+    let found : Some p ≡ Some q = takes q (is ∙ ap Some (sym e)) chosen in
+    ap (λ r. (unwrap_or r p).addr) found ∙ e
+
+pub area_takes : (roots : FinMap name_cmp Root) (st : Storage) (o : Owners) (t : Name) (number s : ℕ) (want : WantValue) (told : Option ℕ) (r : Option PlaceValue) → Agree roots st → SubpoolOf o t number s
+    → ((q : PlaceValue) → told ≡ Some q.addr → Chosen st.regions (holder st) s want q → r ≡ Some q) → IfSome r (λ p. (a : ℕ) → told ≡ Some a → TakesTold (machine_state roots st o) t number want a p)
+area_takes roots st o t number s want told None agree sub takes = tt
+area_takes roots st o t number s want told (Some p) agree sub takes = takes_told roots st o t number s want told p agree sub takes

@@ -28,7 +28,7 @@ use Rattle.cell_pool.proofs.Counted.{all_kept as parts_kept}
 use Rattle.cell_pool.proofs.Keeping.{grant_keeps, release_keeps, releases_keep, drops_pools}
 use Rattle.std.specs.FinMap.{FinMap, get, same_map}
 use Rattle.mvs_model.proofs.Orders.{name_cmp_total, name_cmp-IsAntisymmetric}
-use Rattle.step_machine.specs.Lists.{GrantsEach, ReleasesEach}
+use Rattle.step_machine.specs.Lists.{GrantsEach, ReleasesEach, later_of}
 use Rattle.step_machine.specs.Machine.{IsStepStorage, machine_state}
 
 -- the pools stand in storage that they agree with
@@ -49,11 +49,11 @@ granted roots st new o after t number s want p agree now sub enters g =
     (grant_seen st new o after (pools_of roots st) agree.parts.storage now (stands roots st o agree) s want p g t number sub enters)
 
 -- so do grants one after another
-pub grants_agree : (roots : FinMap name_cmp Root) (st new : Storage) (s : ℕ) (wants : List WantValue) (ps : List PlaceValue) → Agree roots st → GrantsEach st s wants ps new → Agree roots new
-grants_agree roots st new s [] [] agree h = subst (Agree roots) (sym h) agree
-grants_agree roots st new s [] (p ∷ ps) agree h = absurd h
-grants_agree roots st new s (want ∷ wants) [] agree h = absurd h
-grants_agree roots st new s (want ∷ wants) (p ∷ ps) agree h = grants_agree roots h.0 new s wants ps (grant_agrees roots st h.0 s want p agree h.1 h.2).0 h.3
+pub grants_agree : (roots : FinMap name_cmp Root) (st new : Storage) (s : ℕ) (wants : List WantValue) (told : List ℕ) (ps : List PlaceValue) → Agree roots st → GrantsEach st s wants told ps new → Agree roots new
+grants_agree roots st new s [] told [] agree h = subst (Agree roots) (sym h) agree
+grants_agree roots st new s [] told (p ∷ ps) agree h = absurd h
+grants_agree roots st new s (want ∷ wants) told [] agree h = absurd h
+grants_agree roots st new s (want ∷ wants) told (p ∷ ps) agree h = grants_agree roots h.0 new s wants (later_of told) ps (grant_agrees roots st h.0 s want p agree h.1 h.2).0 h.4
 
 -- and releases of places that have nothing of a part
 pub releases_agree : (roots : FinMap name_cmp Root) (st new : Storage) (s : ℕ) (ps : List PlaceValue) → Agree roots st → AllByRecursion (IsClear (pools_of roots st)) ps → ReleasesEach st s ps new → Agree roots new × (pools_of roots new ≡ pools_of roots st)

@@ -3,4 +3,5 @@ pub mod Lists
 pub mod Machine
 pub mod Reports
 pub mod Step
+pub mod Taking
 pub mod Told

@@ -9,8 +9,8 @@ ghost use Rattle.mvs_model.specs.Owners.{Owners};
 ghost use Rattle.mvs_model.specs.State.{granted};
 ghost use Rattle.mvs_model.specs.Storage.{AllHeld};
 ghost use Rattle.cell_pool.specs.Agree.{Agree};
-ghost use Rattle.mvs_model.specs.Changes.{Granted};
-ghost use Rattle.mvs_model.specs.Steps.{Acts};
+ghost use Rattle.mvs_model.specs.Changes.{Granted, Writes};
+ghost use Rattle.mvs_model.specs.Steps.{Acts, bytes_from};
 ghost use Rattle.subpool_store.specs.Written.{Puts};
 ghost use Rattle.mvs_model.specs.Answered.{Answered};
 ghost use Rattle.mvs_model.specs.declared.request.Reply.TheVariants.{Done};
@@ -216,6 +216,16 @@ impl Machine {
             return Err(Code::NO_ACCESS);
         }
         Ok(())
+    }
+
+    /// Writes bytes over those of a place where each of them may be written, and answers whether it did.
+    pub fn write(&mut self, place: Place, bytes: &[u8]) -> bool
+        requires { length bytes.now ≡ place.len }
+        ensures { MatchBool result
+            (Granted self.old place × Writes self.old place (bytes_from place.addr bytes.now) self.new)
+            ((Granted self.old place → ⊥) × (self.new ≡ self.old)) }
+    {
+        write_where_granted(&mut self.store, &self.pools, place, bytes)
     }
 
     /// PUT: the bytes stand at the address and behind it now.

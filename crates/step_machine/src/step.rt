@@ -1,21 +1,23 @@
 //! Serves the requests of a step's tasks: each call answers in its own words, which are written as a reply here, and a code
 //! ends the task.
 
-ghost use Rattle.std.specs.Prelude.{◌≡◌, ◌<◌, ◌+◌, ◌||◌, ◌↔◌, ℕ, true, false, IfOk, IfSome, OnOk, IsSome, MatchOption, length, slice_get};
+ghost use Rattle.std.specs.Prelude.{◌≡◌, ◌<◌, ◌+◌, ◌||◌, ◌↔◌, ℕ, true, false, IfOk, IfSome, OnOk, IsSome, MatchBool, MatchOption, length, slice_get};
 ghost use Rattle.std.specs.FinMap.{get};
 ghost use Rattle.mvs_model.specs.Numbers.{subpool_numbers};
 ghost use Rattle.mvs_model.specs.Owners.{is_active};
 ghost use Rattle.mvs_model.specs.Start.{start};
-ghost use Rattle.mvs_model.specs.Changes.{Granted};
-ghost use Rattle.mvs_model.specs.Steps.{Abends, Acts, IsRequest, Step as MachineStep};
+ghost use Rattle.mvs_model.specs.Changes.{Granted, Writes};
+ghost use Rattle.mvs_model.specs.Steps.{Abends, Acts, IsRequest, Step as MachineStep, bytes_from};
 ghost use Rattle.mvs_model.specs.declared.request.Reply.{Reply as TheReply};
 ghost use Rattle.mvs_model.specs.Reasons.{IsReason, IsReplyFor};
 ghost use Rattle.mvs_model.specs.State.{State};
 ghost use Rattle.mvs_model.specs.Replies.{is_abend};
 ghost use Rattle.mvs_model.specs.Answered.{Answered};
+ghost use Rattle.step_machine.specs.Taking.{Takes};
 ghost use Rattle.step_machine.specs.Reports.{HasNone, IsMapEnd, IsMapRun, IsSubpoolLine};
 
 use crate::machine::Machine;
+use crate::obtain_list::first_told;
 use crate::tell::{
     tell_area, tell_areas, tell_attached, tell_cell, tell_done, tell_ended, tell_release, tell_zero,
 };
@@ -49,23 +51,31 @@ impl Model for Step {
 }
 
 // What a task's request is answered, before an abend ends the task.
-fn act(machine: &mut Machine, name: Name, request: &Request, reply: &mut Reply) -> Result<(), Code>
+fn act(
+    machine: &mut Machine,
+    name: Name,
+    request: &Request,
+    told: &[Addr],
+    reply: &mut Reply,
+) -> Result<(), Code>
     requires { is_active machine.old.owners name ≡ true }
     ensures answer { Answered (λ _. reply.new) (Acts machine.old name request.now)
         machine.old name result machine.new }
     ensures no_abend { OnOk result (is_abend reply.new ≡ false) }
+    ensures told { OnOk result (Takes told.now machine.old name request.now reply.new machine.new) }
 {
     match request {
-        Request::Obtain { form, number, ask } => {
-            tell_area(machine.obtain(name, *form, *number, ask), reply)
-        }
+        Request::Obtain { form, number, ask } => tell_area(
+            machine.obtain(name, *form, *number, ask, first_told(told)),
+            reply,
+        ),
         Request::ObtainList {
             form,
             number,
             lengths,
             start,
         } => tell_areas(
-            machine.obtain_list(name, *form, *number, lengths, *start),
+            machine.obtain_list(name, *form, *number, lengths, *start, told),
             reply,
         ),
         Request::Release {
@@ -146,6 +156,18 @@ impl Step {
         self.machine.bytes(place)
     }
 
+    /// Writes bytes over those of a place, and answers whether it did: where one of them may not be written, all stay.
+    pub fn write(&mut self, place: Place, bytes: &[u8]) -> bool
+        requires { length bytes.now ≡ place.len }
+        ensures written { MatchBool result
+            (Granted self.old.state place
+            × Writes self.old.state place (bytes_from place.addr bytes.now) self.new.state)
+            ((Granted self.old.state place → ⊥) × (self.new.state ≡ self.old.state)) }
+        ensures abended { self.new.abended ≡ self.old.abended }
+    {
+        self.machine.write(place, bytes)
+    }
+
     /// The line of REPORT SP for the first number at or after `from` that the task has. None where it has none, as where
     /// it is not active.
     pub fn subpool_line(&self, name: &Name, from: u8) -> Option<SubpoolLine>
@@ -190,13 +212,15 @@ impl Step {
         *reply = Reply::Abended(code, self.machine.abend(name));
     }
 
-    /// Serves a request of an active task, and writes what it is answered over another reply.
-    pub fn request(&mut self, name: &Name, request: &Request, reply: &mut Reply)
+    /// Serves a request of an active task, and writes what it is answered over another reply. An area that is granted lies at
+    /// the address that is told, where the machine allows that; those of a list lie each at its own.
+    pub fn request(&mut self, name: &Name, request: &Request, told: &[Addr], reply: &mut Reply)
         requires { is_active self.old.state.owners name.now ≡ true }
         ensures step { MachineStep self.old.state name.now request.now reply.new self.new.state }
         ensures abended { self.new.abended ≡ (self.old.abended || is_abend reply.new) }
+        ensures told { Takes told.now self.old.state name.now request.now reply.new self.new.state }
     {
-        match act(&mut self.machine, *name, request, reply) {
+        match act(&mut self.machine, *name, request, told, reply) {
             Ok(()) => {}
             Err(code) => self.abend(*name, code, reply),
         }

@@ -29,3 +29,4 @@ pub mod Value
 pub mod Counts
 pub mod PagesDropped
 pub mod FewRuns
+pub mod ToldPlace

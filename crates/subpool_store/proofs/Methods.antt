@@ -115,6 +115,16 @@ module _ (first : ℕ) (bits : List Bool) (pages : List (Option ℕ)) (bytes : �
         let e : i ≡ first + i - first = omega arith in
         ap (may_take bits pages s) e ∙ at.1
 
+    -- and a place is open whose doublewords pass
+    pub open_passing : 8 * first ≤ p.addr → ((i : ℕ) → start ≤ i → i < end → may_take bits pages s i ≡ true) → OpenIn h s p
+    open_passing low pass =
+        let e8 : p.addr % 8 ≡ 0 = on in
+        let l8 : p.len % 8 ≡ 0 = full in
+        subst (λ g. OpenIn g s p) is (open_from first bits pages bytes s p region some (λ d c. (
+          (let m : p.addr < 8 * d + 8 = c.0 in omega arith),
+          pass (d - first) (let m : p.addr < 8 * d + 8 = c.0 in omega arith) (let m : p.addr < 8 * d + 8 = c.0 in let n : 8 * d < p.addr + p.len = c.1 in omega arith),
+        )))
+
     pub open_free : OpenIn h s p → (i : ℕ) → start ≤ i → i < end → get_or bits i false ≡ false
     open_free is_open i low high = (bit_clear bits i (not-true _ (and_parts _ _ (open_pass is_open i low high)).0)).1
 

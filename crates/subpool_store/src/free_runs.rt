@@ -33,6 +33,27 @@ pub fn are_held_in(memory: &Memory, page: usize, from: usize, to: usize) -> bool
     true
 }
 
+// Whether each of them is free: the first free run that ends behind the first of them has them all.
+pub fn are_free_in(memory: &Memory, page: usize, from: usize, to: usize) -> bool
+    requires some { from < to }
+    requires few { page < most_pages_above }
+    requires first { page_doublewords * page ≤ from }
+    requires last { to ≤ page_doublewords * page + page_doublewords }
+    requires there { is_open memory.now.bytes page ≡ true }
+    ensures { IsTrue result ↔ ((i : ℕ) → from ≤ i → i < to → slice_index_or memory.now.held i false ≡ false) }
+{
+    let mut at = PAGE_DOUBLEWORDS * page;
+    let mut queue = memory.first(page);
+    'runs: while let Some((run, behind)) = memory.next_free(page, at, queue) {
+        if from < run.end {
+            return run.start <= from && to <= run.end;
+        }
+        at = run.end;
+        queue = behind;
+    }
+    false
+}
+
 // Whether each of some doublewords of open pages is held.
 pub fn are_held(memory: &Memory, run: Run) -> bool
     requires some { run.start ≤ run.end }

@@ -9,6 +9,7 @@ mod region_store;
 mod run;
 mod search;
 mod store;
+mod told;
 mod walk;
 
 pub use search::Found;

@@ -32,6 +32,7 @@ use crate::free_runs::{self, are_held, are_held_in};
 use crate::memory::Memory;
 use crate::run::Run;
 use crate::search::{Found, find};
+use crate::told::may_take_run;
 use mvs_model::error::OutOfMemory;
 use mvs_model::numbers::{PAGE_BYTES, PAGE_DOUBLEWORDS};
 use mvs_model::place::{Addr, Place};
@@ -352,6 +353,22 @@ impl RegionStore {
             return false;
         }
         holds_run(&self.memory, &self.pages, subpool, run)
+    }
+
+    // Whether the place is open: it lies in the region, and the subpool may take each of its doublewords.
+    pub fn is_open(&self, subpool: SubpoolId, place: Place) -> bool
+        requires whole { IsWhole place }
+        requires some { 8 ≤ place.len }
+        ensures { IsTrue result ↔ OpenIn self.now subpool place }
+    {
+        if place.addr().get() / 8 < self.first {
+            return false;
+        }
+        let run = run_of(self.first, place);
+        if PAGE_DOUBLEWORDS * self.pages.pages() < run.end {
+            return false;
+        }
+        may_take_run(&self.memory, &self.pages, subpool, run)
     }
 
     // Takes back a place that the subpool holds.

@@ -15,12 +15,16 @@ ghost use Rattle.mvs_model.specs.Storage.{
   IsWhole,
   NoPlace,
   Open,
+  Places,
+  Places,
   Release,
   ReleaseAll,
   ReleaseEach,
   held_bytes,
   holder,
 };
+ghost use Rattle.mvs_model.specs.Place.{PlaceValue};
+ghost use Rattle.mvs_model.specs.Want.{IsWant};
 ghost use Rattle.subpool_store.specs.Bound.{IsBound};
 ghost use Rattle.subpool_store.specs.Joined.{BestAbove, CountedAbove, Taken};
 ghost use Rattle.subpool_store.specs.LendsBytes.{LendsBytes};
@@ -28,6 +32,7 @@ ghost use Rattle.subpool_store.specs.Written.{Puts, written};
 
 use crate::region_store::RegionStore;
 use crate::search::{Found, is_longest, longer};
+use boundary_loc::at_in;
 use mvs_model::error::OutOfMemory;
 use mvs_model::numbers::{ABOVE_BEGINS, FIRST_DOUBLEWORD_ABOVE, FIRST_DOUBLEWORD_BELOW};
 use mvs_model::place::{Addr, Place};
@@ -168,6 +173,74 @@ impl Store {
         self.search(subpool, want).place
     }
 
+    // Whether the place is open to the subpool.
+    fn is_open(&self, subpool: SubpoolId, place: Place) -> bool
+        requires whole { IsWhole place }
+        requires some { 8 ≤ place.len }
+        ensures { IsTrue result
+            ↔ Open self.now.storage.regions (holder self.now.storage) subpool place }
+    {
+        if is_below(place) {
+            self.below.is_open(subpool, place)
+        } else {
+            self.above.is_open(subpool, place)
+        }
+    }
+
+    // Whether the subpool may take the place for what is wanted but for its lengths.
+    fn serves(&self, subpool: SubpoolId, want: &Want, place: Place) -> bool
+        requires whole { place.len % 8 ≡ 0 }
+        requires some { 8 ≤ place.len }
+        ensures { IsTrue result
+            ↔ Places self.now.storage.regions (holder self.now.storage) subpool want.now place.len
+            place.addr }
+    {
+        let _ = &self.fill;
+        if place.addr().get() % 8 != 0 || !self.is_open(subpool, place) {
+            return false;
+        }
+        at_in(place, want, place.len(), place.addr()).is_some()
+    }
+
+    // The place at an address that was told, where it serves as well as the one that was found, which it then replaces.
+    fn told_at(&self, subpool: SubpoolId, want: &Want, found: Place, told: Addr) -> Place
+        requires { Chosen self.now.storage.regions (holder self.now.storage) subpool want.now found }
+        ensures chosen { Chosen self.now.storage.regions (holder self.now.storage) subpool want.now
+            result }
+        ensures told { (q : PlaceValue) → q.addr ≡ told
+            → Chosen self.now.storage.regions (holder self.now.storage) subpool want.now q
+            → result ≡ q }
+        ensures wanted { IsWant want.now }
+    {
+        let _ = want.least();
+        let place = Place::new(told, found.len());
+        if ABOVE_BEGINS <= found.addr().get() && told.get() < ABOVE_BEGINS {
+            return found;
+        }
+        if self.serves(subpool, want, place) {
+            place
+        } else {
+            found
+        }
+    }
+
+    // The same, where an address was told.
+    fn told(&self, subpool: SubpoolId, want: &Want, found: Place, told: Option<Addr>) -> Place
+        requires { Chosen self.now.storage.regions (holder self.now.storage) subpool want.now found }
+        ensures chosen { Chosen self.now.storage.regions (holder self.now.storage) subpool want.now
+            result }
+        ensures told { (q : PlaceValue) → told ≡ Some q.addr
+            → Chosen self.now.storage.regions (holder self.now.storage) subpool want.now q
+            → result ≡ q }
+        ensures wanted { IsWant want.now }
+    {
+        let _ = want.least();
+        match told {
+            None => found,
+            Some(told) => self.told_at(subpool, want, found, told),
+        }
+    }
+
     // Gives an open place to the subpool and fills it.
     fn take(&mut self, subpool: SubpoolId, place: Place)
         requires open { Open self.old.storage.regions (holder self.old.storage) subpool place }
@@ -186,23 +259,31 @@ impl Store {
     }
 
     /// Obtains what is wanted: the greatest length of those that are wanted for which there is a place, and of
-    /// such places above 16 megabytes, or below where none is above, the lowest or the highest, as the placement
-    /// says. None where there is no place, and then the storage stays as it is (Assembler Services Reference, GETMAIN;
-    /// which place is taken is this project's choice).
-    pub fn obtain(&mut self, subpool: SubpoolId, want: &Want) -> Option<Place>
+    /// such places above 16 megabytes, or below where none is above, the one at the address that is told; where none is told,
+    /// or none of them is there, the lowest or the highest, as the placement says. None where there is no place, and then the
+    /// storage stays as it is (Assembler Services Reference, GETMAIN; which place is taken is this project's choice).
+    pub fn obtain(&mut self, subpool: SubpoolId, want: &Want, told: Option<Addr>) -> Option<Place>
         ensures grant { MatchOption result
             (NoPlace self.old.storage.regions (holder self.old.storage) subpool want.now
             × (self.new.storage ≡ self.old.storage))
             (λ p. Grant self.old.storage subpool want.now p self.new.storage) }
+        ensures told { (q : PlaceValue) → told ≡ Some q.addr
+            → Chosen self.old.storage.regions (holder self.old.storage) subpool want.now q
+            → result ≡ Some q }
         ensures bound { IsBound self.old.storage subpool want.now.side result self.new.steps }
         ensures storage { IsStorage self.new.storage }
     {
+        let _ = want.least();
         let found = self.search(subpool, want);
         self.steps = found.steps;
-        if let Some(place) = found.place {
-            self.take(subpool, place);
+        match found.place {
+            None => None,
+            Some(found) => {
+                let taken = self.told(subpool, want, found, told);
+                self.take(subpool, taken);
+                Some(taken)
+            }
         }
-        found.place
     }
 
     /// How many page entries and free runs the latest `obtain` counted; 0 before one.

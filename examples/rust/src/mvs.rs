@@ -18,9 +18,36 @@ pub struct Event {
     pub task: [u8; 8],
 }
 
+/// A request of a task: `mvs_ask` of mvs.h.
+#[repr(C)]
+#[derive(Clone, Copy, Debug, Default, PartialEq, Eq)]
+pub struct Ask {
+    pub kind: u32,
+    pub form: u32,
+    pub subpool: u32,
+    pub length: u32,
+    pub least: u32,
+    pub boundary: u32,
+    pub within: u32,
+    pub location: u32,
+    pub address: u32,
+    pub source: u32,
+    pub primary: u32,
+    pub secondary: u32,
+    pub code: u32,
+    pub conditional: bool,
+    pub keeps_zero: bool,
+    pub above: bool,
+    pub given: [u64; 2],
+    pub shared: [u64; 2],
+    pub task: [u8; 8],
+    pub name: [u8; 8],
+}
+
 unsafe extern "C" {
     fn mvs_new(session: *mut Raw, place: u32) -> u32;
     fn mvs_line(session: *mut Raw, line: *const u8, length: usize, event: *mut Event) -> u32;
+    fn mvs_request(session: *mut Raw, ask: *const Ask, event: *mut Event) -> u32;
     fn mvs_end(session: *mut Raw, event: *mut Event) -> u32;
     fn mvs_text(session: *mut Raw, out: *mut u8, room: usize, wanted: *mut usize) -> u32;
     fn mvs_free(session: *mut Raw);
@@ -34,6 +61,8 @@ pub enum Status {
     NoMemory = 16,
     Over = 24,
     TooSmall = 32,
+    NoRequest = 52,
+    NoStep = 56,
 }
 
 fn status(number: u32) -> Status {
@@ -44,6 +73,8 @@ fn status(number: u32) -> Status {
         16 => Status::NoMemory,
         24 => Status::Over,
         32 => Status::TooSmall,
+        52 => Status::NoRequest,
+        56 => Status::NoStep,
         _ => unreachable!("mvs.h names no such status of a session"),
     }
 }
@@ -68,6 +99,13 @@ impl Session {
         let mut event = Event::default();
         // SAFETY: the pointer of a slice is not null, and nothing here overlaps.
         let number = unsafe { mvs_line(&mut self.raw, line.as_ptr(), line.len(), &mut event) };
+        (status(number), event)
+    }
+
+    pub fn request(&mut self, ask: &Ask) -> (Status, Event) {
+        let mut event = Event::default();
+        // SAFETY: as above.
+        let number = unsafe { mvs_request(&mut self.raw, ask, &mut event) };
         (status(number), event)
     }
 

@@ -28,7 +28,7 @@ fn each_call(rt: HostRuntime) -> Result<(), Fail> {
     let mut store = Store::new(rt.alloc(), 2, 0, 0xAA, Placement::Low)?;
     let want = Want::fixed(Length::new(20), Exponent::new(3), Side::Either);
     let place = Place::new(Addr::new(0x6000), 24);
-    assert_eq!(rt; store.obtain(one, &want), Some(place));
+    assert_eq!(rt; store.obtain(one, &want, None), Some(place));
     assert_eq!(rt; store.held(Addr::new(0x6017)), Some(one));
     assert_eq!(rt; store.held(Addr::new(0x6018)), None);
     assert_eq!(rt; store.held_bytes(one), 24);
@@ -57,7 +57,7 @@ fn a_page_of_256_runs(rt: HostRuntime) -> Result<(), Fail> {
     let mut store = Store::new(rt.alloc(), 1, 0, 0, Placement::Low)?;
     let page = Want::fixed(Length::new(4096), Exponent::new(3), Side::Below);
     assert_eq!(rt;
-        store.obtain(one, &page),
+        store.obtain(one, &page, None),
         Some(Place::new(Addr::new(0x6000), 4096))
     );
     for k in 0..256u32 {
@@ -65,11 +65,11 @@ fn a_page_of_256_runs(rt: HostRuntime) -> Result<(), Fail> {
         assert!(rt; store.release(one, hole).is_ok());
     }
     let two = Want::fixed(Length::new(16), Exponent::new(3), Side::Below);
-    assert_eq!(rt; store.obtain(one, &two), None);
+    assert_eq!(rt; store.obtain(one, &two, None), None);
     assert_eq!(rt; store.steps(), 257);
     let hole = Want::fixed(Length::new(8), Exponent::new(3), Side::Below);
     assert_eq!(rt;
-        store.obtain(one, &hole),
+        store.obtain(one, &hole, None),
         Some(Place::new(Addr::new(0x6008), 8))
     );
     // The page, the run that serves, and the one behind it, which shows that the first does not go on.
@@ -87,14 +87,14 @@ fn pages_of_others(rt: HostRuntime) -> Result<(), Fail> {
     let want = Want::fixed(Length::new(8), Exponent::new(3), Side::Either);
     assert_eq!(rt; store.steps(), 0);
     assert_eq!(rt;
-        store.obtain(one, &want),
+        store.obtain(one, &want, None),
         Some(Place::new(Addr::new(0x6000), 8))
     );
     assert_eq!(rt;
-        store.obtain(two, &want),
+        store.obtain(two, &want, None),
         Some(Place::new(Addr::new(0x7000), 8))
     );
-    assert_eq!(rt; store.obtain(three, &want), None);
+    assert_eq!(rt; store.obtain(three, &want, None), None);
     assert_eq!(rt; store.steps(), 2);
     Ok(())
 }

@@ -1,6 +1,7 @@
-use Rattle.std.proofs.Common.{[], drop, ap, ◌∙◌}
-use Rattle.std.specs.Prelude.{unwrap_or, slice_get}
-use Rattle.job_script.proofs.Cut.{first_word}
+use Rattle.std.proofs.Common.{[], drop, sym, subst, ap, ◌∙◌, append-nil}
+use Rattle.std.specs.Prelude.{◌==◌, unwrap_or, slice_get}
+use Rattle.job_script.specs.Parted.{IsEnd}
+use Rattle.job_script.proofs.Cut.{first_word, after_ends, end_of_end}
 use Rattle.job_script.proofs.parted.next_word.Goals as goal
 
 pub returns-in-None : goal.returns-in-None
@@ -10,13 +11,17 @@ returns-in-None c =
     record {
       word = first.0 ∙ ap (λ ws. unwrap_or (slice_get ws 0) []) c.behind_blanks.ensures.words;
       rest = first.1 ∙ ap (drop 1) c.behind_blanks.ensures.words;
+      end = (c.args.text.now, sym (append-nil c.args.text.now));
     }
 
 pub returns-in-Some : goal.returns-in-Some
 returns-in-Some c =
     let parts = rw c.in-Some.is at c.parted.ensures.parts in
+    let after = rw c.in-Some.is at c.parted.ensures.after in
     let first = first_word c.behind_blanks.result.now c.parted.result.0.now _ c.behind_blanks.ensures.start c.parted.ensures.before parts in
     record {
       word = first.0 ∙ ap (λ ws. unwrap_or (slice_get ws 0) []) c.behind_blanks.ensures.words;
       rest = first.1 ∙ ap (drop 1) c.behind_blanks.ensures.words;
+      end = end_of_end c.args.text.now c.behind_blanks.result.now c.in-Some.rest.now c.behind_blanks.ensures.end
+          (subst (IsEnd c.behind_blanks.result.now) (sym after.1) (after_ends (λ b. b == 32) c.behind_blanks.result.now));
     }

@@ -1,14 +1,16 @@
-use Rattle.std.proofs.Common.{refl}
+use Rattle.std.proofs.Common.{refl, subst}
+use Rattle.std.specs.Prelude.{IfOk, IfSome}
+use Rattle.step_machine.specs.Taking.{TakesArea}
 use Rattle.mvs_model.specs.Answered.{cell_reply, list_reply, obtain_reply, release_reply}
 use Rattle.mvs_model.specs.declared.request.Reply.TheVariants.{Attached, Done, Ended, Rc0}
-use Rattle.step_machine.proofs.Telling.{told}
+use Rattle.step_machine.proofs.Telling.{area_told, areas_told, told}
 use Rattle.step_machine.proofs.step.act.Goals as goal
 
 pub returns-in-Obtain-clause-answer : goal.returns-in-Obtain-clause-answer
-returns-in-Obtain-clause-answer c = told obtain_reply c.args.machine.now c.args.name c.args.request.now c.obtain.result c.obtain.new.self c.tell_area.new.reply c.tell_area.result (rw c.in-Obtain.is c.obtain.ensures) c.tell_area.ensures.told
+returns-in-Obtain-clause-answer c = told obtain_reply c.args.machine.now c.args.name c.args.request.now c.obtain.result c.obtain.new.self c.tell_area.new.reply c.tell_area.result (rw c.in-Obtain.is c.obtain.ensures.answer) c.tell_area.ensures.told
 
 pub returns-in-ObtainList-clause-answer : goal.returns-in-ObtainList-clause-answer
-returns-in-ObtainList-clause-answer c = told list_reply c.args.machine.now c.args.name c.args.request.now c.obtain_list.result c.obtain_list.new.self c.tell_areas.new.reply c.tell_areas.result (rw c.in-ObtainList.is c.obtain_list.ensures) c.tell_areas.ensures.told
+returns-in-ObtainList-clause-answer c = told list_reply c.args.machine.now c.args.name c.args.request.now c.obtain_list.result c.obtain_list.new.self c.tell_areas.new.reply c.tell_areas.result (rw c.in-ObtainList.is c.obtain_list.ensures.answer) c.tell_areas.ensures.told
 
 pub returns-in-Release-clause-answer : goal.returns-in-Release-clause-answer
 returns-in-Release-clause-answer c = told release_reply c.args.machine.now c.args.name c.args.request.now c.release.result c.release.new.self c.tell_release.new.reply c.tell_release.result (rw c.in-Release.is c.release.ensures) c.tell_release.ensures.told
@@ -48,3 +50,9 @@ returns-in-Move-clause-answer c = told (λ _. Done) c.args.machine.now c.args.na
 
 pub returns-in-Abend-clause-answer : goal.returns-in-Abend-clause-answer
 returns-in-Abend-clause-answer c = rw (c.in-Abend.is, c.get-in-Abend.ensures.value) (refl, λ reply ended a. a)
+
+pub returns-in-Obtain-clause-told : goal.returns-in-Obtain-clause-told
+returns-in-Obtain-clause-told c = rw c.in-Obtain.is (area_told c.args.told.now c.args.machine.now c.args.name c.in-Obtain.form c.in-Obtain.number c.in-Obtain.ask c.obtain.result c.tell_area.new.reply c.tell_area.result c.obtain.new.self c.tell_area.ensures.told (subst (λ first. IfOk c.obtain.result (λ area. IfSome area (TakesArea c.args.machine.now c.args.name c.in-Obtain.form c.in-Obtain.number c.in-Obtain.ask first))) c.first_told.ensures c.obtain.ensures.told))
+
+pub returns-in-ObtainList-clause-told : goal.returns-in-ObtainList-clause-told
+returns-in-ObtainList-clause-told c = rw c.in-ObtainList.is (areas_told c.args.told.now c.args.machine.now c.args.name c.in-ObtainList.form c.in-ObtainList.number c.in-ObtainList.lengths c.in-ObtainList.start c.obtain_list.result c.tell_areas.new.reply c.tell_areas.result c.obtain_list.new.self c.tell_areas.ensures.told c.obtain_list.ensures.told)

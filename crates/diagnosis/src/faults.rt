@@ -1,0 +1,211 @@
+//! What of a line is to blame for a fault that is none of an operand.
+
+use crate::hint::Hint;
+use crate::lacking::{conflict, missing};
+use crate::near::{near_form, near_operation};
+use crate::operands::{Field, field_of, second_word};
+use crate::said::Said;
+use job_script::addresses::is_name;
+use job_script::operations::read_operation;
+use job_script::parted::{behind_blanks, next_operand, parted};
+use mvs_model::line::Fault;
+use std::alloc::Global;
+
+/// So many bytes of a line from a place on, what is wrong with them, and what may help.
+#[derive(Clone, Copy)]
+pub struct Found<'a> {
+    pub at: usize,
+    pub count: usize,
+    pub said: Said<'a>,
+    pub hint: Hint<'a>,
+}
+
+/// Where the end of a line begins.
+pub fn place_of(line: &[u8], end: &[u8]) -> usize {
+    line.len().saturating_sub(end.len())
+}
+
+// On a byte that no script may have.
+fn byte_hint(line: &[u8], at: usize, byte: u8) -> Hint<'static> {
+    match byte {
+        b'\t' => Hint::Says("a tab: use blanks"),
+        b'\r' if at.saturating_add(1) == line.len() => {
+            Hint::Says("lines of this file end as on Windows")
+        }
+        0xEF if at == 0 => Hint::Says("a byte order mark: save the file without it"),
+        0..=0x7F => Hint::Nothing,
+        _ => Hint::Says("ASCII alone, in remarks too"),
+    }
+}
+
+// The first byte that no script may have.
+fn invalid_byte(line: &[u8]) -> Found<'static> {
+    for (at, byte) in line.iter().enumerate() {
+        if *byte < b' ' || *byte > b'~' {
+            return Found {
+                at,
+                count: 1,
+                said: Said::Byte(*byte),
+                hint: byte_hint(line, at, *byte),
+            };
+        }
+    }
+    whole(line, Said::Something)
+}
+
+// All of a line.
+fn whole<'a>(line: &[u8], said: Said<'a>) -> Found<'a> {
+    Found {
+        at: 0,
+        count: line.len(),
+        said,
+        hint: Hint::Nothing,
+    }
+}
+
+// On the operations of other macros that obtain or release storage, or that scripts of beginners have.
+fn other_operation(word: &[u8]) -> Option<Hint<'static>> {
+    match word {
+        b"IARV64" | b"IARCP64" | b"IARST64" => {
+            Some(Hint::Says("storage above the bar is not modelled"))
+        }
+        b"ATTACHX" => Some(Hint::Meant("ATTACH")),
+        b"WAIT"
+        | b"POST"
+        | b"DETACH"
+        | b"LOAD"
+        | b"LINK"
+        | b"XCTL"
+        | b"DELETE"
+        | b"ESTAE"
+        | b"DSPSERV"
+        | b"EXIT" => Some(Hint::Says("MVS has it; it is not modelled")),
+        _ => None,
+    }
+}
+
+// On a word that is no operation, behind a task.
+fn operation_hint(alloc: Global, task: &[u8], word: &[u8]) -> Hint<'static> {
+    if read_operation(task).is_some() {
+        return Hint::Says("the name of the task is missing in column 1");
+    }
+    if word.iter().any(|byte| byte.is_ascii_lowercase()) {
+        return Hint::Says("letters are upper case");
+    }
+    if let Some(hint) = other_operation(word) {
+        return hint;
+    }
+    match near_operation(alloc, word) {
+        Some(operation) => Hint::Meant(operation),
+        None => Hint::Nothing,
+    }
+}
+
+// The first word of a line, which is to be the name of a task.
+fn task_fault<'a>(task: &'a [u8], line: &'a [u8]) -> Found<'a> {
+    if task.is_empty() {
+        return Found {
+            at: 0,
+            count: place_of(line, behind_blanks(line)),
+            said: Said::Blank,
+            hint: Hint::Says("column 1 is the task"),
+        };
+    }
+    let lower = task.iter().any(|byte| byte.is_ascii_lowercase());
+    let hint = if lower {
+        Hint::Says("letters are upper case")
+    } else {
+        Hint::Says("1 to 8 of A-Z 0-9 @ # $, no digit first")
+    };
+    Found {
+        at: 0,
+        count: task.len(),
+        said: Said::Task(task),
+        hint,
+    }
+}
+
+// The form of a field of operands.
+fn form_fault<'a>(alloc: Global, field: &Field<'a>) -> Found<'a> {
+    let (form, _) = next_operand(field.text);
+    let hint = match near_form(alloc, field.operation, form) {
+        _ if form.iter().any(|byte| byte.is_ascii_lowercase()) => {
+            Hint::Says("letters are upper case")
+        }
+        Some(other) => Hint::Meant(other),
+        None => Hint::Nothing,
+    };
+    Found {
+        at: field.at,
+        count: form.len(),
+        said: Said::Form(field.operation, form),
+        hint,
+    }
+}
+
+// What is wrong with the task, the operation or the form.
+fn unknown(alloc: Global, line: &[u8]) -> Found<'_> {
+    let (task, rest) = parted(line, b' ');
+    if !is_name(task) {
+        return task_fault(task, line);
+    }
+    let text = match rest {
+        Some(rest) => behind_blanks(rest),
+        None => &[],
+    };
+    if text.is_empty() {
+        let hint = operation_hint(alloc, task, &[]);
+        return Found {
+            at: line.len(),
+            count: 1,
+            said: Said::NoOperation,
+            hint,
+        };
+    }
+    let (word, _) = parted(text, b' ');
+    match field_of(line) {
+        Some(field) if read_operation(word).is_some() => form_fault(alloc, &field),
+        _ => Found {
+            at: place_of(line, text),
+            count: word.len(),
+            said: Said::Operation(word),
+            hint: operation_hint(alloc, task, word),
+        },
+    }
+}
+
+// A first statement that is another one than REGION, or a script without a statement.
+fn out_of_place(line: &[u8]) -> Found<'_> {
+    if line.is_empty() {
+        return whole(line, Said::NoStatement);
+    }
+    let (word, rest) = second_word(line);
+    let blank = if rest.is_empty() { 0 } else { 1 };
+    let end = place_of(line, rest);
+    Found {
+        at: end.saturating_sub(word.len()).saturating_sub(blank),
+        count: word.len(),
+        said: Said::NotFirst,
+        hint: Hint::Says("as JOB REGION BELOW=4"),
+    }
+}
+
+/// What of a line is to blame for its fault, where that is none of an operand.
+pub fn find_fault<'a>(alloc: Global, line: &'a [u8], fault: Fault) -> Found<'a> {
+    match fault {
+        Fault::TooLong => Found {
+            at: 255,
+            count: line.len().saturating_sub(255),
+            said: Said::TooLong,
+            hint: Hint::Nothing,
+        },
+        Fault::InvalidByte => invalid_byte(line),
+        Fault::UnknownOperation => unknown(alloc, line),
+        Fault::OutOfPlace => out_of_place(line),
+        Fault::MissingOperand => missing(line).unwrap_or(whole(line, Said::Something)),
+        Fault::Conflicting => conflict(line).unwrap_or(whole(line, Said::Something)),
+        Fault::InvalidOperand | Fault::Repeated | Fault::OutOfRange => {
+            whole(line, Said::Something)
+        }
+    }
+}

@@ -1,0 +1,225 @@
+//! Operands that are missing, and operands that exclude each other.
+
+ghost use Rattle.job_script.specs.Given.{IsRead};
+
+use crate::faults::{Found, place_of};
+use crate::hint::Hint;
+use crate::operands::{Field, field_of, second_word};
+use crate::said::{Missing, Said};
+use crate::words::Called;
+use job_script::given::Given;
+use job_script::items::{between, count};
+use job_script::keys::Key;
+use job_script::operations::{Operation, read_operation};
+use job_script::parted::{next_operand, next_word, parted};
+use job_script::rows::{Row, Rule};
+
+/// How a statement is called, its row of the table, and the text of its operands, where there is one.
+pub fn row_of<'a>(
+    operation: Operation,
+    field: Option<Field<'a>>,
+) -> Option<(Called<'a>, Row, Option<&'a [u8]>)> {
+    let Some(field) = field else {
+        let row = operation.row(&[])?;
+        return Some((
+            Called {
+                operation,
+                form: &[],
+            },
+            row,
+            None,
+        ));
+    };
+    if !operation.takes_form() {
+        let row = operation.row(&[])?;
+        return Some((
+            Called {
+                operation,
+                form: &[],
+            },
+            row,
+            Some(field.text),
+        ));
+    }
+    let (form, rest) = next_operand(field.text);
+    let row = operation.row(form)?;
+    Some((Called { operation, form }, row, rest))
+}
+
+// Whether a key goes with another one that was given.
+fn is_partner(given: &Given<'_>, key: Key) -> bool
+    requires { IsRead given.now }
+{
+    for rule in given.row.rules() {
+        if let Rule::Together(one, other) = rule {
+            if one.text() == key.text() && given.text(*other).is_some() {
+                return true;
+            }
+            if other.text() == key.text() && given.text(*one).is_some() {
+                return true;
+            }
+        }
+    }
+    false
+}
+
+// Of each keyword of a row, whether it is missing.
+fn lacking(given: &Given<'_>) -> [bool; 8]
+    requires { IsRead given.now }
+{
+    let mut lacking = [false; 8];
+    for (place, keyword) in given.keywords.iter().enumerate() {
+        let needed = keyword.required || is_partner(given, keyword.key);
+        if place < 8 && needed && given.text(keyword.key).is_none() {
+            lacking[place] = true;
+        }
+    }
+    lacking
+}
+
+// On what stands behind a field of operands: a word with an equals sign was meant as one of them.
+fn remark_hint(text: &[u8]) -> Hint<'_> {
+    let (_, behind) = next_word(text);
+    let (remark, _) = next_word(behind);
+    if remark.contains(&b'=') {
+        Hint::Remark(remark)
+    } else {
+        Hint::Nothing
+    }
+}
+
+// What is missing, at the place behind what stands there.
+fn missing_at<'a>(line: &[u8], text: &'a [u8], said: Said<'a>) -> Found<'a> {
+    let (field, _) = parted(text, b' ');
+    Found {
+        at: place_of(line, text).saturating_add(field.len()),
+        count: 1,
+        said,
+        hint: remark_hint(text),
+    }
+}
+
+// The operands that a row requires of a field, and that are not there.
+fn missing_of<'a>(called: Called<'a>, row: Row, text: Option<&'a [u8]>) -> Option<Said<'a>> {
+    let mut given = Given::none(row);
+    match given.take_field(text) {
+        Ok(()) => {
+            let keywords = lacking(&given);
+            let count = given.count;
+            Some(Said::Missing(
+                called,
+                Missing {
+                    row,
+                    keywords,
+                    count,
+                },
+            ))
+        }
+        Err(_) => None,
+    }
+}
+
+// An operand that stands where the form is to stand.
+fn form_missing<'a>(operation: Operation, field: &Field<'a>) -> Option<Found<'a>> {
+    let (form, _) = next_operand(field.text);
+    if !operation.takes_form() || operation.row(form).is_some() {
+        return None;
+    }
+    Some(Found {
+        at: field.at,
+        count: form.len(),
+        said: Said::Keyed(operation, form),
+        hint: Hint::Nothing,
+    })
+}
+
+/// What is missing in a line.
+pub fn missing(line: &[u8]) -> Option<Found<'_>> {
+    let (word, rest) = second_word(line);
+    let operation = read_operation(word)?;
+    let Some(field) = field_of(line) else {
+        if operation.takes_form() {
+            return Some(missing_at(line, rest, Said::NoForm(operation)));
+        }
+        let (called, row, _) = row_of(operation, None)?;
+        return Some(missing_at(line, rest, missing_of(called, row, None)?));
+    };
+    if let Some(found) = form_missing(operation, &field) {
+        return Some(found);
+    }
+    let (called, row, text) = row_of(operation, Some(field))?;
+    Some(missing_at(line, field.text, missing_of(called, row, text)?))
+}
+
+// The rule that operands break, and a key of it that was given.
+fn broken(given: &Given<'_>) -> Option<(Said<'static>, Key)>
+    requires { IsRead given.now }
+{
+    for rule in given.row.rules() {
+        match rule {
+            Rule::Together(_, _) => {}
+            Rule::Excludes(one, other) => {
+                if given.text(*one).is_some() && given.text(*other).is_some() {
+                    return Some((Said::Excluded(*one, *other), *other));
+                }
+            }
+            Rule::SameLength(one, other) => {
+                let lists = (given.text(*one), given.text(*other));
+                if let (Some(these), Some(those)) = lists {
+                    if count(between(these)) != count(between(those)) {
+                        return Some((Said::Unequal(*one, *other), *other));
+                    }
+                }
+            }
+            Rule::Apart(_, _, other, others) => {
+                let key = if given.text(*other).is_some() {
+                    *other
+                } else {
+                    *others
+                };
+                return Some((Said::Both, key));
+            }
+        }
+    }
+    None
+}
+
+// Where the operand with a key begins, and how many bytes it has.
+fn keyed(text: &[u8], key: &[u8]) -> Option<(usize, usize)> {
+    let mut rest = text;
+    'operands: loop {
+        let (operand, more) = next_operand(rest);
+        let (front, value) = parted(operand, b'=');
+        if value.is_some() && front == key {
+            return Some((text.len().saturating_sub(rest.len()), operand.len()));
+        }
+        match more {
+            None => return None,
+            Some(next) => rest = next,
+        }
+    }
+}
+
+// The rule that the operands of a text break.
+fn broken_by(row: Row, text: &[u8]) -> Option<(Said<'static>, Key)> {
+    let mut given = Given::none(row);
+    match given.take_field(Some(text)) {
+        Ok(()) => broken(&given),
+        Err(_) => None,
+    }
+}
+
+/// Which operands of a line exclude each other.
+pub fn conflict(line: &[u8]) -> Option<Found<'_>> {
+    let (word, _) = second_word(line);
+    let (_, row, text) = row_of(read_operation(word)?, field_of(line))?;
+    let text = text?;
+    let (said, key) = broken_by(row, text)?;
+    let (from, count) = keyed(text, key.text().as_bytes())?;
+    Some(Found {
+        at: place_of(line, text).saturating_add(from),
+        count,
+        said,
+        hint: Hint::Nothing,
+    })
+}

@@ -1,0 +1,188 @@
+//! What is wrong with a line of a script, in words: the columns that are to blame, what stands there, what the place takes, and
+//! what may help. What a statement takes is told from the table that `job_script` reads it by.
+#![tactic(auto)]
+
+ghost use Rattle.std.specs.Prelude.{◌≡◌, ◌≤◌, Some, flat_map, length};
+ghost use Rattle.mvs_model.specs.Grammar as grammar;
+ghost use Rattle.mvs_model.specs.Reading.{behind_form, first_of, operand_checks, operands_of, operation_in, row_of, with_left};
+ghost use Rattle.diagnosis.specs.Blame.{AreWithin, IsOperandBlamed};
+
+mod blamed;
+mod columns;
+mod faults;
+mod hint;
+mod lacking;
+mod near;
+mod operands;
+mod refused;
+mod said;
+mod values;
+mod words;
+
+use crate::blamed::{Blamed, blamed_operand};
+pub use crate::columns::Columns;
+use crate::faults::find_fault;
+use crate::hint::Hint;
+use crate::lacking::row_of as row_of_field;
+use crate::operands::{field_of, second_word};
+use crate::said::Said;
+use crate::values::{key_hint, keyword_of, range_hint, value_hint};
+use crate::words::{Called, Plain};
+use job_script::fault_digit;
+use job_script::operations::read_operation;
+use job_script::parted::parted;
+use mvs_model::line::Fault;
+use std::alloc::Global;
+use std::fmt;
+
+/// The most bytes of a line that is printed.
+const LONGEST: usize = 255;
+
+/// What is wrong with a line.
+#[derive(Clone, Copy)]
+pub struct Diagnosis<'a> {
+    pub fault: Fault,
+    pub columns: Columns,
+    line: &'a [u8],
+    said: Said<'a>,
+    hint: Hint<'a>,
+}
+
+// How the statement of a line is called.
+fn called_in(line: &[u8]) -> Option<Called<'_>> {
+    let (word, _) = second_word(line);
+    let (called, _, _) = row_of_field(read_operation(word)?, field_of(line))?;
+    Some(called)
+}
+
+// On an operand without a key.
+fn positional_hint<'a>(alloc: Global, line: &[u8], blamed: &Blamed<'a>) -> Hint<'a> {
+    let behind = match line.get(blamed.at) {
+        Some(b' ') => true,
+        _ => false,
+    };
+    if blamed.operand.is_empty() {
+        return if behind {
+            Hint::Says("the operands end at the first blank")
+        } else {
+            Hint::Nothing
+        };
+    }
+    match blamed.expected {
+        Some(kind) if blamed.fault == Fault::InvalidOperand => {
+            value_hint(alloc, kind, blamed.operand)
+        }
+        Some(_) => Hint::Nothing,
+        None if blamed.row.keywords().is_empty() => Hint::Nothing,
+        None => Hint::Says("an operand here is KEY=value"),
+    }
+}
+
+// On an operand that is not taken.
+fn operand_hint<'a>(
+    alloc: Global,
+    line: &[u8],
+    called: &Called<'_>,
+    blamed: &Blamed<'a>,
+) -> Hint<'a> {
+    let (key, text) = parted(blamed.operand, b'=');
+    let Some(text) = text else {
+        return positional_hint(alloc, line, blamed);
+    };
+    let Some(keyword) = keyword_of(blamed.row, key) else {
+        return key_hint(alloc, called, blamed.row, key);
+    };
+    match blamed.fault {
+        Fault::InvalidOperand => value_hint(alloc, keyword.kind, text),
+        Fault::OutOfRange => range_hint(key, keyword.kind, text),
+        _ => Hint::Nothing,
+    }
+}
+
+// What is said of an operand that is not taken, and what may help.
+fn operand_said<'a>(alloc: Global, line: &'a [u8], blamed: &Blamed<'a>) -> (Said<'a>, Hint<'a>) {
+    match called_in(line) {
+        Some(called) => (
+            Said::Operand(called, *blamed),
+            operand_hint(alloc, line, &called, blamed),
+        ),
+        None => (Said::Something, Hint::Nothing),
+    }
+}
+
+/// What a fault of a line comes from. The line is given without its end; of an empty script it is empty. Memory is taken for the
+/// search of a near word alone, which finds none where it is refused.
+pub fn diagnose<'a>(alloc: Global, line: &'a [u8], fault: Fault) -> Diagnosis<'a>
+    ensures fault { result.fault ≡ fault }
+    ensures within { 1 ≤ length line.now → AreWithin line.now result.columns }
+    // Where the operands of a statement have the fault, the columns are those of the first one that is refused.
+    ensures operand { (row : grammar.Row)
+        → row_of (operation_in line.now) (operands_of line.now) ≡ Some row
+        → first_of
+        (flat_map (operand_checks row) (with_left (behind_form row (operands_of line.now))))
+        ≡ Some fault
+        → IsOperandBlamed row line.now fault result.columns }
+{
+    match blamed_operand(line) {
+        Some(blamed) if blamed.fault == fault => {
+            let (said, hint) = operand_said(alloc, line, &blamed);
+            Diagnosis {
+                fault,
+                columns: blamed.columns,
+                line,
+                said,
+                hint,
+            }
+        }
+        _ => {
+            let found = find_fault(alloc, line, fault);
+            Diagnosis {
+                fault,
+                columns: Columns::of(line, found.at, found.count),
+                line,
+                said: found.said,
+                hint: found.hint,
+            }
+        }
+    }
+}
+
+// Writes a byte so many times.
+fn write_times<W: fmt::Write>(f: &mut fmt::Formatter<W>, times: usize, text: &str) -> fmt::Result {
+    for _ in 0..times {
+        write!(f, "{text}")?;
+    }
+    Ok(())
+}
+
+impl Diagnosis<'_> {
+    // Writes the line, and below it what is to blame and what may help.
+    fn write_line<W: fmt::Write>(&self, f: &mut fmt::Formatter<W>) -> fmt::Result {
+        writeln!(f, "    {}", Plain(self.line))?;
+        let Columns { first, last } = self.columns;
+        write_times(f, first.saturating_add(3), " ")?;
+        write_times(f, last.saturating_sub(first).saturating_add(1), "^")?;
+        if !matches!(self.hint, Hint::Nothing) {
+            write!(f, " {}", self.hint)?;
+        }
+        writeln!(f)
+    }
+}
+
+/// Writes the first column and what is wrong, and below it the line with what is to blame and what may help, each line with its
+/// end. The texts are this project's choice.
+impl fmt::Display for Diagnosis<'_> {
+    fn fmt<W: fmt::Write>(&self, f: &mut fmt::Formatter<W>) -> fmt::Result {
+        let column = self.columns.first.max(1);
+        writeln!(
+            f,
+            "{column}: JS{:02}: {}",
+            fault_digit(self.fault),
+            self.said
+        )?;
+        if self.line.is_empty() || self.line.len() > LONGEST {
+            return Ok(());
+        }
+        self.write_line(f)
+    }
+}

@@ -1,0 +1,138 @@
+//! Where the operands of a line stand.
+
+ghost use Rattle.std.specs.Prelude.{◌≡◌, ◌≤◌, ◌<◌, ◌+◌, ◌^◌, ◌⊎◌, [], Some, drop, length, true, false, IfSome, MatchOption};
+ghost use Rattle.mvs_model.specs.Grammar as grammar;
+ghost use Rattle.mvs_model.specs.Reading.{behind_form, operands_of, operation_in, parts_within, row_of, rows_of, takes_form, words};
+ghost use Rattle.job_script.specs.Operations.{operation_text};
+ghost use Rattle.job_script.specs.Parted.{IsEnd, field_in};
+ghost use Rattle.job_script.specs.Rows.{row_at};
+ghost use Rattle.diagnosis.specs.Blame.{IsField};
+ghost use Rattle.diagnosis.specs.Behind.{AreOperands, IsBehindForm};
+
+use job_script::operations::{Operation, read_operation};
+use job_script::parted::{behind_blanks, next_operand, next_word};
+use job_script::rows::Row;
+
+/// The operation of a line, where the field behind it begins, and the text from there on.
+#[derive(Clone, Copy)]
+pub struct Field<'a> {
+    pub operation: Operation,
+    pub at: usize,
+    pub text: &'a [u8],
+}
+
+/// A row of the table, where the operands behind its form begin, and the text from there on.
+#[derive(Clone, Copy)]
+pub struct Operands<'a> {
+    pub row: Row,
+    pub at: usize,
+    pub text: &'a [u8],
+}
+
+/// The word behind the first one of a line, which is empty where there is none, and the text behind it.
+pub fn second_word(line: &[u8]) -> (&[u8], &[u8])
+    ensures word { result.0.now ≡ operation_in line.now }
+    ensures rest { words result.1.now ≡ drop 2 (words line.now) }
+    ensures end { IsEnd line.now result.1.now }
+{
+    let (_, behind) = next_word(line);
+    next_word(behind)
+}
+
+/// The field of operands of a line, where it has one.
+pub fn field_of(line: &[u8]) -> Option<Field<'_>>
+    ensures field { MatchOption result
+        ((rows_of (operation_in line.now) ≡ []) ⊎ (operands_of line.now ≡ []))
+        (λ f. (operation_in line.now ≡ operation_text f.operation)
+        × IsField line.now f.at f.text.now
+        × (operands_of line.now ≡ parts_within 0 (field_in f.text.now))) }
+    ensures within { IfSome result (λ f. f.at + length f.text.now ≡ length line.now) }
+{
+    let (word, rest) = second_word(line);
+    let Some(operation) = read_operation(word) else {
+        return None;
+    };
+    if matches!(operation, Operation::Return) {
+        return None;
+    }
+    let text = behind_blanks(rest);
+    if text.is_empty() {
+        return None;
+    }
+    Some(Field {
+        operation,
+        at: line.len() - text.len(),
+        text,
+    })
+}
+
+// The operands of a field behind its form, which has one.
+fn behind_form<'a>(field: &Field<'a>) -> Option<Operands<'a>>
+    requires room { field.now.at + length field.now.text.now < 2 ^ 63 }
+    requires formed { takes_form (operation_text field.now.operation) ≡ true }
+    ensures behind { (row : grammar.Row)
+        → row_of (operation_text field.now.operation)
+        (parts_within 0 (field_in field.now.text.now))
+        ≡ Some row
+        → MatchOption result (behind_form row (parts_within 0 (field_in field.now.text.now)) ≡ [])
+        (λ o. (row_at o.row ≡ row)
+        × IsBehindForm row field.now.at (parts_within 0 (field_in field.now.text.now)) o.at
+        o.text.now) }
+    ensures within { IfSome result
+        (λ o. o.at + length o.text.now ≤ field.now.at + length field.now.text.now) }
+{
+    let (form, rest) = next_operand(field.text);
+    let Some(row) = field.operation.row(form) else {
+        return None;
+    };
+    let Some(text) = rest else {
+        return None;
+    };
+    Some(Operands {
+        row,
+        at: field.at + form.len() + 1,
+        text,
+    })
+}
+
+// The operands of a field of an operation that takes no form.
+fn without_form<'a>(field: &Field<'a>) -> Option<Operands<'a>>
+    requires { takes_form (operation_text field.now.operation) ≡ false }
+    ensures behind { (row : grammar.Row)
+        → row_of (operation_text field.now.operation)
+        (parts_within 0 (field_in field.now.text.now))
+        ≡ Some row
+        → MatchOption result (behind_form row (parts_within 0 (field_in field.now.text.now)) ≡ [])
+        (λ o. (row_at o.row ≡ row)
+        × IsBehindForm row field.now.at (parts_within 0 (field_in field.now.text.now)) o.at
+        o.text.now) }
+    ensures within { IfSome result
+        (λ o. o.at + length o.text.now ≤ field.now.at + length field.now.text.now) }
+{
+    let Some(row) = field.operation.row(&[]) else {
+        return None;
+    };
+    Some(Operands {
+        row,
+        at: field.at,
+        text: field.text,
+    })
+}
+
+/// The operands of a line behind the form, where it has one, of which there is one at least.
+pub fn operands_in(line: &[u8]) -> Option<Operands<'_>>
+    ensures operands { (row : grammar.Row)
+        → row_of (operation_in line.now) (operands_of line.now) ≡ Some row
+        → MatchOption result (behind_form row (operands_of line.now) ≡ [])
+        (λ o. (row_at o.row ≡ row) × AreOperands row line.now o.at o.text.now) }
+    ensures within { IfSome result (λ o. o.at + length o.text.now ≤ length line.now) }
+{
+    let Some(field) = field_of(line) else {
+        return None;
+    };
+    if field.operation.takes_form() {
+        behind_form(&field)
+    } else {
+        without_form(&field)
+    }
+}

@@ -1,0 +1,237 @@
+//! What a statement is answered, as members of an object.
+
+use crate::members::Members;
+use mvs_job::{Job, Walk};
+use mvs_model::answer::Answer;
+use mvs_model::code::Code;
+use mvs_model::name::Name;
+use mvs_model::numbers::{MOST_PAGES_ABOVE, MOST_PAGES_BELOW};
+use mvs_model::place::{Addr, Place};
+use mvs_model::report::{MapRun, SubpoolLine};
+use mvs_model::request::Reply;
+use std::alloc::{AllocError, Global};
+
+/// Where 16 megabytes end.
+const ABOVE: u32 = 0x100_0000;
+
+/// The first address that is none.
+const ADDRESSES: u32 = 1 << 31;
+
+/// The most runs of pages that there can be: as many as pages.
+const MOST_RUNS: u32 = MOST_PAGES_BELOW + MOST_PAGES_ABOVE;
+
+/// The digits of a byte.
+const DIGITS: &[u8] = b"0123456789ABCDEF";
+
+// The first run of pages that begins behind one, if one does.
+fn run_behind(job: &Job, run: &MapRun) -> Option<MapRun> {
+    let end = run.addr.get().saturating_add(run.len);
+    if end >= ADDRESSES {
+        return None;
+    }
+    job.map_run(Addr::new(end))
+}
+
+// Puts the subpool that some pages are assigned to, if they are, into their object.
+fn put_holder(members: &mut Members, run: &MapRun) -> Result<(), AllocError> {
+    match &run.holder {
+        Some((number, owner)) => {
+            members.number("subpool", u32::from(number.get()))?;
+            members.name("owner", owner)
+        }
+        None => Ok(()),
+    }
+}
+
+// Puts the subpool of the page in which an address lies into its object.
+fn put_subpool(members: &mut Members, job: &Job, addr: Addr) -> Result<(), AllocError> {
+    let mut next = job.map_run(Addr::new(0));
+    for _ in 0..MOST_RUNS {
+        match next {
+            Some(run) if addr.get() < run.addr.get().saturating_add(run.len) => {
+                return put_holder(members, &run);
+            }
+            Some(run) => next = run_behind(job, &run),
+            None => return Ok(()),
+        }
+    }
+    Ok(())
+}
+
+// Puts where an area or a cell lies, and in which subpool, into its object.
+fn put_place(members: &mut Members, job: &Job, place: Place) -> Result<(), AllocError> {
+    let addr = place.addr();
+    members.number("address", addr.get())?;
+    members.number("length", place.len())?;
+    members.text("side", if addr.get() < ABOVE { "below" } else { "above" })?;
+    put_subpool(members, job, addr)
+}
+
+// The places that a request was granted.
+fn put_areas(members: &mut Members, job: &Job, places: &[Place]) -> Result<(), AllocError> {
+    members.begin_list("areas")?;
+    for place in places {
+        members.begin_item()?;
+        put_place(members, job, *place)?;
+        members.end_object()?;
+    }
+    members.end_list()
+}
+
+// A return code, and what was granted with it.
+fn put_return(members: &mut Members, walk: &Walk, code: u32) -> Result<(), AllocError> {
+    members.text("answer", "return_code")?;
+    members.number("return_code", code)?;
+    match (walk.job(), walk.reply()) {
+        (Some(job), Reply::Obtained(place)) if code == 0 => put_areas(members, job, &[*place]),
+        (Some(job), Reply::Listed(places)) if code == 0 => {
+            put_areas(members, job, places.as_slice())
+        }
+        _ => Ok(()),
+    }
+}
+
+// A cell.
+fn put_cell(members: &mut Members, walk: &Walk) -> Result<(), AllocError> {
+    members.text("answer", "cell")?;
+    match (walk.job(), walk.reply()) {
+        (Some(job), Reply::Cell(place)) => {
+            members.begin_object("cell")?;
+            put_place(members, job, *place)?;
+            members.end_object()
+        }
+        _ => Ok(()),
+    }
+}
+
+// Bytes as hexadecimal digits.
+fn hex_text(alloc: Global, bytes: &[u8]) -> Result<String, AllocError> {
+    let mut text = String::new(alloc);
+    for byte in bytes {
+        for digit in [byte / 16, byte % 16] {
+            text.push(char::from(DIGITS[digit as usize]))?;
+        }
+    }
+    Ok(text)
+}
+
+// The bytes that SHOW read.
+fn put_data(
+    alloc: Global,
+    members: &mut Members,
+    walk: &Walk,
+    place: Place,
+) -> Result<(), AllocError> {
+    members.text("answer", "data")?;
+    members.number("address", place.addr().get())?;
+    let bytes = match walk.job() {
+        Some(job) => job.bytes(place).unwrap_or(&[]),
+        None => &[],
+    };
+    let text = hex_text(alloc, bytes)?;
+    members.text("bytes", &text)
+}
+
+// An abend, and the tasks that ended with it.
+fn put_abend(members: &mut Members, walk: &Walk, code: Code) -> Result<(), AllocError> {
+    members.text("answer", "abend")?;
+    match code {
+        Code::System(number) => members.number("system_code", u32::from(number))?,
+        Code::User(number) => members.number("user_code", u32::from(number))?,
+    }
+    members.begin_list("fallen")?;
+    for name in walk.fallen() {
+        members.begin_item()?;
+        members.name("task", name)?;
+        members.end_object()?;
+    }
+    members.end_list()
+}
+
+// A line of REPORT SP.
+fn put_subpool_line(members: &mut Members, line: &SubpoolLine) -> Result<(), AllocError> {
+    members.begin_item()?;
+    members.number("subpool", u32::from(line.number.get()))?;
+    members.boolean("owned", line.owned)?;
+    members.number("plain", line.plain)?;
+    members.number("pool", line.pool)?;
+    members.end_object()
+}
+
+// The lines of REPORT SP.
+fn put_subpools(members: &mut Members, job: &Job, task: &Name) -> Result<(), AllocError> {
+    members.begin_list("subpools")?;
+    for from in 0..=132u8 {
+        match job.subpool_line(task, from) {
+            Some(line) if line.number.get() == from => put_subpool_line(members, &line)?,
+            _ => {}
+        }
+    }
+    members.end_list()
+}
+
+// The lines of REPORT MAP.
+fn put_map(members: &mut Members, job: &Job) -> Result<(), AllocError> {
+    members.begin_list("pages")?;
+    let mut next = job.map_run(Addr::new(0));
+    for _ in 0..MOST_RUNS {
+        let Some(run) = next else {
+            break;
+        };
+        members.begin_item()?;
+        members.number("address", run.addr.get())?;
+        members.number("length", run.len)?;
+        put_holder(members, &run)?;
+        members.end_object()?;
+        next = run_behind(job, &run);
+    }
+    members.end_list()
+}
+
+// A report of the step that runs.
+fn put_report(
+    members: &mut Members,
+    walk: &Walk,
+    task: &Name,
+    is_map: bool,
+) -> Result<(), AllocError> {
+    members.text("answer", if is_map { "map" } else { "subpools" })?;
+    match walk.job() {
+        Some(job) if is_map => put_map(members, job),
+        Some(job) => put_subpools(members, job, task),
+        None => Ok(()),
+    }
+}
+
+/// Puts what a statement of a task is answered into its object.
+pub fn put_answer(
+    alloc: Global,
+    members: &mut Members,
+    walk: &Walk,
+    task: &Name,
+    answer: &Answer,
+) -> Result<(), AllocError> {
+    match answer {
+        Answer::NotRun => members.text("answer", "not_run"),
+        Answer::NoName => members.text("answer", "no_name"),
+        Answer::At(addr) => {
+            members.text("answer", "at")?;
+            members.number("address", addr.get())
+        }
+        Answer::Rc0 => put_return(members, walk, 0),
+        Answer::Granted(len) => {
+            members.number("length", *len)?;
+            put_return(members, walk, 0)
+        }
+        Answer::Rc4 => put_return(members, walk, 4),
+        Answer::Cell => put_cell(members, walk),
+        Answer::NoCell => members.text("answer", "no_cell"),
+        Answer::Attached => members.text("answer", "attached"),
+        Answer::Ended => members.text("answer", "ended"),
+        Answer::Done => members.text("answer", "done"),
+        Answer::Data(place) => put_data(alloc, members, walk, *place),
+        Answer::Abended(code) => put_abend(members, walk, *code),
+        Answer::Subpools => put_report(members, walk, task, false),
+        Answer::Map => put_report(members, walk, task, true),
+    }
+}

@@ -1,0 +1,80 @@
+//! Why a request is refused, as an object.
+
+use crate::members::Members;
+use mvs_model::name::Name;
+use mvs_model::place::Addr;
+use mvs_model::reason::{Holder, Reason};
+use mvs_model::subpool::SubNo;
+use std::alloc::AllocError;
+
+// What holds the doubleword of an address.
+fn put_holder(members: &mut Members, addr: Addr, holder: &Holder) -> Result<(), AllocError> {
+    members.number("address", addr.get())?;
+    match holder {
+        Holder::Nobody | Holder::Unowned => Ok(()),
+        Holder::Subpool(number, owner) => put_subpool(members, *number, owner),
+        Holder::Part(pool) => members.name("pool", pool),
+    }
+}
+
+// A subpool, by its number and its owner.
+fn put_subpool(members: &mut Members, number: SubNo, owner: &Name) -> Result<(), AllocError> {
+    members.number("subpool", u32::from(number.get()))?;
+    members.name("owner", owner)
+}
+
+// What a reason is called.
+fn kind(reason: &Reason) -> &'static str {
+    match reason {
+        Reason::NotActive => "not_active",
+        Reason::InvalidNumber => "invalid_number",
+        Reason::Shortage(..) => "shortage",
+        Reason::OffDoubleword(_) => "off_doubleword",
+        Reason::NoSubpool(_) => "no_subpool",
+        Reason::NotHeld(..) => "not_held",
+        Reason::Overlap(..) => "overlap",
+        Reason::WholeOfZero => "whole_of_zero",
+        Reason::PoolInUse => "pool_in_use",
+        Reason::TooManyPools => "too_many_pools",
+        Reason::NoPool => "no_pool",
+        Reason::NoFreeCell => "no_free_cell",
+        Reason::NoTakenCell => "no_taken_cell",
+        Reason::TaskInUse => "task_in_use",
+        Reason::TooManyTasks => "too_many_tasks",
+        Reason::NotOwned(..) => "not_owned",
+        Reason::ActiveSubtask(_) => "active_subtask",
+        Reason::Asked => "asked",
+        Reason::NoAccess(..) => "no_access",
+    }
+}
+
+// Puts what a reason tells into its object.
+fn put_told(members: &mut Members, reason: &Reason) -> Result<(), AllocError> {
+    match reason {
+        Reason::Shortage(longest, below, above) => {
+            members.number("longest", *longest)?;
+            members.number("free_pages_below", *below)?;
+            members.number("free_pages_above", *above)
+        }
+        Reason::OffDoubleword(addr) => members.number("address", addr.get()),
+        Reason::NoSubpool(task) => members.name("task", task),
+        Reason::ActiveSubtask(task) => members.name("task", task),
+        Reason::NotHeld(addr, holder) => put_holder(members, *addr, holder),
+        Reason::NoAccess(addr, holder) => put_holder(members, *addr, holder),
+        Reason::Overlap(one, other, at) => {
+            members.number("one", one.get())?;
+            members.number("other", other.get())?;
+            members.number("address", at.get())
+        }
+        Reason::NotOwned(number, owner) => put_subpool(members, *number, owner),
+        _ => Ok(()),
+    }
+}
+
+/// Puts the reason of a statement into its object.
+pub fn put_reason(members: &mut Members, reason: &Reason) -> Result<(), AllocError> {
+    members.begin_object("reason")?;
+    members.text("kind", kind(reason))?;
+    put_told(members, reason)?;
+    members.end_object()
+}

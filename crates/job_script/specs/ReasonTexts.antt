@@ -1,0 +1,122 @@
+-- What is printed of the reason for which a request is refused, with the rules of RULES.md that say so. (this project's own notation)
+use Rattle.std.specs.Prelude.{ℕ, ◌*◌, ◌/◌, ◌%◌, List, [], ◌++◌, codes, decimal}
+use Rattle.mvs_model.specs.declared.name.Name.{Name}
+use Rattle.mvs_model.specs.declared.request.Request.{Request}
+use Rattle.mvs_model.specs.declared.request.Request.TheVariants.{Obtain, ObtainList, Release, ReleaseList, ReleaseWhole, Build, Get, Free, Delete, Attach}
+use Rattle.mvs_model.specs.declared.reason.Holder.{Holder}
+use Rattle.mvs_model.specs.declared.reason.Holder.TheVariants.{Nobody, Subpool, Unowned, Part}
+use Rattle.mvs_model.specs.declared.reason.Reason.{Reason}
+use Rattle.mvs_model.specs.declared.reason.Reason.TheVariants.{NotActive, InvalidNumber, Shortage, OffDoubleword, NoSubpool, NotHeld, Overlap, WholeOfZero, PoolInUse, TooManyPools, NoPool, NoFreeCell, NoTakenCell, TaskInUse, TooManyTasks, NotOwned, ActiveSubtask, Asked, NoAccess}
+use Rattle.mvs_model.specs.Name.{trimmed}
+use Rattle.mvs_model.specs.Place.{round8}
+use Rattle.mvs_model.specs.Texts.{hex}
+
+-- ---- what a request says that its reason does not
+
+-- the number of the subpool, where it names one
+abbrev pub number_of : Request → ℕ
+number_of (Obtain form number ask) = number
+number_of (ObtainList form number lengths start) = number
+number_of (Release form number p) = number
+number_of (ReleaseList form number ps) = number
+number_of (ReleaseWhole form number) = number
+number_of (Build name number size primary secondary loc) = number
+number_of _ = 0
+
+-- the least length of one area, rounded up
+abbrev pub least_of : Request → ℕ
+least_of (Obtain form number ask) = round8 ask.least
+least_of _ = 0
+
+-- the cell pool, or the subtask
+abbrev pub named : Request → List ℕ
+named (Build name number size primary secondary loc) = trimmed name
+named (Get name conditional) = trimmed name
+named (Free name c) = trimmed name
+named (Delete name) = trimmed name
+named (Attach name gifts residence) = trimmed name
+named _ = []
+
+-- the cell
+abbrev pub cell_of : Request → ℕ
+cell_of (Free name c) = c
+cell_of _ = 0
+
+-- ---- the texts
+
+-- what holds a doubleword
+abbrev pub holder_said : Holder → List ℕ
+holder_said Nobody = codes " is free"
+holder_said (Subpool number owner) = codes " is held by SP " ++ decimal number ++ codes " of " ++ trimmed owner
+holder_said Unowned = codes " is held by a subpool of no task"
+holder_said (Part name) = codes " lies in pool " ++ trimmed name
+
+-- of a length for which there is no place
+abbrev pub shortage_said : Request → ℕ → ℕ → ℕ → List ℕ
+shortage_said request longest below above =
+    decimal (least_of request) ++ codes " bytes wanted in SP " ++ decimal (number_of request) ++ codes ", and at most " ++ decimal longest
+    ++ codes " have such a place; free pages: " ++ decimal below ++ codes " below, " ++ decimal above ++ codes " above. (rule 12)"
+
+-- of an address that is not on a doubleword
+abbrev pub off_said : ℕ → List ℕ
+off_said a = hex 8 a ++ codes " is not on a doubleword: it is " ++ decimal (a % 8) ++ codes " past " ++ hex 8 (8 * (a / 8)) ++ codes ". (rule 29)"
+
+-- of a doubleword that the subpool of a task does not hold
+abbrev pub not_held_said : Name → ℕ → ℕ → Holder → List ℕ
+not_held_said t number a holder =
+    hex 8 a ++ holder_said holder ++ codes "; SP " ++ decimal number ++ codes " of " ++ trimmed t ++ codes " does not hold it outside of pools. (rules 26, 66)"
+
+-- of members of a list that overlap
+abbrev pub overlap_said : ℕ → ℕ → ℕ → List ℕ
+overlap_said one other a = codes "The members at " ++ hex 8 one ++ codes " and " ++ hex 8 other ++ codes " both have the doubleword at " ++ hex 8 a ++ codes ". (rule 32)"
+
+-- of a number under which a task has no subpool
+abbrev pub no_subpool_said : Request → Name → List ℕ
+no_subpool_said request keeper = trimmed keeper ++ codes " has no subpool " ++ decimal (number_of request) ++ codes ", which would hold it. (rule 26)"
+
+-- of an address at which no taken cell begins
+abbrev pub no_cell_said : Request → List ℕ
+no_cell_said request = codes "No taken cell of pool " ++ named request ++ codes " begins at " ++ hex 8 (cell_of request) ++ codes ". (rule 63)"
+
+-- of a subpool that a task only shares
+abbrev pub not_owned_said : Name → ℕ → Name → List ℕ
+not_owned_said t number owner = trimmed t ++ codes " shares SP " ++ decimal number ++ codes ", and only its owner " ++ trimmed owner ++ codes " can give it. (rule 48)"
+
+-- of an active subtask
+abbrev pub subtask_said : Name → Name → List ℕ
+subtask_said t subtask = trimmed subtask ++ codes ", a subtask of " ++ trimmed t ++ codes ", is active. (rule 54)"
+
+-- of a byte that may not be read and written
+abbrev pub no_access_said : ℕ → Holder → List ℕ
+no_access_said a holder = hex 8 a ++ holder_said holder ++ codes "; a byte may be touched outside of pools where it is held, and in a taken cell. (rule 38)"
+
+-- of what a request names, and of how many there can be
+abbrev pub named_said : Request → Reason → List ℕ
+named_said request PoolInUse = codes "A pool " ++ named request ++ codes " is there already. (rule 68)"
+named_said request NoPool = codes "There is no pool " ++ named request ++ codes ". (rule 63)"
+named_said request NoFreeCell = codes "No cell of pool " ++ named request ++ codes " is free, and COND adds no part. (rule 60)"
+named_said request NoTakenCell = no_cell_said request
+named_said request TaskInUse = codes "A task " ++ named request ++ codes " is active already. (rule 51)"
+named_said request TooManyPools = codes "64 pools are there, and no more can be. (rule 68)"
+named_said request TooManyTasks = codes "32 tasks are active, and no more can be. (rule 51)"
+named_said request WholeOfZero = codes "SP 0 is not released as a whole. (rule 35)"
+named_said request _ = []
+
+-- what a reason says of a task's request
+abbrev pub reason_said : Name → Request → Reason → List ℕ
+reason_said t request NotActive = trimmed t ++ codes " is not active: it has ended, or was never attached. (rule 51)"
+reason_said t request InvalidNumber = codes "A program may name SP 0 to 127, 131 and 132, and not " ++ decimal (number_of request) ++ codes ". (rule 8)"
+reason_said t request (Shortage longest below above) = shortage_said request longest below above
+reason_said t request (OffDoubleword a) = off_said a
+reason_said t request (NoSubpool keeper) = no_subpool_said request keeper
+reason_said t request (NotHeld a holder) = not_held_said t (number_of request) a holder
+reason_said t request (Overlap one other a) = overlap_said one other a
+reason_said t request (NotOwned number owner) = not_owned_said t number owner
+reason_said t request (ActiveSubtask subtask) = subtask_said t subtask
+reason_said t request Asked = trimmed t ++ codes " asks for this abend. (rule 55)"
+reason_said t request (NoAccess a holder) = no_access_said a holder
+reason_said t request reason = named_said request reason
+
+-- the line of a reason, which is a comment in the language of scripts
+abbrev pub reason_line : Name → Request → Reason → List ℕ
+reason_line t request reason = codes "* " ++ reason_said t request reason ++ codes "\n"

@@ -1,0 +1,335 @@
+//! The line that says why a request is refused.
+
+ghost use Rattle.std.specs.Prelude.{◌≡◌, ◌≤◌, ◌+◌, ◌++◌, length, decimal};
+ghost use Rattle.mvs_model.specs.Name.{trimmed};
+ghost use Rattle.job_script.specs.ReasonTexts.{cell_of, holder_said, least_of, named, named_said, no_access_said, no_cell_said, no_subpool_said, not_held_said, not_owned_said, number_of, off_said, overlap_said, reason_line, reason_said, shortage_said, subtask_said};
+ghost use Rattle.job_script.specs.Writing.{Prints};
+
+use crate::print::write_all;
+use crate::text::Text;
+use mvs_model::name::Name;
+use mvs_model::place::Addr;
+use mvs_model::reason::{Holder, Reason};
+use mvs_model::request::Request;
+use mvs_model::subpool::SubNo;
+use mvs_model::want::Side;
+use mvs_model::watched::{Failed, Watched};
+use std::io::Write;
+
+// The number of the subpool that a request names.
+fn number(request: &Request) -> u32
+    ensures { result ≡ number_of request.now }
+{
+    match request {
+        Request::Obtain { number, .. }
+        | Request::ObtainList { number, .. }
+        | Request::Release { number, .. }
+        | Request::ReleaseList { number, .. }
+        | Request::ReleaseWhole { number, .. }
+        | Request::Build { number, .. } => u32::from(*number),
+        _ => 0,
+    }
+}
+
+// The least length of one area, rounded up.
+fn least(request: &Request) -> u32
+    ensures { result ≡ least_of request.now }
+{
+    match request {
+        Request::Obtain { ask, .. } => ask.want(Side::Below).least(),
+        _ => 0,
+    }
+}
+
+// The cell of a request.
+fn cell(request: &Request) -> u32
+    ensures { result ≡ cell_of request.now }
+{
+    match request {
+        Request::Free { cell, .. } => cell.get(),
+        _ => 0,
+    }
+}
+
+// Puts the name of the cell pool or the subtask behind a text.
+fn push_named(text: &mut Text, request: &Request)
+    requires { length text.old ≤ 100 }
+    ensures text { text.new ≡ text.old ++ named request.now }
+    ensures len { length text.new ≤ length text.old + 8 }
+{
+    match request {
+        Request::Build { pool, .. }
+        | Request::Get { pool, .. }
+        | Request::Free { pool, .. }
+        | Request::Delete { pool } => text.push_name(pool),
+        Request::Attach { name, .. } => text.push_name(name),
+        _ => {}
+    }
+}
+
+// Puts what holds a doubleword behind a text.
+fn push_holder(text: &mut Text, holder: &Holder)
+    requires { length text.old ≤ 100 }
+    ensures text { text.new ≡ text.old ++ holder_said holder.now }
+    ensures len { length text.new ≤ length text.old + 40 }
+{
+    match holder {
+        Holder::Nobody => text.push_all(b" is free"),
+        Holder::Subpool(number, owner) => {
+            text.push_all(b" is held by SP ");
+            text.push_decimal(u32::from(number.get()));
+            text.push_all(b" of ");
+            text.push_name(owner);
+        }
+        Holder::Unowned => text.push_all(b" is held by a subpool of no task"),
+        Holder::Part(name) => {
+            text.push_all(b" lies in pool ");
+            text.push_name(name);
+        }
+    }
+}
+
+// Puts behind a text that there is no place of a length.
+fn push_shortage(text: &mut Text, request: &Request, longest: u32, below: u32, above: u32)
+    requires { length text.old ≤ 8 }
+    ensures text { text.new ≡ text.old ++ shortage_said request.now longest below above }
+    ensures len { length text.new ≤ length text.old + 150 }
+{
+    text.push_decimal(least(request));
+    text.push_all(b" bytes wanted in SP ");
+    text.push_decimal(number(request));
+    text.push_all(b", and at most ");
+    text.push_decimal(longest);
+    text.push_all(b" have such a place; free pages: ");
+    text.push_decimal(below);
+    text.push_all(b" below, ");
+    text.push_decimal(above);
+    text.push_all(b" above. (rule 12)");
+}
+
+// Puts behind a text that an address is not on a doubleword.
+fn push_off(text: &mut Text, addr: Addr)
+    requires { length text.old ≤ 8 }
+    ensures text { text.new ≡ text.old ++ off_said addr }
+    ensures len { length text.new ≤ length text.old + 150 }
+{
+    let addr = addr.get();
+    text.push_word(addr);
+    text.push_all(b" is not on a doubleword: it is ");
+    text.push_decimal(addr % 8);
+    text.push_all(b" past ");
+    text.push_word(8 * (addr / 8));
+    text.push_all(b". (rule 29)");
+}
+
+// Puts behind a text that the subpool of a task does not hold a doubleword.
+fn push_not_held(text: &mut Text, task: &Name, number: u32, addr: Addr, holder: &Holder)
+    requires { length text.old ≤ 8 }
+    ensures text { text.new ≡ text.old ++ not_held_said task.now number addr holder.now }
+    ensures len { length text.new ≤ length text.old + 150 }
+{
+    text.push_word(addr.get());
+    push_holder(text, holder);
+    text.push_all(b"; SP ");
+    text.push_decimal(number);
+    text.push_all(b" of ");
+    text.push_name(task);
+    text.push_all(b" does not hold it outside of pools. (rules 26, 66)");
+}
+
+// Puts behind a text that members of a list overlap.
+fn push_overlap(text: &mut Text, one: Addr, other: Addr, addr: Addr)
+    requires { length text.old ≤ 8 }
+    ensures text { text.new ≡ text.old ++ overlap_said one other addr }
+    ensures len { length text.new ≤ length text.old + 150 }
+{
+    text.push_all(b"The members at ");
+    text.push_word(one.get());
+    text.push_all(b" and ");
+    text.push_word(other.get());
+    text.push_all(b" both have the doubleword at ");
+    text.push_word(addr.get());
+    text.push_all(b". (rule 32)");
+}
+
+// Puts the name of the cell pool or the subtask behind a text, with what stands before and behind it.
+fn push_of(text: &mut Text, before: &[u8], request: &Request, behind: &[u8])
+    requires old { length text.old ≤ 8 }
+    requires before { length before.now ≤ 40 }
+    requires behind { length behind.now ≤ 60 }
+    ensures text { text.new ≡ text.old ++ (before.now ++ named request.now ++ behind.now) }
+    ensures len { length text.new ≤ length text.old + 150 }
+{
+    text.push_all(before);
+    push_named(text, request);
+    text.push_all(behind);
+}
+
+// Puts a number behind a text, with what stands before and behind it.
+fn push_number(text: &mut Text, before: &[u8], number: u32, behind: &[u8])
+    requires old { length text.old ≤ 70 }
+    requires before { length before.now ≤ 55 }
+    requires behind { length behind.now ≤ 25 }
+    ensures text { text.new ≡ text.old ++ (before.now ++ decimal number ++ behind.now) }
+    ensures len { length text.new
+        ≤ length text.old + length before.now + length behind.now + 10 }
+{
+    text.push_all(before);
+    text.push_decimal(number);
+    text.push_all(behind);
+}
+
+// Puts a task behind a text, with what stands behind it.
+fn push_task(text: &mut Text, task: &Name, behind: &[u8])
+    requires old { length text.old ≤ 60 }
+    requires behind { length behind.now ≤ 80 }
+    ensures text { text.new ≡ text.old ++ (trimmed task.now ++ behind.now) }
+    ensures len { length text.new ≤ length text.old + length behind.now + 8 }
+{
+    text.push_name(task);
+    text.push_all(behind);
+}
+
+// Puts behind a text that no taken cell begins at the address of a request.
+fn push_no_cell(text: &mut Text, request: &Request)
+    requires { length text.old ≤ 8 }
+    ensures text { text.new ≡ text.old ++ no_cell_said request.now }
+    ensures len { length text.new ≤ length text.old + 150 }
+{
+    text.push_all(b"No taken cell of pool ");
+    push_named(text, request);
+    text.push_all(b" begins at ");
+    text.push_word(cell(request));
+    text.push_all(b". (rule 63)");
+}
+
+// Puts behind a text that a task has no subpool under the number of a request.
+fn push_no_subpool(text: &mut Text, request: &Request, keeper: &Name)
+    requires { length text.old ≤ 8 }
+    ensures text { text.new ≡ text.old ++ no_subpool_said request.now keeper.now }
+    ensures len { length text.new ≤ length text.old + 150 }
+{
+    text.push_name(keeper);
+    text.push_all(b" has no subpool ");
+    text.push_decimal(number(request));
+    text.push_all(b", which would hold it. (rule 26)");
+}
+
+// Puts behind a text that a task only shares a subpool that it gives.
+fn push_not_owned(text: &mut Text, task: &Name, number: SubNo, owner: &Name)
+    requires { length text.old ≤ 8 }
+    ensures text { text.new ≡ text.old ++ not_owned_said task.now number owner.now }
+    ensures len { length text.new ≤ length text.old + 150 }
+{
+    text.push_name(task);
+    text.push_all(b" shares SP ");
+    text.push_decimal(u32::from(number.get()));
+    text.push_all(b", and only its owner ");
+    text.push_name(owner);
+    text.push_all(b" can give it. (rule 48)");
+}
+
+// Puts behind a text that a subtask of a task is active.
+fn push_subtask(text: &mut Text, task: &Name, subtask: &Name)
+    requires { length text.old ≤ 8 }
+    ensures text { text.new ≡ text.old ++ subtask_said task.now subtask.now }
+    ensures len { length text.new ≤ length text.old + 150 }
+{
+    text.push_name(subtask);
+    text.push_all(b", a subtask of ");
+    text.push_name(task);
+    text.push_all(b", is active. (rule 54)");
+}
+
+// Puts behind a text that a byte may not be read and written.
+fn push_no_access(text: &mut Text, addr: Addr, holder: &Holder)
+    requires { length text.old ≤ 8 }
+    ensures text { text.new ≡ text.old ++ no_access_said addr holder.now }
+    ensures len { length text.new ≤ length text.old + 150 }
+{
+    text.push_word(addr.get());
+    push_holder(text, holder);
+    text.push_all(
+        b"; a byte may be touched outside of pools where it is held, and in a taken cell. (rule 38)",
+    );
+}
+
+// Puts behind a text why a request for cells or of a subtask is refused.
+fn push_named_reason(text: &mut Text, request: &Request, reason: &Reason)
+    requires { length text.old ≤ 8 }
+    ensures text { text.new ≡ text.old ++ named_said request.now reason.now }
+    ensures len { length text.new ≤ length text.old + 150 }
+{
+    match reason {
+        Reason::PoolInUse => push_of(text, b"A pool ", request, b" is there already. (rule 68)"),
+        Reason::NoPool => push_of(text, b"There is no pool ", request, b". (rule 63)"),
+        Reason::NoFreeCell => push_of(
+            text,
+            b"No cell of pool ",
+            request,
+            b" is free, and COND adds no part. (rule 60)",
+        ),
+        Reason::NoTakenCell => push_no_cell(text, request),
+        Reason::TaskInUse => push_of(text, b"A task ", request, b" is active already. (rule 51)"),
+        Reason::TooManyPools => {
+            text.push_all(b"64 pools are there, and no more can be. (rule 68)");
+        }
+        Reason::TooManyTasks => {
+            text.push_all(b"32 tasks are active, and no more can be. (rule 51)");
+        }
+        Reason::WholeOfZero => text.push_all(b"SP 0 is not released as a whole. (rule 35)"),
+        _ => {}
+    }
+}
+
+// Puts behind a text why a request of a task is refused.
+fn push_reason(text: &mut Text, task: &Name, request: &Request, reason: &Reason)
+    requires { length text.old ≤ 8 }
+    ensures text { text.new ≡ text.old ++ reason_said task.now request.now reason.now }
+    ensures len { length text.new ≤ length text.old + 150 }
+{
+    match reason {
+        Reason::NotActive => push_task(
+            text,
+            task,
+            b" is not active: it has ended, or was never attached. (rule 51)",
+        ),
+        Reason::InvalidNumber => push_number(
+            text,
+            b"A program may name SP 0 to 127, 131 and 132, and not ",
+            number(request),
+            b". (rule 8)",
+        ),
+        Reason::Shortage(longest, below, above) => {
+            push_shortage(text, request, *longest, *below, *above);
+        }
+        Reason::OffDoubleword(addr) => push_off(text, *addr),
+        Reason::NoSubpool(keeper) => push_no_subpool(text, request, keeper),
+        Reason::NotHeld(addr, holder) => {
+            push_not_held(text, task, number(request), *addr, holder);
+        }
+        Reason::Overlap(one, other, addr) => push_overlap(text, *one, *other, *addr),
+        Reason::NotOwned(number, owner) => push_not_owned(text, task, *number, owner),
+        Reason::ActiveSubtask(subtask) => push_subtask(text, task, subtask),
+        Reason::Asked => push_task(text, task, b" asks for this abend. (rule 55)"),
+        Reason::NoAccess(addr, holder) => push_no_access(text, *addr, holder),
+        _ => push_named_reason(text, request, reason),
+    }
+}
+
+/// Prints the line that says why a request of a task is refused.
+pub fn print_reason<W: Write>(
+    writer: &mut Watched<W>,
+    task: &Name,
+    request: &Request,
+    reason: &Reason,
+) -> Result<(), Failed>
+    ensures { Prints W.contents writer.old writer.new result
+        (reason_line task.now request.now reason.now) }
+{
+    let mut text = Text::new();
+    text.push_all(b"* ");
+    push_reason(&mut text, task, request, reason);
+    text.push_all(b"\n");
+    write_all(writer, text.as_slice())
+}

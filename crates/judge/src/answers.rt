@@ -1,0 +1,56 @@
+//! The answers of an output that say what was granted, and where.
+
+use mvs_model::error::OutOfMemory;
+use std::alloc::Global;
+use std::collections::HashMap;
+
+/// What the output says of the statement of a line.
+#[derive(Clone, Copy, Debug, PartialEq, Eq)]
+pub enum Said {
+    /// It was answered 0.
+    Granted,
+    /// An area or a cell lies at this address.
+    At(u32),
+}
+
+/// The first answer to each line, of those that are of use here.
+#[derive(Drop)]
+pub struct Answers {
+    lines: HashMap<u32, Said>,
+}
+
+// What a printed line says, and the number of its line.
+fn read_said(line: &str) -> Option<(u32, Said)> {
+    let (digits, behind) = line.split_once(' ')?;
+    let (_, text) = behind.split_once(' ')?;
+    let Ok(number) = digits.parse::<u32>() else {
+        return None;
+    };
+    if text == "RC 0" || text.starts_with("RC 0 LENGTH ") {
+        return Some((number, Said::Granted));
+    }
+    match u32::from_str_radix(text.strip_prefix("AT ")?, 16) {
+        Ok(addr) => Some((number, Said::At(addr))),
+        Err(_) => None,
+    }
+}
+
+impl Answers {
+    /// Those of an output.
+    pub fn read(alloc: Global, output: &str) -> Result<Answers, OutOfMemory> {
+        let mut lines = HashMap::new(alloc);
+        for line in output.lines() {
+            if let Some((number, said)) = read_said(line) {
+                if lines.insert(number, said).is_err() {
+                    return Err(OutOfMemory);
+                }
+            }
+        }
+        Ok(Answers { lines })
+    }
+
+    /// The answer to the line of a number.
+    pub fn of(&self, line_number: u32) -> Option<Said> {
+        self.lines.get(&line_number).copied()
+    }
+}

@@ -1,0 +1,24 @@
+-- What becomes of a walk by a request that is given by values, and by bytes that are written.
+use Rattle.std.proofs.Common.{◌≡◌, ℕ, Bool, true, false, List, Option, Some, None, refl, sym, subst}
+use Rattle.mvs_model.specs.declared.name.Name.{Name}
+use Rattle.mvs_model.specs.declared.request.Request.{Request}
+use Rattle.mvs_model.specs.declared.request.Reply.{Reply}
+use Rattle.mvs_model.specs.Job.{JobValue}
+use Rattle.mvs_model.specs.Place.{PlaceValue}
+use Rattle.mvs_job.specs.Telling.{WalkValue}
+use Rattle.mvs_job.specs.Valued.{MayWrite, Requests, RequestsOf, WritesOf}
+
+module _ (step : Option JobValue) (number : ℕ) (before : Reply) where
+  abbrev old : WalkValue
+  old = record { step = step; number = number; reply = before }
+
+  pub requested : (t : Name) (r : Request) (reply : Reply) (job later : JobValue) → step ≡ Some job → Requests job t r reply later
+      → RequestsOf old t r true (record { step = Some later; number = number; reply = reply })
+  requested t r reply job later e h = subst (λ o. RequestsOf (record { step = o; number = number; reply = before }) t r true (record { step = Some later; number = number; reply = reply })) (sym e) (refl, refl, (later, refl, h))
+
+  pub wrote : (p : PlaceValue) (bytes : List ℕ) (written : Bool) (job later : JobValue) → step ≡ Some job → MayWrite job p bytes written later
+      → WritesOf old p bytes written (record { step = Some later; number = number; reply = before })
+  wrote p bytes written job later e h = subst (λ o. WritesOf (record { step = o; number = number; reply = before }) p bytes written (record { step = Some later; number = number; reply = before })) (sym e) (later, refl, h)
+
+  pub not_wrote : (p : PlaceValue) (bytes : List ℕ) → step ≡ None → WritesOf old p bytes false old
+  not_wrote p bytes e = subst (λ o. WritesOf (record { step = o; number = number; reply = before }) p bytes false (record { step = o; number = number; reply = before })) (sym e) (refl, refl)

@@ -1,0 +1,14 @@
+use Rattle.std.proofs.Common.{◌≡◌, ◌+◌, ◌-◌, ◌≤◌, drop, length}
+use Rattle.mvs_job.specs.Explaining.{SoFar}
+use Rattle.mvs_job.proofs.explaining.explain_script.Given as goal
+
+abbrev pub invariant-lines : goal.invariant-lines
+invariant-lines g l = record {
+  so_far : SoFar (g.W.Write.contents l.initial.writer.inner) (g.W.Write.contents l.writer.inner) l.script l.walk.number l.walk.step (drop l.at l.script);
+  within : l.at ≤ length l.script + 1;
+  number : l.walk.number ≤ l.at + 1;
+  same : l.writer.failed ≡ l.initial.writer.failed;
+}
+
+abbrev pub decreases-lines : goal.decreases-lines
+decreases-lines g l = length l.script - l.at

@@ -1,0 +1,103 @@
+//! Runs a script with reasons: behind what a line tells stands why its request is refused.
+
+ghost use Rattle.std.specs.Prelude.{◌≡◌, ◌≢◌, ◌<◌, ◌≤◌, ◌+◌, ◌^◌, ◌∷◌, ℕ, List, length, take, drop, slice_index, true, OnOk, IfOk, IsErrOf, MatchOption};
+ghost use Rattle.mvs_model.specs.Lines.{lines_of};
+ghost use Rattle.mvs_model.specs.Numbers.{most_script_bytes};
+ghost use Rattle.mvs_job.specs.Explaining.{ExplainsLine, Interleaves, WritesExplained};
+ghost use Rattle.std.specs.Io.KnownBytes.{Appends};
+
+use crate::printing::{Stop, print_closing, run_line};
+use crate::walk::Walk;
+use crate::why::Why;
+use memchr::memchr;
+use mvs_model::outcome::Outcome;
+use mvs_model::want::Placement;
+use mvs_model::watched::Watched;
+use std::alloc::Global;
+use std::io::Write;
+
+// Serves one line, and prints what it tells and why it is refused. Answers whether the job goes on.
+fn explain_line<W: Write>(
+    why: &mut Why,
+    walk: &mut Walk,
+    line: &[u8],
+    writer: &mut Watched<W>,
+) -> Result<bool, Stop>
+    requires { walk.old.number + 1 < 2 ^ 32 }
+    ensures ran { ExplainsLine (W.contents writer.old.inner) (W.contents writer.new.inner) walk.old
+        line.now walk.new result }
+    ensures number { walk.new.number ≡ walk.old.number + 1 }
+    ensures ok { OnOk result (writer.new.failed ≡ writer.old.failed) }
+    ensures write { IsErrOf result Stop.Write → writer.new.failed ≡ true }
+{
+    let reason = why.ask(walk, line);
+    match run_line(walk, line, &[], writer) {
+        Ok(true) => match why.print(writer, &reason) {
+            Ok(()) => Ok(true),
+            Err(_) => Err(Stop::Write),
+        },
+        Ok(false) => Ok(false),
+        Err(stop) => Err(stop),
+    }
+}
+
+// Where the first line of a script ends, where it ends in it.
+fn line_feed(script: &[u8]) -> Option<usize>
+    ensures { MatchOption result
+        ((k : ℕ) → k < length script.now → slice_index script.now k ≢ 10)
+        (λ end. (end < length script.now) × (slice_index script.now end ≡ 10)
+        × ((k : ℕ) → k < end → slice_index script.now k ≢ 10)) }
+{
+    memchr(b'\n', script)
+}
+
+// How many bytes the first line has of a script that has some.
+fn line_end(script: &[u8]) -> usize
+    requires { 0 < length script.now }
+    ensures within { result ≤ length script.now }
+    ensures lines { lines_of script.now
+        ≡ take result script.now ∷ lines_of (drop (result + 1) script.now) }
+{
+    match line_feed(script) {
+        Some(end) => end,
+        None => script.len(),
+    }
+}
+
+/// Runs a script, and prints behind what a line tells a line that begins with `*` and says why its request is refused, if it is
+/// and there is a reason. It takes 16,777,215 bytes at most.
+pub fn explain_script<W: Write>(
+    alloc: Global,
+    script: &[u8],
+    writer: &mut Watched<W>,
+    placement: Placement,
+) -> Result<Outcome, Stop>
+    requires { length script.now ≤ most_script_bytes }
+    // Each reason stands behind what its line tells, and is that of the step before the line.
+    ensures explained { WritesExplained (W.contents writer.old.inner)
+        (W.contents writer.new.inner) script.now result }
+    // Without the reasons it is the printing of a run.
+    ensures run { IfOk result
+        (λ outcome. (text : List ℕ) × Appends (W.contents writer.old.inner)
+        (W.contents writer.new.inner) text × Interleaves script.now text outcome) }
+    ensures ok { OnOk result (writer.new.failed ≡ writer.old.failed) }
+    ensures write { IsErrOf result Stop.Write → writer.new.failed ≡ true }
+{
+    let mut walk = Walk::new(alloc, placement);
+    let mut why = Why::new();
+    let mut at = 0;
+    'lines: while at < script.len() {
+        let rest = &script[at..];
+        let end = line_end(rest);
+        match explain_line(&mut why, &mut walk, &rest[..end], writer) {
+            Ok(true) => at += end + 1,
+            Ok(false) => return Ok(Outcome::ScriptFault),
+            Err(stop) => return Err(stop),
+        }
+    }
+    let closing = walk.close();
+    match print_closing(writer, walk.number(), closing.ended) {
+        Ok(()) => Ok(closing.outcome),
+        Err(_) => Err(Stop::Write),
+    }
+}

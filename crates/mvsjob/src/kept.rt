@@ -1,0 +1,176 @@
+//! A reader that keeps the lines of its latest read, so that a faulty one can be told.
+
+ghost use Rattle.std.specs.Prelude.{◌≤◌, length};
+
+use job_script::parted::parted;
+use job_script::read_line;
+use mvs_model::line::{Fault, Line};
+use std::io::{self, ErrorKind, Read};
+
+/// How many bytes are kept: those of a read of a job, and of a line that began before it.
+const ROOM: usize = 66_048;
+
+/// What a reader has told since the begin of the line in which its latest read began. The lines before had no fault, since a job
+/// reads nothing behind one.
+#[derive(Drop)]
+struct Lines {
+    bytes: [u8; ROOM],
+    len: usize,
+    /// The number of the first line that is kept.
+    number: u32,
+    /// Whether no statement stood before it.
+    first: bool,
+}
+
+/// A reader that keeps the lines of its latest read.
+#[derive(Drop)]
+pub struct Kept<R> {
+    inner: R,
+    lines: Lines,
+    /// Whether a read has failed because the reader is a directory.
+    is_directory: bool,
+}
+
+/// A line with a fault, and its number. Of a script without a statement the line is empty, and its number is the one behind the
+/// last.
+#[derive(Clone, Copy)]
+pub struct Faulty<'a> {
+    pub number: u32,
+    pub line: &'a [u8],
+    pub fault: Fault,
+}
+
+// Whether no line of a text is a statement.
+fn is_silent(text: &[u8]) -> bool {
+    let mut read = Line::Nothing;
+    let mut rest = text;
+    'lines: loop {
+        let (line, more) = parted(rest, b'\n');
+        let said = read_line(line, true, &mut read);
+        if said.is_err() || !matches!(read, Line::Nothing) {
+            return false;
+        }
+        match more {
+            None => return true,
+            Some(next) => rest = next,
+        }
+    }
+}
+
+// Where the last of the lines that have ended ends, and how many there are.
+fn ended(text: &[u8]) -> (usize, u32)
+    ensures { result.0 ≤ length text.now }
+{
+    let (mut end, mut lines) = (0, 0u32);
+    for (i, byte) in text.iter().enumerate() {
+        if *byte == b'\n' {
+            end = i + 1;
+            lines = lines.saturating_add(1);
+        }
+    }
+    (end.min(text.len()), lines)
+}
+
+/// The first line of a text that has a fault, where the first line of the text has this number, and whether no statement stands before
+/// it.
+pub fn first_faulty(text: &[u8], number: u32, first: bool) -> Faulty<'_> {
+    let mut read = Line::Nothing;
+    let mut number = number;
+    let mut first = first;
+    let mut rest = text;
+    'lines: while !rest.is_empty() {
+        let (line, more) = parted(rest, b'\n');
+        if let Err(fault) = read_line(line, first, &mut read) {
+            return Faulty {
+                number,
+                line,
+                fault,
+            };
+        }
+        first = first && matches!(read, Line::Nothing);
+        number = number.saturating_add(1);
+        match more {
+            None => break 'lines,
+            Some(next) => rest = next,
+        }
+    }
+    Faulty {
+        number,
+        line: &[],
+        fault: Fault::OutOfPlace,
+    }
+}
+
+impl Lines {
+    fn new() -> Lines {
+        Lines {
+            bytes: [0; ROOM],
+            len: 0,
+            number: 1,
+            first: true,
+        }
+    }
+
+    // Lets go of the lines that have ended.
+    fn let_go(&mut self) {
+        let len = self.len.min(ROOM);
+        let (from, lines) = ended(&self.bytes[..len]);
+        self.number = self.number.saturating_add(lines);
+        if self.first {
+            self.first = is_silent(&self.bytes[..from]);
+        }
+        for i in from..len {
+            self.bytes[i - from] = self.bytes[i];
+        }
+        self.len = len - from;
+    }
+
+    // Keeps what was told, as far as there is room.
+    fn keep(&mut self, told: &[u8]) {
+        let len = self.len.min(ROOM);
+        let count = told.len().min(ROOM - len);
+        self.bytes[len..len + count].copy_from_slice(&told[..count]);
+        self.len = len + count;
+    }
+
+    fn faulty(&self) -> Faulty<'_> {
+        first_faulty(&self.bytes[..self.len.min(ROOM)], self.number, self.first)
+    }
+}
+
+impl<R> Kept<R> {
+    pub fn new(inner: R) -> Kept<R> {
+        Kept {
+            inner,
+            lines: Lines::new(),
+            is_directory: false,
+        }
+    }
+
+    /// The line whose fault has ended a job.
+    pub fn faulty(&self) -> Faulty<'_> {
+        self.lines.faulty()
+    }
+
+    pub fn is_directory(&self) -> bool {
+        self.is_directory
+    }
+}
+
+impl<R: Read> Read for Kept<R> {
+    ghost remaining = { λ k. R.remaining k.inner };
+
+    fn read(&mut self, buf: &mut [u8]) -> io::Result<usize> {
+        self.lines.let_go();
+        match self.inner.read(buf) {
+            Ok(count) => {
+                self.lines.keep(&buf[..count]);
+                Ok(count)
+            }
+            Err(error) => {
+                self.is_directory = error.kind() == ErrorKind::IsADirectory;
+                Err(error)
+            }
+        }
+    }
+}

@@ -1,0 +1,83 @@
+"""`--explain`: scripts whose whole output is known, random ones, the texts and rules of docs/EXPLAIN.md, and the cost."""
+
+import re
+import subprocess
+import time
+from pathlib import Path
+
+TOP = Path(__file__).resolve().parent.parent
+REASONS = TOP / "tests/reasons"
+PROFILES = ["storage", "tasks", "pools", "tidy", "faults"]
+RANDOM_SCRIPTS = 5000
+
+
+def whole():
+    """The scripts beside which a file says what they print with reasons."""
+    return sorted([*(TOP / "examples").glob("*.job"), *REASONS.glob("*.job")])
+
+
+def unstarred(printed):
+    """The printed bytes without the lines that begin with an asterisk."""
+    return b"".join(line for line in printed.splitlines(keepends=True) if not line.startswith(b"*"))
+
+
+def called(program, script, *words):
+    ran = subprocess.run([program, *words], input=script, capture_output=True, timeout=120)
+    return ran.stdout, ran.stderr, ran.returncode
+
+
+def as_known(program, path):
+    """Whether a script prints with reasons what stands beside it, and without them what it prints without the word."""
+    script = path.read_bytes()
+    plain, explained = called(program, script), called(program, script, "--explain")
+    return explained[0] == path.with_suffix(".why").read_bytes() and (unstarred(explained[0]), *explained[1:]) == plain
+
+
+def same_bytes(program, seed):
+    """Whether a random script prints the same bytes with reasons, but for their lines."""
+    words = ["--place", "high"] if seed % 2 else []
+    profile = PROFILES[seed % len(PROFILES)]
+    script = called(program, b"", "--random", str(seed), "--lines", "60", "--profile", profile)[0]
+    plain, explained = called(program, script, *words), called(program, script, "--explain", *words)
+    return (unstarred(explained[0]), *explained[1:]) == plain
+
+
+def starred():
+    """The lines with a reason of all scripts that are known."""
+    return [line for path in whole() for line in path.with_suffix(".why").read_text().splitlines() if line.startswith("*")]
+
+
+def rows():
+    """The texts of docs/EXPLAIN.md, as patterns: a word between underscores stands for what is filled in."""
+    texts = re.findall(r"^\|[^|]*\| `(\* [^`]*)` \|$", (TOP / "docs/EXPLAIN.md").read_text(), re.M)
+    return {text: re.compile(re.sub(r"_[a-z]+_", ".+", re.escape(text).replace(r"\_", "_"))) for text in texts}
+
+
+def texts():
+    """Whether each text of the document comes in a script, each line of a script is one of them, and each rule is there."""
+    patterns, lines = rows(), starred()
+    rules = {int(number) for number in re.findall(r"^\| (\d+) \|", (TOP / "docs/RULES.md").read_text(), re.M)}
+    for text, pattern in patterns.items():
+        yield f"text {text}", any(pattern.fullmatch(line) for line in lines)
+    for line in sorted(set(lines)):
+        cited = {int(number) for number in re.findall(r"\d+", line.rpartition("(rule")[2])}
+        yield f"line {line}", any(pattern.fullmatch(line) for pattern in patterns.values()) and cited and cited <= rules
+
+
+def quick_enough(program):
+    """Whether a long script takes at most five times as long with reasons."""
+    script = called(program, b"", "--random", "1", "--lines", "100000")[0]
+
+    def seconds(*words):
+        before = time.monotonic()
+        called(program, script, *words)
+        return time.monotonic() - before
+
+    return min(seconds("--explain") for _ in range(3)) <= 5 * min(seconds() for _ in range(3))
+
+
+def groups(program, each):
+    yield "explained scripts", each(as_known, whole(), lambda path: path.name)
+    yield "explained random scripts", each(same_bytes, range(RANDOM_SCRIPTS), str, chunksize=20)
+    yield "texts of reasons", lambda: list(texts())
+    yield "cost of reasons", lambda: [("long script", quick_enough(program))]

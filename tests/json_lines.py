@@ -1,0 +1,87 @@
+"""`--json`: each line is read by Python's reader, and what the program prints without the word is made of them."""
+
+import json
+import re
+import subprocess
+
+PLAIN = {"not_run": "NOT RUN", "no_name": "NO NAME", "cell": "CELL", "no_cell": "NO CELL", "attached": "ATTACHED", "ended": "ENDED", "done": "OK"}
+
+
+def data_lines(bytes_):
+    return [f"DATA +{at // 2:04X} {bytes_[at:at + 64]}" for at in range(0, len(bytes_), 64)]
+
+
+def subpool_lines(subpools):
+    kinds = {True: "OWNED", False: "SHARED"}
+    lines = [f"SP {s['subpool']} {kinds[s['owned']]} PLAIN {s['plain']} POOL {s['pool']}" for s in subpools]
+    return lines or ["SP NONE"]
+
+
+def page_line(run):
+    holder = f"SP {run['subpool']} OWNER {run['owner']}" if "owner" in run else "FREE"
+    return f"MAP {run['address']:08X} {run['length']:08X} {holder}"
+
+
+def code(event):
+    return f"S{event['system_code']:03X}" if "system_code" in event else f"U{event['user_code']:04d}"
+
+
+def texts(event):
+    """The texts of a statement's answer."""
+    answer = event["answer"]
+    if answer == "region":
+        return [f"REGION BELOW {event['below']} ABOVE {event['above']}"]
+    if answer == "return_code":
+        return [f"RC {event['return_code']}" + (f" LENGTH {event['length']:08X}" if "length" in event else "")]
+    if answer == "at":
+        return [f"AT {event['address']:08X}"]
+    if answer == "data":
+        return data_lines(event["bytes"])
+    if answer == "abend":
+        return [f"ABEND {code(event)}"]
+    if answer == "subpools":
+        return subpool_lines(event["subpools"])
+    if answer == "map":
+        return [page_line(run) for run in event["pages"]]
+    return [PLAIN[answer]]
+
+
+def printed(event):
+    """The lines that stand for an event."""
+    if event["event"] == "step_ended":
+        return [f"STEP ENDED RC {event['return_code']}"]
+    if event["event"] == "fault":
+        return [f"{event['line']} JS{event['fault']:02d}", "JOB FAULT RC 12"]
+    lines = [f"{event['line']} {event['task']} {text}" for text in texts(event)]
+    return lines + [f"{event['line']} {fallen['task']} ENDED WITH {event['task']}" for fallen in event.get("fallen", [])]
+
+
+def areas_hold(event):
+    """Whether the areas have the lengths and sides of a grant, and the statement's own subpool number."""
+    for area in event.get("areas", []) + [event[name] for name in ("cell",) if name in event]:
+        if not isinstance(area, dict):
+            continue
+        number = re.search(r"[ ,]SP=(\d+)", event["statement"])
+        named = "areas" not in event or area["subpool"] == (int(number[1]) if number else 0)
+        if not named or (area["side"] == "above") != (area["address"] >= 1 << 24):
+            return False
+    return True
+
+
+def holds(program, script):
+    """Whether the lines of JSON say what is printed, with and without reasons."""
+    plain = subprocess.run([program], input=script, capture_output=True, timeout=60)
+    for words in (["--json"], ["--json", "--explain"]):
+        ran = subprocess.run([program, *words], input=script, capture_output=True, timeout=60)
+        events = [json.loads(line) for line in ran.stdout.decode().splitlines()]
+        lines = [line for event in events for line in printed(event)]
+        if (lines, ran.returncode, ran.stderr) != (plain.stdout.decode().splitlines(), plain.returncode, plain.stderr):
+            return False
+        if not all(map(areas_hold, events)):
+            return False
+    return True
+
+
+def random_holds(program, profile, seed):
+    script = subprocess.run([program, "--random", str(seed), "--profile", profile], capture_output=True, timeout=60).stdout
+    return holds(program, script)
