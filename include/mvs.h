@@ -1,8 +1,8 @@
 /* mvs.h: the virtual storage services of an MVS program's own region, for C and C++.
  *
  * A session is a job that is told its statements one by one: mvs_line serves a statement and tells what it was answered as an
- * mvs_event; mvs_text prints the same as text. mvs_request serves a request that is given by values, without a text. mvs_run
- * runs a whole script in one call.
+ * mvs_event; mvs_text prints the same as text. mvs_request serves a request that is given by values, without a text, and mvs_list
+ * one for a list of areas. mvs_run runs a whole script in one call.
  *
  * Each function answers for every input that meets the rules below; none of them ends the program, and none keeps a pointer.
  *
@@ -40,8 +40,8 @@ enum {
     MVS_NO_MORE = 40,      /* there is no more of what was asked for */
     MVS_TOO_LONG = 44,     /* mvs_run: the script has more than 16,777,215 bytes */
     MVS_NOT_READ = 48,     /* mvs_run: does not happen, which is not proved */
-    MVS_NO_REQUEST = 52,   /* mvs_request: a name or a number is out of its range; nothing is done */
-    MVS_NO_STEP_RUNS = 56  /* mvs_request: no step runs; nothing is done */
+    MVS_NO_REQUEST = 52,   /* mvs_request, mvs_list: a name or a number is out of its range; nothing is done */
+    MVS_NO_STEP_RUNS = 56  /* mvs_request, mvs_list: no step runs; nothing is done */
 };
 
 /* What an event tells. What is not named is 0, and the task blank. */
@@ -100,10 +100,10 @@ enum {
     MVS_MOVE = 11           /* address, source, length, up to 65,536 */
 };
 
-/* The forms of GETMAIN and FREEMAIN, and STORAGE with COND=NO and COND=YES. */
+/* The forms of GETMAIN and FREEMAIN, and STORAGE with COND=NO and COND=YES; LC and LU are those of mvs_list. */
 enum {
     MVS_R = 0, MVS_RC = 1, MVS_RU = 2, MVS_VRC = 3, MVS_VRU = 4, MVS_EC = 5, MVS_EU = 6, MVS_VC = 7, MVS_VU = 8,
-    MVS_STORAGE = 9, MVS_STORAGE_CONDITIONAL = 10
+    MVS_STORAGE = 9, MVS_STORAGE_CONDITIONAL = 10, MVS_LC = 11, MVS_LU = 12
 };
 
 /* LOC=. */
@@ -133,6 +133,12 @@ typedef struct mvs_ask {
     uint8_t task[8];
     uint8_t name[8];    /* of a pool or a subtask */
 } mvs_ask;
+
+/* An area of a list: of a request its length, and where it lies if it is released; then what was granted. */
+typedef struct mvs_area {
+    uint32_t address;
+    uint32_t length;
+} mvs_area;
 
 /* A subpool number that a task has: whether the task owns the subpool, and the bytes that this holds outside and inside of cell
  * pools. */
@@ -173,6 +179,11 @@ uint32_t mvs_line(mvs_session *session, const uint8_t *line, size_t length, mvs_
  * print of it. *event is what it was answered. MVS_OK; or MVS_NO_REQUEST, MVS_NO_STEP_RUNS, MVS_NO_SESSION or MVS_OVER, and then
  * *event is as it was. */
 uint32_t mvs_request(mvs_session *session, const mvs_ask *ask, mvs_event *event);
+
+/* Serves a request for count areas, 1 to 16, as mvs_request does: MVS_OBTAIN reads form, subpool and boundary of the request and
+ * the lengths of the areas, MVS_RELEASE form, subpool and the areas. Where all are granted, which is MVS_RC_0, the areas say where
+ * they lie and how long they are; else they are as they were. */
+uint32_t mvs_list(mvs_session *session, const mvs_ask *ask, mvs_area *areas, size_t count, mvs_event *event);
 
 /* Tells the session that there are no more lines. MVS_OK, MVS_SOME_ABEND, or MVS_SCRIPT_FAULT where no step was begun; or
  * MVS_NO_SESSION or MVS_OVER, and then *event is as it was. */

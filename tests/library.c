@@ -21,6 +21,8 @@ static int without_session(void) {
     size_t wanted = 7;
     mvs_subpool_line subpool = {7, true, 7, 7};
     mvs_map_run run = {7, 7, true, 7, {7}};
+    mvs_area area = {7, 7};
+    mvs_ask ask;
     event.kind = 77;
     if (line("JOB REGION BELOW=1") != MVS_NO_SESSION || event.kind != 77) return 1;
     if (mvs_end(&session, &event) != MVS_NO_SESSION || event.kind != 77) return 2;
@@ -29,6 +31,8 @@ static int without_session(void) {
     if (mvs_fallen(&session, 0, name) != MVS_NO_SESSION || name[0] != 7) return 5;
     if (mvs_subpool(&session, (const uint8_t *)"JOB", 3, 0, &subpool) != MVS_NO_SESSION || subpool.plain != 7) return 6;
     if (mvs_map(&session, 0, &run) != MVS_NO_SESSION || run.number != 7) return 7;
+    memset(&ask, 0, sizeof ask);
+    if (mvs_list(&session, &ask, &area, 1, &event) != MVS_NO_SESSION || event.kind != 77 || area.address != 7) return 8;
     mvs_free(&session);
     return 0;
 }
@@ -121,7 +125,34 @@ static int areas(void) {
     return 0;
 }
 
-/* Pools and tasks by values, behind areas. */
+/* Lists by values, behind areas. */
+static int lists(void) {
+    mvs_ask list = asked(MVS_OBTAIN, "JOB");
+    mvs_area two[2] = {{7, 20}, {7, 8}}, long_list[17];
+    size_t i;
+    for (i = 0; i < 17; i++) long_list[i].address = 7, long_list[i].length = 8;
+    list.subpool = 9;
+    if (mvs_list(&session, &list, two, 2, &event) != MVS_NO_REQUEST || two[0].address != 7) return 110;
+    list.form = MVS_LC;
+    if (mvs_list(&session, &list, two, 0, &event) != MVS_NO_REQUEST) return 111;
+    if (mvs_list(&session, &list, long_list, 17, &event) != MVS_NO_REQUEST || long_list[0].address != 7) return 112;
+    if (mvs_list(&session, &list, two, 2, &event) != MVS_OK || event.kind != MVS_RC_0 || two[0].length != 24 || two[1].length != 8) return 113;
+    if (two[0].address % 8 || two[1].address % 8 || two[0].address == two[1].address) return 114;
+    list.kind = MVS_RELEASE;
+    if (mvs_list(&session, &list, two, 2, &event) != MVS_OK || event.kind != MVS_RC_0) return 115;
+    if (mvs_list(&session, &list, two, 2, &event) != MVS_OK || event.kind != MVS_RC_4) return 116;
+    list.kind = MVS_OBTAIN, two[0].address = two[1].address = 7, two[1].length = 0x7FFFFFFF;
+    if (mvs_list(&session, &list, two, 2, &event) != MVS_OK || event.kind != MVS_RC_4 || two[0].address != 7 || two[0].length != 24) return 117;
+    two[1].length = 0;
+    if (mvs_list(&session, &list, two, 2, &event) != MVS_NO_REQUEST) return 118;
+    list.kind = MVS_RELEASE_WHOLE;
+    if (mvs_list(&session, &list, long_list, 1, &event) != MVS_NO_REQUEST) return 119;
+    list.kind = MVS_OBTAIN, list.form = MVS_LU;
+    if (mvs_list(&session, &list, long_list, 16, &event) != MVS_OK || event.kind != MVS_RC_0 || long_list[15].address == 7 || long_list[16].address != 7) return 120;
+    return 0;
+}
+
+/* Pools and tasks by values, behind lists. */
 static int pools_and_tasks(void) {
     uint8_t name[8] = {0};
     mvs_ask pool = asked(MVS_POOL_BUILD, "JOB"), attach = asked(MVS_ATTACH, "JOB");
@@ -194,6 +225,7 @@ int main(void) {
     if (!failed) failed = text();
     if (!failed) failed = whole();
     if (!failed) failed = areas();
+    if (!failed) failed = lists();
     if (!failed) failed = pools_and_tasks();
     return failed;
 }

@@ -58,6 +58,8 @@ def by_compiler(name, words, archive, folder):
             yield f"{name}, {path.name}, {how}", printed([replay, how], path)
     checks = compiled(words, TOP / "tests/library.c", archive, folder / f"{name} library")
     yield f"{name}, each answer", subprocess.run([checks], timeout=60).returncode == 0
+    refused = compiled([*words, "-Wl,--wrap=malloc,--wrap=realloc"], TOP / "tests/refused.c", archive, folder / f"{name} refused")
+    yield f"{name}, memory refused", subprocess.run([refused], timeout=60).returncode == 0
     handler = compiled(words, TOP / "examples/c/handler.c", archive, folder / f"{name} handler")
     ran = subprocess.run([handler], capture_output=True, text=True, timeout=60)
     yield f"{name}, handler", (ran.returncode, ran.stdout, ran.stderr) == (0, HANDLED, "")

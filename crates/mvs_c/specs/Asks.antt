@@ -105,7 +105,7 @@ AsksFor a (Some Move) r = SomeIff r ((a.address < 2 ^ 31) × (a.source < 2 ^ 31)
 abbrev pub Asks : Ask → Option Request → Type 0
 Asks a r = AsksFor a (slice_get kinds a.kind) r
 
--- The same with the task that is named.
-abbrev pub TaskAsks : Ask → Option (Name × Request) → Type 0
-TaskAsks a None = (IsNameText (name_text a.task) → ⊥) ⊎ Asks a None
-TaskAsks a (Some asked) = IsNameText (name_text a.task) × (asked.0 ≡ name_said a.task) × Asks a (Some asked.1)
+-- The same with the task that is named, of what a struct may ask for.
+abbrev pub TaskAsks : Ask → (Option Request → Type 0) → Option (Name × Request) → Type 0
+TaskAsks a asks None = (IsNameText (name_text a.task) → ⊥) ⊎ asks None
+TaskAsks a asks (Some asked) = IsNameText (name_text a.task) × (asked.0 ≡ name_said a.task) × asks (Some asked.1)

@@ -61,10 +61,10 @@ AnswersAsked old (Some asked) new before after status = MatchOption old.session.
     (Leaves old new before after 56 status)
     (λ _. (later : WalkValue) × RequestsOf old.session.walk asked.0 asked.1 true later × (new ≡ without_line later) × (after ≡ reply_event asked.0 later.reply) × (status ≡ 0))
 
--- What a call answers that gives a session a request by values: a job that has ended takes none.
-abbrev pub AnswersRequest : OpenValue → Ask → OpenValue → Event → Event → ℕ → Type 0
-AnswersRequest old a new before after status = MatchBool old.session.goes_on
-    ((asked : Option (Name × Request)) × TaskAsks a asked × AnswersAsked old asked new before after status)
+-- What a call answers that gives a session a request by values, of those that a struct may ask for: a job that has ended takes none.
+abbrev pub AnswersRequest : OpenValue → Ask → (Option Request → Type 0) → OpenValue → Event → Event → ℕ → Type 0
+AnswersRequest old a asks new before after status = MatchBool old.session.goes_on
+    ((asked : Option (Name × Request)) × TaskAsks a asks asked × AnswersAsked old asked new before after status)
     (Leaves old new before after 24 status)
 
 -- A session ends its job so.

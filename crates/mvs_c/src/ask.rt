@@ -113,7 +113,7 @@ pub struct Ask {
 }
 
 // A kind of request.
-fn kind_of(number: u32) -> Option<Kind>
+pub fn kind_of(number: u32) -> Option<Kind>
     ensures { result ≡ slice_get kinds number }
 {
     KINDS.get(number as usize).copied()
@@ -134,21 +134,21 @@ fn location_of(number: u32) -> Option<Loc>
 }
 
 // A subpool number.
-fn subpool_of(number: u32) -> Option<u8>
+pub fn subpool_of(number: u32) -> Option<u8>
     ensures { SomeIff result (number < 256) number }
 {
     u8::try_from(number).ok()
 }
 
 // A number, or another one in the place of 0.
-fn or_else(number: u32, other: u32) -> u32
+pub fn or_else(number: u32, other: u32) -> u32
     ensures { result ≡ or_else number other }
 {
     if number == 0 { other } else { number }
 }
 
 // A length of an area.
-fn length_of(number: u32) -> Option<Length>
+pub fn length_of(number: u32) -> Option<Length>
     ensures { SomeIff result ((1 ≤ number) × (number < 2 ^ 31)) number }
 {
     if 1 <= number && number < ADDRESSES {
@@ -159,7 +159,7 @@ fn length_of(number: u32) -> Option<Length>
 }
 
 // The power of two of a boundary.
-fn exponent_of(number: u32) -> Option<Exponent>
+pub fn exponent_of(number: u32) -> Option<Exponent>
     ensures { SomeIff result ((3 ≤ number) × (number ≤ 31)) number }
 {
     if 3 <= number && number <= 31 {
@@ -181,7 +181,7 @@ fn address_of(number: u32) -> Option<Addr>
 }
 
 // So many bytes from an address on.
-fn place_of(addr: u32, len: u32) -> Option<Place>
+pub fn place_of(addr: u32, len: u32) -> Option<Place>
     ensures { SomeIff result (IsPlace (place_at addr len)) (place_at addr len) }
 {
     let addr = address_of(addr)?;
@@ -235,7 +235,7 @@ fn text_len(bytes: &[u8]) -> usize
 }
 
 // A name of eight bytes, which ends before the first blank or zero byte.
-fn name_of(bytes: &[u8; 8]) -> Option<Name>
+pub fn name_of(bytes: &[u8; 8]) -> Option<Name>
     ensures { SomeIff result (IsNameText (name_text bytes.now)) (name_said bytes.now) }
 {
     Name::new(&bytes[..text_len(bytes)])
@@ -405,7 +405,7 @@ impl Ask {
 
     /// The task and the request that it asks for; None where a name or a number of it is out of its range.
     pub fn task_request(&self) -> Option<(Name, Request)>
-        ensures { TaskAsks self.now result }
+        ensures { TaskAsks self.now (Asks self.now) result }
     {
         let task = name_of(&self.task)?;
         let request = self.request()?;

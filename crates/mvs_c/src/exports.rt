@@ -6,16 +6,21 @@ ghost use Rattle.mvs_model.specs.declared.report.SubpoolLine.{SubpoolLine};
 ghost use Rattle.mvs_model.specs.declared.report.MapRun.{MapRun};
 ghost use Rattle.mvs_c.specs.Access.{FindsRun, FindsSubpool, Reads, TellsOne, WritesAt, run_told, subpool_told};
 ghost use Rattle.mvs_c.specs.Opens.{TakesLine, new_open, text_of};
-ghost use Rattle.mvs_c.specs.Exports.{AnswersEnd, AnswersLine, AnswersRequest, HandsOver, WithSession, line_status, outcome_status};
+ghost use Rattle.mvs_c.specs.Asks.{Asks, kinds};
+ghost use Rattle.mvs_c.specs.Lists.{AnswersList, AsksForList, areas_told, listed};
+ghost use Rattle.mvs_c.specs.Exports.{AnswersAsked, AnswersEnd, AnswersLine, AnswersRequest, HandsOver, WithSession, line_status, outcome_status};
 
 use crate::access::{self, Run, Subpool};
 use crate::ask::Ask;
 use crate::buffer::{OK, hand_over};
 use crate::event::{Event, end_event, line_event, reply_event};
 use crate::handle::Handle;
+use crate::list::{Area, tell_listed};
 use crate::open::Open;
 use mvs_job::{LineTold, Stopped};
+use mvs_model::name::Name;
 use mvs_model::outcome::Outcome;
+use mvs_model::request::Request;
 use mvs_model::want::Placement;
 use mvs_model::watched::Watched;
 use std::alloc::Global;
@@ -92,14 +97,12 @@ fn tell_line(held: &mut Open, line: &[u8], event: &mut Event) -> u32
     line_status(&told)
 }
 
-// Gives a session a request, if it goes on and a step runs.
-fn tell_request(held: &mut Open, ask: &Ask, event: &mut Event) -> u32
-    ensures { AnswersRequest held.old ask.now held.new event.old event.new result }
+// Gives a session that goes on a request, if there is one and a step runs.
+fn serve(held: &mut Open, asked: Option<(Name, Request)>, event: &mut Event) -> u32
+    requires { held.old.session.goes_on ≡ true }
+    ensures { AnswersAsked held.old asked held.new event.old event.new result }
 {
-    if !held.goes_on() {
-        return OVER;
-    }
-    let Some((task, request)) = ask.task_request() else {
+    let Some((task, request)) = asked else {
         return NO_REQUEST;
     };
     if !held.request(&task, &request) {
@@ -107,6 +110,35 @@ fn tell_request(held: &mut Open, ask: &Ask, event: &mut Event) -> u32
     }
     *event = reply_event(&task, held.reply());
     OK
+}
+
+// Gives a session a request, if it goes on and a step runs.
+fn tell_request(held: &mut Open, ask: &Ask, event: &mut Event) -> u32
+    ensures { AnswersRequest held.old ask.now (Asks ask.now) held.new event.old event.new result }
+{
+    if !held.goes_on() {
+        return OVER;
+    }
+    serve(held, ask.task_request(), event)
+}
+
+// Gives a session a list request, if it goes on and a step runs.
+fn tell_list(held: &mut Open, ask: &Ask, areas: &mut [Area], event: &mut Event) -> u32
+    ensures answer { AnswersRequest held.old ask.now
+        (AsksForList ask.now areas.old (slice_get kinds ask.now.kind)) held.new event.old event.new
+        result }
+    ensures granted { result ≡ 0
+        → areas.new ≡ areas_told (listed held.new.session.walk.reply) areas.old }
+    ensures left { result ≢ 0 → areas.new ≡ areas.old }
+{
+    if !held.goes_on() {
+        return OVER;
+    }
+    let status = serve(held, ask.task_list_request(areas), event);
+    if status == OK {
+        tell_listed(held.reply(), areas);
+    }
+    status
 }
 
 // Tells a session that there are no more lines, if it goes on.
@@ -178,12 +210,33 @@ pub extern "C" fn mvs_request(
 ) -> u32
     ensures { WithSession session.old.open session.new.open
         ((result ≡ 20) × (event.new ≡ event.old))
-        (λ old new. AnswersRequest old ask.now new event.old event.new result) }
+        (λ old new. AnswersRequest old ask.now (Asks ask.now) new event.old event.new result) }
 {
     let Some(mut held) = take_out(alloc, session) else {
         return NO_SESSION;
     };
     let status = tell_request(&mut held, ask, event);
+    put(alloc, session, held);
+    status
+}
+
+/// Gives a list request by values, and tells the areas that are granted.
+#[unsafe(no_mangle)]
+pub extern "C" fn mvs_list(
+    alloc: Global,
+    session: &mut Handle,
+    ask: &Ask,
+    areas: &mut [Area],
+    event: &mut Event,
+) -> u32
+    ensures { WithSession session.old.open session.new.open
+        ((result ≡ 20) × (areas.new ≡ areas.old) × (event.new ≡ event.old))
+        (λ old new. AnswersList old ask.now areas.old new areas.new event.old event.new result) }
+{
+    let Some(mut held) = take_out(alloc, session) else {
+        return NO_SESSION;
+    };
+    let status = tell_list(&mut held, ask, areas, event);
     put(alloc, session, held);
     status
 }

@@ -9,5 +9,6 @@ mod event;
 mod exports;
 mod handle;
 mod last;
+mod list;
 mod open;
 mod whole;
