@@ -6,6 +6,7 @@ ghost use Rattle.mvs_model.specs.Runs.{IsPrinting};
 
 mod answers;
 mod ask;
+mod deciding;
 mod difference;
 mod hearing;
 

@@ -1,0 +1,57 @@
+-- What is decided of an output: that no run of a script prints it.
+use Rattle.std.specs.Prelude.{◌≡◌, ℕ, Bool, true, false, List, [], ◌∷◌, ◌++◌, drop, Option, Some, None}
+use Rattle.mvs_model.specs.declared.line.Line.{Line}
+use Rattle.mvs_model.specs.declared.line.Line.TheVariants as line
+use Rattle.mvs_model.specs.declared.line.Statement.{Statement}
+use Rattle.mvs_model.specs.declared.line.Statement.TheVariants as says
+use Rattle.mvs_model.specs.declared.line.Written.{Written}
+use Rattle.mvs_model.specs.declared.line.Written.TheVariants as written
+use Rattle.mvs_model.specs.declared.name.Name.{Name}
+use Rattle.mvs_model.specs.declared.outcome.Outcome.{Outcome}
+use Rattle.mvs_model.specs.Answers.{Event}
+use Rattle.mvs_model.specs.Going.{Holds}
+use Rattle.mvs_model.specs.Job.{JobValue}
+use Rattle.mvs_model.specs.Runs.{machine, IsPrinting}
+use Rattle.mvs_model.specs.Texts.{printing}
+use Rattle.mvs_model.specs.View.{IsBounded}
+use Rattle.mvs_model.specs.Walk.{JobEnds, Walks}
+use Rattle.mvs_job.specs.Telling.{WalkValue}
+use Rattle.judge.specs.declared.deciding.Verdict.{Verdict}
+use Rattle.judge.specs.declared.deciding.Verdict.TheVariants.{On, Refused, Open}
+
+-- The text is the printing of no run of the script, however it may end.
+abbrev pub IsNoPrinting : List ℕ → List ℕ → Type 0
+IsNoPrinting script text = (outcome : Outcome) → IsPrinting script text outcome → ⊥
+
+-- From the line of this number on a run may print this text, and end so.
+abbrev pub MayPrint : ℕ → Option JobValue → List (List ℕ) → List ℕ → Outcome → Type 0
+MayPrint number old lines text outcome = (events : List Event) × Walks machine (JobEnds machine outcome) number old lines events × (text ≡ printing events)
+
+-- whether a request may be granted places: areas, the parts of a pool, or a cell
+abbrev pub may_grant : Written → Bool
+may_grant (written.Obtain form number ask variable area) = true
+may_grant (written.ObtainList form number lengths start areas) = true
+may_grant (written.Build pool number size primary secondary loc) = true
+may_grant (written.Get pool conditional cell) = true
+may_grant _ = false
+
+-- the same of what a line says
+abbrev pub leaves_open : Line → Bool
+leaves_open (line.Statement t (says.Request a)) = may_grant a
+leaves_open _ = false
+
+-- A line asks for an area, which sets a name.
+abbrev pub AsksArea : Line → Name → Name → Type 0
+AsksArea (line.Statement t (says.Request (written.Obtain form number ask variable area))) task name = (t ≡ task) × (area ≡ name)
+AsksArea _ task name = ⊥
+
+-- the pages of the step are at most those of a card
+abbrev pub InBounds : Option JobValue → Type 0
+InBounds step = Holds (λ st. IsBounded st.regions) step
+
+-- What is decided at some lines: each run that prints the text comes behind them and so many bytes of it, with the job that stands
+-- there; no run prints it; or nothing.
+abbrev pub Decides : List (List ℕ) → List ℕ → WalkValue → Verdict → WalkValue → Type 0
+Decides served text old (On n) new = (more : List (List ℕ)) (outcome : Outcome) → MayPrint old.number old.step (served ++ more) text outcome → MayPrint new.number new.step more (drop n text) outcome
+Decides served text old Refused new = (more : List (List ℕ)) (outcome : Outcome) → MayPrint old.number old.step (served ++ more) text outcome → ⊥
+Decides served text old Open new = Unit {0}
