@@ -122,7 +122,7 @@ module _ (told : List ℕ) (old : JobValue) (t : Name) (answer other : Answer) (
     at active (inr u) (inl v) = absurd (no_grant old.state keeps number want u.0 a.state (round8_some ask.least ranged.some) v.0 u.2)
     at active (inr u) (inr v) = both active u.0 v.0 u.1 v.1 u.2 v.2
 
-  asked : Does (Takes told) old t (says.Request k) answer a → Does Any old t (says.Request k) other b → Alike
+  pub asked : Does (Takes told) old t (says.Request k) answer a → Does Any old t (says.Request k) other b → Alike
   asked x y = by_two (not (is_active old.state.owners t)) x y (λ p q. (p.0 ∙ sym q.0, inl (p.1 ∙ sym q.1))) obtains
 
 -- ---- the question
