@@ -1,9 +1,10 @@
 -- What lines decide of a text that a run may print.
-use Rattle.std.proofs.Common.{Decides as Tests, eqb, ◌≡◌, ◌≢◌, ℕ, ◌+◌, ◌<◌, ◌⊎◌, inl, inr, Bool, true, false, List, [], ◌∷◌, ◌++◌, length, drop, codes, decimal, Option, Some, None, append_assoc, append-nil, length-append, arith, refl, sym, ap, ◌∙◌, subst}
+use Rattle.std.proofs.Common.{Decides as Tests, eqb, ◌≡◌, ◌≢◌, ℕ, ◌+◌, ◌<◌, ◌⊎◌, inl, inr, Bool, true, false, List, [], ◌∷◌, ◌++◌, length, drop, take, ◌≤◌, codes, decimal, Option, Some, None, append_assoc, append-nil, length-append, arith, refl, sym, ap, ◌∙◌, subst}
 use Rattle.std.specs.Prelude.{◌^◌}
 use Rattle.std.proofs.Math.Seq.{drop-append_seam}
 use Rattle.std.proofs.lemmas.Bool.Decides.{nat_tests}
-use Rattle.std.proofs.lemmas.List.{append_cancel_left}
+use Rattle.std.proofs.lemmas.Grind.{common_steps}
+use Rattle.std.proofs.lemmas.List.{append_cancel_left, drop_all, drop-drop}
 use Rattle.mvs_model.specs.declared.name.Name.{Name}
 use Rattle.mvs_model.specs.declared.code.Form.{Form}
 use Rattle.mvs_model.specs.declared.line.Fault.{Fault}
@@ -15,14 +16,17 @@ use Rattle.mvs_model.specs.declared.outcome.Outcome.{Outcome}
 use Rattle.mvs_model.specs.Answers.{Answer, Event, Faulted, Told, At}
 use Rattle.mvs_model.specs.Name.{trimmed}
 use Rattle.mvs_model.specs.Job.{JobValue}
-use Rattle.mvs_model.specs.Lines.{IsLine}
+use Rattle.mvs_model.specs.Card.{CardValue, IsCard}
+use Rattle.mvs_model.specs.Lines.{IsLine, lines_of}
+use Rattle.mvs_model.specs.Start.{start}
 use Rattle.mvs_model.specs.Reading.{LineOf, FaultOf, hex_number}
-use Rattle.mvs_model.specs.Runs.{Condition, machine, job_machine}
+use Rattle.mvs_model.specs.Runs.{Condition, IsPrinting, machine, job_machine}
 use Rattle.mvs_model.specs.Texts.{printing, reply_line, said, hex}
 use Rattle.mvs_model.specs.View.{IsBounded}
-use Rattle.mvs_model.specs.Walk.{Serves, ServesLine, Faults, Walks, JobEnds, is_first}
+use Rattle.mvs_model.specs.Walk.{Closes, Serves, ServesLine, Faults, Walks, JobEnds, is_first}
 use Rattle.mvs_model.specs.Want.{AskValue, IsAsk}
-use Rattle.mvs_model.proofs.Going.{printed_both}
+use Rattle.mvs_model.proofs.Going.{line_keeps, printed_both}
+use Rattle.mvs_model.proofs.Kept.{Closed}
 use Rattle.mvs_model.proofs.OneSteps.{head_of, tail_of}
 use Rattle.mvs_model.proofs.Reading.{one_reading}
 use Rattle.mvs_model.proofs.ReadingRanges.{line_ranged}
@@ -30,9 +34,10 @@ use Rattle.mvs_model.proofs.ValueTexts.{hex_writes}
 use Rattle.step_machine.specs.Taking.{Takes}
 use Rattle.mvs_job.specs.declared.walk.LineTold.{LineTold}
 use Rattle.mvs_job.specs.declared.walk.LineTold.TheVariants as tells
-use Rattle.mvs_job.specs.Telling.{IsToldBy, WalkValue, events_told}
+use Rattle.mvs_job.specs.Telling.{IsToldBy, WalkValue, closing, events_told, new_walk}
+use Rattle.judge.specs.declared.deciding.Verdict.{Verdict}
 use Rattle.judge.specs.declared.deciding.Verdict.TheVariants.{On, Refused}
-use Rattle.judge.specs.Deciding.{AsksArea, Decides, InBounds, IsClosed, IsGrant, IsQuestion, MayPrint, leaves_open}
+use Rattle.judge.specs.Deciding.{AsksArea, Decides, DecidesFirst, IsNoPrinting, InBounds, IsClosed, IsGrant, IsQuestion, MayPrint, PrintsEnd, leaves_open}
 use Rattle.judge.proofs.Settled.{serves_same}
 use Rattle.judge.proofs.Areas.{Apart, Located, asked, located}
 
@@ -242,3 +247,97 @@ module _ (told : List ℕ) (w w1 w2 : WalkValue) (l q : List ℕ) (tl tq : LineT
             go : (later : JobValue) → w1.step ≡ Some later → ((w1.step ≡ v.0) ⊎ ((job : JobValue) × (x : JobValue) × (y : JobValue) × (w.step ≡ Some job) × (w1.step ≡ Some x) × (v.0 ≡ Some y) × Apart told job x y task area)) → Behind more v.2 outcome ⊎ Asked more v.2 outcome
             go later e (inl same) = inl (alike v.2 later e (subst (λ step. MayPrint (w.number + 1) step (q ∷ more) v.2 outcome) (sym same) v.5))
             go later e (inr a) = inr (apart v.2 a.0 a.1 a.2 a.3 a.4 a.6 (subst (λ step. MayPrint (w.number + 1) step (q ∷ more) v.2 outcome) a.5 v.5))
+
+  -- what that decides, where this is printed of the two
+  module _ (text one_printed other_printed : List ℕ) (one_same : one_printed ≡ one_text) (other_same : other_printed ≡ other_text) where
+    pub grant_refused : ((rest : List ℕ) → text ≡ one_printed ++ rest → ⊥) → Decides (l ∷ q ∷ []) text w Refused w2
+    grant_refused other more outcome may = let p = pair more outcome text may in other p.0 (p.1 ∙ ap (λ x. x ++ p.0) (sym one_same))
+
+    -- what is left of the text
+    left_is : text ≡ one_printed ++ drop (length one_printed) text → (left : List ℕ) → text ≡ one_text ++ left → left ≡ drop (length one_printed) text
+    left_is front left e = append_cancel_left one_printed _ _ (ap (λ x. x ++ left) one_same ∙ sym e ∙ front)
+
+    pub pair_on : (left : List ℕ) (n : ℕ) → left ≡ drop (length one_printed) text → n ≡ length one_printed + length other_printed → w2.number ≡ w1.number + 1 → text ≡ one_printed ++ drop (length one_printed) text
+        → left ≡ other_printed ++ drop (length other_printed) left → Decides (l ∷ q ∷ []) text w (On n) w2
+    pair_on left n left_at many last front behind more outcome may = let p = pair more outcome text may in at p.0 (left_is front p.0 p.1 ∙ sym left_at) p.2 where
+      whole : drop (length other_printed) left ≡ drop n text
+      whole = ap (drop (length other_printed)) left_at ∙ drop-drop (length other_printed) (length one_printed) text ∙ ap (λ k. drop k text) (sym many)
+
+      done : (rest : List ℕ) → rest ≡ drop (length other_printed) left → MayPrint (w1.number + 1) w2.step more rest outcome → MayPrint w2.number w2.step more (drop n text) outcome
+      done rest e may = subst (λ k. MayPrint k w2.step more (drop n text) outcome) (sym last) (subst (λ x. MayPrint (w1.number + 1) w2.step more x outcome) (e ∙ whole) may)
+
+      at : (now : List ℕ) → now ≡ left → (Behind more now outcome ⊎ Asked more now outcome) → MayPrint w2.number w2.step more (drop n text) outcome
+      at now e (inl b) = done b.0 (append_cancel_left other_printed _ _ (ap (λ x. x ++ b.0) other_same ∙ sym b.1 ∙ e ∙ behind)) b.2
+      at now e (inr a) =
+          let mine : left ≡ reply_line w1.number task (said (At a.one)) ++ drop (length other_printed) left =
+            behind ∙ ap (λ x. x ++ drop (length other_printed) left) (other_same ∙ a.one_is ∙ append-nil (reply_line w1.number task (said (At a.one)))) in
+          let same = one_address w1.number task a.one a.another (drop (length other_printed) left) a.rest a.small_one a.small_another (sym mine ∙ sym e ∙ a.another_is) in
+          done a.rest (sym same.1) (a.same same.0)
+
+    pub question_refused : (left : List ℕ) (k : ℕ) (behind : List ℕ) → left ≡ drop (length one_printed) text → told ≡ k ∷ [] → k < 2 ^ 32 → text ≡ one_printed ++ drop (length one_printed) text
+        → ((rest : List ℕ) → left ≡ other_printed ++ rest → ⊥) → left ≡ reply_line w1.number task (said (At k)) ++ behind → Decides (l ∷ q ∷ []) text w Refused w2
+    question_refused left k behind left_at is small front other tells more outcome may = let p = pair more outcome text may in at p.0 (left_is front p.0 p.1 ∙ sym left_at) p.2 where
+      at : (now : List ℕ) → now ≡ left → (Behind more now outcome ⊎ Asked more now outcome) → ⊥
+      at now e (inl b) = other b.0 (sym e ∙ b.1 ∙ ap (λ x. x ++ b.0) (sym other_same))
+      at now e (inr a) =
+          let same = one_address w1.number task a.another k a.rest behind a.small_another small (sym a.another_is ∙ e ∙ tells) in
+          let here : a.one ≡ k = a.takes k is same.0 in
+          other behind (tells ∙ ap (λ x. x ++ behind) (sym (other_same ∙ a.one_is ∙ append-nil (reply_line w1.number task (said (At a.one))) ∙ ap (λ n. reply_line w1.number task (said (At n))) here)))
+
+-- ---- the lines of a script
+
+-- one line, or two, at the front of a script
+pub first_line : (script text : List ℕ) (w w' : WalkValue) (n : ℕ) (verdict : Verdict) → lines_of script ≡ take n script ∷ lines_of (drop (n + 1) script) → Decides (take n script ∷ []) text w verdict w' → DecidesFirst script text w (n + 1) verdict w'
+first_line script text w w' n verdict cut d = (take n script ∷ [], cut, d)
+
+pub first_lines : (script rest text : List ℕ) (w w' : WalkValue) (n m : ℕ) (verdict : Verdict) → rest ≡ drop (n + 1) script → lines_of script ≡ take n script ∷ lines_of (drop (n + 1) script) → lines_of rest ≡ take m rest ∷ lines_of (drop (m + 1) rest)
+    → Decides (take n script ∷ take m rest ∷ []) text w verdict w' → DecidesFirst script text w (n + 1 + (m + 1)) verdict w'
+first_lines script rest text w w' n m verdict is cut cut_rest d = (
+  take n script ∷ take m rest ∷ [],
+  cut ∙ ap (λ lines. take n script ∷ lines) (ap lines_of (sym is) ∙ cut_rest ∙ ap (λ x. take m rest ∷ lines_of x) (ap (drop (m + 1)) is ∙ drop-drop (m + 1) (n + 1) script)),
+  d,
+)
+
+-- Each run of the script that prints the output comes here.
+abbrev pub Comes : List ℕ → List ℕ → ℕ → ℕ → WalkValue → Type 0
+Comes script output at done w = (outcome : Outcome) → IsPrinting script output outcome → MayPrint w.number w.step (lines_of (drop at script)) (drop done output) outcome
+
+pub comes_first : (script output : List ℕ) (w : WalkValue) → w ≡ new_walk → Comes script output 0 0 w
+comes_first script output w e outcome may = subst (λ w. MayPrint w.number w.step (lines_of script) output outcome) (sym e) may
+
+module _ (script output rest left : List ℕ) (at done taken : ℕ) (w w' : WalkValue) (rest_is : rest ≡ drop at script) (left_is : left ≡ drop done output) (c : Comes script output at done w) where
+  here : (served : List (List ℕ)) → lines_of rest ≡ served ++ lines_of (drop taken rest) → (outcome : Outcome) → IsPrinting script output outcome → MayPrint w.number w.step (served ++ lines_of (drop taken rest)) left outcome
+  here served cut outcome may = subst (λ lines. MayPrint w.number w.step lines left outcome) cut (subst (λ x. MayPrint w.number w.step (lines_of x) left outcome) (sym rest_is) (subst (λ x. MayPrint w.number w.step (lines_of (drop at script)) x outcome) (sym left_is) (c outcome may)))
+
+  pub comes_on : (n : ℕ) → DecidesFirst rest left w taken (On n) w' → Comes script output (at + taken) (done + n) w'
+  comes_on n d outcome may =
+      subst (λ x. MayPrint w'.number w'.step (lines_of x) (drop (done + n) output) outcome) (ap (drop taken) rest_is ∙ drop-drop taken at script)
+      (subst (λ x. MayPrint w'.number w'.step (lines_of (drop taken rest)) x outcome) (ap (drop n) left_is ∙ drop-drop n done output) (d.2 (lines_of (drop taken rest)) outcome (here d.0 d.1 outcome may)))
+
+  pub comes_refused : DecidesFirst rest left w taken Refused w' → IsNoPrinting script output
+  comes_refused d outcome may = d.2 (lines_of (drop taken rest)) outcome (here d.0 d.1 outcome may)
+
+-- behind the last line
+pub comes_last : (script output : List ℕ) (at done : ℕ) (w : WalkValue) (text : List ℕ) → length script ≤ at → Comes script output at done w → PrintsEnd w text → (drop done output ≡ text → ⊥) → IsNoPrinting script output
+comes_last script output at done w text all c (ended, o, closes, is) other outcome may =
+    let m : MayPrint w.number w.step [] (drop done output) outcome = subst (λ lines. MayPrint w.number w.step lines (drop done output) outcome) (ap lines_of (drop_all at script all)) (c outcome may) in
+    other (m.2 ∙ ap printing (one_close w.number w.step m.0 (closing w.number ended) outcome o m.1 closes) ∙ sym is) where
+      one_close : (number : ℕ) (step : Option JobValue) (a b : List Event) (o p : Outcome) → Closes machine number step a o → Closes machine number step b p → a ≡ b
+      one_close number None a b o p x y = x.0 ∙ sym y.0
+      one_close number (Some job) a b o p x y = x.0 ∙ sym y.0
+
+-- ---- the pages of a step
+
+bounded_start : (card : CardValue) → IsCard card → IsBounded (start card).regions
+bounded_start card is = record { below = is.below_most; above = is.above_most }
+
+bounded_closed : Closed (λ st. IsBounded st.regions)
+bounded_closed = grind (arith, common_steps)
+
+pub in_bounds : (P : Condition) (w w' : WalkValue) (l : List ℕ) (t : LineTold) → IsToldBy P w l t w' → InBounds w.step → InBounds w'.step
+in_bounds P w w' l t x b = at t x where
+  at : (t : LineTold) → IsToldBy P w l t w' → InBounds w'.step
+  at (tells.Faulted fault) x = subst InBounds (sym x.1) b
+  at tells.Nothing x = line_keeps (λ st. IsBounded st.regions) bounded_closed bounded_start P w.number w.step l _ w'.step x b
+  at (tells.Began ended card) x = line_keeps (λ st. IsBounded st.regions) bounded_closed bounded_start P w.number w.step l _ w'.step x b
+  at (tells.Answered t a) x = line_keeps (λ st. IsBounded st.regions) bounded_closed bounded_start P w.number w.step l _ w'.step x b

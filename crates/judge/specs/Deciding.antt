@@ -18,8 +18,8 @@ use Rattle.mvs_model.specs.Runs.{machine, IsPrinting}
 use Rattle.mvs_model.specs.Texts.{printing}
 use Rattle.mvs_model.specs.View.{IsBounded}
 use Rattle.mvs_model.specs.Want.{AskValue}
-use Rattle.mvs_model.specs.Walk.{JobEnds, Walks, is_first}
-use Rattle.mvs_job.specs.Telling.{WalkValue}
+use Rattle.mvs_model.specs.Walk.{Closes, JobEnds, Walks, is_first}
+use Rattle.mvs_job.specs.Telling.{WalkValue, closing}
 use Rattle.judge.specs.declared.deciding.Kind.{Kind}
 use Rattle.judge.specs.declared.deciding.Kind.TheVariants.{Area, Closed, Several}
 use Rattle.judge.specs.declared.deciding.Verdict.{Verdict}
@@ -88,3 +88,7 @@ Decides served text old Open new = Unit {0}
 -- The same at the first lines of a script, so many bytes of it.
 abbrev pub DecidesFirst : List ℕ → List ℕ → WalkValue → ℕ → Verdict → WalkValue → Type 0
 DecidesFirst script text old taken verdict new = (served : List (List ℕ)) × (lines_of script ≡ served ++ lines_of (drop taken script)) × Decides served text old verdict new
+
+-- The text is what is printed of the end of a job that stands so and has no more lines.
+abbrev pub PrintsEnd : WalkValue → List ℕ → Type 0
+PrintsEnd w text = (ended : Option Bool) × (outcome : Outcome) × Closes machine w.number w.step (closing w.number ended) outcome × (text ≡ printing (closing w.number ended))
