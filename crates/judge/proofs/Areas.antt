@@ -87,40 +87,40 @@ module _ (told : List ℕ) (old : JobValue) (t : Name) (answer other : Answer) (
   obtains : Makes (Takes told) old t k (request.Obtain form number ask) answer a → Makes Any old t k (request.Obtain form number ask) other b → Alike
   obtains x y = by_active (is_active old.state.owners t) x.step y.step (λ p q. none (ap granted_at p.0) (ap granted_at q.0))
       (λ active p q. by_two (is_invalid number) p q (λ u v. none (ap granted_at u.1) (ap granted_at v.1)) (at active)) where
-    none : granted_at x.reply ≡ [] → granted_at y.reply ≡ [] → Alike
-    none e f =
-        let s = one_step old.state t (request.Obtain form number ask) x.reply y.reply a.state b.state x.step y.step (e ∙ sym f) in
-        let m = made_same (Takes told) old t answer other a b k (request.Obtain form number ask) x y s.0 s.1 in
-        (m.0, inl m.1)
+        none : granted_at x.reply ≡ [] → granted_at y.reply ≡ [] → Alike
+        none e f =
+            let s = one_step old.state t (request.Obtain form number ask) x.reply y.reply a.state b.state x.step y.step (e ∙ sym f) in
+            let m = made_same (Takes told) old t answer other a b k (request.Obtain form number ask) x y s.0 s.1 in
+            (m.0, inl m.1)
 
-    both : is_active old.state.owners t ≡ true → (p q : PlaceValue) → x.reply ≡ Obtained p → y.reply ≡ Obtained q → GrantTo old.state keeps number want p a.state → GrantTo old.state keeps number want q b.state → Alike
-    both active p q d e g h =
-        let s = one_subpool old.state.owners keeps number g.subpool h.subpool g.is_subpool h.is_subpool in
-        let len = same_length old.state h.subpool want p q (subst (λ s. Chosen old.state.regions (holder old.state) s want p) s g.chosen) h.chosen in (
-          x.told ∙ ap (answer_of old.state k (request.Obtain form number ask)) d ∙ same_answer v p q len ∙ sym (y.told ∙ ap (answer_of old.state k (request.Obtain form number ask)) e),
-          inr (record {
-            active = active;
-            keeps = keeps;
-            number = number;
-            want = want;
-            one = p;
-            other = q;
-            granted = g;
-            granted_other = h;
-            names = x.names ∙ ap (λ reply. all_set old.names (names_set k) (places_in reply)) d;
-            names_other = y.names ∙ ap (λ reply. all_set old.names (names_set k) (places_in reply)) e;
-            abended = x.abended ∙ ap (λ reply. old.abended || is_abend reply) d ∙ sym (y.abended ∙ ap (λ reply. old.abended || is_abend reply) e);
-            former = x.former ∙ sym y.former;
-            takes = λ n e. (subst (λ reply. Takes told old.state t (request.Obtain form number ask) reply a.state) d x.meets) n (ap first_of e);
-          }),
-        )
+        both : is_active old.state.owners t ≡ true → (p q : PlaceValue) → x.reply ≡ Obtained p → y.reply ≡ Obtained q → GrantTo old.state keeps number want p a.state → GrantTo old.state keeps number want q b.state → Alike
+        both active p q d e g h =
+            let s = one_subpool old.state.owners keeps number g.subpool h.subpool g.is_subpool h.is_subpool in
+            let len = same_length old.state h.subpool want p q (subst (λ s. Chosen old.state.regions (holder old.state) s want p) s g.chosen) h.chosen in (
+              x.told ∙ ap (answer_of old.state k (request.Obtain form number ask)) d ∙ same_answer v p q len ∙ sym (y.told ∙ ap (answer_of old.state k (request.Obtain form number ask)) e),
+              inr (record {
+                active = active;
+                keeps = keeps;
+                number = number;
+                want = want;
+                one = p;
+                other = q;
+                granted = g;
+                granted_other = h;
+                names = x.names ∙ ap (λ reply. all_set old.names (names_set k) (places_in reply)) d;
+                names_other = y.names ∙ ap (λ reply. all_set old.names (names_set k) (places_in reply)) e;
+                abended = x.abended ∙ ap (λ reply. old.abended || is_abend reply) d ∙ sym (y.abended ∙ ap (λ reply. old.abended || is_abend reply) e);
+                former = x.former ∙ sym y.former;
+                takes = λ n e. (subst (λ reply. Takes told old.state t (request.Obtain form number ask) reply a.state) d x.meets) n (ap first_of e);
+              }),
+            )
 
-    at : is_active old.state.owners t ≡ true → (ShortOf old.state keeps number want × Fails (is_conditional form) old.state t (short (family form)) x.reply a.state) ⊎ ((p : PlaceValue) × (x.reply ≡ Obtained p) × GrantTo old.state keeps number want p a.state)
-        → (ShortOf old.state keeps number want × Fails (is_conditional form) old.state t (short (family form)) y.reply b.state) ⊎ ((p : PlaceValue) × (y.reply ≡ Obtained p) × GrantTo old.state keeps number want p b.state) → Alike
-    at active (inl u) (inl v) = none (none_granted (is_conditional form) old.state t _ x.reply a.state u.1) (none_granted (is_conditional form) old.state t _ y.reply b.state v.1)
-    at active (inl u) (inr v) = absurd (no_grant old.state keeps number want v.0 b.state (round8_some ask.least ranged.some) u.0 v.2)
-    at active (inr u) (inl v) = absurd (no_grant old.state keeps number want u.0 a.state (round8_some ask.least ranged.some) v.0 u.2)
-    at active (inr u) (inr v) = both active u.0 v.0 u.1 v.1 u.2 v.2
+        at : is_active old.state.owners t ≡ true → (ShortOf old.state keeps number want × Fails (is_conditional form) old.state t (short (family form)) x.reply a.state) ⊎ ((p : PlaceValue) × (x.reply ≡ Obtained p) × GrantTo old.state keeps number want p a.state)
+            → (ShortOf old.state keeps number want × Fails (is_conditional form) old.state t (short (family form)) y.reply b.state) ⊎ ((p : PlaceValue) × (y.reply ≡ Obtained p) × GrantTo old.state keeps number want p b.state) → Alike
+        at active (inl u) (inl v) = none (none_granted (is_conditional form) old.state t _ x.reply a.state u.1) (none_granted (is_conditional form) old.state t _ y.reply b.state v.1)
+        at active (inl u) (inr v) = absurd (no_grant old.state keeps number want v.0 b.state (round8_some ask.least ranged.some) u.0 v.2)
+        at active (inr u) (inl v) = absurd (no_grant old.state keeps number want u.0 a.state (round8_some ask.least ranged.some) v.0 u.2)
+        at active (inr u) (inr v) = both active u.0 v.0 u.1 v.1 u.2 v.2
 
   pub asked : Does (Takes told) old t (says.Request k) answer a → Does Any old t (says.Request k) other b → Alike
   asked x y = by_two (not (is_active old.state.owners t)) x y (λ p q. (p.0 ∙ sym q.0, inl (p.1 ∙ sym q.1))) obtains

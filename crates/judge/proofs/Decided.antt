@@ -212,10 +212,10 @@ module _ (told : List ℕ) (w w1 w2 : WalkValue) (l q : List ℕ) (tl tq : LineT
       at (inr u) (inl v) = absurd (one_reading.not_both false q _ v.1.0 question v.1.1)
       at (inr u) (inr v) =
           let mine : Serves (job_machine (Takes [])) w1.number (Some x) (line.Statement task (says.Where area)) (events_told w1.number w2 tq) w2.step =
-            subst (λ step. Serves (job_machine (Takes [])) w1.number step (line.Statement task (says.Where area)) (events_told w1.number w2 tq) w2.step) is_x
-            (subst (λ said. Serves (job_machine (Takes [])) w1.number w1.step said (events_told w1.number w2 tq) w2.step) (one_reading.one_line (is_first w1.step) q u.1.0 (line.Statement task (says.Where area)) u.1.1 (question_at w1.step x is_x)) u.1.2) in
+          subst (λ step. Serves (job_machine (Takes [])) w1.number step (line.Statement task (says.Where area)) (events_told w1.number w2 tq) w2.step) is_x
+          (subst (λ said. Serves (job_machine (Takes [])) w1.number w1.step said (events_told w1.number w2 tq) w2.step) (one_reading.one_line (is_first w1.step) q u.1.0 (line.Statement task (says.Where area)) u.1.1 (question_at w1.step x is_x)) u.1.2) in
           let theirs : Serves machine w1.number (Some y) (line.Statement task (says.Where area)) v.1 v.0 =
-            subst (λ said. Serves machine w1.number (Some y) said v.1 v.0) (one_reading.one_line false q v.3.0 (line.Statement task (says.Where area)) v.3.1 question) v.3.2 in
+          subst (λ said. Serves machine w1.number (Some y) said v.1 v.0) (one_reading.one_line false q v.3.0 (line.Statement task (says.Where area)) v.3.1 question) v.3.2 in
           let bounded : IsBounded job.state.regions = subst InBounds of bounds in
           let f = located told job x y task area a (Takes []) mine.0 theirs.0 mine.1 theirs.1 bounded mine.2 theirs.2 in
           record {
@@ -270,7 +270,7 @@ module _ (told : List ℕ) (w w1 w2 : WalkValue) (l q : List ℕ) (tl tq : LineT
       at now e (inl b) = done b.0 (append_cancel_left other_printed _ _ (ap (λ x. x ++ b.0) other_same ∙ sym b.1 ∙ e ∙ behind)) b.2
       at now e (inr a) =
           let mine : left ≡ reply_line w1.number task (said (At a.one)) ++ drop (length other_printed) left =
-            behind ∙ ap (λ x. x ++ drop (length other_printed) left) (other_same ∙ a.one_is ∙ append-nil (reply_line w1.number task (said (At a.one)))) in
+          behind ∙ ap (λ x. x ++ drop (length other_printed) left) (other_same ∙ a.one_is ∙ append-nil (reply_line w1.number task (said (At a.one)))) in
           let same = one_address w1.number task a.one a.another (drop (length other_printed) left) a.rest a.small_one a.small_another (sym mine ∙ sym e ∙ a.another_is) in
           done a.rest (sym same.1) (a.same same.0)
 
@@ -309,13 +309,15 @@ module _ (script output rest left : List ℕ) (at done taken : ℕ) (w w' : Walk
   here : (served : List (List ℕ)) → lines_of rest ≡ served ++ lines_of (drop taken rest) → (outcome : Outcome) → IsPrinting script output outcome → MayPrint w.number w.step (served ++ lines_of (drop taken rest)) left outcome
   here served cut outcome may = subst (λ lines. MayPrint w.number w.step lines left outcome) cut (subst (λ x. MayPrint w.number w.step (lines_of x) left outcome) (sym rest_is) (subst (λ x. MayPrint w.number w.step (lines_of (drop at script)) x outcome) (sym left_is) (c outcome may)))
 
-  pub comes_on : (n : ℕ) → DecidesFirst rest left w taken (On n) w' → Comes script output (at + taken) (done + n) w'
-  comes_on n d outcome may =
-      subst (λ x. MayPrint w'.number w'.step (lines_of x) (drop (done + n) output) outcome) (ap (drop taken) rest_is ∙ drop-drop taken at script)
-      (subst (λ x. MayPrint w'.number w'.step (lines_of (drop taken rest)) x outcome) (ap (drop n) left_is ∙ drop-drop n done output) (d.2 (lines_of (drop taken rest)) outcome (here d.0 d.1 outcome may)))
+  pub comes_on : (n : ℕ) (verdict : Verdict) → verdict ≡ On n → DecidesFirst rest left w taken verdict w' → Comes script output (at + taken) (done + n) w'
+  comes_on n verdict e decided = on (subst (λ v. DecidesFirst rest left w taken v w') e decided) where
+    on : DecidesFirst rest left w taken (On n) w' → Comes script output (at + taken) (done + n) w'
+    on d outcome may =
+        subst (λ x. MayPrint w'.number w'.step (lines_of x) (drop (done + n) output) outcome) (ap (drop taken) rest_is ∙ drop-drop taken at script)
+        (subst (λ x. MayPrint w'.number w'.step (lines_of (drop taken rest)) x outcome) (ap (drop n) left_is ∙ drop-drop n done output) (d.2 (lines_of (drop taken rest)) outcome (here d.0 d.1 outcome may)))
 
-  pub comes_refused : DecidesFirst rest left w taken Refused w' → IsNoPrinting script output
-  comes_refused d outcome may = d.2 (lines_of (drop taken rest)) outcome (here d.0 d.1 outcome may)
+  pub comes_refused : (verdict : Verdict) → verdict ≡ Refused → DecidesFirst rest left w taken verdict w' → IsNoPrinting script output
+  comes_refused verdict e decided outcome may = let d : DecidesFirst rest left w taken Refused w' = subst (λ v. DecidesFirst rest left w taken v w') e decided in d.2 (lines_of (drop taken rest)) outcome (here d.0 d.1 outcome may)
 
 -- behind the last line
 pub comes_last : (script output : List ℕ) (at done : ℕ) (w : WalkValue) (text : List ℕ) → length script ≤ at → Comes script output at done w → PrintsEnd w text → (drop done output ≡ text → ⊥) → IsNoPrinting script output
