@@ -1,7 +1,7 @@
 -- What lines decide of a text that a run may print.
-use Rattle.std.proofs.Common.{Decides as Tests, eqb, ◌≡◌, ◌≢◌, ℕ, ◌+◌, ◌<◌, ◌⊎◌, inl, inr, Bool, true, false, List, [], ◌∷◌, ◌++◌, length, drop, take, ◌≤◌, codes, decimal, Option, Some, None, append_assoc, append-nil, length-append, arith, refl, sym, ap, ◌∙◌, subst}
+use Rattle.std.proofs.Common.{Decides as Tests, eqb, ◌≡◌, ◌≢◌, ℕ, ◌+◌, ◌<◌, ◌⊎◌, inl, inr, Bool, true, false, List, [], ◌∷◌, ◌++◌, length, drop, take, ◌≤◌, ◌-◌, codes, decimal, Option, Some, None, append_assoc, append-nil, length-append, arith, refl, sym, ap, ◌∙◌, subst}
 use Rattle.std.specs.Prelude.{◌^◌}
-use Rattle.std.proofs.Math.Seq.{drop-append_seam}
+use Rattle.std.proofs.Math.Seq.{take-append_seam}
 use Rattle.std.proofs.lemmas.Bool.Decides.{nat_tests}
 use Rattle.std.proofs.lemmas.Grind.{common_steps}
 use Rattle.std.proofs.lemmas.List.{append_cancel_left, drop_all, drop-drop}
@@ -70,6 +70,24 @@ one_address number t n m x y small_n small_m e =
     let digits = same_fronts (hex 8 n) (hex 8 m) (codes "\n" ++ x) (codes "\n" ++ y) (writes.many ∙ sym other.many) cut in
     let rest : codes "\n" ++ x ≡ codes "\n" ++ y = append_cancel_left (hex 8 m) _ _ (ap (λ h. h ++ (codes "\n" ++ x)) (sym digits) ∙ cut) in
     (sym writes.value ∙ ap hex_number digits ∙ other.value, append_cancel_left (codes "\n") x y rest)
+
+-- such a line without its last nine bytes
+at_long : (number : ℕ) (t : Name) (n : ℕ) → n < 2 ^ 32 → length (reply_line number t (said (At n))) ≡ length (before_at number t) + 9
+at_long number t n small =
+    let writes = hex_writes 8 n (omega (arith, small)) in
+    let parts = ap length (sym (append-nil (reply_line number t (said (At n)))) ∙ at_parts number t n []) ∙ length-append (before_at number t) (hex 8 n ++ (codes "\n" ++ [])) in
+    let digits = length-append (hex 8 n) (codes "\n" ++ []) in
+    omega (arith, parts, digits, writes.many)
+
+at_front : (number : ℕ) (t : Name) (n : ℕ) → n < 2 ^ 32 → take (length (reply_line number t (said (At n))) - 9) (reply_line number t (said (At n))) ≡ before_at number t
+at_front number t n small =
+    let line : reply_line number t (said (At n)) ≡ before_at number t ++ (hex 8 n ++ (codes "\n" ++ [])) = sym (append-nil (reply_line number t (said (At n)))) ∙ at_parts number t n [] in
+    let many : length (reply_line number t (said (At n))) - 9 ≡ length (before_at number t) = let l = at_long number t n small in omega (arith, l) in
+    ap (λ k. take k (reply_line number t (said (At n)))) many ∙ ap (take (length (before_at number t))) line ∙ take-append_seam (before_at number t) (hex 8 n ++ (codes "\n" ++ []))
+
+pub at_begins : (number : ℕ) (t : Name) (k m : ℕ) (front text rest : List ℕ) → k < 2 ^ 32 → front ≡ take (length (reply_line number t (said (At k))) - 9) (reply_line number t (said (At k))) → text ≡ reply_line number t (said (At m)) ++ rest → (more : List ℕ) × (text ≡ front ++ more)
+at_begins number t k m front text rest small is e =
+    (hex 8 m ++ (codes "\n" ++ rest), e ∙ at_parts number t m rest ∙ ap (λ x. x ++ (hex 8 m ++ (codes "\n" ++ rest))) (sym (is ∙ at_front number t k small)))
 
 -- ---- a line that can be granted no place
 
@@ -283,6 +301,14 @@ module _ (told : List ℕ) (w w1 w2 : WalkValue) (l q : List ℕ) (tl tq : LineT
           let same = one_address w1.number task a.another k a.rest behind a.small_another small (sym a.another_is ∙ e ∙ tells) in
           let here : a.one ≡ k = a.takes k is same.0 in
           other behind (tells ∙ ap (λ x. x ++ behind) (sym (other_same ∙ a.one_is ∙ append-nil (reply_line w1.number task (said (At a.one))) ∙ ap (λ n. reply_line w1.number task (said (At n))) here)))
+
+    -- no line tells an address
+    pub no_address_refused : (left : List ℕ) (k : ℕ) (front : List ℕ) → left ≡ drop (length one_printed) text → k < 2 ^ 32 → text ≡ one_printed ++ drop (length one_printed) text
+        → ((rest : List ℕ) → left ≡ other_printed ++ rest → ⊥) → front ≡ take (length (reply_line w1.number task (said (At k))) - 9) (reply_line w1.number task (said (At k))) → ((rest : List ℕ) → left ≡ front ++ rest → ⊥) → Decides (l ∷ q ∷ []) text w Refused w2
+    no_address_refused left k front left_at small begun other is none more outcome may = let p = pair more outcome text may in at p.0 (left_is begun p.0 p.1 ∙ sym left_at) p.2 where
+      at : (now : List ℕ) → now ≡ left → (Behind more now outcome ⊎ Asked more now outcome) → ⊥
+      at now e (inl b) = other b.0 (sym e ∙ b.1 ∙ ap (λ x. x ++ b.0) (sym other_same))
+      at now e (inr a) = let b = at_begins w1.number task k a.another front left a.rest small is (sym e ∙ a.another_is) in none b.0 b.1
 
 -- ---- the lines of a script
 

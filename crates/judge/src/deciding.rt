@@ -1,6 +1,6 @@
 //! Decides whether no run of a script prints an output, by the places that the output tells right behind the grants.
 
-ghost use Rattle.std.specs.Prelude.{◌≡◌, ◌<◌, ◌≤◌, ◌+◌, ◌^◌, ◌++◌, ◌∷◌, [], List, ℕ, true, false, IfOk, length, drop, take};
+ghost use Rattle.std.specs.Prelude.{◌≡◌, ◌<◌, ◌≤◌, ◌+◌, ◌-◌, ◌^◌, ◌++◌, ◌∷◌, [], List, ℕ, true, false, IfOk, length, drop, take};
 ghost use Rattle.mvs_model.specs.Texts.{printing, reply_line, said};
 ghost use Rattle.mvs_model.specs.Answers.{At};
 ghost use Rattle.mvs_job.specs.Telling.{IsToldBy, events_told};
@@ -145,6 +145,13 @@ fn print_address(
     }
 }
 
+// A line that tells an address, up to its digits.
+fn without_address(line: &[u8]) -> &[u8]
+    ensures { result.now ≡ take (length line.now - 9) line.now }
+{
+    &line[..line.len().saturating_sub(9)]
+}
+
 // The number that hexadecimal digits write, of as many bits as an address has.
 fn read_digits(digits: &[u8]) -> u32
     ensures { result < 2 ^ 31 }
@@ -206,7 +213,10 @@ fn decide_pair(
     if begins(left, expected.as_slice()) {
         return Ok(Verdict::Refused);
     }
-    Ok(Verdict::Open)
+    if begins(left, without_address(expected.as_slice())) {
+        return Ok(Verdict::Open);
+    }
+    Ok(Verdict::Refused)
 }
 
 // Whether a request may be granted places.
