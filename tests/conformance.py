@@ -1,8 +1,8 @@
 """The judge, on what the plain machine prints with places of its own.
 
 What it prints for a script of conformance/scripts or a random one, with a WHERE behind each request for areas, is accepted with each of
-its placements; what a wrong variant prints is not, on some script; and nothing is accepted of which a byte is another one that
-tells no address.
+its placements, and never refused; what a wrong variant prints is refused, on some script, or not decided where its fault shows in pools
+alone; and nothing is accepted of which a byte is another one that tells no address.
 """
 
 import random
@@ -17,7 +17,7 @@ import plain_emulator
 SCRIPTS = sorted((Path(__file__).resolve().parent.parent / "conformance/scripts").glob("*.job"))
 PLACEMENTS = ("low", "high", "page", "random")
 PROFILES = ("storage", "tasks", "tidy", "faults")
-ACCEPTED, UNDECIDED = ("ACCEPTED", 0), ("UNDECIDED", 2)
+ACCEPTED, REFUSED, UNDECIDED = ("ACCEPTED", 0), ("REFUSED", 1), ("UNDECIDED", 2)
 RANDOM = 400
 CHANGED = 200
 
@@ -87,7 +87,7 @@ def of_change(program, seed):
     script = random_script(program, seed)
     printed = plain_emulator.run(script, "page")
     others = [changed(printed, dice), printed + "\n", printed[:-1], "".join(printed.splitlines(True)[:-1])]
-    return all(judged(program, script, other) == UNDECIDED for other in others)
+    return all(judged(program, script, other) in (REFUSED, UNDECIDED) for other in others)
 
 
 def of_wrong(program, wrong):

@@ -3,16 +3,20 @@
 
 ghost use Rattle.std.specs.Prelude.{◌≡◌, ◌↔◌, IfOk, true};
 ghost use Rattle.mvs_model.specs.Runs.{IsPrinting};
+ghost use Rattle.judge.specs.Deciding.{IsNoPrinting};
 
 mod answers;
 mod ask;
+mod deciding;
 mod difference;
 mod hearing;
 
+use crate::deciding::is_refused;
 use crate::hearing::{Heard, hear};
 pub use ask::write_asking;
 pub use difference::write_difference;
 use mvs_job::{RunFault, Told, run_job};
+use mvs_model::error::OutOfMemory;
 use mvs_model::outcome::Outcome;
 use mvs_model::want::Placement;
 use mvs_model::watched::Watched;
@@ -26,6 +30,9 @@ pub struct Judgement {
     pub text: Vec<u8>,
     /// Whether the output is this printing. Where it is not, another run may still print it.
     pub agrees: bool,
+    /// Whether it is certain that no run prints the output. That is decided up to the first line that can be granted other places
+    /// than those of one area, or an area without a question right behind it where it lies.
+    pub refused: bool,
     /// The first line of the script that grants an area of which the output does not tell where it lies.
     pub untold: Option<u32>,
 }
@@ -40,10 +47,26 @@ fn printing_of(alloc: Global, script: &[u8], told: Told) -> (Result<Outcome, Run
     (ran, writer.into_inner())
 }
 
+// Whether it is certain that no run prints an output, unless one does.
+fn is_refused_unless(
+    agrees: bool,
+    alloc: Global,
+    script: &[u8],
+    output: &[u8],
+) -> Result<bool, OutOfMemory>
+    ensures { IfOk result (λ refused. refused ≡ true → IsNoPrinting script.now output.now) }
+{
+    if agrees {
+        return Ok(false);
+    }
+    is_refused(alloc, script, output)
+}
+
 /// Judges an output by the run that takes the addresses that it tells. Where it agrees, it is the printing of a run that ends so.
 pub fn judge(alloc: Global, script: &[u8], output: &[u8]) -> Result<Judgement, RunFault>
     ensures accepted { IfOk result
         (λ j. j.agrees ≡ true → IsPrinting script.now output.now j.outcome) }
+    ensures refused { IfOk result (λ j. j.refused ≡ true → IsNoPrinting script.now output.now) }
     ensures run { IfOk result (λ j. IsPrinting script.now j.text.items j.outcome) }
     ensures agrees { IfOk result (λ j. j.agrees ≡ true ↔ j.text.items ≡ output.now) }
 {
@@ -54,10 +77,14 @@ pub fn judge(alloc: Global, script: &[u8], output: &[u8]) -> Result<Judgement, R
     match ran {
         Ok(outcome) => {
             let agrees = text.as_slice() == output;
+            let Ok(refused) = is_refused_unless(agrees, alloc, script, output) else {
+                return Err(RunFault::Memory);
+            };
             Ok(Judgement {
                 outcome,
                 text,
                 agrees,
+                refused,
                 untold,
             })
         }

@@ -22,7 +22,8 @@ const VERSION: &str = "1.0.0 (rattle-kit-13f logic dac8208d650f15bf)";
 
 const STATUSES: &str = "Exit status:
   0   clean: every line was run, and no task abended
-  1   with --check: some answer is another one than the script says
+  1   with --check: some answer is another one than the script says;
+      with --judge: no run of the script prints OUTPUT
   2   with --judge: it is not decided whether a run of the script prints OUTPUT
   8   every line was run, and some task abended
   12  a line of the script has a fault, and no line behind it was run

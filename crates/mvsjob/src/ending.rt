@@ -77,8 +77,8 @@ pub enum Ending {
     Printed,
     /// The answers of a run were compared with those that the script says, and one differs, or none.
     Checked { differs: bool },
-    /// An output was judged, and it was accepted, or this is not decided.
-    Judged { accepted: bool },
+    /// An output was judged, and it was accepted or refused, or this is not decided.
+    Judged { accepted: bool, refused: bool },
     /// The words were refused, and `clap` has said why.
     Refused,
     /// The program gave up, or could not begin.
@@ -93,7 +93,9 @@ impl Ending {
         match self {
             Ending::Ran(Outcome::Clean) | Ending::Printed => 0,
             Ending::Checked { differs } => differs as u8,
-            Ending::Judged { accepted } => { if accepted { 0 } else { 2 } }
+            Ending::Judged { accepted: true, .. } => 0,
+            Ending::Judged { refused: true, .. } => 1,
+            Ending::Judged { .. } => 2,
             Ending::Ran(Outcome::SomeAbend) => 8,
             Ending::Ran(Outcome::ScriptFault) => 12,
             Ending::GaveUp(GiveUp::Pipe) => 141,

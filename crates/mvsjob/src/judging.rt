@@ -26,16 +26,21 @@ fn write_judgement<W: Write>(
     if judgement.agrees {
         return writeln!(writer, "ACCEPTED");
     }
-    writeln!(writer, "UNDECIDED")?;
+    let finding = if judgement.refused {
+        "REFUSED"
+    } else {
+        "UNDECIDED"
+    };
+    writeln!(writer, "{finding}")?;
     if let Ok(text) = str::from_utf8(&judgement.text) {
         write_difference(writer, output, text)?;
     }
     match judgement.untold {
-        Some(line) => writeln!(
+        Some(line) if !judgement.refused => writeln!(
             writer,
             "where the areas of line {line} of the script lie is not told: ask WHERE behind it"
         ),
-        None => Ok(()),
+        _ => Ok(()),
     }
 }
 
@@ -47,6 +52,7 @@ pub fn judge_output(rt: &HostRuntime, settings: &Settings<'_>) -> Result<Ending,
     match write_judgement(&mut io::writer(rt), &judgement, &output) {
         Ok(()) => Ok(Ending::Judged {
             accepted: judgement.agrees,
+            refused: judgement.refused,
         }),
         Err(_) => Err(GiveUp::Job(RunFault::Write)),
     }

@@ -1,0 +1,176 @@
+-- A request for an area, and a question behind it where the area lies.
+use Rattle.std.proofs.Common.{◌≡◌, ℕ, ◌+◌, ◌<◌, ◌≤◌, ◌⊎◌, inl, inr, Bool, true, false, cond, List, [], ◌∷◌, map, Option, Some, None, arith, refl, sym, ap, ◌∙◌, subst}
+use Rattle.std.specs.Prelude.{not, ◌||◌, ◌^◌}
+use Rattle.std.specs.Bool.{MatchBool}
+use Rattle.std.specs.FinMap.{FinMap, get, insert, get-insert, contains_key}
+use Rattle.std.proofs.lemmas.Bool.{cases_lt}
+use Rattle.mvs_model.specs.declared.name.Name.{Name}
+use Rattle.mvs_model.specs.declared.code.Form.{Form}
+use Rattle.mvs_model.specs.declared.line.Line.TheVariants as line
+use Rattle.mvs_model.specs.declared.line.Statement.TheVariants as says
+use Rattle.mvs_model.specs.declared.line.Written.{Written}
+use Rattle.mvs_model.specs.declared.line.Written.TheVariants as written
+use Rattle.mvs_model.specs.declared.request.Request.TheVariants as request
+use Rattle.mvs_model.specs.declared.request.Reply.TheVariants.{Obtained}
+use Rattle.mvs_model.specs.Place.{PlaceValue}
+use Rattle.mvs_model.specs.Want.{AskValue, WantValue, IsAsk, want_of}
+use Rattle.mvs_model.specs.Name.{name_cmp, same_name}
+use Rattle.mvs_model.specs.Owners.{is_active, keeper}
+use Rattle.mvs_model.specs.Storage.{Chosen, InRegion, Regions}
+use Rattle.mvs_model.specs.State.{State, holder}
+use Rattle.mvs_model.specs.Codes.{family, is_conditional, short}
+use Rattle.mvs_model.specs.Changes.{GrantTo, ShortOf}
+use Rattle.mvs_model.specs.Steps.{Step, Fails, side_for, is_invalid}
+use Rattle.mvs_model.specs.Replies.{answer_of, grant_answer, is_abend, where_answer}
+use Rattle.mvs_model.specs.Resolving.{all_set, names_set, places_in}
+use Rattle.mvs_model.specs.Answers as tells
+use Rattle.mvs_model.specs.Answers.{Answer, Event, Told, At}
+use Rattle.mvs_model.specs.Job.{JobValue}
+use Rattle.mvs_model.specs.Runs.{Condition, Any, Makes, Does, machine, job_machine}
+use Rattle.mvs_model.specs.View.{IsBounded}
+use Rattle.mvs_model.specs.Determined.{granted_at, TakesTold}
+use Rattle.mvs_model.proofs.Kept.{enters_tasks}
+use Rattle.mvs_model.proofs.OneOwners.{one_subpool, one_enters}
+use Rattle.mvs_model.proofs.OneSteps.{by_two, no_grant, none_granted, one_grant, one_step, round8_some}
+use Rattle.mvs_model.proofs.Orders.{name_cmp_total, same_name_self}
+use Rattle.mvs_model.proofs.RegionsKept.{grant_inside}
+use Rattle.step_machine.specs.Lists.{first_of}
+use Rattle.step_machine.specs.Taking.{Takes}
+use Rattle.judge.proofs.Settled.{made_same}
+
+-- two places that are chosen have one length
+same_length : (old : State) (s : ℕ) (want : WantValue) (p q : PlaceValue) → Chosen old.regions (holder old) s want p → Chosen old.regions (holder old) s want q → p.len ≡ q.len
+same_length old s want p q x y =
+    elim (cases_lt p.len q.len) [
+      | inl l ↦ absurd (x.greatest q.len q.addr l y.length y.placed)
+      | inr g ↦ elim (cases_lt q.len p.len) [ inl l ↦ absurd (y.greatest p.len p.addr l x.length x.placed) | inr f ↦ omega (arith, g, f) ]
+    ]
+
+-- by whether a task is active
+by_active : {P Q S U R : Type 0} (active : Bool) → MatchBool (not active) P Q → MatchBool (not active) S U → (P → S → R) → (active ≡ true → Q → U → R) → R
+by_active true x y f g = g refl x y
+by_active false x y f g = f x y
+
+-- Both are granted an area, at places of their own.
+pub record Apart (told : List ℕ) (old a b : JobValue) (t area : Name) : Type 0 where
+  active : is_active old.state.owners t ≡ true
+  keeps : Name
+  number : ℕ
+  want : WantValue
+  one : PlaceValue
+  other : PlaceValue
+  granted : GrantTo old.state keeps number want one a.state
+  granted_other : GrantTo old.state keeps number want other b.state
+  names : a.names ≡ insert old.names area one
+  names_other : b.names ≡ insert old.names area other
+  abended : a.abended ≡ b.abended
+  former : a.former ≡ b.former
+  takes : (k : ℕ) → told ≡ k ∷ [] → TakesTold old.state keeps number want k one
+
+module _ (told : List ℕ) (old : JobValue) (t : Name) (answer other : Answer) (a b : JobValue) (form : Form) (number : ℕ) (ask : AskValue) (v : Bool) (area : Name) (ranged : IsAsk ask) where
+  abbrev k : Written
+  k = written.Obtain form number ask v area
+
+  abbrev keeps : Name
+  keeps = keeper old.state.owners t number
+
+  abbrev want : WantValue
+  want = want_of ask (side_for old.state t form ask.loc)
+
+  abbrev Alike : Type 0
+  Alike = (answer ≡ other) × ((a ≡ b) ⊎ Apart told old a b t area)
+
+  same_answer : (v : Bool) (p q : PlaceValue) → p.len ≡ q.len → grant_answer (written.Obtain form number ask v area) p ≡ grant_answer (written.Obtain form number ask v area) q
+  same_answer true p q e = ap tells.Granted e
+  same_answer false p q e = refl
+
+  obtains : Makes (Takes told) old t k (request.Obtain form number ask) answer a → Makes Any old t k (request.Obtain form number ask) other b → Alike
+  obtains x y = by_active (is_active old.state.owners t) x.step y.step (λ p q. none (ap granted_at p.0) (ap granted_at q.0))
+      (λ active p q. by_two (is_invalid number) p q (λ u v. none (ap granted_at u.1) (ap granted_at v.1)) (at active)) where
+        none : granted_at x.reply ≡ [] → granted_at y.reply ≡ [] → Alike
+        none e f =
+            let s = one_step old.state t (request.Obtain form number ask) x.reply y.reply a.state b.state x.step y.step (e ∙ sym f) in
+            let m = made_same (Takes told) old t answer other a b k (request.Obtain form number ask) x y s.0 s.1 in
+            (m.0, inl m.1)
+
+        both : is_active old.state.owners t ≡ true → (p q : PlaceValue) → x.reply ≡ Obtained p → y.reply ≡ Obtained q → GrantTo old.state keeps number want p a.state → GrantTo old.state keeps number want q b.state → Alike
+        both active p q d e g h =
+            let s = one_subpool old.state.owners keeps number g.subpool h.subpool g.is_subpool h.is_subpool in
+            let len = same_length old.state h.subpool want p q (subst (λ s. Chosen old.state.regions (holder old.state) s want p) s g.chosen) h.chosen in (
+              x.told ∙ ap (answer_of old.state k (request.Obtain form number ask)) d ∙ same_answer v p q len ∙ sym (y.told ∙ ap (answer_of old.state k (request.Obtain form number ask)) e),
+              inr (record {
+                active = active;
+                keeps = keeps;
+                number = number;
+                want = want;
+                one = p;
+                other = q;
+                granted = g;
+                granted_other = h;
+                names = x.names ∙ ap (λ reply. all_set old.names (names_set k) (places_in reply)) d;
+                names_other = y.names ∙ ap (λ reply. all_set old.names (names_set k) (places_in reply)) e;
+                abended = x.abended ∙ ap (λ reply. old.abended || is_abend reply) d ∙ sym (y.abended ∙ ap (λ reply. old.abended || is_abend reply) e);
+                former = x.former ∙ sym y.former;
+                takes = λ n e. (subst (λ reply. Takes told old.state t (request.Obtain form number ask) reply a.state) d x.meets) n (ap first_of e);
+              }),
+            )
+
+        at : is_active old.state.owners t ≡ true → (ShortOf old.state keeps number want × Fails (is_conditional form) old.state t (short (family form)) x.reply a.state) ⊎ ((p : PlaceValue) × (x.reply ≡ Obtained p) × GrantTo old.state keeps number want p a.state)
+            → (ShortOf old.state keeps number want × Fails (is_conditional form) old.state t (short (family form)) y.reply b.state) ⊎ ((p : PlaceValue) × (y.reply ≡ Obtained p) × GrantTo old.state keeps number want p b.state) → Alike
+        at active (inl u) (inl v) = none (none_granted (is_conditional form) old.state t _ x.reply a.state u.1) (none_granted (is_conditional form) old.state t _ y.reply b.state v.1)
+        at active (inl u) (inr v) = absurd (no_grant old.state keeps number want v.0 b.state (round8_some ask.least ranged.some) u.0 v.2)
+        at active (inr u) (inl v) = absurd (no_grant old.state keeps number want u.0 a.state (round8_some ask.least ranged.some) v.0 u.2)
+        at active (inr u) (inr v) = both active u.0 v.0 u.1 v.1 u.2 v.2
+
+  pub asked : Does (Takes told) old t (says.Request k) answer a → Does Any old t (says.Request k) other b → Alike
+  asked x y = by_two (not (is_active old.state.owners t)) x y (λ p q. (p.0 ∙ sym q.0, inl (p.1 ∙ sym q.1))) obtains
+
+-- ---- the question
+
+-- an address in a region has 32 bits
+small : (r : Regions) (p : PlaceValue) → IsBounded r → InRegion r p → p.addr < 2 ^ 32
+small r p bounded (inl i) = let b = bounded.below in omega (arith, i.0, i.1, b)
+small r p bounded (inr i) = let b = bounded.above in omega (arith, i.0, i.1, b)
+
+name_put : (names : FinMap name_cmp PlaceValue) (area : Name) (p : PlaceValue) → get (insert names area p) area ≡ Some p
+name_put names area p = get-insert name_cmp_total names area p area ∙ ap (λ b. cond b (Some p) (get names area)) (same_name_self area)
+
+-- What is told of where the two lie, and what follows where they lie at one address.
+pub record Located (told : List ℕ) (a b : JobValue) (answer other : Answer) : Type 0 where
+  pub one : ℕ
+  pub another : ℕ
+  pub answer_is : answer ≡ At one
+  pub other_is : other ≡ At another
+  pub small_one : one < 2 ^ 32
+  pub small_another : another < 2 ^ 32
+  pub same : one ≡ another → a ≡ b
+  pub takes : (k : ℕ) → told ≡ k ∷ [] → another ≡ k → one ≡ k
+
+module _ (told : List ℕ) (old a b : JobValue) (t area : Name) (h : Apart told old a b t area) where
+  active_then : (new : State) (holds : Name) (number : ℕ) (wanted : WantValue) (p : PlaceValue) → GrantTo old.state holds number wanted p new → is_active new.owners t ≡ true
+  active_then new holds number wanted p g = ap (λ tasks. contains_key tasks t) (enters_tasks old.state.owners holds number g.subpool new.owners g.owners) ∙ h.active
+
+  when_active : (P Q : Type 0) (active : Bool) → active ≡ true → MatchBool (not active) P Q → Q
+  when_active P Q true e x = x
+  when_active P Q false e x = absurd (let f : false ≡ true = e in cc)
+
+  apart_same : h.one.addr ≡ h.other.addr → a ≡ b
+  apart_same e =
+      let s = one_grant old.state h.keeps h.number h.want h.one h.other a.state b.state h.granted h.granted_other e in
+      let names : a.names ≡ b.names = h.names ∙ ap (insert old.names area) s.0 ∙ sym h.names_other in
+      λ i. record { state = s.1 i; names = names i; abended = h.abended i; former = h.former i }
+
+  pub located : (P : Condition) (answer other : Answer) (c d : JobValue) → IsBounded old.state.regions → Does P a t (says.Where area) answer c → Does Any b t (says.Where area) other d → Located told c d answer other
+  located P answer other c d bounded x y =
+      let p = when_active _ _ (is_active a.state.owners t) (active_then a.state h.keeps h.number h.want h.one h.granted) x in
+      let q = when_active _ _ (is_active b.state.owners t) (active_then b.state h.keeps h.number h.want h.other h.granted_other) y in
+      record {
+        one = h.one.addr;
+        another = h.other.addr;
+        answer_is = p.0 ∙ ap where_answer (ap (λ names. get names area) h.names ∙ name_put old.names area h.one);
+        other_is = q.0 ∙ ap where_answer (ap (λ names. get names area) h.names_other ∙ name_put old.names area h.other);
+        small_one = small old.state.regions h.one bounded (grant_inside old.state h.keeps h.number h.want h.one a.state h.granted);
+        small_another = small old.state.regions h.other bounded (grant_inside old.state h.keeps h.number h.want h.other b.state h.granted_other);
+        same = λ e. p.1 ∙ apart_same e ∙ sym q.1;
+        takes = λ k e f. h.takes k e h.other b.state h.granted_other f;
+      }
