@@ -11,7 +11,7 @@ use Rattle.mvs_model.specs.declared.line.Written.{Written}
 use Rattle.mvs_model.specs.declared.outcome.Outcome.{Outcome}
 use Rattle.mvs_model.specs.declared.outcome.Outcome.TheVariants.{ScriptFault}
 use Rattle.mvs_model.specs.declared.reason.Reason.{Reason}
-use Rattle.mvs_model.specs.declared.reason.Reason.TheVariants.{NotActive}
+use Rattle.mvs_model.specs.declared.reason.Reason.TheVariants.{NotActive, NotSet}
 use Rattle.mvs_model.specs.declared.request.Request.{Request}
 use Rattle.mvs_model.specs.declared.request.Request.TheVariants.{Return}
 use Rattle.mvs_model.specs.declared.request.Reply.TheVariants as reply
@@ -54,9 +54,9 @@ IsExplanation (Some job) bytes text =
     ((l : Line) × LineOf false bytes l × ((r : Option Reason) × OfLine job l r × (text ≡ reason_text job l r)))
     ⊎ ((fault : Fault) × FaultOf false bytes fault × (text ≡ []))
 
--- A reason of a statement speaks of this request, but that the task is not active.
+-- A reason of a statement speaks of this request, but that the task is not active, or a name is not set.
 abbrev pub SpeaksOf : JobValue → Statement → Request → Reason → Type 0
-SpeaksOf job s request reason = (reason ≡ NotActive) ⊎ ((a : Written) × (s ≡ says.Request a) × (resolved job.names a ≡ Some request))
+SpeaksOf job s request reason = (reason ≡ NotActive) ⊎ ((name : Name) × (reason ≡ NotSet name)) ⊎ ((a : Written) × (s ≡ says.Request a) × (resolved job.names a ≡ Some request))
 
 -- what is printed of the reason of a line that says this and asks for this request
 abbrev pub said_of : Line → Request → Option Reason → List ℕ

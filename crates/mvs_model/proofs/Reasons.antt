@@ -18,20 +18,21 @@ use Rattle.mvs_model.specs.declared.request.Request.TheVariants.{Obtain, ObtainL
 use Rattle.mvs_model.specs.declared.request.Reply.{Reply}
 use Rattle.mvs_model.specs.declared.request.Reply.TheVariants.{Rc0, Rc4, Obtained, Listed, Cell, Attached, Ended, Done}
 use Rattle.mvs_model.specs.declared.reason.Holder.{Holder}
+use Rattle.mvs_model.specs.declared.reason.Room.{Room}
 use Rattle.mvs_model.specs.declared.reason.Reason.{Reason}
-use Rattle.mvs_model.specs.declared.reason.Reason.TheVariants.{NotActive, InvalidNumber, Shortage, OffDoubleword, NoSubpool, NotHeld, Overlap, WholeOfZero, PoolInUse, TooManyPools, NoPool, NoFreeCell, NoTakenCell, TaskInUse, TooManyTasks, NotOwned, ActiveSubtask, Asked, NoAccess}
+use Rattle.mvs_model.specs.declared.reason.Reason.TheVariants.{NotActive, InvalidNumber, Shortage, NoPart, OffDoubleword, NoSubpool, NotHeld, Overlap, WholeOfZero, PoolInUse, TooManyPools, NoPool, NoFreeCell, NoTakenCell, TaskInUse, TooManyTasks, NotOwned, ActiveSubtask, Asked, NoAccess}
 use Rattle.mvs_model.specs.Place.{PlaceValue, place_at, round8}
 use Rattle.mvs_model.specs.Storage.{Regions, InRegion, Places, Chosen, NoPlace}
 use Rattle.mvs_model.specs.Want.{AskValue, WantValue}
 use Rattle.mvs_model.specs.Gifts.{GiftsValue}
 use Rattle.mvs_model.specs.Owners.{Owners, is_active, entry, keeper, subpool_meant, has_subtask, gives_shared, IsSpare, SubpoolOf}
-use Rattle.mvs_model.specs.Pools.{Pool, cell_at}
+use Rattle.mvs_model.specs.Pools.{Pool, part_length, part_want, cell_at}
 use Rattle.mvs_model.specs.State.{State, holder, granted}
 use Rattle.mvs_model.specs.Codes.{family, is_conditional, short, bad_subpool, not_held, task_in_use, too_many_tasks, not_owned}
 use Rattle.mvs_model.specs.Changes.{HeldPlain, Misses, Disjoint, Granted, GrantTo, ShortOf, with_part}
 use Rattle.mvs_model.specs.Numbers.{most_tasks, most_pools}
-use Rattle.mvs_model.specs.Steps.{IsRequest, Acts, Abends, Fails, ObtainStep, ObtainListStep, ReleaseStep, ReleaseWholeStep, BuildStep, GetStep, FreeStep, DeleteStep, AttachCase, AttachStep, ReturnStep, Accesses, MayRelease, Plan, is_invalid, on_doubleword, whole, all_granted}
-use Rattle.mvs_model.specs.Reasons.{OfGift, OfObtain, OfPlace, free_pages, is_untold, IsUnheld, IsDeniedIn, Meets, IsOverlap, OfNumber, OfPlaces, OfRelease, OfWhole, OfAccess, OfBuild, OfGet, OfFree, OfDelete, OfAttach, OfReturn, OfRequest, IsAbend, IsFailure, IsRefusal, IsGranted, IsReplyFor, ReasonsTell, form_of, obtains}
+use Rattle.mvs_model.specs.Steps.{IsRequest, Acts, Abends, Fails, ObtainStep, ObtainListStep, ReleaseStep, ReleaseWholeStep, Builds, BuildStep, GetsNone, GetStep, FreeStep, DeleteStep, AttachCase, AttachStep, ReturnStep, Accesses, MayRelease, Plan, is_invalid, on_doubleword, whole, all_granted}
+use Rattle.mvs_model.specs.Reasons.{OfGift, OfObtain, OfPlace, OfNoCell, is_untold, IsUnheld, IsDeniedIn, Meets, IsOverlap, OfNumber, OfPlaces, OfRelease, OfWhole, OfAccess, OfBuild, OfGet, OfFree, OfDelete, OfAttach, OfReturn, OfRequest, IsAbend, IsFailure, IsRefusal, IsGranted, IsReplyFor, ReasonsTell, form_of, obtains}
 use Rattle.mvs_model.proofs.Below.{below_each, each_below}
 use Rattle.mvs_model.proofs.Tests.{true_false, false_true}
 
@@ -97,16 +98,25 @@ module _ (old new : State) (t : Name) (reply : Reply) where
 
   -- ---- one request after another
 
+  -- want of a place, or a place that is granted
+  place_tells : (request : Request) (s : ℕ) (want : WantValue) (told : Room → Reason) (r : Option Reason) (failed granted : Type 0) → 1 ≤ want.least
+      → ((room : Room) → failed → IsRefusal request (told room) reply) → (granted → IsGranted request reply) → OfPlace old s want told r
+      → (NoPlace old.regions (holder old) s want × failed) ⊎ ((p : PlaceValue) × Chosen old.regions (holder old) s want p × granted) → IsReplyFor request r reply
+  place_tells request s want told r failed granted some refused good (inl c) (inl f) = absurd (none_chosen old.regions (holder old) s want c.1.0 some f.0 c.1.1)
+  place_tells request s want told r failed granted some refused good (inl c) (inr g) = told_none request r c.0 (good g.2)
+  place_tells request s want told r failed granted some refused good (inr n) (inl f) = told_as request (told n.1.0) r n.1.2 (refused n.1.0 f.1)
+  place_tells request s want told r failed granted some refused good (inr n) (inr g) = absurd (n.0 g.0.addr (shorter_place old.regions (holder old) s want want.least g.0.len g.0.addr some g.1.length.least g.1.placed))
+
   obtain_tells : (form : Form) (number : ℕ) (ask : AskValue) (want : WantValue) (r : Option Reason) → 1 ≤ want.least → OfObtain old t number want r → ObtainStep old t form number want reply new → IsReplyFor (Obtain form number ask) r reply
   obtain_tells form number ask want r some of step =
-      both (is_invalid number) of step (λ _ is a. told_as (Obtain form number ask) InvalidNumber r is (abend _ a)) (λ _ h s. at h s) where
-        at : (s : ℕ) × SubpoolOf old.owners (keeper old.owners t number) number s × OfPlace old s want r
+      both (is_invalid number) of step (λ _ is a. told_as (Obtain form number ask) InvalidNumber r is (abend _ a))
+      (λ _ h s. place_tells (Obtain form number ask) h.0 want (λ room. Shortage room) r (Fails (is_conditional form) old t (short (family form)) reply new) ((p : PlaceValue) × (reply ≡ Obtained p)) some
+      (λ room f. failure form _ f) (λ g. answered (Obtain form number ask) (Obtained g.0) g.1 tt) h.2 (at h.0 h.1 s)) where
+        at : (s : ℕ) → SubpoolOf old.owners (keeper old.owners t number) number s
             → (ShortOf old (keeper old.owners t number) number want × Fails (is_conditional form) old t (short (family form)) reply new) ⊎ ((p : PlaceValue) × (reply ≡ Obtained p) × GrantTo old (keeper old.owners t number) number want p new)
-            → IsReplyFor (Obtain form number ask) r reply
-        at (s, is, inl c) (inl f) = absurd (subst (λ u. NoPlace old.regions (holder old) u want → ⊥) (one_subpool old.owners (keeper old.owners t number) number s f.0.0 is f.0.1) (λ none. none_chosen old.regions (holder old) s want c.1.0 some none c.1.1) f.0.2)
-        at (s, is, inl c) (inr g) = told_none (Obtain form number ask) r c.0 (answered (Obtain form number ask) (Obtained g.0) g.1 tt)
-        at (s, is, inr n) (inl f) = told_as (Obtain form number ask) (Shortage n.1.0 (free_pages old 6 old.regions.below) (free_pages old 4096 old.regions.above)) r n.1.2 (failure form _ f.1)
-        at (s, is, inr n) (inr g) = absurd (subst (λ u. NoPlace old.regions (holder old) u want) (one_subpool old.owners (keeper old.owners t number) number s g.2.subpool is g.2.is_subpool) n.0 g.0.addr (shorter_place old.regions (holder old) g.2.subpool want want.least g.0.len g.0.addr some g.2.chosen.length.least g.2.chosen.placed))
+            → (NoPlace old.regions (holder old) s want × Fails (is_conditional form) old t (short (family form)) reply new) ⊎ ((p : PlaceValue) × Chosen old.regions (holder old) s want p × ((p : PlaceValue) × (reply ≡ Obtained p)))
+        at s is (inl f) = inl (subst (λ u. NoPlace old.regions (holder old) u want) (sym (one_subpool old.owners (keeper old.owners t number) number s f.0.0 is f.0.1)) f.0.2, f.1)
+        at s is (inr g) = inr (g.0, subst (λ u. Chosen old.regions (holder old) u want g.0) (sym (one_subpool old.owners (keeper old.owners t number) number s g.2.subpool is g.2.is_subpool)) g.2.chosen, (g.0, g.1))
 
   list_tells : (form : Form) (number : ℕ) (lengths : List ℕ) (start : ℕ) (wants : List WantValue) (r : Option Reason) → OfNumber number r → ObtainListStep old t form number wants reply new → IsReplyFor (ObtainList form number lengths start) r reply
   list_tells form number lengths start wants r of step =
@@ -164,31 +174,43 @@ module _ (old new : State) (t : Name) (reply : Reply) where
   move_tells request p q done r g (inr (h, inl d)) step = denied_tells request r d.0 d.1 (all_granted old p && all_granted old q) done d.4 (and_right (all_granted old p) (all_granted old q) (denied_not old q d.0 d.2)) step
   move_tells request p q done r g (inr (h, inr k)) step = allowed_tells request r (all_granted old p && all_granted old q) done g k.1 (and_from (all_granted old p) (all_granted old q) (granted_all old p h) (granted_all old q k.0)) step
 
-  build_tells : (request : Request) (name : Name) (number : ℕ) (plan : Plan) (r : Option Reason) → obtains request ≡ true → is_untold request ≡ true → form_of request ≡ Storage → IsGranted request Rc0 → OfBuild old name number r → BuildStep old t name number plan reply new → IsReplyFor request r reply
-  build_tells request name number plan r o u f g of step =
+  build_tells : (request : Request) (name : Name) (number : ℕ) (plan : Plan) (r : Option Reason) → obtains request ≡ true → form_of request ≡ Storage → IsGranted request Rc0 → OfBuild old t name number plan r → BuildStep old t name number plan reply new → IsReplyFor request r reply
+  build_tells request name number plan r o f g of step =
       both (is_invalid number) of step
       (λ _ is a. told_as request InvalidNumber r is (subst (λ b. IsAbend (bad_subpool (family (form_of request)) b) reply) (sym o) (subst (λ x. IsAbend (bad_subpool (family x) true) reply) (sym f) (abend _ a))))
       (λ _ of_name s. both (contains_key old.pools name) of_name s (λ _ is a. told_as request PoolInUse r is (abend _ a))
       (λ _ of_len x. both (nat_le most_pools (len old.pools)) of_len x (λ _ is a. told_as request TooManyPools r is (abend _ a))
-      (λ _ is v. told_none request r is (elim v [
-        | inl w ↦ short_abend request u (subst (λ x. Abends old t (short (family x)) reply new) (sym f) w.1)
-        | inr w ↦ answered request Rc0 w.1 g
-      ]))))
+      (λ _ h v. place_tells request h.0 want (λ room. NoPart plan.primary plan.cell_size room) r (Abends old t (short (family Storage)) reply new) (reply ≡ Rc0) (omega arith)
+      (λ room a. subst (λ x. IsFailure x (short (family x)) reply) (sym f) (abend _ a)) (λ e. answered request Rc0 e g) h.2 (at h.0 h.1 v)))) where
+        want : WantValue
+        want = part_want plan.cell_size plan.primary plan.side
 
-  get_tells : (name : Name) (conditional : Bool) (v : Option Pool) (r : Option Reason) → OfGet conditional v r → GetStep old t name conditional v reply new → IsReplyFor (Get name conditional) r reply
+        at : (s : ℕ) → SubpoolOf old.owners (keeper old.owners t number) number s
+            → (ShortOf old (keeper old.owners t number) number want × Abends old t (short (family Storage)) reply new) ⊎ (Builds old (keeper old.owners t number) name number plan new × (reply ≡ Rc0))
+            → (NoPlace old.regions (holder old) s want × Abends old t (short (family Storage)) reply new) ⊎ ((p : PlaceValue) × Chosen old.regions (holder old) s want p × (reply ≡ Rc0))
+        at s is (inl x) = inl (subst (λ u. NoPlace old.regions (holder old) u want) (sym (one_subpool old.owners (keeper old.owners t number) number s x.0.0 is x.0.1)) x.0.2, x.1)
+        at s is (inr x) = inr (x.0.2.0, subst (λ u. Chosen old.regions (holder old) u want x.0.2.0) (sym (one_subpool old.owners (keeper old.owners t number) number s x.0.0 is x.0.1)) x.0.2.3.chosen, x.1)
+
+  get_tells : (name : Name) (conditional : Bool) (v : Option Pool) (r : Option Reason) → OfGet old conditional v r → GetStep old t name conditional v reply new → IsReplyFor (Get name conditional) r reply
   get_tells name conditional None r of step = told_as (Get name conditional) NoPool r of (abend _ step)
-  get_tells name false (Some pool) r of (inl g) = told_none (Get name false) r of (answered (Get name false) (Cell (cell_at pool g.0)) g.2.1 tt)
-  get_tells name false (Some pool) r of (inr (none, inl s)) = told_none (Get name false) r of (short_abend (Get name false) refl s.1)
-  get_tells name false (Some pool) r of (inr (none, inr m)) = told_none (Get name false) r of (answered (Get name false) (Cell (cell_at (with_part pool pool.secondary m.0) m.3.0)) m.3.2.1 tt)
-  get_tells name true (Some pool) r (inl n) (inl g) = absurd (n.1 g.0 g.1)
-  get_tells name true (Some pool) r (inl n) (inr s) = told_as (Get name true) NoFreeCell r n.0 s.1.0
-  get_tells name true (Some pool) r (inr f) (inl g) = told_none (Get name true) r f.0 (answered (Get name true) (Cell (cell_at pool g.0)) g.2.1 tt)
-  get_tells name true (Some pool) r (inr f) (inr s) = absurd (s.0 f.1.0 f.1.1)
+  get_tells name conditional (Some pool) r (inl f) (inl g) = told_none (Get name conditional) r f.0 (answered (Get name conditional) (Cell (cell_at pool g.0)) g.2.1 tt)
+  get_tells name conditional (Some pool) r (inl f) (inr s) = absurd (s.0 f.1.0 f.1.1)
+  get_tells name conditional (Some pool) r (inr n) (inl g) = absurd (n.0 g.0 g.1)
+  get_tells name true (Some pool) r (inr n) (inr s) = told_as (Get name true) NoFreeCell r n.1 s.1.0
+  get_tells name false (Some pool) r (inr n) (inr s) =
+      place_tells (Get name false) pool.subpool want (λ room. NoPart pool.secondary pool.cell_size room) r (Abends old t (short (family Storage)) reply new) (IsGranted (Get name false) reply) (omega arith) (λ room a. abend _ a) (λ g. g) n.1 (at s.1) where
+        want : WantValue
+        want = part_want pool.cell_size pool.secondary pool.side
+
+        at : GetsNone old t name false pool reply new
+            → (NoPlace old.regions (holder old) pool.subpool want × Abends old t (short (family Storage)) reply new) ⊎ ((p : PlaceValue) × Chosen old.regions (holder old) pool.subpool want p × IsGranted (Get name false) reply)
+        at (inl x) = inl x
+        at (inr m) = inr (m.0, m.2.chosen, answered (Get name false) (Cell (cell_at (with_part pool pool.secondary m.0) m.3.0)) m.3.2.1 tt)
 
   free_tells : (name : Name) (c : ℕ) (v : Option Pool) (r : Option Reason) → OfFree c v r → FreeStep old t name c v reply new → IsReplyFor (Free name c) r reply
   free_tells name c None r of step = told_as (Free name c) NoPool r of (abend _ step)
   free_tells name c (Some pool) r of step =
-      both (not (set.contains pool.taken c)) of step (λ _ is a. told_as (Free name c) NoTakenCell r is (abend _ a))
+      both (not (set.contains pool.taken c)) of step (λ _ spot a. told_as (Free name c) (NoTakenCell spot.0) r spot.2 (abend _ a))
       (λ _ is d. told_none (Free name c) r is (answered (Free name c) Rc0 d.0 tt))
 
   delete_tells : (name : Name) (v : Option Pool) (r : Option Reason) → OfDelete v r → DeleteStep old t name v reply new → IsReplyFor (Delete name) r reply
@@ -216,7 +238,7 @@ module _ (old new : State) (t : Name) (reply : Reply) where
   each_tells (Release form number p) r ask_is of step = release_tells (Release form number p) number (p ∷ []) r refl of step
   each_tells (ReleaseList form number ps) r ask_is of step = release_tells (ReleaseList form number ps) number ps r refl of step
   each_tells (ReleaseWhole form number) r ask_is of step = whole_tells form number r of step
-  each_tells (Build name number size primary secondary loc) r ask_is of step = build_tells (Build name number size primary secondary loc) name number _ r refl refl refl tt of step
+  each_tells (Build name number size primary secondary loc) r ask_is of step = build_tells (Build name number size primary secondary loc) name number _ r refl refl tt of step
   each_tells (Get name conditional) r ask_is of step = get_tells name conditional (get old.pools name) r of step
   each_tells (Free name c) r ask_is of step = free_tells name c (get old.pools name) r of step
   each_tells (Delete name) r ask_is of step = delete_tells name (get old.pools name) r of step

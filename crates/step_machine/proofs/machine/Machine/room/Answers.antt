@@ -1,6 +1,6 @@
 use Rattle.std.proofs.Common.{sym, ◌∙◌}
 use Rattle.step_machine.proofs.Longest.{found_place, no_place, some_chosen, none_chosen}
-use Rattle.step_machine.proofs.machine.Machine.place_reason.Goals as goal
+use Rattle.step_machine.proofs.machine.Machine.room.Goals as goal
 
 pub returns-then-is_some : goal.returns-then-is_some
 returns-then-is_some c = rw (← c.self.view_is) (
