@@ -81,7 +81,10 @@ module _ (roots : FinMap name_cmp Root) (st : Storage) (agree : AgreeParts roots
 
     -- where the address lies at which no taken cell begins
     pub spot_told : (c : ℕ) (spot : CellSpot) → IsSpot (pool_of (byte_of st) r) c spot → (pool : Pool) → get (pools_of roots st) name ≡ Some pool → IsSpot pool c spot
-    spot_told c spot h pool found = subst (λ p. IsSpot p c spot) (let e : Some (pool_of (byte_of st) r) ≡ Some pool = sym (pool_from roots st name r is) ∙ found in cc) h
+    spot_told c spot h pool found =
+        let e : Some (pool_of (byte_of st) r) ≡ Some pool = sym (pool_from roots st name r is) ∙ found in
+        let same : pool_of (byte_of st) r ≡ pool = cc in
+        subst (λ p. IsSpot p c spot) same h
 
     -- and none does
     pub untaken : (c : ℕ) → ((pool : Pool) × (get (pools_of roots st) name ≡ Some pool) × (set.contains pool.taken c ≡ false)) → set.contains (taken_of (byte_of st) r) c ≡ false
