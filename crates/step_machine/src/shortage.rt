@@ -11,6 +11,7 @@ ghost use Rattle.mvs_model.specs.declared.reason.Reason.TheVariants.{NoPart, Sho
 ghost use Rattle.mvs_model.specs.Reasons.{IsLongest, IsRoom, OfObtain, OfPlace};
 ghost use Rattle.mvs_model.specs.Steps.{side_for};
 ghost use Rattle.mvs_model.specs.Storage.{Chosen, IsStorage, NoPlace, holder};
+ghost use Rattle.mvs_model.specs.View.{IsBounded};
 ghost use Rattle.mvs_model.specs.Want.{want_of};
 ghost use Rattle.step_machine.specs.Reports.{page_holder};
 
@@ -60,10 +61,11 @@ fn free_pages(store: &Store, first: u32, count: u32) -> u32
 impl Machine {
     // What room a subpool has for what is wanted, where there is no place.
     fn room(&self, subpool: SubpoolId, want: &Want) -> Option<Room>
-        ensures { MatchOption result
+        ensures room { MatchOption result
             ((p : PlaceValue) × Chosen self.now.regions (state.holder self.now) subpool want.now p)
             (λ room. NoPlace self.now.regions (state.holder self.now) subpool want.now
             × IsRoom self.now subpool want.now room) }
+        ensures bounded { IsBounded self.now.regions }
     {
         if self.store.find(subpool, want).is_some() {
             return None;
