@@ -105,9 +105,9 @@ pub record Part : Type 0 where
   pub told : List ℕ
   pub why : List ℕ
 
--- Nothing, or a line that begins with an asterisk.
+-- Nothing, or a text from an asterisk up to a line feed.
 abbrev pub IsStarred : List ℕ → Type 0
-IsStarred why = (why ≡ []) ⊎ ((said : List ℕ) × (why ≡ 42 ∷ said))
+IsStarred why = (why ≡ []) ⊎ ((said : List ℕ) × (why ≡ 42 ∷ said ++ 10 ∷ []))
 
 -- The text is the printing of a run of the script with reasons between the events.
 pub record Interleaves (script text : List ℕ) (outcome : Outcome) : Type 0 where
