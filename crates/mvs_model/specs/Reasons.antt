@@ -19,10 +19,11 @@ use Rattle.mvs_model.specs.declared.reason.CellSpot.{CellSpot}
 use Rattle.mvs_model.specs.declared.reason.CellSpot.TheVariants.{Untaken, Inside, Elsewhere}
 use Rattle.mvs_model.specs.declared.reason.Room.{Room}
 use Rattle.mvs_model.specs.declared.reason.Reason.{Reason}
-use Rattle.mvs_model.specs.declared.reason.Reason.TheVariants.{NotActive, InvalidNumber, NotSet, Shortage, NoPart, OffDoubleword, NoSubpool, NotHeld, Overlap, WholeOfZero, PoolInUse, TooManyPools, NoPool, NoFreeCell, NoTakenCell, TaskInUse, TooManyTasks, NotOwned, ActiveSubtask, Asked, NoAccess}
+use Rattle.mvs_model.specs.declared.reason.Reason.TheVariants.{NotActive, InvalidNumber, NotSet, Shortage, NoMember, NoPart, OffDoubleword, NoSubpool, NotHeld, Overlap, WholeOfZero, PoolInUse, TooManyPools, NoPool, NoFreeCell, NoTakenCell, TaskInUse, TooManyTasks, NotOwned, ActiveSubtask, Asked, NoAccess}
 use Rattle.mvs_model.specs.Place.{PlaceValue, place_at}
 use Rattle.mvs_model.specs.Gifts.{GiftsValue, gives}
-use Rattle.mvs_model.specs.Want.{WantValue, want_of, side_of}
+use Rattle.mvs_model.specs.declared.want.Side.TheVariants.{Below}
+use Rattle.mvs_model.specs.Want.{WantValue, want_of, fixed_want, side_of}
 use Rattle.mvs_model.specs.Storage.{Regions, Covers, Places, Chosen, NoPlace}
 use Rattle.mvs_model.specs.Finite.{count_below}
 use Rattle.mvs_model.specs.Reports.{page_subpool}
@@ -117,10 +118,6 @@ OfAccess st (p ∷ ps) r =
 
 -- ---- requests that obtain, and those for cells
 
--- Why a list is not obtained, but for want of a place: its number may not be named.
-abbrev pub OfNumber : ℕ → Option Reason → Type 0
-OfNumber number r = MatchBool (is_invalid number) (r ≡ Some InvalidNumber) (r ≡ None)
-
 -- The length is the greatest one of whole doublewords for which s has a place on the boundaries and the side that are wanted,
 -- and 0 where there is none.
 pub record IsLongest (r : Regions) (holder : ℕ → Option ℕ) (s : ℕ) (want : WantValue) (n : ℕ) : Type 0 where
@@ -151,6 +148,18 @@ OfPlaceUnder st t number want told r = (s : ℕ) × SubpoolOf st.owners (keeper 
 -- Why an obtain is refused: its number may not be named, or there is no place.
 abbrev pub OfObtain : State → Name → ℕ → WantValue → Option Reason → Type 0
 OfObtain st t number want r = MatchBool (is_invalid number) (r ≡ Some InvalidNumber) (OfPlaceUnder st t number want (λ room. Shortage room) r)
+
+-- Why s is not granted a place for each of some things wanted, the first of which has this number in a list: the first of them for
+-- which there is none, were it the only one.
+abbrev pub OfMembers : State → ℕ → List WantValue → ℕ → Option Reason → Type 0
+OfMembers st s [] k r = r ≡ None
+OfMembers st s (want ∷ wants) k r =
+    (NoPlace st.regions (holder st) s want × ((room : Room) × IsRoom st s want room × (r ≡ Some (NoMember k want.least room))))
+    ⊎ (((p : PlaceValue) × Chosen st.regions (holder st) s want p) × OfMembers st s wants (k + 1) r)
+
+-- Why a list is not obtained, but for want of a place for all of it where each member has one by itself.
+abbrev pub OfList : State → Name → ℕ → List WantValue → Option Reason → Type 0
+OfList st t number wants r = MatchBool (is_invalid number) (r ≡ Some InvalidNumber) ((s : ℕ) × SubpoolOf st.owners (keeper st.owners t number) number s × OfMembers st s wants 1 r)
 
 -- Why a pool is not made: for its number, or its name is in use, or 64 pools are there, or there is no place for its first part.
 abbrev pub OfBuild : State → Name → Name → ℕ → Plan → Option Reason → Type 0
@@ -210,10 +219,10 @@ OfReturn o t r = MatchBool (has_subtask o t) ((x : Name) × IsMother o t x × (r
 
 -- ---- each request
 
--- Why an active task's request is refused, if it is, but for want of a place for a list.
+-- Why an active task's request is refused, if it is, but for want of a place for a list whose members each have one by itself.
 abbrev pub OfRequest : State → Name → Request → Option Reason → Type 0
 OfRequest st t (Obtain form number ask) r = OfObtain st t number (want_of ask (side_for st t form ask.loc)) r
-OfRequest st t (ObtainList form number lengths start) r = OfNumber number r
+OfRequest st t (ObtainList form number lengths start) r = OfList st t number (map (λ n. fixed_want n start Below) lengths) r
 OfRequest st t (Release form number p) r = OfRelease st t number (p ∷ []) r
 OfRequest st t (ReleaseList form number ps) r = OfRelease st t number ps r
 OfRequest st t (ReleaseWhole form number) r = OfWhole number r
@@ -229,7 +238,8 @@ OfRequest st t (Show a n) r = OfAccess st (place_at a n ∷ []) r
 OfRequest st t (Put a bytes) r = OfAccess st (place_at a (length bytes) ∷ []) r
 OfRequest st t (Move to from n) r = OfAccess st (place_at to n ∷ place_at from n ∷ []) r
 
--- Why a request is refused, if it is, but for want of a place for a list: the task is not active, or what its request says.
+-- Why a request is refused, if it is, but for want of a place for a list whose members
+-- each have one by itself: the task is not active, or what its request says.
 abbrev pub IsReason : State → Name → Request → Option Reason → Type 0
 IsReason st t request r = MatchBool (not (is_active st.owners t)) (r ≡ Some NotActive) (OfRequest st t request r)
 
@@ -275,6 +285,7 @@ abbrev pub IsRefusal : Request → Reason → Reply → Type 0
 IsRefusal request NotActive reply = reply ≡ NotRun
 IsRefusal request (NotSet name) reply = ⊥
 IsRefusal request (Shortage room) reply = IsFailure (form_of request) (short (family (form_of request))) reply
+IsRefusal request (NoMember k n room) reply = IsFailure (form_of request) (short (family (form_of request))) reply
 IsRefusal request (NoPart cells size room) reply = IsFailure (form_of request) (short (family (form_of request))) reply
 IsRefusal request InvalidNumber reply = IsAbend (bad_subpool (family (form_of request)) (obtains request)) reply
 IsRefusal request (OffDoubleword a) reply = IsAbend (bad_address (family (form_of request))) reply

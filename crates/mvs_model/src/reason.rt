@@ -50,6 +50,8 @@ pub enum Reason {
     NotSet(Name),
     /// There is no place of the least length that is wanted.
     Shortage(Room),
+    /// There is no place for a member of a list, by itself: its number in the list, from 1 on, and the length that it wants.
+    NoMember(u32, u32, Room),
     /// There is no place for a part of so many cells of so many bytes, the first one of a pool or a further one.
     NoPart(u32, u32, Room),
     /// A place begins at this address, which is not on a doubleword.
