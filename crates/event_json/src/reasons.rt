@@ -37,6 +37,7 @@ fn kind(reason: &Reason) -> &'static str {
         Reason::InvalidNumber => "invalid_number",
         Reason::NotSet(_) => "not_set",
         Reason::Shortage(_) => "shortage",
+        Reason::NoMember(..) => "no_member",
         Reason::NoPart(..) => "no_part",
         Reason::OffDoubleword(_) => "off_doubleword",
         Reason::NoSubpool(_) => "no_subpool",
@@ -62,6 +63,11 @@ fn put_told(members: &mut Members, reason: &Reason) -> Result<(), AllocError> {
     match reason {
         Reason::NotSet(name) => members.name("name", name),
         Reason::Shortage(room) => put_room(members, room),
+        Reason::NoMember(member, bytes, room) => {
+            members.number("member", *member)?;
+            members.number("wanted", *bytes)?;
+            put_room(members, room)
+        }
         Reason::NoPart(cells, size, room) => {
             members.number("cells", *cells)?;
             members.number("cell_size", *size)?;

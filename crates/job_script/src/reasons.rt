@@ -2,7 +2,7 @@
 
 ghost use Rattle.std.specs.Prelude.{◌≡◌, ◌≤◌, ◌+◌, ◌++◌, length, decimal};
 ghost use Rattle.mvs_model.specs.Name.{trimmed};
-ghost use Rattle.job_script.specs.ReasonTexts.{cell_of, holder_said, least_of, named, named_said, no_access_said, no_cell_said, no_part_said, no_subpool_said, not_held_said, not_owned_said, number_of, off_said, overlap_said, reason_line, reason_said, shortage_said, spot_said, subtask_said};
+ghost use Rattle.job_script.specs.ReasonTexts.{cell_of, holder_said, least_of, named, named_said, no_access_said, no_cell_said, no_member_said, no_part_said, no_subpool_said, not_held_said, not_owned_said, number_of, off_said, overlap_said, reason_line, reason_said, shortage_said, spot_said, subtask_said};
 ghost use Rattle.job_script.specs.Writing.{Prints};
 
 use crate::print::write_all;
@@ -105,6 +105,25 @@ fn push_shortage(text: &mut Text, request: &Request, room: &Room)
     text.push_all(b" below, ");
     text.push_decimal(room.above);
     text.push_all(b" above. (rule 12)");
+}
+
+// Puts behind a text that there is no place for a member of a list.
+fn push_no_member(text: &mut Text, member: u32, bytes: u32, room: &Room)
+    requires { length text.old ≤ 2 }
+    ensures text { text.new ≡ text.old ++ no_member_said member bytes room.now }
+    ensures len { length text.new ≤ length text.old + 157 }
+{
+    text.push_all(b"Member ");
+    text.push_decimal(member);
+    text.push_all(b" of the list wants ");
+    text.push_decimal(bytes);
+    text.push_all(b" bytes, and at most ");
+    text.push_decimal(room.longest);
+    text.push_all(b" have such a place; free pages: ");
+    text.push_decimal(room.below);
+    text.push_all(b" below, ");
+    text.push_decimal(room.above);
+    text.push_all(b" above. (rule 22)");
 }
 
 // Puts behind a text that there is no place for a part of a pool.
@@ -346,6 +365,7 @@ fn push_reason(text: &mut Text, task: &Name, request: &Request, reason: &Reason)
             b" is not set: no request of this step was granted under it. (rule 74)",
         ),
         Reason::Shortage(room) => push_shortage(text, request, room),
+        Reason::NoMember(member, bytes, room) => push_no_member(text, *member, *bytes, room),
         Reason::OffDoubleword(addr) => push_off(text, *addr),
         Reason::NoSubpool(keeper) => push_no_subpool(text, request, keeper),
         Reason::NotHeld(addr, holder) => {

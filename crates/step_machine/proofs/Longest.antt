@@ -1,18 +1,23 @@
 -- The greatest length that has a place, pages that hold nothing, and what stands for a thing that is wanted.
-use Rattle.std.proofs.Common.{◌≡◌, ℕ, suc, ◌+◌, ◌-◌, ◌*◌, ◌/◌, ◌%◌, ◌^◌, ◌<◌, ◌≤◌, inl, inr, Bool, true, false, cond, Option, Some, None, not, is_some, refl, sym, ap, ◌∙◌, subst, arith}
+use Rattle.std.proofs.Common.{◌≡◌, ℕ, suc, ◌+◌, ◌-◌, ◌*◌, ◌/◌, ◌%◌, ◌^◌, ◌<◌, ◌≤◌, inl, inr, Bool, true, false, cond, List, ◌∷◌, Option, Some, None, not, is_some, refl, sym, ap, ◌∙◌, subst, arith}
 use Rattle.std.specs.Prelude.{IfSome, MatchOption}
 use Rattle.std.proofs.lemmas.Bool.{cases_lt}
 use Rattle.std.specs.FinMap.{FinMap}
 use Rattle.mvs_model.specs.Name.{name_cmp}
 use Rattle.mvs_model.specs.Place.{PlaceValue, place_at}
-use Rattle.mvs_model.specs.Want.{WantValue, IsWant}
+use Rattle.mvs_model.specs.Want.{WantValue, IsWant, fixed_want}
 use Rattle.mvs_model.specs.Finite.{count_below}
 use Rattle.mvs_model.specs.Storage.{Storage, Regions, InRegion, IsLength, Places, Chosen, NoPlace, holder}
 use Rattle.mvs_model.specs.View.{IsBounded}
 use Rattle.mvs_model.specs.Owners.{Owners}
-use Rattle.mvs_model.specs.State.{holder as state_holder}
+use Rattle.mvs_model.specs.State.{State, holder as state_holder}
+use Rattle.step_machine.specs.Lists.{list_wants}
 use Rattle.mvs_model.specs.Reports.{page_subpool}
-use Rattle.mvs_model.specs.Reasons.{IsLongest, IsRoom, free_pages}
+use Rattle.mvs_model.specs.declared.reason.Room.{Room}
+use Rattle.mvs_model.specs.declared.reason.Reason.{Reason}
+use Rattle.mvs_model.specs.declared.reason.Reason.TheVariants.{NoMember}
+use Rattle.mvs_model.specs.declared.want.Side.TheVariants.{Below}
+use Rattle.mvs_model.specs.Reasons.{IsLongest, IsRoom, OfMembers, free_pages}
 use Rattle.mvs_model.proofs.StorageLaws.{shorter_place}
 use Rattle.cell_pool.specs.Agree.{Agree}
 use Rattle.cell_pool.specs.Laying.{StandsFor}
@@ -164,3 +169,15 @@ module _ (r : Regions) (bounded : IsBounded r) (held : ℕ → Option ℕ) (s : 
     placed = elim h.placed [ inl e ↦ inl e | inr p ↦ inr (p.0, as_real n p.0 p.1) ];
     greatest = λ m a w l q. h.greatest m a w l (as_want m a q);
   }
+
+-- members of a list
+module _ (st : State) (s start k : ℕ) (xs rest : List ℕ) (n : ℕ) (want : WantValue) (e : xs ≡ n ∷ rest) (is : want ≡ fixed_want n start Below) where
+  pub members_first : (m : ℕ) (room : Room) → m ≡ want.least → NoPlace st.regions (state_holder st) s want × IsRoom st s want room → OfMembers st s (list_wants xs start) k (Some (NoMember k m room))
+  members_first m room same h =
+      subst (λ l. OfMembers st s (list_wants l start) k (Some (NoMember k m room))) (sym e)
+      (subst (λ w. OfMembers st s (w ∷ list_wants rest start) k (Some (NoMember k m room))) is (inl (h.0, (room, h.1, ap (λ b. Some (NoMember k b room)) same))))
+
+  pub members_later : (r : Option Reason) → (p : PlaceValue) × Chosen st.regions (state_holder st) s want p → OfMembers st s (list_wants rest start) (k + 1) r → OfMembers st s (list_wants xs start) k r
+  members_later r c h =
+      subst (λ l. OfMembers st s (list_wants l start) k r) (sym e)
+      (subst (λ w. OfMembers st s (w ∷ list_wants rest start) k r) is (inr (c, h)))

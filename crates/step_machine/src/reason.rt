@@ -7,7 +7,7 @@ ghost use Rattle.mvs_model.specs.declared.reason.Holder.{Holder};
 ghost use Rattle.mvs_model.specs.declared.reason.Reason.TheVariants.{NoAccess};
 ghost use Rattle.mvs_model.specs.Changes.{Granted};
 ghost use Rattle.mvs_model.specs.Owners.{is_active, keeper, subpool_meant};
-ghost use Rattle.mvs_model.specs.Reasons.{Holds, IsDeniedIn, OfAccess, OfAttach, OfBuild, OfDelete, OfFree, OfGet, OfNumber, OfPlaces, OfRelease, OfRequest, OfReturn, OfWhole};
+ghost use Rattle.mvs_model.specs.Reasons.{Holds, IsDeniedIn, OfAccess, OfAttach, OfBuild, OfDelete, OfFree, OfGet, OfPlaces, OfRelease, OfRequest, OfReturn, OfWhole};
 ghost use Rattle.mvs_model.specs.Steps as step;
 
 use crate::holder::first_denied;
@@ -20,16 +20,6 @@ use mvs_model::place::{Addr, Place};
 use mvs_model::reason::Reason;
 use mvs_model::request::Request;
 use mvs_model::subpool::SubNo;
-
-// Why a request with a subpool number is refused for it.
-fn number_reason(number: u8) -> Option<Reason>
-    ensures { OfNumber number result }
-{
-    match SubNo::new(number) {
-        Some(_) => None,
-        None => Some(Reason::InvalidNumber),
-    }
-}
 
 // Why the release of a whole subpool is refused.
 fn whole_reason(number: u8) -> Option<Reason>
@@ -200,7 +190,8 @@ impl Machine {
         self.access_reason(from)
     }
 
-    /// Why an active task's request is refused, if it is, but for want of a place for a list.
+    /// Why an active task's request is refused, if it is, but for want of a place for a list whose members each have one by
+    /// itself.
     pub fn reason(&self, name: Name, request: &Request) -> Option<Reason>
         requires { is_active self.now.owners name ≡ true }
         ensures { OfRequest self.now name request.now result }
@@ -209,7 +200,12 @@ impl Machine {
             Request::Obtain { form, number, ask } => {
                 self.obtain_reason(name, *form, *number, ask)
             }
-            Request::ObtainList { number, .. } => number_reason(*number),
+            Request::ObtainList {
+                number,
+                lengths,
+                start,
+                ..
+            } => self.list_reason(name, *number, lengths, *start),
             Request::Release { number, place, .. } => self.release_reason(name, *number, &[*place]),
             Request::ReleaseList { number, places, .. } => self.release_reason(
                 name,

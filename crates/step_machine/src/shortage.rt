@@ -1,6 +1,6 @@
 //! Why a place is not granted.
 
-ghost use Rattle.std.specs.Prelude.{◌≡◌, ◌+◌, ◌≤◌, MatchOption, true, not, is_some};
+ghost use Rattle.std.specs.Prelude.{◌≡◌, ◌+◌, ◌≤◌, length, MatchOption, true, not, is_some};
 ghost use Rattle.mvs_model.specs.Finite.{count_below};
 ghost use Rattle.mvs_model.specs.Numbers.{first_page_above, most_pages_above};
 ghost use Rattle.mvs_model.specs.Owners.{SubpoolOf, is_active, keeper};
@@ -8,11 +8,12 @@ ghost use Rattle.mvs_model.specs.Place.{PlaceValue};
 ghost use Rattle.mvs_model.specs.Pools.{part_want};
 ghost use Rattle.mvs_model.specs.State as state;
 ghost use Rattle.mvs_model.specs.declared.reason.Reason.TheVariants.{NoPart, Shortage};
-ghost use Rattle.mvs_model.specs.Reasons.{IsLongest, IsRoom, OfObtain, OfPlace};
+ghost use Rattle.mvs_model.specs.Reasons.{IsLongest, IsRoom, OfList, OfMembers, OfObtain, OfPlace};
 ghost use Rattle.mvs_model.specs.Steps.{side_for};
 ghost use Rattle.mvs_model.specs.Storage.{Chosen, IsStorage, NoPlace, holder};
 ghost use Rattle.mvs_model.specs.View.{IsBounded};
 ghost use Rattle.mvs_model.specs.Want.{want_of};
+ghost use Rattle.step_machine.specs.Lists.{list_wants};
 ghost use Rattle.step_machine.specs.Reports.{page_holder};
 
 use crate::codes::form_side;
@@ -20,11 +21,12 @@ use crate::machine::Machine;
 use crate::report::page_owner;
 use boundary_loc::side;
 use cell_pool::part_want;
-use mvs_model::bounded::{CellCount, CellSize};
+use mvs_model::bounded::{CellCount, CellSize, Exponent, Length};
 use mvs_model::code::Form;
 use mvs_model::name::Name;
 use mvs_model::numbers::{FIRST_PAGE_ABOVE, FIRST_PAGE_BELOW};
 use mvs_model::reason::{Reason, Room};
+use mvs_model::request::Lengths;
 use mvs_model::subpool::{SubNo, SubpoolId};
 use mvs_model::want::{Ask, Side, Want};
 use subpool_store::Store;
@@ -131,5 +133,44 @@ impl Machine {
         let t = self.tasks.task_of(name);
         let want = ask.want(form_side(form, side(ask.loc(), self.tasks.residence(t))));
         self.place_reason(self.subpool_for(name, number), &want)
+    }
+
+    // Why no place is granted to a subpool for one of the lengths of a list, the first of which has this number in it.
+    fn members_reason(
+        &self,
+        subpool: SubpoolId,
+        lengths: &[Length],
+        start: Exponent,
+        number: u32,
+    ) -> Option<Reason>
+        requires { number + length lengths.now ≤ 100 }
+        ensures { OfMembers self.now subpool (list_wants lengths.now start) number result }
+    {
+        let Some((length, rest)) = lengths.split_first() else {
+            return None;
+        };
+        let want = Want::fixed(*length, start, Side::Below);
+        if let Some(room) = self.room(subpool, &want) {
+            return Some(Reason::NoMember(number, want.least(), room));
+        }
+        self.members_reason(subpool, rest, start, number + 1)
+    }
+
+    /// Why a list is not obtained, but for want of a place for all of it where each member has one by itself.
+    pub fn list_reason(
+        &self,
+        name: Name,
+        number: u8,
+        lengths: &Lengths,
+        start: Exponent,
+    ) -> Option<Reason>
+        requires { is_active self.now.owners name ≡ true }
+        ensures { OfList self.now name number (list_wants lengths.now start) result }
+    {
+        let Some(number) = SubNo::new(number) else {
+            return Some(Reason::InvalidNumber);
+        };
+        let subpool = self.subpool_for(name, number);
+        self.members_reason(subpool, lengths.as_slice(), start, 1)
     }
 }

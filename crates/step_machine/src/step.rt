@@ -185,7 +185,8 @@ impl Step {
         self.machine.map_run(from)
     }
 
-    /// Why a request of the task is refused, if it is, asked before it is made. None also where a place is wanting for a list.
+    /// Why a request of the task is refused, if it is, asked before it is made. None also where a place is wanting for a list
+    /// whose members each have one by itself.
     pub fn reason(&self, name: &Name, request: &Request) -> Option<Reason>
         ensures reason { IsReason self.now.state name.now request.now result }
         ensures told { (reply : TheReply) (new : State)
