@@ -18,6 +18,9 @@ use Rattle.cell_pool.specs.Layout.{byte_of, count_at, taken_at, flag}
 use Rattle.cell_pool.specs.Roots.{Root, free_in, part_addr, part_of, is_taken, taken_of, pool_of, pools_of}
 use Rattle.cell_pool.specs.Agree.{AgreeParts, IsCounted}
 use Rattle.cell_pool.specs.Walk.{IsChain, IsTakenAt}
+use Rattle.mvs_model.specs.declared.reason.CellSpot.{CellSpot}
+use Rattle.mvs_model.specs.Reasons.{IsSpot}
+use Rattle.cell_pool.specs.Cells.{IsSupply}
 use Rattle.cell_pool.specs.declared.walk.Taken.{Taken}
 use Rattle.cell_pool.proofs.Chains.{part_contained}
 use Rattle.cell_pool.proofs.Frame.{get-pools_of, pool_from}
@@ -67,10 +70,25 @@ module _ (roots : FinMap name_cmp Root) (st : Storage) (agree : AgreeParts roots
         )
 
     -- whether a cell is free
-    pub free_told : IsCounted (byte_of st) r → (b : Bool) → MatchBool b (1 ≤ r.free) (r.free ≡ 0)
-        → (pool : Pool) × (get (pools_of roots st) name ≡ Some pool) × MatchBool b ((c : ℕ) × IsFreeCell pool c) ((c : ℕ) → IsFreeCell pool c → ⊥)
-    free_told counted true l = (pool_of (byte_of st) r, pool_from roots st name r is, some_cell counted l)
-    free_told counted false e = (pool_of (byte_of st) r, pool_from roots st name r is, none_free roots st agree name true r is (all_taken st r ch counted e))
+    free_told : IsCounted (byte_of st) r → (b : Bool) → MatchBool b (1 ≤ r.free) (r.free ≡ 0) → MatchBool b ((c : ℕ) × IsFreeCell (pool_of (byte_of st) r) c) ((c : ℕ) → IsFreeCell (pool_of (byte_of st) r) c → ⊥)
+    free_told counted true l = some_cell counted l
+    free_told counted false e = none_free roots st agree name true r is (all_taken st r ch counted e)
+
+    -- what the pool has for a request for a cell
+    pub supply_told : IsCounted (byte_of st) r → (b : Bool) → MatchBool b (1 ≤ r.free) (r.free ≡ 0)
+        → (pool : Pool) × (get (pools_of roots st) name ≡ Some pool) × IsSupply pool (record { has_free = b; subpool = r.subpool; cell_size = r.cell_size; secondary = r.secondary; side = r.side })
+    supply_told counted b h = (pool_of (byte_of st) r, pool_from roots st name r is, record { free = free_told counted b h; subpool = refl; cell_size = refl; secondary = refl; side = refl })
+
+    -- where the address lies at which no taken cell begins
+    pub spot_told : (c : ℕ) (spot : CellSpot) → IsSpot (pool_of (byte_of st) r) c spot → (pool : Pool) → get (pools_of roots st) name ≡ Some pool → IsSpot pool c spot
+    spot_told c spot h pool found =
+        let e : Some (pool_of (byte_of st) r) ≡ Some pool = sym (pool_from roots st name r is) ∙ found in
+        let same : pool_of (byte_of st) r ≡ pool = cc in
+        subst (λ p. IsSpot p c spot) same h
+
+    -- and none does
+    pub untaken : (c : ℕ) → ((pool : Pool) × (get (pools_of roots st) name ≡ Some pool) × (set.contains pool.taken c ≡ false)) → set.contains (taken_of (byte_of st) r) c ≡ false
+    untaken c h = let same : Some (pool_of (byte_of st) r) ≡ Some h.0 = sym (pool_from roots st name r is) ∙ h.1 in let p : pool_of (byte_of st) r ≡ h.0 = cc in ap (λ (q : Pool). set.contains q.taken c) p ∙ h.2
 
     cell_set : (a i taken : ℕ) {past : Bool} (c : ℕ) → IsTakenAt st r a i taken past c → set.contains (taken_of (byte_of st) r) c ≡ true
     cell_set a i taken c spot =

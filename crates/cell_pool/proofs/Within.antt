@@ -7,7 +7,7 @@ use Rattle.mvs_model.specs.Name.{name_cmp}
 use Rattle.mvs_model.specs.Place.{place_at}
 use Rattle.mvs_model.specs.Storage.{Storage, has_address}
 use Rattle.mvs_model.specs.Owners.{Owners}
-use Rattle.mvs_model.specs.Pools.{part_length, first_cell, cell_at, in_taken}
+use Rattle.mvs_model.specs.Pools.{Part, part_length, first_cell, IsCell, cell_at, in_taken}
 use Rattle.mvs_model.specs.State.{in_cell}
 use Rattle.mvs_model.specs.View.{state_of}
 use Rattle.mvs_model.proofs.CellPlaces.{has_is, behind_cell}
@@ -20,6 +20,7 @@ use Rattle.cell_pool.specs.declared.entry.Entry.{Entry}
 use Rattle.cell_pool.proofs.Taken.{TakenAt, set_found, set_from}
 use Rattle.cell_pool.proofs.Frame.{root_found, pool_from}
 use Rattle.cell_pool.proofs.Named.{named, entry_of}
+use Rattle.cell_pool.proofs.Chains.{part_contained, contained_part}
 use Rattle.cell_pool.proofs.Walking.{chain_of, one}
 use Rattle.mvs_model.proofs.Stand.{holder_state}
 use Rattle.cell_pool.specs.Agree.{AgreeParts}
@@ -33,31 +34,59 @@ use Rattle.std.specs.Prelude.{MatchOption}
 use Rattle.cell_pool.specs.Roots.{taken_of}
 
 module _ (st : Storage) (r : Root) (ch : IsChain st r) (x : ℕ) where
-  -- A taken cell of the pool has the address.
+  -- A cell of the pool has the address.
   record Holds : Type 0 where
+    begin : ℕ
+    part : ℕ
     cell : ℕ
-    is : TakenAt (byte_of st) r cell
-    low : cell ≤ x
-    high : x < cell + r.cell_size
+    is_part : part < r.count
+    is_cell : cell < count_at (byte_of st) (part_addr (byte_of st) r.first part)
+    at : begin ≡ first_cell r.cell_size (part_of (byte_of st) r part) + cell * r.cell_size
+    low : begin ≤ x
+    high : x < begin + r.cell_size
 
-  holds : in_taken (pool_of (byte_of st) r) x ≡ true → Holds
+  -- one that begins at an address
+  begins_at : (c : ℕ) → IsCell (pool_of (byte_of st) r) c → c ≤ x → x < c + r.cell_size → Holds
+  begins_at c is low high =
+      let p = contained_part (byte_of st) r is.0 is.1 in
+      let i = is.2 in
+      record {
+        begin = c;
+        part = p.0;
+        cell = i.0;
+        is_part = p.1;
+        is_cell = subst (λ (q : Part). i.0 < q.count) (sym p.2) i.1;
+        at = i.2 ∙ ap (λ (q : Part). first_cell r.cell_size q + i.0 * r.cell_size) (sym p.2);
+        low = low;
+        high = high;
+      }
+
+  -- and one that is taken
+  holds : in_taken (pool_of (byte_of st) r) x ≡ true → (h : Holds) × (flag (byte_of st) (part_addr (byte_of st) r.first h.part) h.cell ≡ true)
   holds e =
       let f = taken_found (pool_of (byte_of st) r) x e in
       let h = has_is (cell_at (pool_of (byte_of st) r) f.0) x f.2 in
-      record { cell = f.0; is = set_found (byte_of st) r f.0 f.1; low = h.0; high = h.1 }
+      let t = set_found (byte_of st) r f.0 f.1 in
+      (record { begin = f.0; part = t.part; cell = t.cell; is_part = t.is_part; is_cell = t.is_cell; at = t.at; low = h.0; high = h.1 }, t.set)
 
   -- it lies in the cell's part
-  in_part : (h : Holds) → (part_addr (byte_of st) r.first h.is.part ≤ x) × (x < part_addr (byte_of st) r.first h.is.part + part_length r.cell_size (count_at (byte_of st) (part_addr (byte_of st) r.first h.is.part)))
+  in_part : (h : Holds) → (part_addr (byte_of st) r.first h.part ≤ x) × (x < part_addr (byte_of st) r.first h.part + part_length r.cell_size (count_at (byte_of st) (part_addr (byte_of st) r.first h.part)))
   in_part h =
-      let t = h.is in
-      let m : t.cell * r.cell_size + r.cell_size ≤ count_at (byte_of st) (part_addr (byte_of st) r.first t.part) * r.cell_size = behind_cell t.cell (count_at (byte_of st) (part_addr (byte_of st) r.first t.part)) r.cell_size t.is_cell in
-      let at = t.at in let low = h.low in let high = h.high in
+      let m : h.cell * r.cell_size + r.cell_size ≤ count_at (byte_of st) (part_addr (byte_of st) r.first h.part) * r.cell_size = behind_cell h.cell (count_at (byte_of st) (part_addr (byte_of st) r.first h.part)) r.cell_size h.is_cell in
+      let at = h.at in let low = h.low in let high = h.high in
       (omega arith, omega arith)
 
-  pub no_part : ((j : ℕ) → j < r.count → has_address (part_of (byte_of st) r j).place x ≡ false) → in_taken (pool_of (byte_of st) r) x ≡ false
-  no_part none = never _ (λ e. let h = holds e in let p = in_part h in let f : true ≡ false = sym (has _ _ p.0 p.1) ∙ none h.is.part h.is.is_part in absurd (cc)) where
+  none_in : ((j : ℕ) → j < r.count → has_address (part_of (byte_of st) r j).place x ≡ false) → Holds → ⊥
+  none_in none h = let p = in_part h in let f : true ≡ false = sym (has _ _ p.0 p.1) ∙ none h.part h.is_part in absurd (cc) where
     has : (a n : ℕ) → a ≤ x → x < a + n → has_address (place_at a n) x ≡ true
     has a n l h = grind (arith, nat_tests)
+
+  pub no_part : ((j : ℕ) → j < r.count → has_address (part_of (byte_of st) r j).place x ≡ false) → in_taken (pool_of (byte_of st) r) x ≡ false
+  no_part none = never _ (λ e. none_in none (holds e).0)
+
+  -- no cell has the address where no part has it
+  pub no_cell : ((j : ℕ) → j < r.count → has_address (part_of (byte_of st) r j).place x ≡ false) → (c : ℕ) → IsCell (pool_of (byte_of st) r) c → c ≤ x → x < c + r.cell_size → ⊥
+  no_cell none c is low high = none_in none (begins_at c is low high)
 
   module _ (a count taken : ℕ) {past : Bool} (p : IsPartAt st r a count taken past) (has : has_address (place_at a (part_length r.cell_size count)) x ≡ true) (first size : ℕ) (e : first ≡ a + head_length count) (f : size ≡ r.cell_size) where
     count_is : count ≡ count_at (byte_of st) (part_addr (byte_of st) r.first p.number)
@@ -68,24 +97,27 @@ module _ (st : Storage) (r : Root) (ch : IsChain st r) (x : ℕ) where
         subst (λ n. (part_addr (byte_of st) r.first p.number ≤ x) × (x < part_addr (byte_of st) r.first p.number + part_length r.cell_size n)) count_is
         (subst (λ b. (b ≤ x) × (x < b + part_length r.cell_size count)) p.addr (let h : (a ≤ x) × (x < a + part_length r.cell_size count) = grind (arith, nat_tests) in h))
 
-    same_part : (h : Holds) → part_addr (byte_of st) r.first h.is.part ≡ a
+    same_part : (h : Holds) → part_addr (byte_of st) r.first h.part ≡ a
     same_part h =
         let g = in_part h in let k = has_is' in
-        one st r ch h.is.part p.number (x / 8) h.is.is_part p.is_part (omega (arith, g.0), omega (arith, g.1)) (omega (arith, k.0), omega (arith, k.1)) ∙ sym p.addr
+        one st r ch h.part p.number (x / 8) h.is_part p.is_part (omega (arith, g.0), omega (arith, g.1)) (omega (arith, k.0), omega (arith, k.1)) ∙ sym p.addr
 
     -- the number of the cell that holds it
-    number : (h : Holds) → (h.is.cell < count) × (first + h.is.cell * size ≤ x) × (x < first + h.is.cell * size + size) × (flag (byte_of st) a h.is.cell ≡ true)
+    number : (h : Holds) → (h.cell < count) × (first + h.cell * size ≤ x) × (x < first + h.cell * size + size)
     number h =
-        let t = h.is in
         let s = same_part h in
-        let n : count_at (byte_of st) (part_addr (byte_of st) r.first t.part) ≡ count = ap (count_at (byte_of st)) s ∙ sym p.cells in
-        let at : h.cell ≡ part_addr (byte_of st) r.first t.part + head_length (count_at (byte_of st) (part_addr (byte_of st) r.first t.part)) + t.cell * r.cell_size = let e = t.at in omega arith in
-        let here : h.cell ≡ first + t.cell * size = at ∙ (λ q. s q + head_length (n q) + t.cell * r.cell_size) ∙ sym (λ q. e q + t.cell * f q) in
+        let n : count_at (byte_of st) (part_addr (byte_of st) r.first h.part) ≡ count = ap (count_at (byte_of st)) s ∙ sym p.cells in
+        let at : h.begin ≡ part_addr (byte_of st) r.first h.part + head_length (count_at (byte_of st) (part_addr (byte_of st) r.first h.part)) + h.cell * r.cell_size = let e = h.at in omega arith in
+        let here : h.begin ≡ first + h.cell * size = at ∙ (λ q. s q + head_length (n q) + h.cell * r.cell_size) ∙ sym (λ q. e q + h.cell * f q) in
         let low = h.low in let high = h.high in
-        (subst (λ q. t.cell < q) n t.is_cell, omega arith, omega arith, ap (λ b. flag (byte_of st) b t.cell) (sym s) ∙ t.set)
+        (subst (λ q. h.cell < q) n h.is_cell, omega arith, omega arith)
 
     pub no_number : ((i : ℕ) → i < count → first + i * size ≤ x → x < first + i * size + size → ⊥) → in_taken (pool_of (byte_of st) r) x ≡ false
-    no_number none = never _ (λ q. let h = holds q in let n = number h in none h.is.cell n.0 n.1 n.2)
+    no_number none = never _ (λ q. let h = (holds q).0 in let n = number h in none h.cell n.0 n.1 n.2)
+
+    -- no cell has the address where none of its part has it
+    pub no_cell_here : ((i : ℕ) → i < count → first + i * size ≤ x → x < first + i * size + size → ⊥) → (c : ℕ) → IsCell (pool_of (byte_of st) r) c → c ≤ x → x < c + r.cell_size → ⊥
+    no_cell_here none c is low high = let h = begins_at c is low high in let n = number h in none h.cell n.0 n.1 n.2
 
     same_index : (i j : ℕ) → first + i * size ≤ x → x < first + i * size + size → first + j * size ≤ x → x < first + j * size + size → i ≡ j
     same_index i j li hi lj hj = elim (cases_lt i j) [
@@ -117,9 +149,13 @@ module _ (st : Storage) (r : Root) (ch : IsChain st r) (x : ℕ) where
 
       pub clear_cell : flag (byte_of st) a i ≡ false → in_taken (pool_of (byte_of st) r) x ≡ false
       clear_cell g = never _ (λ q.
-          let h = holds q in let n = number h in
-          let same : h.is.cell ≡ i = same_index h.is.cell i n.1 n.2 low high in
-          let k : true ≡ false = sym n.3 ∙ ap (flag (byte_of st) a) same ∙ g in absurd (cc))
+          let h = holds q in let n = number h.0 in
+          let same : h.0.cell ≡ i = same_index h.0.cell i n.1 n.2 low high in
+          let k : true ≡ false = sym h.1 ∙ (λ q. flag (byte_of st) (same_part h.0 q) (same q)) ∙ g in absurd (cc))
+
+      -- it is a cell of the pool
+      pub here : IsCell (pool_of (byte_of st) r) (first + i * size)
+      here = (part_of (byte_of st) r p.number, part_contained (byte_of st) r p.number p.is_part, (i, subst (λ q. i < q) count_is l, sym begins))
 
 -- over all pools
 module _ (slots : List (Option Entry)) (roots : FinMap name_cmp Root) (view : roots_of slots ≡ roots) (distinct : IsDistinct slots) (st : Storage) (agree : AgreeParts roots st) where

@@ -6,7 +6,7 @@ ghost use Rattle.mvs_model.specs.Storage.{AllHeld, Grant, IsStorage, NoPlace, ho
 ghost use Rattle.mvs_model.specs.Pools.{part_length, part_want};
 ghost use Rattle.mvs_model.specs.View.{IsBounded};
 ghost use Rattle.cell_pool.specs.Layout.{head_length};
-ghost use Rattle.cell_pool.specs.Laying.{LaysOut, PutsWord};
+ghost use Rattle.cell_pool.specs.Laying.{LaysOut, PutsWord, StandsFor};
 
 use crate::words::{fill, put};
 use mvs_model::bounded::{CellCount, CellSize, Exponent, Length};
@@ -23,6 +23,15 @@ fn part_bytes(size: u32, count: u32) -> u64
 {
     let cells = u64::from(count) * u64::from(size);
     16 + 8 * u64::from((count + 63) / 64) + (cells + 7) / 8 * 8
+}
+
+/// What a part of so many cells of a size wants, but that a length that no region has is made a shorter one that none has either.
+pub fn part_want(size: CellSize, count: CellCount, side: Side) -> Want
+    ensures { StandsFor (part_want size count side) result }
+{
+    let bytes = part_bytes(size.get(), count.get());
+    let length = bytes.min(0x7FFF_FFF8);
+    Want::fixed(Length::new(length as u32), Exponent::new(3), side)
 }
 
 // Obtains storage for a part of so many cells of a size.

@@ -14,5 +14,6 @@ mod take;
 mod walk;
 mod words;
 
+pub use laying::part_want;
 pub use plan::Plan;
-pub use pools::Pools;
+pub use pools::{Pools, Supply};

@@ -2,7 +2,7 @@
 
 ghost use Rattle.std.specs.Prelude.{◌≡◌, ◌≢◌, ◌<◌, ◌≤◌, ◌+◌, ◌-◌, ◌*◌, ◌^◌, ◌==◌, ℕ, nat_le, not, Some, None, IsSome, true, false, IfOk, IfErr, OnOk, OnErr, MatchOption, MatchBool, if◌then◌else◌};
 ghost use Rattle.slab.specs.Slab.{get as slab_get};
-ghost use Rattle.mvs_model.specs.Pools.{IsFreeCell, Pool, in_taken};
+ghost use Rattle.mvs_model.specs.Pools.{Pool, in_taken};
 ghost use Rattle.mvs_model.specs.Place.{place_at};
 ghost use Rattle.cell_pool.specs.Layout.{byte_of, count_at, head_length};
 ghost use Rattle.cell_pool.specs.Marks.{Marks};
@@ -20,7 +20,8 @@ ghost use Rattle.mvs_model.specs.Owners.{Owners};
 ghost use Rattle.mvs_model.specs.Reports.{bytes_held};
 ghost use Rattle.mvs_model.specs.View.{state_of};
 ghost use Rattle.mvs_model.specs.Storage.{Covers, Storage, has_address, is_one_of};
-ghost use Rattle.cell_pool.specs.Cells.{HasPart, IsTakenCell, Touches, TouchesNone};
+ghost use Rattle.cell_pool.specs.Cells.{HasPart, IsSupply, IsTakenCell, Touches, TouchesNone};
+ghost use Rattle.mvs_model.specs.Reasons.{IsSpot};
 ghost use Rattle.std.specs.FinSet as set;
 ghost use Rattle.mvs_model.specs.State.{in_cell};
 ghost use Rattle.mvs_model.specs.Steps.{DeleteStep, FreeStep, GetStep};
@@ -37,19 +38,33 @@ use crate::release::release_parts;
 use crate::report::bytes_in;
 use crate::root::Root;
 use crate::take::take;
-use crate::walk::{Spot, Taken, cell_round, find_taken, meets};
+use crate::walk::{Spot, Taken, cell_round, find_taken, meets, spot_of};
 use crate::words::{byte, mark};
+use mvs_model::bounded::{CellCount, CellSize};
 use mvs_model::code::Code;
 use mvs_model::error::OutOfMemory;
 use mvs_model::name::Name;
 use mvs_model::numbers::MOST_POOLS;
 use mvs_model::place::{Addr, Place};
+use mvs_model::reason::CellSpot;
 use mvs_model::subpool::SubpoolId;
 use mvs_model::subpool_set::SubpoolSet;
+use mvs_model::want::Side;
 use slab::Slab;
 use std::alloc::Global;
 use std::marker::Model;
 use subpool_store::Store;
+
+/// What a pool has for a request for a cell: whether a cell is free, the subpool from which a further part comes, the size and
+/// the count of its cells, and the side on which it may lie.
+#[derive(Clone, Copy, Debug)]
+pub struct Supply {
+    pub has_free: bool,
+    pub subpool: SubpoolId,
+    pub cell_size: CellSize,
+    pub secondary: CellCount,
+    pub side: Side,
+}
 
 /// The cell pools of a step, at most 64. Their parts, and which cells are taken, stand in storage.
 #[derive(Drop)]
@@ -519,17 +534,23 @@ impl Pools {
         self.len() >= MOST_POOLS
     }
 
-    /// Whether a cell of the pool is free. None where no pool has the name.
-    pub fn has_free(&self, name: &Name) -> Option<bool>
+    /// What the pool of this name has for a request for a cell. None where no pool has the name.
+    pub fn supply(&self, name: &Name) -> Option<Supply>
         ensures { (st : Storage) → Agree self.now st
             → MatchOption result (get (pools_of self.now st) name.now ≡ None)
-            (λ free. (pool : Pool) × (get (pools_of self.now st) name.now ≡ Some pool)
-            × MatchBool free ((c : ℕ) × IsFreeCell pool c) ((c : ℕ) → IsFreeCell pool c → ⊥)) }
+            (λ supply. (pool : Pool) × (get (pools_of self.now st) name.now ≡ Some pool)
+            × IsSupply pool supply) }
     {
         let Some(root) = self.find(name) else {
             return None;
         };
-        Some(root.has_free())
+        Some(Supply {
+            has_free: root.has_free(),
+            subpool: root.subpool,
+            cell_size: root.cell_size,
+            secondary: root.secondary,
+            side: root.side,
+        })
     }
 
     /// Whether a taken cell of the pool begins at the address. None where no pool has the name.
@@ -544,6 +565,21 @@ impl Pools {
             return None;
         };
         Some(find_taken(store, &root, cell.get()).is_some())
+    }
+
+    /// Where an address lies at which no taken cell of the pool begins.
+    pub fn spot(&self, store: &Store, name: &Name, cell: Addr) -> CellSpot
+        requires agree { Agree self.now store.now.storage }
+        requires untaken { (pool : Pool)
+            × (get (pools_of self.now store.now.storage) name.now ≡ Some pool)
+            × (set.contains pool.taken cell ≡ false) }
+        ensures { (pool : Pool) → get (pools_of self.now store.now.storage) name.now ≡ Some pool
+            → IsSpot pool cell result }
+    {
+        let Some(root) = self.find(name) else {
+            unreachable!();
+        };
+        spot_of(store, &root, cell)
     }
 
     /// How many bytes the subpool holds in parts of pools.

@@ -1,10 +1,11 @@
 //! Walks along the parts of a pool.
 
-ghost use Rattle.std.specs.Prelude.{◌≡◌, ◌<◌, ◌≤◌, ◌+◌, ◌*◌, ◌^◌, ◌==◌, ◌||◌, ℕ, true, false, MatchOption, MatchBool};
+ghost use Rattle.std.specs.Prelude.{◌≡◌, ◌<◌, ◌≤◌, ◌+◌, ◌*◌, ◌^◌, ◌==◌, ◌||◌, ℕ, true, false, IfSome, MatchOption, MatchBool};
 ghost use Rattle.std.specs.FinSet as set;
 ghost use Rattle.mvs_model.specs.Storage.{AllHeld, has_address};
 ghost use Rattle.mvs_model.specs.Place.{place_at};
-ghost use Rattle.mvs_model.specs.Pools.{in_taken, part_length};
+ghost use Rattle.mvs_model.specs.Pools.{IsCell, in_taken, part_length};
+ghost use Rattle.mvs_model.specs.Reasons.{IsSpot};
 ghost use Rattle.cell_pool.specs.Layout.{byte_of, flag, head_length};
 ghost use Rattle.cell_pool.specs.Roots.{is_taken, part_addr, part_of, pool_of, taken_of};
 ghost use Rattle.cell_pool.specs.Walk.{IsChain, IsPartAt, IsTakenAt, Meets};
@@ -12,6 +13,7 @@ ghost use Rattle.cell_pool.specs.Walk.{IsChain, IsPartAt, IsTakenAt, Meets};
 use crate::root::Root;
 use crate::words::{flag, read_header};
 use mvs_model::place::{Addr, Place};
+use mvs_model::reason::CellSpot;
 use subpool_store::Store;
 
 // A part of a pool: its address, how many cells it has, how many of them are taken, and whether the open part is this one
@@ -162,6 +164,42 @@ fn cell_with(first: u32, size: u32, count: u32, addr: u32) -> Option<u32>
         return None;
     }
     Some(cell)
+}
+
+// Where the cell of the pool begins that has the address.
+fn begin_of_cell(store: &Store, root: &Root, addr: u32) -> Option<u32>
+    requires { IsChain store.now.storage root.now }
+    ensures cell { MatchOption result
+        ((first : ℕ) → IsCell (pool_of (byte_of store.now.storage) root.now) first → first ≤ addr
+        → addr < first + root.now.cell_size → ⊥)
+        (λ first. IsCell (pool_of (byte_of store.now.storage) root.now) first × (first ≤ addr)
+        × (addr < first + root.now.cell_size)) }
+    ensures low { IfSome result (λ first. first < 2 ^ 31) }
+{
+    let Some(found) = find_part(store, root, addr) else {
+        return None;
+    };
+    let first = found.part + bytes_before(found.count);
+    let size = root.cell_size();
+    let Some(cell) = cell_with(first, size, found.count, addr) else {
+        return None;
+    };
+    Some(first + cell * size)
+}
+
+// Where an address lies at which no taken cell of the pool begins.
+pub(crate) fn spot_of(store: &Store, root: &Root, addr: Addr) -> CellSpot
+    requires chain { IsChain store.now.storage root.now }
+    requires untaken { set.contains (taken_of (byte_of store.now.storage) root.now) addr ≡ false }
+    ensures { IsSpot (pool_of (byte_of store.now.storage) root.now) addr result }
+{
+    let Some(first) = begin_of_cell(store, root, addr.get()) else {
+        return CellSpot::Elsewhere;
+    };
+    if first == addr.get() {
+        return CellSpot::Untaken;
+    }
+    CellSpot::Inside(Addr::new(first))
 }
 
 // The taken cell of the pool that has the address.

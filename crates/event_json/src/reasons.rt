@@ -3,7 +3,7 @@
 use crate::members::Members;
 use mvs_model::name::Name;
 use mvs_model::place::Addr;
-use mvs_model::reason::{Holder, Reason};
+use mvs_model::reason::{CellSpot, Holder, Reason, Room};
 use mvs_model::subpool::SubNo;
 use std::alloc::AllocError;
 
@@ -23,12 +23,22 @@ fn put_subpool(members: &mut Members, number: SubNo, owner: &Name) -> Result<(),
     members.name("owner", owner)
 }
 
+// What room there is where no place is long enough.
+fn put_room(members: &mut Members, room: &Room) -> Result<(), AllocError> {
+    members.number("longest", room.longest)?;
+    members.number("free_pages_below", room.below)?;
+    members.number("free_pages_above", room.above)
+}
+
 // What a reason is called.
 fn kind(reason: &Reason) -> &'static str {
     match reason {
         Reason::NotActive => "not_active",
         Reason::InvalidNumber => "invalid_number",
-        Reason::Shortage(..) => "shortage",
+        Reason::NotSet(_) => "not_set",
+        Reason::Shortage(_) => "shortage",
+        Reason::NoMember(..) => "no_member",
+        Reason::NoPart(..) => "no_part",
         Reason::OffDoubleword(_) => "off_doubleword",
         Reason::NoSubpool(_) => "no_subpool",
         Reason::NotHeld(..) => "not_held",
@@ -38,7 +48,7 @@ fn kind(reason: &Reason) -> &'static str {
         Reason::TooManyPools => "too_many_pools",
         Reason::NoPool => "no_pool",
         Reason::NoFreeCell => "no_free_cell",
-        Reason::NoTakenCell => "no_taken_cell",
+        Reason::NoTakenCell(_) => "no_taken_cell",
         Reason::TaskInUse => "task_in_use",
         Reason::TooManyTasks => "too_many_tasks",
         Reason::NotOwned(..) => "not_owned",
@@ -51,11 +61,21 @@ fn kind(reason: &Reason) -> &'static str {
 // Puts what a reason tells into its object.
 fn put_told(members: &mut Members, reason: &Reason) -> Result<(), AllocError> {
     match reason {
-        Reason::Shortage(longest, below, above) => {
-            members.number("longest", *longest)?;
-            members.number("free_pages_below", *below)?;
-            members.number("free_pages_above", *above)
+        Reason::NotSet(name) => members.name("name", name),
+        Reason::Shortage(room) => put_room(members, room),
+        Reason::NoMember(member, bytes, room) => {
+            members.number("member", *member)?;
+            members.number("wanted", *bytes)?;
+            put_room(members, room)
         }
+        Reason::NoPart(cells, size, room) => {
+            members.number("cells", *cells)?;
+            members.number("cell_size", *size)?;
+            put_room(members, room)
+        }
+        Reason::NoTakenCell(CellSpot::Untaken) => members.text("lies", "free_cell"),
+        Reason::NoTakenCell(CellSpot::Inside(first)) => members.number("inside", first.get()),
+        Reason::NoTakenCell(CellSpot::Elsewhere) => members.text("lies", "no_cell"),
         Reason::OffDoubleword(addr) => members.number("address", addr.get()),
         Reason::NoSubpool(task) => members.name("task", task),
         Reason::ActiveSubtask(task) => members.name("task", task),

@@ -4,6 +4,7 @@ pub mod Cut
 mod SameNumbers
 mod ListItems
 mod Unknown
+mod FirstUnset
 mod KeyPlaces
 pub mod Taking
 mod Conflicts

@@ -5,8 +5,11 @@ use Rattle.mvs_model.specs.declared.request.Request.{Request}
 use Rattle.mvs_model.specs.declared.request.Request.TheVariants.{Obtain, ObtainList, Release, ReleaseList, ReleaseWhole, Build, Get, Free, Delete, Attach}
 use Rattle.mvs_model.specs.declared.reason.Holder.{Holder}
 use Rattle.mvs_model.specs.declared.reason.Holder.TheVariants.{Nobody, Subpool, Unowned, Part}
+use Rattle.mvs_model.specs.declared.reason.CellSpot.{CellSpot}
+use Rattle.mvs_model.specs.declared.reason.CellSpot.TheVariants.{Untaken, Inside, Elsewhere}
+use Rattle.mvs_model.specs.declared.reason.Room.{Room}
 use Rattle.mvs_model.specs.declared.reason.Reason.{Reason}
-use Rattle.mvs_model.specs.declared.reason.Reason.TheVariants.{NotActive, InvalidNumber, Shortage, OffDoubleword, NoSubpool, NotHeld, Overlap, WholeOfZero, PoolInUse, TooManyPools, NoPool, NoFreeCell, NoTakenCell, TaskInUse, TooManyTasks, NotOwned, ActiveSubtask, Asked, NoAccess}
+use Rattle.mvs_model.specs.declared.reason.Reason.TheVariants.{NotActive, InvalidNumber, NotSet, Shortage, NoMember, NoPart, OffDoubleword, NoSubpool, NotHeld, Overlap, WholeOfZero, PoolInUse, TooManyPools, NoPool, NoFreeCell, NoTakenCell, TaskInUse, TooManyTasks, NotOwned, ActiveSubtask, Asked, NoAccess}
 use Rattle.mvs_model.specs.Name.{trimmed}
 use Rattle.mvs_model.specs.Place.{round8}
 use Rattle.mvs_model.specs.Texts.{hex}
@@ -52,10 +55,22 @@ holder_said Unowned = codes " is held by a subpool of no task"
 holder_said (Part name) = codes " lies in pool " ++ trimmed name
 
 -- of a length for which there is no place
-abbrev pub shortage_said : Request → ℕ → ℕ → ℕ → List ℕ
-shortage_said request longest below above =
-    decimal (least_of request) ++ codes " bytes wanted in SP " ++ decimal (number_of request) ++ codes ", and at most " ++ decimal longest
-    ++ codes " have such a place; free pages: " ++ decimal below ++ codes " below, " ++ decimal above ++ codes " above. (rule 12)"
+abbrev pub shortage_said : Request → Room → List ℕ
+shortage_said request room =
+    decimal (least_of request) ++ codes " bytes wanted in SP " ++ decimal (number_of request) ++ codes ", and at most " ++ decimal room.longest
+    ++ codes " have such a place; free pages: " ++ decimal room.below ++ codes " below, " ++ decimal room.above ++ codes " above. (rule 12)"
+
+-- of a member of a list for which there is no place
+abbrev pub no_member_said : ℕ → ℕ → Room → List ℕ
+no_member_said k bytes room =
+    codes "Member " ++ decimal k ++ codes " of the list wants " ++ decimal bytes ++ codes " bytes, and at most " ++ decimal room.longest
+    ++ codes " have such a place; free pages: " ++ decimal room.below ++ codes " below, " ++ decimal room.above ++ codes " above. (rule 22)"
+
+-- of a part of a pool for which there is no place
+abbrev pub no_part_said : Request → ℕ → ℕ → Room → List ℕ
+no_part_said request cells size room =
+    codes "Pool " ++ named request ++ codes ": no place for " ++ decimal cells ++ codes " cells of " ++ decimal size ++ codes " bytes; the longest has " ++ decimal room.longest
+    ++ codes " bytes; free pages: " ++ decimal room.below ++ codes " below, " ++ decimal room.above ++ codes " above. (rule 59)"
 
 -- of an address that is not on a doubleword
 abbrev pub off_said : ℕ → List ℕ
@@ -74,9 +89,15 @@ overlap_said one other a = codes "The members at " ++ hex 8 one ++ codes " and "
 abbrev pub no_subpool_said : Request → Name → List ℕ
 no_subpool_said request keeper = trimmed keeper ++ codes " has no subpool " ++ decimal (number_of request) ++ codes ", which would hold it. (rule 26)"
 
--- of an address at which no taken cell begins
-abbrev pub no_cell_said : Request → List ℕ
-no_cell_said request = codes "No taken cell of pool " ++ named request ++ codes " begins at " ++ hex 8 (cell_of request) ++ codes ". (rule 63)"
+-- where an address lies at which no taken cell begins
+abbrev pub spot_said : CellSpot → List ℕ
+spot_said Untaken = codes "that cell is free"
+spot_said (Inside first) = codes "it lies inside the cell at " ++ hex 8 first
+spot_said Elsewhere = codes "it lies in no cell of the pool"
+
+-- of such an address
+abbrev pub no_cell_said : Request → CellSpot → List ℕ
+no_cell_said request spot = codes "No taken cell of pool " ++ named request ++ codes " begins at " ++ hex 8 (cell_of request) ++ codes ": " ++ spot_said spot ++ codes ". (rule 63)"
 
 -- of a subpool that a task only shares
 abbrev pub not_owned_said : Name → ℕ → Name → List ℕ
@@ -95,7 +116,8 @@ abbrev pub named_said : Request → Reason → List ℕ
 named_said request PoolInUse = codes "A pool " ++ named request ++ codes " is there already. (rule 68)"
 named_said request NoPool = codes "There is no pool " ++ named request ++ codes ". (rule 63)"
 named_said request NoFreeCell = codes "No cell of pool " ++ named request ++ codes " is free, and COND adds no part. (rule 60)"
-named_said request NoTakenCell = no_cell_said request
+named_said request (NoTakenCell spot) = no_cell_said request spot
+named_said request (NoPart cells size room) = no_part_said request cells size room
 named_said request TaskInUse = codes "A task " ++ named request ++ codes " is active already. (rule 51)"
 named_said request TooManyPools = codes "64 pools are there, and no more can be. (rule 68)"
 named_said request TooManyTasks = codes "32 tasks are active, and no more can be. (rule 51)"
@@ -104,9 +126,11 @@ named_said request _ = []
 
 -- what a reason says of a task's request
 abbrev pub reason_said : Name → Request → Reason → List ℕ
-reason_said t request NotActive = trimmed t ++ codes " is not active: it has ended, or was never attached. (rule 51)"
+reason_said t request NotActive = trimmed t ++ codes " is not active: it has ended, or was never attached. (rule 73)"
 reason_said t request InvalidNumber = codes "A program may name SP 0 to 127, 131 and 132, and not " ++ decimal (number_of request) ++ codes ". (rule 8)"
-reason_said t request (Shortage longest below above) = shortage_said request longest below above
+reason_said t request (NotSet name) = trimmed name ++ codes " is not set: no request of this step was granted under it. (rule 74)"
+reason_said t request (Shortage room) = shortage_said request room
+reason_said t request (NoMember k bytes room) = no_member_said k bytes room
 reason_said t request (OffDoubleword a) = off_said a
 reason_said t request (NoSubpool keeper) = no_subpool_said request keeper
 reason_said t request (NotHeld a holder) = not_held_said t (number_of request) a holder

@@ -22,7 +22,7 @@ use crate::plain::read_plain;
 pub use crate::print::{fault_digit, print_fault, print_region, print_step_end};
 pub use crate::reasons::print_reason;
 pub use crate::report_lines::{print_map_run, print_no_subpool, print_subpool_line};
-pub use crate::resolving::{resolve, set_names};
+pub use crate::resolving::{resolve, set_names, unset};
 use crate::statement::read_operands;
 use mvs_model::line::{Fault, Line};
 

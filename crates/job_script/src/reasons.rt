@@ -2,14 +2,14 @@
 
 ghost use Rattle.std.specs.Prelude.{◌≡◌, ◌≤◌, ◌+◌, ◌++◌, length, decimal};
 ghost use Rattle.mvs_model.specs.Name.{trimmed};
-ghost use Rattle.job_script.specs.ReasonTexts.{cell_of, holder_said, least_of, named, named_said, no_access_said, no_cell_said, no_subpool_said, not_held_said, not_owned_said, number_of, off_said, overlap_said, reason_line, reason_said, shortage_said, subtask_said};
+ghost use Rattle.job_script.specs.ReasonTexts.{cell_of, holder_said, least_of, named, named_said, no_access_said, no_cell_said, no_member_said, no_part_said, no_subpool_said, not_held_said, not_owned_said, number_of, off_said, overlap_said, reason_line, reason_said, shortage_said, spot_said, subtask_said};
 ghost use Rattle.job_script.specs.Writing.{Prints};
 
 use crate::print::write_all;
 use crate::text::Text;
 use mvs_model::name::Name;
 use mvs_model::place::Addr;
-use mvs_model::reason::{Holder, Reason};
+use mvs_model::reason::{CellSpot, Holder, Reason, Room};
 use mvs_model::request::Request;
 use mvs_model::subpool::SubNo;
 use mvs_model::want::Side;
@@ -90,28 +90,68 @@ fn push_holder(text: &mut Text, holder: &Holder)
 }
 
 // Puts behind a text that there is no place of a length.
-fn push_shortage(text: &mut Text, request: &Request, longest: u32, below: u32, above: u32)
-    requires { length text.old ≤ 8 }
-    ensures text { text.new ≡ text.old ++ shortage_said request.now longest below above }
-    ensures len { length text.new ≤ length text.old + 150 }
+fn push_shortage(text: &mut Text, request: &Request, room: &Room)
+    requires { length text.old ≤ 2 }
+    ensures text { text.new ≡ text.old ++ shortage_said request.now room.now }
+    ensures len { length text.new ≤ length text.old + 157 }
 {
     text.push_decimal(least(request));
     text.push_all(b" bytes wanted in SP ");
     text.push_decimal(number(request));
     text.push_all(b", and at most ");
-    text.push_decimal(longest);
+    text.push_decimal(room.longest);
     text.push_all(b" have such a place; free pages: ");
-    text.push_decimal(below);
+    text.push_decimal(room.below);
     text.push_all(b" below, ");
-    text.push_decimal(above);
+    text.push_decimal(room.above);
     text.push_all(b" above. (rule 12)");
+}
+
+// Puts behind a text that there is no place for a member of a list.
+fn push_no_member(text: &mut Text, member: u32, bytes: u32, room: &Room)
+    requires { length text.old ≤ 2 }
+    ensures text { text.new ≡ text.old ++ no_member_said member bytes room.now }
+    ensures len { length text.new ≤ length text.old + 157 }
+{
+    text.push_all(b"Member ");
+    text.push_decimal(member);
+    text.push_all(b" of the list wants ");
+    text.push_decimal(bytes);
+    text.push_all(b" bytes, and at most ");
+    text.push_decimal(room.longest);
+    text.push_all(b" have such a place; free pages: ");
+    text.push_decimal(room.below);
+    text.push_all(b" below, ");
+    text.push_decimal(room.above);
+    text.push_all(b" above. (rule 22)");
+}
+
+// Puts behind a text that there is no place for a part of a pool.
+fn push_no_part(text: &mut Text, request: &Request, cells: u32, size: u32, room: &Room)
+    requires { length text.old ≤ 2 }
+    ensures text { text.new ≡ text.old ++ no_part_said request.now cells size room.now }
+    ensures len { length text.new ≤ length text.old + 157 }
+{
+    text.push_all(b"Pool ");
+    push_named(text, request);
+    text.push_all(b": no place for ");
+    text.push_decimal(cells);
+    text.push_all(b" cells of ");
+    text.push_decimal(size);
+    text.push_all(b" bytes; the longest has ");
+    text.push_decimal(room.longest);
+    text.push_all(b" bytes; free pages: ");
+    text.push_decimal(room.below);
+    text.push_all(b" below, ");
+    text.push_decimal(room.above);
+    text.push_all(b" above. (rule 59)");
 }
 
 // Puts behind a text that an address is not on a doubleword.
 fn push_off(text: &mut Text, addr: Addr)
-    requires { length text.old ≤ 8 }
+    requires { length text.old ≤ 2 }
     ensures text { text.new ≡ text.old ++ off_said addr }
-    ensures len { length text.new ≤ length text.old + 150 }
+    ensures len { length text.new ≤ length text.old + 157 }
 {
     let addr = addr.get();
     text.push_word(addr);
@@ -124,9 +164,9 @@ fn push_off(text: &mut Text, addr: Addr)
 
 // Puts behind a text that the subpool of a task does not hold a doubleword.
 fn push_not_held(text: &mut Text, task: &Name, number: u32, addr: Addr, holder: &Holder)
-    requires { length text.old ≤ 8 }
+    requires { length text.old ≤ 2 }
     ensures text { text.new ≡ text.old ++ not_held_said task.now number addr holder.now }
-    ensures len { length text.new ≤ length text.old + 150 }
+    ensures len { length text.new ≤ length text.old + 157 }
 {
     text.push_word(addr.get());
     push_holder(text, holder);
@@ -139,9 +179,9 @@ fn push_not_held(text: &mut Text, task: &Name, number: u32, addr: Addr, holder: 
 
 // Puts behind a text that members of a list overlap.
 fn push_overlap(text: &mut Text, one: Addr, other: Addr, addr: Addr)
-    requires { length text.old ≤ 8 }
+    requires { length text.old ≤ 2 }
     ensures text { text.new ≡ text.old ++ overlap_said one other addr }
-    ensures len { length text.new ≤ length text.old + 150 }
+    ensures len { length text.new ≤ length text.old + 157 }
 {
     text.push_all(b"The members at ");
     text.push_word(one.get());
@@ -158,7 +198,7 @@ fn push_of(text: &mut Text, before: &[u8], request: &Request, behind: &[u8])
     requires before { length before.now ≤ 40 }
     requires behind { length behind.now ≤ 60 }
     ensures text { text.new ≡ text.old ++ (before.now ++ named request.now ++ behind.now) }
-    ensures len { length text.new ≤ length text.old + 150 }
+    ensures len { length text.new ≤ length text.old + 157 }
 {
     text.push_all(before);
     push_named(text, request);
@@ -190,24 +230,42 @@ fn push_task(text: &mut Text, task: &Name, behind: &[u8])
     text.push_all(behind);
 }
 
+// Puts where an address lies behind a text, at which no taken cell begins.
+fn push_spot(text: &mut Text, spot: &CellSpot)
+    requires { length text.old ≤ 100 }
+    ensures text { text.new ≡ text.old ++ spot_said spot.now }
+    ensures len { length text.new ≤ length text.old + 40 }
+{
+    match spot {
+        CellSpot::Untaken => text.push_all(b"that cell is free"),
+        CellSpot::Inside(first) => {
+            text.push_all(b"it lies inside the cell at ");
+            text.push_word(first.get());
+        }
+        CellSpot::Elsewhere => text.push_all(b"it lies in no cell of the pool"),
+    }
+}
+
 // Puts behind a text that no taken cell begins at the address of a request.
-fn push_no_cell(text: &mut Text, request: &Request)
-    requires { length text.old ≤ 8 }
-    ensures text { text.new ≡ text.old ++ no_cell_said request.now }
-    ensures len { length text.new ≤ length text.old + 150 }
+fn push_no_cell(text: &mut Text, request: &Request, spot: &CellSpot)
+    requires { length text.old ≤ 2 }
+    ensures text { text.new ≡ text.old ++ no_cell_said request.now spot.now }
+    ensures len { length text.new ≤ length text.old + 157 }
 {
     text.push_all(b"No taken cell of pool ");
     push_named(text, request);
     text.push_all(b" begins at ");
     text.push_word(cell(request));
+    text.push_all(b": ");
+    push_spot(text, spot);
     text.push_all(b". (rule 63)");
 }
 
 // Puts behind a text that a task has no subpool under the number of a request.
 fn push_no_subpool(text: &mut Text, request: &Request, keeper: &Name)
-    requires { length text.old ≤ 8 }
+    requires { length text.old ≤ 2 }
     ensures text { text.new ≡ text.old ++ no_subpool_said request.now keeper.now }
-    ensures len { length text.new ≤ length text.old + 150 }
+    ensures len { length text.new ≤ length text.old + 157 }
 {
     text.push_name(keeper);
     text.push_all(b" has no subpool ");
@@ -217,9 +275,9 @@ fn push_no_subpool(text: &mut Text, request: &Request, keeper: &Name)
 
 // Puts behind a text that a task only shares a subpool that it gives.
 fn push_not_owned(text: &mut Text, task: &Name, number: SubNo, owner: &Name)
-    requires { length text.old ≤ 8 }
+    requires { length text.old ≤ 2 }
     ensures text { text.new ≡ text.old ++ not_owned_said task.now number owner.now }
-    ensures len { length text.new ≤ length text.old + 150 }
+    ensures len { length text.new ≤ length text.old + 157 }
 {
     text.push_name(task);
     text.push_all(b" shares SP ");
@@ -231,9 +289,9 @@ fn push_not_owned(text: &mut Text, task: &Name, number: SubNo, owner: &Name)
 
 // Puts behind a text that a subtask of a task is active.
 fn push_subtask(text: &mut Text, task: &Name, subtask: &Name)
-    requires { length text.old ≤ 8 }
+    requires { length text.old ≤ 2 }
     ensures text { text.new ≡ text.old ++ subtask_said task.now subtask.now }
-    ensures len { length text.new ≤ length text.old + 150 }
+    ensures len { length text.new ≤ length text.old + 157 }
 {
     text.push_name(subtask);
     text.push_all(b", a subtask of ");
@@ -243,9 +301,9 @@ fn push_subtask(text: &mut Text, task: &Name, subtask: &Name)
 
 // Puts behind a text that a byte may not be read and written.
 fn push_no_access(text: &mut Text, addr: Addr, holder: &Holder)
-    requires { length text.old ≤ 8 }
+    requires { length text.old ≤ 2 }
     ensures text { text.new ≡ text.old ++ no_access_said addr holder.now }
-    ensures len { length text.new ≤ length text.old + 150 }
+    ensures len { length text.new ≤ length text.old + 157 }
 {
     text.push_word(addr.get());
     push_holder(text, holder);
@@ -256,9 +314,9 @@ fn push_no_access(text: &mut Text, addr: Addr, holder: &Holder)
 
 // Puts behind a text why a request for cells or of a subtask is refused.
 fn push_named_reason(text: &mut Text, request: &Request, reason: &Reason)
-    requires { length text.old ≤ 8 }
+    requires { length text.old ≤ 2 }
     ensures text { text.new ≡ text.old ++ named_said request.now reason.now }
-    ensures len { length text.new ≤ length text.old + 150 }
+    ensures len { length text.new ≤ length text.old + 157 }
 {
     match reason {
         Reason::PoolInUse => push_of(text, b"A pool ", request, b" is there already. (rule 68)"),
@@ -269,7 +327,8 @@ fn push_named_reason(text: &mut Text, request: &Request, reason: &Reason)
             request,
             b" is free, and COND adds no part. (rule 60)",
         ),
-        Reason::NoTakenCell => push_no_cell(text, request),
+        Reason::NoTakenCell(spot) => push_no_cell(text, request, spot),
+        Reason::NoPart(cells, size, room) => push_no_part(text, request, *cells, *size, room),
         Reason::TaskInUse => push_of(text, b"A task ", request, b" is active already. (rule 51)"),
         Reason::TooManyPools => {
             text.push_all(b"64 pools are there, and no more can be. (rule 68)");
@@ -284,15 +343,15 @@ fn push_named_reason(text: &mut Text, request: &Request, reason: &Reason)
 
 // Puts behind a text why a request of a task is refused.
 fn push_reason(text: &mut Text, task: &Name, request: &Request, reason: &Reason)
-    requires { length text.old ≤ 8 }
+    requires { length text.old ≤ 2 }
     ensures text { text.new ≡ text.old ++ reason_said task.now request.now reason.now }
-    ensures len { length text.new ≤ length text.old + 150 }
+    ensures len { length text.new ≤ length text.old + 157 }
 {
     match reason {
         Reason::NotActive => push_task(
             text,
             task,
-            b" is not active: it has ended, or was never attached. (rule 51)",
+            b" is not active: it has ended, or was never attached. (rule 73)",
         ),
         Reason::InvalidNumber => push_number(
             text,
@@ -300,9 +359,13 @@ fn push_reason(text: &mut Text, task: &Name, request: &Request, reason: &Reason)
             number(request),
             b". (rule 8)",
         ),
-        Reason::Shortage(longest, below, above) => {
-            push_shortage(text, request, *longest, *below, *above);
-        }
+        Reason::NotSet(name) => push_task(
+            text,
+            name,
+            b" is not set: no request of this step was granted under it. (rule 74)",
+        ),
+        Reason::Shortage(room) => push_shortage(text, request, room),
+        Reason::NoMember(member, bytes, room) => push_no_member(text, *member, *bytes, room),
         Reason::OffDoubleword(addr) => push_off(text, *addr),
         Reason::NoSubpool(keeper) => push_no_subpool(text, request, keeper),
         Reason::NotHeld(addr, holder) => {

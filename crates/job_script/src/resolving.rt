@@ -1,11 +1,12 @@
 //! Requests as they are written: the addresses of their names, and the names that they set.
 
-ghost use Rattle.std.specs.Prelude.{◌≢◌, [], OnErr, ◌≡◌, ◌+◌, ◌≤◌, ◌++◌, None, Some, length, OnOk, MatchBool, MatchOption};
+ghost use Rattle.std.specs.Prelude.{◌≢◌, [], ◌∷◌, OnErr, ◌≡◌, ◌+◌, ◌≤◌, ◌++◌, None, Some, length, OnOk, MatchBool, MatchOption};
+ghost use Rattle.std.specs.List.{flat_map};
 ghost use Rattle.std.specs.Option.{option_map};
 ghost use Rattle.std.specs.FinMap.{FinMap};
 ghost use Rattle.mvs_model.specs.Name.{name_cmp};
 ghost use Rattle.mvs_model.specs.Place.{PlaceValue};
-ghost use Rattle.mvs_model.specs.Resolving.{address_of, all_set, names_set, places_in, places_of, resolved};
+ghost use Rattle.mvs_model.specs.Resolving.{address_of, all_set, first_unset, looked_up, name_in, names_set, places_in, places_of, resolved};
 ghost use Rattle.job_script.specs.Areas.{Fit};
 ghost use Rattle.job_script.specs.Resolving.{IsAccess, IsObtain, IsOfPool, IsOfTask, IsRelease};
 
@@ -87,6 +88,56 @@ fn places(names: &Names, locations: &Locations, lengths: &Lengths) -> Option<Pla
         Some(places)
     } else {
         None
+    }
+}
+
+// The name, where it is not set.
+fn unset_name(names: &Names, name: &Name) -> Option<Name>
+    ensures { result ≡ first_unset names.now (name.now ∷ []) }
+{
+    match names.get(name) {
+        Some(_) => None,
+        None => Some(*name),
+    }
+}
+
+// The name that an address is written by, where it is not set.
+fn unset_in(names: &Names, location: &Location) -> Option<Name>
+    ensures { result ≡ first_unset names.now (name_in location.now) }
+{
+    match location {
+        Location::Absolute(_) => None,
+        Location::Named(name, _) => unset_name(names, name),
+    }
+}
+
+// The first name of some addresses that is not set.
+fn unset_among(names: &Names, locations: &[Location]) -> Option<Name>
+    ensures { result ≡ first_unset names.now (flat_map name_in locations.now) }
+{
+    let Some((location, rest)) = locations.split_first() else {
+        return None;
+    };
+    let unset = unset_in(names, location);
+    if unset.is_some() {
+        return unset;
+    }
+    unset_among(names, rest)
+}
+
+/// The first name that a request looks up and that is not set.
+pub fn unset(names: &Names, written: &Written) -> Option<Name>
+    ensures { result ≡ first_unset names.now (looked_up written.now) }
+{
+    match written {
+        Written::Release { location, .. } => unset_in(names, location),
+        Written::ReleaseArea { area, .. } => unset_name(names, area),
+        Written::ReleaseList { locations, .. } => unset_among(names, locations.as_slice()),
+        Written::Free { cell, .. } => unset_in(names, cell),
+        Written::Show { from, .. } => unset_in(names, from),
+        Written::Put { to, .. } => unset_in(names, to),
+        Written::Move { to, from, .. } => unset_among(names, &[*to, *from]),
+        _ => None,
     }
 }
 

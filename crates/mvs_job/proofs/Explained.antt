@@ -133,8 +133,8 @@ none_left script at h = ap lines_of (drop_all at script h)
 
 -- ---- the printing in it
 
-starred_line : (t : Name) (request : Request) (reason : Reason) → (said : List ℕ) × (reason_line t request reason ≡ 42 ∷ said)
-starred_line t request reason = ((codes " " ++ reason_said t request reason) ++ codes "\n", refl)
+starred_line : (t : Name) (request : Request) (reason : Reason) → (said : List ℕ) × (reason_line t request reason ≡ 42 ∷ said ++ 10 ∷ [])
+starred_line t request reason = (codes " " ++ reason_said t request reason, refl)
 
 text_starred : (job : JobValue) (l : Line) (r : Option Reason) → IsStarred (reason_text job l r)
 text_starred job l None = inl refl

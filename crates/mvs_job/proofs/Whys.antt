@@ -1,6 +1,5 @@
 -- Why a statement is refused, by the request that it asks for.
-use Rattle.std.proofs.Common.{◌≡◌, true, false, not, Option, Some, None, inr, sym, ap, subst, ◌∙◌}
-use Rattle.std.specs.Prelude.{IfSome}
+use Rattle.std.proofs.Common.{◌≡◌, true, false, not, Option, Some, sym, ap, subst, ◌∙◌}
 use Rattle.mvs_model.specs.declared.name.Name.{Name}
 use Rattle.mvs_model.specs.declared.line.Statement.{Statement}
 use Rattle.mvs_model.specs.declared.line.Statement.TheVariants as says
@@ -12,7 +11,6 @@ use Rattle.mvs_model.specs.Owners.{is_active}
 use Rattle.mvs_model.specs.Reasons.{IsReason}
 use Rattle.mvs_model.specs.Resolving.{resolved}
 use Rattle.mvs_model.proofs.Tests.{by_test, match_false, true_false}
-use Rattle.mvs_job.specs.Explaining.{SpeaksOf}
 use Rattle.mvs_job.specs.Why.{OfAsked, OfStatement}
 
 pub asked_told : (job : JobValue) (t : Name) (s : Statement) (a : Written) (request : Request) (r : Option Reason) → s ≡ says.Request a → resolved job.names a ≡ Some request → is_active job.state.owners t ≡ true → IsReason job.state t request r
@@ -21,9 +19,4 @@ asked_told job t s a request r e found active is =
     let inactive : not (is_active job.state.owners t) ≡ false = ap not active in
     subst (λ x. OfStatement job t x r) (sym e)
     (match_false _ _ (not (is_active job.state.owners t)) inactive
-    (subst (λ v. OfAsked job.state t v r) (sym found) (by_test (not (is_active job.state.owners t)) is (λ f _. true_false (sym f ∙ inactive)) (λ _ q. q))))
-
--- a reason speaks of the request that is made
-pub speaks : (job : JobValue) (s : Statement) (a : Written) (request : Request) (r : Option Reason) → s ≡ says.Request a → resolved job.names a ≡ Some request → IfSome r (SpeaksOf job s request)
-speaks job s a request None e found = tt
-speaks job s a request (Some reason) e found = inr (a, e, found)
+    (subst (λ v. OfAsked job t a v r) (sym found) (by_test (not (is_active job.state.owners t)) is (λ f _. true_false (sym f ∙ inactive)) (λ _ q. q))))

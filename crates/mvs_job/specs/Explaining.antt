@@ -2,6 +2,7 @@
 use Rattle.std.specs.Prelude.{◌≡◌, ◌⊎◌, ℕ, ◌+◌, List, [], ◌∷◌, ◌++◌, Option, Some, None, Result, Ok, Err, Bool, true, false}
 use Rattle.std.specs.List.{flat_map, AllByRecursion}
 use Rattle.std.specs.Io.KnownBytes.{Appends, Keeps}
+use Rattle.mvs_model.specs.declared.name.Name.{Name}
 use Rattle.mvs_model.specs.declared.line.Line.{Line}
 use Rattle.mvs_model.specs.declared.line.Line.TheVariants as line
 use Rattle.mvs_model.specs.declared.line.Fault.{Fault}
@@ -11,7 +12,7 @@ use Rattle.mvs_model.specs.declared.line.Written.{Written}
 use Rattle.mvs_model.specs.declared.outcome.Outcome.{Outcome}
 use Rattle.mvs_model.specs.declared.outcome.Outcome.TheVariants.{ScriptFault}
 use Rattle.mvs_model.specs.declared.reason.Reason.{Reason}
-use Rattle.mvs_model.specs.declared.reason.Reason.TheVariants.{NotActive}
+use Rattle.mvs_model.specs.declared.reason.Reason.TheVariants.{NotActive, NotSet}
 use Rattle.mvs_model.specs.declared.request.Request.{Request}
 use Rattle.mvs_model.specs.declared.request.Request.TheVariants.{Return}
 use Rattle.mvs_model.specs.declared.request.Reply.TheVariants as reply
@@ -54,9 +55,9 @@ IsExplanation (Some job) bytes text =
     ((l : Line) × LineOf false bytes l × ((r : Option Reason) × OfLine job l r × (text ≡ reason_text job l r)))
     ⊎ ((fault : Fault) × FaultOf false bytes fault × (text ≡ []))
 
--- A reason of a statement speaks of this request, but that the task is not active.
+-- A reason of a statement speaks of this request, but that the task is not active, or a name is not set.
 abbrev pub SpeaksOf : JobValue → Statement → Request → Reason → Type 0
-SpeaksOf job s request reason = (reason ≡ NotActive) ⊎ ((a : Written) × (s ≡ says.Request a) × (resolved job.names a ≡ Some request))
+SpeaksOf job s request reason = (reason ≡ NotActive) ⊎ ((name : Name) × (reason ≡ NotSet name)) ⊎ ((a : Written) × (s ≡ says.Request a) × (resolved job.names a ≡ Some request))
 
 -- what is printed of the reason of a line that says this and asks for this request
 abbrev pub said_of : Line → Request → Option Reason → List ℕ
@@ -104,9 +105,9 @@ pub record Part : Type 0 where
   pub told : List ℕ
   pub why : List ℕ
 
--- Nothing, or a line that begins with an asterisk.
+-- Nothing, or a text from an asterisk up to a line feed.
 abbrev pub IsStarred : List ℕ → Type 0
-IsStarred why = (why ≡ []) ⊎ ((said : List ℕ) × (why ≡ 42 ∷ said))
+IsStarred why = (why ≡ []) ⊎ ((said : List ℕ) × (why ≡ 42 ∷ said ++ 10 ∷ []))
 
 -- The text is the printing of a run of the script with reasons between the events.
 pub record Interleaves (script text : List ℕ) (outcome : Outcome) : Type 0 where

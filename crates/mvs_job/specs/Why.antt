@@ -1,30 +1,33 @@
 -- Why the next line of a job is refused.
-use Rattle.std.specs.Prelude.{◌≡◌, ◌⊎◌, false, not, List, ℕ, Option, Some, None}
+use Rattle.std.specs.Prelude.{◌≡◌, ◌⊎◌, false, not, List, ℕ, Option, Some, None, MatchOption}
+use Rattle.std.specs.Option.{option_map}
 use Rattle.std.specs.Bool.{MatchBool}
+use Rattle.std.specs.FinMap.{get}
 use Rattle.mvs_model.specs.declared.name.Name.{Name}
 use Rattle.mvs_model.specs.declared.line.Line.{Line}
 use Rattle.mvs_model.specs.declared.line.Line.TheVariants as line
 use Rattle.mvs_model.specs.declared.line.Statement.{Statement}
 use Rattle.mvs_model.specs.declared.line.Statement.TheVariants as says
 use Rattle.mvs_model.specs.declared.line.Fault.{Fault}
+use Rattle.mvs_model.specs.declared.line.Written.{Written}
 use Rattle.mvs_model.specs.declared.request.Request.{Request}
 use Rattle.mvs_model.specs.declared.reason.Reason.{Reason}
-use Rattle.mvs_model.specs.declared.reason.Reason.TheVariants.{NotActive}
+use Rattle.mvs_model.specs.declared.reason.Reason.TheVariants.{NotActive, NotSet}
 use Rattle.mvs_model.specs.Job.{JobValue}
 use Rattle.mvs_model.specs.Owners.{is_active}
 use Rattle.mvs_model.specs.Reading.{LineOf, FaultOf}
 use Rattle.mvs_model.specs.Reasons.{OfRequest}
-use Rattle.mvs_model.specs.Resolving.{resolved}
-use Rattle.mvs_model.specs.State.{State}
+use Rattle.mvs_model.specs.Resolving.{first_unset, looked_up, resolved}
 
--- Why a request is refused whose names are looked up: where one is not set there is none to refuse.
-abbrev pub OfAsked : State → Name → Option Request → Option Reason → Type 0
-OfAsked st t None r = r ≡ None
-OfAsked st t (Some request) r = OfRequest st t request r
+-- Why a request is refused whose names are looked up: where one is not set, this is the reason.
+abbrev pub OfAsked : JobValue → Name → Written → Option Request → Option Reason → Type 0
+OfAsked job t a None r = r ≡ option_map (λ name. NotSet name) (first_unset job.names (looked_up a))
+OfAsked job t a (Some request) r = OfRequest job.state t request r
 
--- Why an active task's statement is refused: only a request can be.
+-- Why an active task's statement is refused: a report never is, and the question after a name where it is not set.
 abbrev pub OfSaid : JobValue → Name → Statement → Option Reason → Type 0
-OfSaid job t (says.Request a) r = OfAsked job.state t (resolved job.names a) r
+OfSaid job t (says.Request a) r = OfAsked job t a (resolved job.names a) r
+OfSaid job t (says.Where name) r = MatchOption (get job.names name) (r ≡ Some (NotSet name)) (λ _. r ≡ None)
 OfSaid job t _ r = r ≡ None
 
 -- Why a task's statement is refused: the task is not active, or for what it says.

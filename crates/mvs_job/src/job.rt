@@ -2,6 +2,7 @@
 
 ghost use Rattle.std.specs.Prelude.{◌≡◌, ◌≢◌, ◌||◌, ◌<◌, ◌≤◌, ◌↔◌, ℕ, List, [], ◌+◌, true, false, None, Some, IfOk, IfSome, IsSome, MatchOption, MatchResult, length, slice_get};
 ghost use Rattle.std.specs.FinMap.{get};
+ghost use Rattle.std.specs.Option.{option_map};
 ghost use Rattle.mvs_model.specs.declared.line.Line.TheVariants as line;
 ghost use Rattle.mvs_model.specs.declared.name.Name.{Name as TaskName};
 ghost use Rattle.mvs_model.specs.Card.{IsCard};
@@ -14,7 +15,8 @@ ghost use Rattle.mvs_model.specs.Numbers.{most_shown, subpool_numbers};
 ghost use Rattle.mvs_model.specs.Owners.{is_active};
 ghost use Rattle.mvs_model.specs.Place.{PlaceValue};
 ghost use Rattle.mvs_model.specs.Replies as replies;
-ghost use Rattle.mvs_model.specs.Resolving.{resolved};
+ghost use Rattle.mvs_model.specs.declared.reason.Reason.TheVariants.{NotSet};
+ghost use Rattle.mvs_model.specs.Resolving.{first_unset, looked_up, resolved};
 ghost use Rattle.mvs_model.specs.Runs.{Asks, Does};
 ghost use Rattle.mvs_model.specs.State.{State};
 ghost use Rattle.mvs_model.specs.View.{IsBounded};
@@ -25,7 +27,7 @@ ghost use Rattle.mvs_job.specs.Explaining.{SpeaksOf};
 ghost use Rattle.mvs_job.specs.Valued.{BuildsInRange, MayWrite, Requests};
 ghost use Rattle.mvs_job.specs.Why.{OfStatement};
 
-use job_script::{Names, resolve, set_names};
+use job_script::{Names, resolve, set_names, unset};
 use mvs_model::answer::Answer;
 use mvs_model::card::Card;
 use mvs_model::error::OutOfMemory;
@@ -137,6 +139,27 @@ fn where_answer(place: Option<Place>) -> Answer
     }
 }
 
+// Why WHERE tells no address of a name.
+fn where_reason(name: &Name, place: Option<Place>) -> Option<Reason>
+    ensures { MatchOption place (result ≡ Some (NotSet name.now)) (λ _. result ≡ None) }
+{
+    match place {
+        Some(_) => None,
+        None => Some(Reason::NotSet(*name)),
+    }
+}
+
+// Why no request is made: the first name that is not set.
+fn unset_reason(names: &Names, written: &Written) -> Option<Reason>
+    ensures { result
+        ≡ option_map (λ name. NotSet name) (first_unset names.now (looked_up written.now)) }
+{
+    match unset(names, written) {
+        Some(name) => Some(Reason::NotSet(name)),
+        None => None,
+    }
+}
+
 impl Job {
     /// A step at its start; `former` says whether a task of a former step has abended.
     pub fn new(
@@ -199,7 +222,7 @@ impl Job {
     }
 
     /// Why a statement of the step is refused, if it is, asked before it is served. The request that it asks for is written
-    /// over `request`. A statement with a name that is not set has no reason.
+    /// over `request`.
     pub fn reason(
         &self,
         task: &Name,
@@ -213,11 +236,13 @@ impl Job {
         if !active {
             return Some(Reason::NotActive);
         }
-        let Statement::Request(written) = statement else {
-            return None;
+        let written = match statement {
+            Statement::Request(written) => written,
+            Statement::Where(name) => return where_reason(name, self.names.get(name)),
+            _ => return None,
         };
         let Some(()) = resolve(&self.names, written, request) else {
-            return None;
+            return unset_reason(&self.names, written);
         };
         self.step.reason(task, request)
     }

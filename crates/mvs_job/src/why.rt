@@ -60,8 +60,8 @@ impl Why {
     }
 
     /// Why the next line, which is given without its end, is refused, if it is; the job stands as before. A line that asks for
-    /// nothing, that has a fault, or in which a name is not set has no reason, and so has want of a place for a list or a part
-    /// of a pool.
+    /// nothing, or that has a fault, has no reason, and so has want of a place for a list whose members
+    /// each have one by itself.
     pub fn reason(&mut self, walk: &Walk, line: &[u8]) -> Option<Reason>
         ensures { OfNext walk.now.step line.now result }
     {

@@ -1,5 +1,5 @@
 -- Each reason tells the reply.
-use Rattle.std.proofs.Common.{◌≡◌, ℕ, ◌+◌, ◌-◌, ◌⊎◌, inl, inr, Bool, true, false, cond, List, [], ◌∷◌, length, map, Option, Some, None, refl, sym, ap, ◌∙◌, subst, arith, ◌==◌, ◌&&◌, nat_le, MatchBool, ◌<◌, ◌≤◌, ◌*◌, ◌/◌}
+use Rattle.std.proofs.Common.{◌≡◌, ℕ, zero, suc, ◌+◌, ◌-◌, ◌⊎◌, inl, inr, Bool, true, false, cond, List, [], ◌∷◌, length, map, Option, Some, None, refl, sym, ap, ◌∙◌, subst, arith, ◌==◌, ◌&&◌, nat_le, MatchBool, ◌<◌, ◌≤◌, ◌*◌, ◌/◌}
 use Rattle.std.specs.Prelude.{not, IfSome, MatchOption, is_some, ◌^◌}
 use Rattle.std.proofs.lemmas.Bool.{and_from, and_left, and_right, false_from_ne_true}
 use Rattle.std.specs.List.{AllByRecursion, list_all}
@@ -7,7 +7,10 @@ use Rattle.std.specs.FinMap.{get, len, contains_key}
 use Rattle.std.specs.FinSet as set
 use Rattle.mvs_model.proofs.OneOwners.{one_subpool}
 use Rattle.mvs_model.proofs.OneSteps.{none_chosen, round8_some}
-use Rattle.mvs_model.proofs.StorageLaws.{shorter_place}
+use Rattle.mvs_model.proofs.StorageLaws.{covers_is, shorter_place}
+use Rattle.mvs_model.proofs.Orders.{same_name_self}
+use Rattle.std.proofs.lemmas.Bool.Decides.{nat_tests}
+use Rattle.mvs_model.specs.Name.{same_name}
 use Rattle.mvs_model.specs.declared.name.Name.{Name}
 use Rattle.mvs_model.specs.declared.want.Residence.{Residence}
 use Rattle.mvs_model.specs.declared.code.Form.{Form}
@@ -18,20 +21,22 @@ use Rattle.mvs_model.specs.declared.request.Request.TheVariants.{Obtain, ObtainL
 use Rattle.mvs_model.specs.declared.request.Reply.{Reply}
 use Rattle.mvs_model.specs.declared.request.Reply.TheVariants.{Rc0, Rc4, Obtained, Listed, Cell, Attached, Ended, Done}
 use Rattle.mvs_model.specs.declared.reason.Holder.{Holder}
+use Rattle.mvs_model.specs.declared.reason.Room.{Room}
 use Rattle.mvs_model.specs.declared.reason.Reason.{Reason}
-use Rattle.mvs_model.specs.declared.reason.Reason.TheVariants.{NotActive, InvalidNumber, Shortage, OffDoubleword, NoSubpool, NotHeld, Overlap, WholeOfZero, PoolInUse, TooManyPools, NoPool, NoFreeCell, NoTakenCell, TaskInUse, TooManyTasks, NotOwned, ActiveSubtask, Asked, NoAccess}
+use Rattle.mvs_model.specs.declared.reason.Reason.TheVariants.{NotActive, InvalidNumber, Shortage, NoMember, NoPart, OffDoubleword, NoSubpool, NotHeld, Overlap, WholeOfZero, PoolInUse, TooManyPools, NoPool, NoFreeCell, NoTakenCell, TaskInUse, TooManyTasks, NotOwned, ActiveSubtask, Asked, NoAccess}
 use Rattle.mvs_model.specs.Place.{PlaceValue, place_at, round8}
-use Rattle.mvs_model.specs.Storage.{Regions, InRegion, Places, Chosen, NoPlace}
-use Rattle.mvs_model.specs.Want.{AskValue, WantValue}
+use Rattle.mvs_model.specs.declared.want.Side.TheVariants.{Below}
+use Rattle.mvs_model.specs.Storage.{Regions, InRegion, Places, Chosen, NoPlace, Covers, covers}
+use Rattle.mvs_model.specs.Want.{AskValue, WantValue, fixed_want}
 use Rattle.mvs_model.specs.Gifts.{GiftsValue}
-use Rattle.mvs_model.specs.Owners.{Owners, is_active, entry, keeper, subpool_meant, has_subtask, gives_shared, IsSpare, SubpoolOf}
-use Rattle.mvs_model.specs.Pools.{Pool, cell_at}
-use Rattle.mvs_model.specs.State.{State, holder, granted}
+use Rattle.mvs_model.specs.Owners.{Owners, is_active, entry, keeper, subpool_meant, has_subtask, gives_shared, IsSpare, Binds, SubpoolOf}
+use Rattle.mvs_model.specs.Pools.{Pool, part_length, part_want, cell_at}
+use Rattle.mvs_model.specs.State.{State, holder, subpool_in, plain, granted}
 use Rattle.mvs_model.specs.Codes.{family, is_conditional, short, bad_subpool, not_held, task_in_use, too_many_tasks, not_owned}
-use Rattle.mvs_model.specs.Changes.{HeldPlain, Misses, Disjoint, Granted, GrantTo, ShortOf, with_part}
+use Rattle.mvs_model.specs.Changes.{HeldPlain, Misses, Disjoint, Granted, GrantTo, ShortOf, ListGrant, ListShort, with_part}
 use Rattle.mvs_model.specs.Numbers.{most_tasks, most_pools}
-use Rattle.mvs_model.specs.Steps.{IsRequest, Acts, Abends, Fails, ObtainStep, ObtainListStep, ReleaseStep, ReleaseWholeStep, BuildStep, GetStep, FreeStep, DeleteStep, AttachCase, AttachStep, ReturnStep, Accesses, MayRelease, Plan, is_invalid, on_doubleword, whole, all_granted}
-use Rattle.mvs_model.specs.Reasons.{OfGift, OfObtain, OfPlace, free_pages, is_untold, IsUnheld, IsDeniedIn, Meets, IsOverlap, OfNumber, OfPlaces, OfRelease, OfWhole, OfAccess, OfBuild, OfGet, OfFree, OfDelete, OfAttach, OfReturn, OfRequest, IsAbend, IsFailure, IsRefusal, IsGranted, IsReplyFor, ReasonsTell, form_of, obtains}
+use Rattle.mvs_model.specs.Steps.{IsRequest, Acts, Abends, Fails, ObtainStep, ObtainListStep, ReleaseStep, ReleaseWholeStep, Builds, BuildStep, GetsNone, GetStep, FreeStep, DeleteStep, AttachCase, AttachStep, ReturnStep, Accesses, MayRelease, Plan, is_invalid, on_doubleword, whole, all_granted}
+use Rattle.mvs_model.specs.Reasons.{OfGift, OfObtain, OfPlace, OfMembers, OfList, is_untold, IsUnheld, IsDeniedIn, Meets, IsOverlap, OfPlaces, OfRelease, OfWhole, OfAccess, OfBuild, OfGet, OfFree, OfDelete, OfAttach, OfReturn, OfRequest, IsAbend, IsFailure, IsRefusal, IsGranted, IsReplyFor, ReasonsTell, form_of, obtains}
 use Rattle.mvs_model.proofs.Below.{below_each, each_below}
 use Rattle.mvs_model.proofs.Tests.{true_false, false_true}
 
@@ -69,6 +74,92 @@ denied_not st p a h = false_from_ne_true (all_granted st p) (λ e. no e) where
       let same : a ≡ p.addr + (a - p.addr) = omega arith in
       true_false (sym (ap (granted st) same ∙ at) ∙ h.denied)
 
+-- ---- members that have no place
+
+-- Some of the things wanted has no place.
+abbrev AnyShort : State → ℕ → List WantValue → Type 0
+AnyShort st s [] = ⊥
+AnyShort st s (want ∷ wants) = NoPlace st.regions (holder st) s want ⊎ AnyShort st s wants
+
+any_short : (st : State) (s : ℕ) (wants : List WantValue) (k : ℕ) (reason : Reason) → OfMembers st s wants k (Some reason) → AnyShort st s wants × ((m n : ℕ) × (room : Room) × (reason ≡ NoMember m n room))
+any_short st s [] k reason h = absurd (cc)
+any_short st s (want ∷ wants) k reason (inl h) = (inl h.0, (k, want.least, h.1.0, (let e : Some reason ≡ Some (NoMember k want.least h.1.0) = h.1.2 in cc)))
+any_short st s (want ∷ wants) k reason (inr h) = let m = any_short st s wants (k + 1) reason h.1 in (inr m.0, m.1)
+
+-- what is bound is entered
+bound_entry : (o after : Owners) (t : Name) (number s : ℕ) → Binds o t number s after → entry after t number ≡ Some s
+bound_entry o after t number s b = b.table (t, number) ∙ at (same_name t t) (number == number) (same_name_self t) (grind (arith, nat_tests)) where
+  at : (a b : Bool) → a ≡ true → b ≡ true → cond (a && b) (Some s) (get o.table (t, number)) ≡ Some s
+  at true true e f = refl
+  at true false e f = absurd (let g : false ≡ true = f in cc)
+  at false b e f = absurd (let g : false ≡ true = e in cc)
+
+-- a grant to a subpool leaves it no place that it had not
+module _ (old mid : State) (t : Name) (number s : ℕ) (want : WantValue) (p : PlaceValue) (g : GrantTo old t number want p mid) (is : SubpoolOf old.owners t number s) where
+  free_before : (d : ℕ) → Covers p d → holder old d ≡ None
+  free_before d c = (g.chosen.placed.0.each d c).free
+
+  held_there : (d u : ℕ) → holder old d ≡ Some u → holder mid d ≡ Some u
+  held_there d u e = ap subpool_in (g.held d) ∙ at (covers p d) refl where
+    at : (b : Bool) → covers p d ≡ b → subpool_in (cond b (Some (plain g.subpool)) (get old.held d)) ≡ Some u
+    at true f = absurd (let h = sym (free_before d (covers_is p d f)) ∙ e in cc)
+    at false f = e
+
+  free_there : (d : ℕ) → holder mid d ≡ None → holder old d ≡ None
+  free_there d e = at (covers p d) refl where
+    at : (b : Bool) → covers p d ≡ b → holder old d ≡ None
+    at true f = free_before d (covers_is p d f)
+    at false f = sym (ap subpool_in (g.held d ∙ ap (λ b. cond b (Some (plain g.subpool)) (get old.held d)) f)) ∙ e
+
+  place_before : (w : WantValue) (n a : ℕ) → Places mid.regions (holder mid) s w n a → Places old.regions (holder old) s w n a
+  place_before w n a q = (
+    record {
+      inside = subst (λ r. InRegion r (place_at a n)) g.regions q.0.inside;
+      each = λ d c. let m = q.0.each d c in record { free = free_there d m.free; page = λ e u same held. m.page e u same (held_there e u held) };
+    },
+    q.1,
+  )
+
+  short_after : (wants : List WantValue) → AnyShort old s wants → AnyShort mid s wants
+  short_after [] h = h
+  short_after (w ∷ wants) (inl none) = inl (λ a q. none a (place_before w w.least a q))
+  short_after (w ∷ wants) (inr h) = inr (short_after wants h)
+
+  subpool_after : SubpoolOf mid.owners t number s
+  subpool_after = subst (SubpoolOf mid.owners t number) (one_subpool old.owners t number g.subpool s g.is_subpool is) (at (entry old.owners t number) refl g.owners g.is_subpool) where
+    at : (v : Option ℕ) → entry old.owners t number ≡ v → MatchOption v (Binds old.owners t number g.subpool mid.owners) (λ _. mid.owners ≡ old.owners) → MatchOption v (IsSpare old.owners g.subpool) (λ r. g.subpool ≡ r) → SubpoolOf mid.owners t number g.subpool
+    at None e b sp = subst (λ v. MatchOption v (IsSpare mid.owners g.subpool) (λ r. g.subpool ≡ r)) (sym (bound_entry old.owners mid.owners t number g.subpool b)) refl
+    at (Some r) e same sp = subst (λ o. SubpoolOf o t number g.subpool) (sym same) g.is_subpool
+
+-- What has no place has no chosen one.
+abbrev Refutes : WantValue → Type 0
+Refutes w = (r : Regions) (h : ℕ → Option ℕ) (s : ℕ) (p : PlaceValue) → NoPlace r h s w → Chosen r h s w p → ⊥
+
+-- a length of 0 too
+fixed_refutes : (n start : ℕ) → Refutes (fixed_want n start Below)
+fixed_refutes zero start r h s p none c =
+    let m = c.placed.1 in let low = m.on_doubleword in
+    none p.addr (
+      record { inside = at c.placed.0.inside; each = λ d v. absurd (let a : p.addr < 8 * d + 8 = v.0 in let b : 8 * d < p.addr + 0 = v.1 in omega arith) },
+      record { on_doubleword = m.on_doubleword; start = m.start; within = tt; side = m.side },
+    ) where
+      at : InRegion r (place_at p.addr p.len) → InRegion r (place_at p.addr 0)
+      at (inl i) = inl (i.0, (let b : p.addr + p.len ≤ 0x6000 + 4096 * r.below = i.1 in omega arith))
+      at (inr i) = inr (i.0, (let b : p.addr + p.len ≤ 0x1000000 + 4096 * r.above = i.1 in omega arith))
+fixed_refutes (suc n) start r h s p none c = none_chosen r h s (fixed_want (suc n) start Below) p (round8_some (suc n) (omega arith)) none c
+
+all_refute : (start : ℕ) (lengths : List ℕ) → AllByRecursion Refutes (map (λ n. fixed_want n start Below) lengths)
+all_refute start [] = tt
+all_refute start (n ∷ lengths) = (fixed_refutes n start, all_refute start lengths)
+
+no_grant : (wants : List WantValue) (t : Name) (number s : ℕ) (ps : List PlaceValue) (old new : State) → SubpoolOf old.owners t number s → AnyShort old s wants → AllByRecursion Refutes wants → ListGrant old t number wants ps new → ⊥
+no_grant [] t number s ps old new is h some g = h
+no_grant (want ∷ wants) t number s [] old new is h some g = g
+no_grant (want ∷ wants) t number s (p ∷ ps) old new is (inl none) some g =
+    some.0 old.regions (holder old) s p none (subst (λ u. Chosen old.regions (holder old) u want p) (one_subpool old.owners t number g.1.subpool s g.1.is_subpool is) g.1.chosen)
+no_grant (want ∷ wants) t number s (p ∷ ps) old new is (inr h) some g =
+    no_grant wants t number s ps g.0 new (subpool_after old g.0 t number s want p g.1 is) (short_after old g.0 t number s want p g.1 is wants h) some.1 g.2
+
 module _ (old new : State) (t : Name) (reply : Reply) where
   told_as : (request : Request) (reason : Reason) (r : Option Reason) → r ≡ Some reason → IsRefusal request reason reply → IsReplyFor request r reply
   told_as request reason r e h = subst (λ x. IsReplyFor request x reply) (sym e) h
@@ -97,24 +188,39 @@ module _ (old new : State) (t : Name) (reply : Reply) where
 
   -- ---- one request after another
 
+  -- want of a place, or a place that is granted
+  place_tells : (request : Request) (s : ℕ) (want : WantValue) (told : Room → Reason) (r : Option Reason) (failed granted : Type 0) → 1 ≤ want.least
+      → ((room : Room) → failed → IsRefusal request (told room) reply) → (granted → IsGranted request reply) → OfPlace old s want told r
+      → (NoPlace old.regions (holder old) s want × failed) ⊎ ((p : PlaceValue) × Chosen old.regions (holder old) s want p × granted) → IsReplyFor request r reply
+  place_tells request s want told r failed granted some refused good (inl c) (inl f) = absurd (none_chosen old.regions (holder old) s want c.1.0 some f.0 c.1.1)
+  place_tells request s want told r failed granted some refused good (inl c) (inr g) = told_none request r c.0 (good g.2)
+  place_tells request s want told r failed granted some refused good (inr n) (inl f) = told_as request (told n.1.0) r n.1.2 (refused n.1.0 f.1)
+  place_tells request s want told r failed granted some refused good (inr n) (inr g) = absurd (n.0 g.0.addr (shorter_place old.regions (holder old) s want want.least g.0.len g.0.addr some g.1.length.least g.1.placed))
+
   obtain_tells : (form : Form) (number : ℕ) (ask : AskValue) (want : WantValue) (r : Option Reason) → 1 ≤ want.least → OfObtain old t number want r → ObtainStep old t form number want reply new → IsReplyFor (Obtain form number ask) r reply
   obtain_tells form number ask want r some of step =
-      both (is_invalid number) of step (λ _ is a. told_as (Obtain form number ask) InvalidNumber r is (abend _ a)) (λ _ h s. at h s) where
-        at : (s : ℕ) × SubpoolOf old.owners (keeper old.owners t number) number s × OfPlace old s want r
+      both (is_invalid number) of step (λ _ is a. told_as (Obtain form number ask) InvalidNumber r is (abend _ a))
+      (λ _ h s. place_tells (Obtain form number ask) h.0 want (λ room. Shortage room) r (Fails (is_conditional form) old t (short (family form)) reply new) ((p : PlaceValue) × (reply ≡ Obtained p)) some
+      (λ room f. failure form _ f) (λ g. answered (Obtain form number ask) (Obtained g.0) g.1 tt) h.2 (at h.0 h.1 s)) where
+        at : (s : ℕ) → SubpoolOf old.owners (keeper old.owners t number) number s
             → (ShortOf old (keeper old.owners t number) number want × Fails (is_conditional form) old t (short (family form)) reply new) ⊎ ((p : PlaceValue) × (reply ≡ Obtained p) × GrantTo old (keeper old.owners t number) number want p new)
-            → IsReplyFor (Obtain form number ask) r reply
-        at (s, is, inl c) (inl f) = absurd (subst (λ u. NoPlace old.regions (holder old) u want → ⊥) (one_subpool old.owners (keeper old.owners t number) number s f.0.0 is f.0.1) (λ none. none_chosen old.regions (holder old) s want c.1.0 some none c.1.1) f.0.2)
-        at (s, is, inl c) (inr g) = told_none (Obtain form number ask) r c.0 (answered (Obtain form number ask) (Obtained g.0) g.1 tt)
-        at (s, is, inr n) (inl f) = told_as (Obtain form number ask) (Shortage n.1.0 (free_pages old 6 old.regions.below) (free_pages old 4096 old.regions.above)) r n.1.2 (failure form _ f.1)
-        at (s, is, inr n) (inr g) = absurd (subst (λ u. NoPlace old.regions (holder old) u want) (one_subpool old.owners (keeper old.owners t number) number s g.2.subpool is g.2.is_subpool) n.0 g.0.addr (shorter_place old.regions (holder old) g.2.subpool want want.least g.0.len g.0.addr some g.2.chosen.length.least g.2.chosen.placed))
+            → (NoPlace old.regions (holder old) s want × Fails (is_conditional form) old t (short (family form)) reply new) ⊎ ((p : PlaceValue) × Chosen old.regions (holder old) s want p × ((p : PlaceValue) × (reply ≡ Obtained p)))
+        at s is (inl f) = inl (subst (λ u. NoPlace old.regions (holder old) u want) (sym (one_subpool old.owners (keeper old.owners t number) number s f.0.0 is f.0.1)) f.0.2, f.1)
+        at s is (inr g) = inr (g.0, subst (λ u. Chosen old.regions (holder old) u want g.0) (sym (one_subpool old.owners (keeper old.owners t number) number s g.2.subpool is g.2.is_subpool)) g.2.chosen, (g.0, g.1))
 
-  list_tells : (form : Form) (number : ℕ) (lengths : List ℕ) (start : ℕ) (wants : List WantValue) (r : Option Reason) → OfNumber number r → ObtainListStep old t form number wants reply new → IsReplyFor (ObtainList form number lengths start) r reply
-  list_tells form number lengths start wants r of step =
+  list_tells : (form : Form) (number : ℕ) (lengths : List ℕ) (start : ℕ) (wants : List WantValue) (r : Option Reason) → AllByRecursion Refutes wants → OfList old t number wants r → ObtainListStep old t form number wants reply new → IsReplyFor (ObtainList form number lengths start) r reply
+  list_tells form number lengths start wants r some of step =
       both (is_invalid number) of step (λ _ is a. told_as (ObtainList form number lengths start) InvalidNumber r is (abend _ a))
-      (λ _ is s. told_none (ObtainList form number lengths start) r is (elim s [
-        | inl f ↦ shortage (ObtainList form number lengths start) (is_conditional form) refl f.1
-        | inr g ↦ answered (ObtainList form number lengths start) (Listed g.0) g.1 tt
-      ]))
+      (λ _ h s. at r h s) where
+        at : (r : Option Reason) → (s : ℕ) × SubpoolOf old.owners (keeper old.owners t number) number s × OfMembers old s wants 1 r
+            → (ListShort old (keeper old.owners t number) number wants × Fails (is_conditional form) old t (short (family form)) reply new) ⊎ ((ps : List PlaceValue) × (reply ≡ Listed ps) × ListGrant old (keeper old.owners t number) number wants ps new)
+            → IsReplyFor (ObtainList form number lengths start) r reply
+        at None h (inl f) = shortage (ObtainList form number lengths start) (is_conditional form) refl f.1
+        at None h (inr g) = answered (ObtainList form number lengths start) (Listed g.0) g.1 tt
+        at (Some reason) h (inl f) =
+            let m = (any_short old h.0 wants 1 reason h.2).1 in
+            subst (λ x. IsRefusal (ObtainList form number lengths start) x reply) (sym m.3) (failure form (short (family form)) f.1)
+        at (Some reason) h (inr g) = absurd (no_grant wants (keeper old.owners t number) number h.0 g.0 old new h.1 (any_short old h.0 wants 1 reason h.2).0 some g.2)
 
   -- what becomes of a release by what the subpool holds
   abbrev Releases : Request → Option ℕ → List PlaceValue → Type 0 → Type 0
@@ -164,31 +270,43 @@ module _ (old new : State) (t : Name) (reply : Reply) where
   move_tells request p q done r g (inr (h, inl d)) step = denied_tells request r d.0 d.1 (all_granted old p && all_granted old q) done d.4 (and_right (all_granted old p) (all_granted old q) (denied_not old q d.0 d.2)) step
   move_tells request p q done r g (inr (h, inr k)) step = allowed_tells request r (all_granted old p && all_granted old q) done g k.1 (and_from (all_granted old p) (all_granted old q) (granted_all old p h) (granted_all old q k.0)) step
 
-  build_tells : (request : Request) (name : Name) (number : ℕ) (plan : Plan) (r : Option Reason) → obtains request ≡ true → is_untold request ≡ true → form_of request ≡ Storage → IsGranted request Rc0 → OfBuild old name number r → BuildStep old t name number plan reply new → IsReplyFor request r reply
-  build_tells request name number plan r o u f g of step =
+  build_tells : (request : Request) (name : Name) (number : ℕ) (plan : Plan) (r : Option Reason) → obtains request ≡ true → form_of request ≡ Storage → IsGranted request Rc0 → OfBuild old t name number plan r → BuildStep old t name number plan reply new → IsReplyFor request r reply
+  build_tells request name number plan r o f g of step =
       both (is_invalid number) of step
       (λ _ is a. told_as request InvalidNumber r is (subst (λ b. IsAbend (bad_subpool (family (form_of request)) b) reply) (sym o) (subst (λ x. IsAbend (bad_subpool (family x) true) reply) (sym f) (abend _ a))))
       (λ _ of_name s. both (contains_key old.pools name) of_name s (λ _ is a. told_as request PoolInUse r is (abend _ a))
       (λ _ of_len x. both (nat_le most_pools (len old.pools)) of_len x (λ _ is a. told_as request TooManyPools r is (abend _ a))
-      (λ _ is v. told_none request r is (elim v [
-        | inl w ↦ short_abend request u (subst (λ x. Abends old t (short (family x)) reply new) (sym f) w.1)
-        | inr w ↦ answered request Rc0 w.1 g
-      ]))))
+      (λ _ h v. place_tells request h.0 want (λ room. NoPart plan.primary plan.cell_size room) r (Abends old t (short (family Storage)) reply new) (reply ≡ Rc0) (omega arith)
+      (λ room a. subst (λ x. IsFailure x (short (family x)) reply) (sym f) (abend _ a)) (λ e. answered request Rc0 e g) h.2 (at h.0 h.1 v)))) where
+        want : WantValue
+        want = part_want plan.cell_size plan.primary plan.side
 
-  get_tells : (name : Name) (conditional : Bool) (v : Option Pool) (r : Option Reason) → OfGet conditional v r → GetStep old t name conditional v reply new → IsReplyFor (Get name conditional) r reply
+        at : (s : ℕ) → SubpoolOf old.owners (keeper old.owners t number) number s
+            → (ShortOf old (keeper old.owners t number) number want × Abends old t (short (family Storage)) reply new) ⊎ (Builds old (keeper old.owners t number) name number plan new × (reply ≡ Rc0))
+            → (NoPlace old.regions (holder old) s want × Abends old t (short (family Storage)) reply new) ⊎ ((p : PlaceValue) × Chosen old.regions (holder old) s want p × (reply ≡ Rc0))
+        at s is (inl x) = inl (subst (λ u. NoPlace old.regions (holder old) u want) (sym (one_subpool old.owners (keeper old.owners t number) number s x.0.0 is x.0.1)) x.0.2, x.1)
+        at s is (inr x) = inr (x.0.2.0, subst (λ u. Chosen old.regions (holder old) u want x.0.2.0) (sym (one_subpool old.owners (keeper old.owners t number) number s x.0.0 is x.0.1)) x.0.2.3.chosen, x.1)
+
+  get_tells : (name : Name) (conditional : Bool) (v : Option Pool) (r : Option Reason) → OfGet old conditional v r → GetStep old t name conditional v reply new → IsReplyFor (Get name conditional) r reply
   get_tells name conditional None r of step = told_as (Get name conditional) NoPool r of (abend _ step)
-  get_tells name false (Some pool) r of (inl g) = told_none (Get name false) r of (answered (Get name false) (Cell (cell_at pool g.0)) g.2.1 tt)
-  get_tells name false (Some pool) r of (inr (none, inl s)) = told_none (Get name false) r of (short_abend (Get name false) refl s.1)
-  get_tells name false (Some pool) r of (inr (none, inr m)) = told_none (Get name false) r of (answered (Get name false) (Cell (cell_at (with_part pool pool.secondary m.0) m.3.0)) m.3.2.1 tt)
-  get_tells name true (Some pool) r (inl n) (inl g) = absurd (n.1 g.0 g.1)
-  get_tells name true (Some pool) r (inl n) (inr s) = told_as (Get name true) NoFreeCell r n.0 s.1.0
-  get_tells name true (Some pool) r (inr f) (inl g) = told_none (Get name true) r f.0 (answered (Get name true) (Cell (cell_at pool g.0)) g.2.1 tt)
-  get_tells name true (Some pool) r (inr f) (inr s) = absurd (s.0 f.1.0 f.1.1)
+  get_tells name conditional (Some pool) r (inl f) (inl g) = told_none (Get name conditional) r f.0 (answered (Get name conditional) (Cell (cell_at pool g.0)) g.2.1 tt)
+  get_tells name conditional (Some pool) r (inl f) (inr s) = absurd (s.0 f.1.0 f.1.1)
+  get_tells name conditional (Some pool) r (inr n) (inl g) = absurd (n.0 g.0 g.1)
+  get_tells name true (Some pool) r (inr n) (inr s) = told_as (Get name true) NoFreeCell r n.1 s.1.0
+  get_tells name false (Some pool) r (inr n) (inr s) =
+      place_tells (Get name false) pool.subpool want (λ room. NoPart pool.secondary pool.cell_size room) r (Abends old t (short (family Storage)) reply new) (IsGranted (Get name false) reply) (omega arith) (λ room a. abend _ a) (λ g. g) n.1 (at s.1) where
+        want : WantValue
+        want = part_want pool.cell_size pool.secondary pool.side
+
+        at : GetsNone old t name false pool reply new
+            → (NoPlace old.regions (holder old) pool.subpool want × Abends old t (short (family Storage)) reply new) ⊎ ((p : PlaceValue) × Chosen old.regions (holder old) pool.subpool want p × IsGranted (Get name false) reply)
+        at (inl x) = inl x
+        at (inr m) = inr (m.0, m.2.chosen, answered (Get name false) (Cell (cell_at (with_part pool pool.secondary m.0) m.3.0)) m.3.2.1 tt)
 
   free_tells : (name : Name) (c : ℕ) (v : Option Pool) (r : Option Reason) → OfFree c v r → FreeStep old t name c v reply new → IsReplyFor (Free name c) r reply
   free_tells name c None r of step = told_as (Free name c) NoPool r of (abend _ step)
   free_tells name c (Some pool) r of step =
-      both (not (set.contains pool.taken c)) of step (λ _ is a. told_as (Free name c) NoTakenCell r is (abend _ a))
+      both (not (set.contains pool.taken c)) of step (λ _ spot a. told_as (Free name c) (NoTakenCell spot.0) r spot.2 (abend _ a))
       (λ _ is d. told_none (Free name c) r is (answered (Free name c) Rc0 d.0 tt))
 
   delete_tells : (name : Name) (v : Option Pool) (r : Option Reason) → OfDelete v r → DeleteStep old t name v reply new → IsReplyFor (Delete name) r reply
@@ -212,11 +330,11 @@ module _ (old new : State) (t : Name) (reply : Reply) where
 
   each_tells : (request : Request) (r : Option Reason) → IsRequest request → OfRequest old t request r → Acts old t request reply new → IsReplyFor request r reply
   each_tells (Obtain form number ask) r ask_is of step = obtain_tells form number ask _ r (round8_some ask.least ask_is.some) of step
-  each_tells (ObtainList form number lengths start) r ask_is of step = list_tells form number lengths start _ r of step
+  each_tells (ObtainList form number lengths start) r ask_is of step = list_tells form number lengths start _ r (all_refute start lengths) of step
   each_tells (Release form number p) r ask_is of step = release_tells (Release form number p) number (p ∷ []) r refl of step
   each_tells (ReleaseList form number ps) r ask_is of step = release_tells (ReleaseList form number ps) number ps r refl of step
   each_tells (ReleaseWhole form number) r ask_is of step = whole_tells form number r of step
-  each_tells (Build name number size primary secondary loc) r ask_is of step = build_tells (Build name number size primary secondary loc) name number _ r refl refl refl tt of step
+  each_tells (Build name number size primary secondary loc) r ask_is of step = build_tells (Build name number size primary secondary loc) name number _ r refl refl tt of step
   each_tells (Get name conditional) r ask_is of step = get_tells name conditional (get old.pools name) r of step
   each_tells (Free name c) r ask_is of step = free_tells name c (get old.pools name) r of step
   each_tells (Delete name) r ask_is of step = delete_tells name (get old.pools name) r of step

@@ -15,20 +15,24 @@ use Rattle.mvs_model.specs.declared.request.Reply.{Reply}
 use Rattle.mvs_model.specs.declared.request.Reply.TheVariants.{NotRun, Rc4, NoCell, Abended}
 use Rattle.mvs_model.specs.declared.reason.Holder.{Holder}
 use Rattle.mvs_model.specs.declared.reason.Holder.TheVariants.{Nobody, Subpool, Unowned, Part}
+use Rattle.mvs_model.specs.declared.reason.CellSpot.{CellSpot}
+use Rattle.mvs_model.specs.declared.reason.CellSpot.TheVariants.{Untaken, Inside, Elsewhere}
+use Rattle.mvs_model.specs.declared.reason.Room.{Room}
 use Rattle.mvs_model.specs.declared.reason.Reason.{Reason}
-use Rattle.mvs_model.specs.declared.reason.Reason.TheVariants.{NotActive, InvalidNumber, Shortage, OffDoubleword, NoSubpool, NotHeld, Overlap, WholeOfZero, PoolInUse, TooManyPools, NoPool, NoFreeCell, NoTakenCell, TaskInUse, TooManyTasks, NotOwned, ActiveSubtask, Asked, NoAccess}
+use Rattle.mvs_model.specs.declared.reason.Reason.TheVariants.{NotActive, InvalidNumber, NotSet, Shortage, NoMember, NoPart, OffDoubleword, NoSubpool, NotHeld, Overlap, WholeOfZero, PoolInUse, TooManyPools, NoPool, NoFreeCell, NoTakenCell, TaskInUse, TooManyTasks, NotOwned, ActiveSubtask, Asked, NoAccess}
 use Rattle.mvs_model.specs.Place.{PlaceValue, place_at}
 use Rattle.mvs_model.specs.Gifts.{GiftsValue, gives}
-use Rattle.mvs_model.specs.Want.{WantValue, want_of}
+use Rattle.mvs_model.specs.declared.want.Side.TheVariants.{Below}
+use Rattle.mvs_model.specs.Want.{WantValue, want_of, fixed_want, side_of}
 use Rattle.mvs_model.specs.Storage.{Regions, Covers, Places, Chosen, NoPlace}
 use Rattle.mvs_model.specs.Finite.{count_below}
 use Rattle.mvs_model.specs.Reports.{page_subpool}
 use Rattle.mvs_model.specs.Owners.{Owners, is_active, entry, owns, IsMother, has_subtask, gives_shared, keeper, subpool_meant, SubpoolOf}
-use Rattle.mvs_model.specs.Pools.{Pool, in_parts, IsFreeCell}
+use Rattle.mvs_model.specs.Pools.{Pool, in_parts, part_want, IsCell, IsFreeCell}
 use Rattle.mvs_model.specs.State.{State, holder, plain, granted}
 use Rattle.mvs_model.specs.Codes.{family, is_conditional, short, bad_subpool, bad_address, not_held, whole_of_zero, pool_in_use, too_many_pools, no_such_pool, no_such_cell, active_subtask, no_access, task_in_use, too_many_tasks, not_owned}
 use Rattle.mvs_model.specs.Changes.{HeldPlain, Misses, Releasable, Granted}
-use Rattle.mvs_model.specs.Steps.{Step, IsRequest, is_invalid, on_doubleword, whole, side_for}
+use Rattle.mvs_model.specs.Steps.{Step, IsRequest, Plan, is_invalid, on_doubleword, whole, residence_of, side_for}
 use Rattle.mvs_model.specs.Numbers.{most_tasks, most_pools, first_page_below, first_page_above}
 
 -- What holds a doubleword: nothing; outside of the pools a subpool, which its owner has under a number, or which nobody owns;
@@ -114,10 +118,6 @@ OfAccess st (p ∷ ps) r =
 
 -- ---- requests that obtain, and those for cells
 
--- Why a list is not obtained, but for want of a place: its number may not be named.
-abbrev pub OfNumber : ℕ → Option Reason → Type 0
-OfNumber number r = MatchBool (is_invalid number) (r ≡ Some InvalidNumber) (r ≡ None)
-
 -- The length is the greatest one of whole doublewords for which s has a place on the boundaries and the side that are wanted,
 -- and 0 where there is none.
 pub record IsLongest (r : Regions) (holder : ℕ → Option ℕ) (s : ℕ) (want : WantValue) (n : ℕ) : Type 0 where
@@ -129,36 +129,69 @@ pub record IsLongest (r : Regions) (holder : ℕ → Option ℕ) (s : ℕ) (want
 abbrev pub free_pages : State → ℕ → ℕ → ℕ
 free_pages st first count = count_below count (λ p. not (is_some (page_subpool st (first + p))))
 
--- Why no place is granted to s: there is none of the least length that is wanted.
-abbrev pub OfPlace : State → ℕ → WantValue → Option Reason → Type 0
-OfPlace st s want r =
+-- What room s has for what is wanted.
+pub record IsRoom (st : State) (s : ℕ) (want : WantValue) (room : Room) : Type 0 where
+  pub longest : IsLongest st.regions (holder st) s want room.longest
+  pub below : room.below ≡ free_pages st first_page_below st.regions.below
+  pub above : room.above ≡ free_pages st first_page_above st.regions.above
+
+-- Why no place is granted to s, which is told of the room that it has: there is none of the least length that is wanted.
+abbrev pub OfPlace : State → ℕ → WantValue → (Room → Reason) → Option Reason → Type 0
+OfPlace st s want told r =
     ((r ≡ None) × ((p : PlaceValue) × Chosen st.regions (holder st) s want p))
-    ⊎ (NoPlace st.regions (holder st) s want
-    × ((n : ℕ) × IsLongest st.regions (holder st) s want n × (r ≡ Some (Shortage n (free_pages st first_page_below st.regions.below) (free_pages st first_page_above st.regions.above)))))
+    ⊎ (NoPlace st.regions (holder st) s want × ((room : Room) × IsRoom st s want room × (r ≡ Some (told room))))
 
--- Why an obtain is refused: its number may not be named, or there is no place in the subpool that the task has or would have.
+-- The same of the subpool that the task has under a number or would have.
+abbrev pub OfPlaceUnder : State → Name → ℕ → WantValue → (Room → Reason) → Option Reason → Type 0
+OfPlaceUnder st t number want told r = (s : ℕ) × SubpoolOf st.owners (keeper st.owners t number) number s × OfPlace st s want told r
+
+-- Why an obtain is refused: its number may not be named, or there is no place.
 abbrev pub OfObtain : State → Name → ℕ → WantValue → Option Reason → Type 0
-OfObtain st t number want r = MatchBool (is_invalid number) (r ≡ Some InvalidNumber) ((s : ℕ) × SubpoolOf st.owners (keeper st.owners t number) number s × OfPlace st s want r)
+OfObtain st t number want r = MatchBool (is_invalid number) (r ≡ Some InvalidNumber) (OfPlaceUnder st t number want (λ room. Shortage room) r)
 
--- Why a pool is not made, but for want of a place: for its number, or its name is in use, or 64 pools are there.
-abbrev pub OfBuild : State → Name → ℕ → Option Reason → Type 0
-OfBuild st name number r =
+-- Why s is not granted a place for each of some things wanted, the first of which has this number in a list: the first of them for
+-- which there is none, were it the only one.
+abbrev pub OfMembers : State → ℕ → List WantValue → ℕ → Option Reason → Type 0
+OfMembers st s [] k r = r ≡ None
+OfMembers st s (want ∷ wants) k r =
+    (NoPlace st.regions (holder st) s want × ((room : Room) × IsRoom st s want room × (r ≡ Some (NoMember k want.least room))))
+    ⊎ (((p : PlaceValue) × Chosen st.regions (holder st) s want p) × OfMembers st s wants (k + 1) r)
+
+-- Why a list is not obtained, but for want of a place for all of it where each member has one by itself.
+abbrev pub OfList : State → Name → ℕ → List WantValue → Option Reason → Type 0
+OfList st t number wants r = MatchBool (is_invalid number) (r ≡ Some InvalidNumber) ((s : ℕ) × SubpoolOf st.owners (keeper st.owners t number) number s × OfMembers st s wants 1 r)
+
+-- Why a pool is not made: for its number, or its name is in use, or 64 pools are there, or there is no place for its first part.
+abbrev pub OfBuild : State → Name → Name → ℕ → Plan → Option Reason → Type 0
+OfBuild st t name number plan r =
     MatchBool (is_invalid number)
     (r ≡ Some InvalidNumber)
     (MatchBool (contains_key st.pools name)
     (r ≡ Some PoolInUse)
-    (MatchBool (nat_le most_pools (len st.pools)) (r ≡ Some TooManyPools) (r ≡ None)))
+    (MatchBool (nat_le most_pools (len st.pools))
+    (r ≡ Some TooManyPools)
+    (OfPlaceUnder st t number (part_want plan.cell_size plan.primary plan.side) (λ room. NoPart plan.primary plan.cell_size room) r)))
 
--- Why no cell is taken, but for want of a place: there is no pool, or the request is conditional and no cell is free.
-abbrev pub OfGet : Bool → Option Pool → Option Reason → Type 0
-OfGet conditional None r = r ≡ Some NoPool
-OfGet false (Some pool) r = r ≡ None
-OfGet true (Some pool) r = ((r ≡ Some NoFreeCell) × ((c : ℕ) → IsFreeCell pool c → ⊥)) ⊎ ((r ≡ None) × ((c : ℕ) × IsFreeCell pool c))
+-- Why no cell is taken of a pool of which none is free: the request is conditional, or there is no place for a further part.
+abbrev pub OfNoCell : State → Bool → Pool → Option Reason → Type 0
+OfNoCell st true pool r = r ≡ Some NoFreeCell
+OfNoCell st false pool r = OfPlace st pool.subpool (part_want pool.cell_size pool.secondary pool.side) (λ room. NoPart pool.secondary pool.cell_size room) r
+
+-- Why no cell is taken: there is no pool, or none of its cells is free.
+abbrev pub OfGet : State → Bool → Option Pool → Option Reason → Type 0
+OfGet st conditional None r = r ≡ Some NoPool
+OfGet st conditional (Some pool) r = ((r ≡ None) × ((c : ℕ) × IsFreeCell pool c)) ⊎ (((c : ℕ) → IsFreeCell pool c → ⊥) × OfNoCell st conditional pool r)
+
+-- Where the address lies at which no taken cell of the pool begins: a free one begins there, or it is inside a cell, or in none.
+abbrev pub IsSpot : Pool → ℕ → CellSpot → Type 0
+IsSpot pool c Untaken = IsFreeCell pool c
+IsSpot pool c (Inside first) = IsCell pool first × (first < c) × (c < first + pool.cell_size)
+IsSpot pool c Elsewhere = (first : ℕ) → IsCell pool first → first ≤ c → c < first + pool.cell_size → ⊥
 
 -- Why a cell is not given back: there is no pool, or no taken cell of it begins at the address.
 abbrev pub OfFree : ℕ → Option Pool → Option Reason → Type 0
 OfFree c None r = r ≡ Some NoPool
-OfFree c (Some pool) r = MatchBool (not (set.contains pool.taken c)) (r ≡ Some NoTakenCell) (r ≡ None)
+OfFree c (Some pool) r = MatchBool (not (set.contains pool.taken c)) ((spot : CellSpot) × IsSpot pool c spot × (r ≡ Some (NoTakenCell spot))) (r ≡ None)
 
 -- Why a pool is not deleted: it is not there.
 abbrev pub OfDelete : Option Pool → Option Reason → Type 0
@@ -186,15 +219,16 @@ OfReturn o t r = MatchBool (has_subtask o t) ((x : Name) × IsMother o t x × (r
 
 -- ---- each request
 
--- Why an active task's request is refused, if it is, but for want of a place for a list or a part of a pool.
+-- Why an active task's request is refused, if it is, but for want of a place for a list whose members each have one by itself.
 abbrev pub OfRequest : State → Name → Request → Option Reason → Type 0
 OfRequest st t (Obtain form number ask) r = OfObtain st t number (want_of ask (side_for st t form ask.loc)) r
-OfRequest st t (ObtainList form number lengths start) r = OfNumber number r
+OfRequest st t (ObtainList form number lengths start) r = OfList st t number (map (λ n. fixed_want n start Below) lengths) r
 OfRequest st t (Release form number p) r = OfRelease st t number (p ∷ []) r
 OfRequest st t (ReleaseList form number ps) r = OfRelease st t number ps r
 OfRequest st t (ReleaseWhole form number) r = OfWhole number r
-OfRequest st t (Build name number size primary secondary loc) r = OfBuild st name number r
-OfRequest st t (Get name conditional) r = OfGet conditional (get st.pools name) r
+OfRequest st t (Build name number size primary secondary loc) r =
+    OfBuild st t name number (record { cell_size = size; primary = primary; secondary = secondary; side = side_of loc (residence_of st.owners t) }) r
+OfRequest st t (Get name conditional) r = OfGet st conditional (get st.pools name) r
 OfRequest st t (Free name c) r = OfFree c (get st.pools name) r
 OfRequest st t (Delete name) r = OfDelete (get st.pools name) r
 OfRequest st t (Attach name gifts residence) r = OfAttach st.owners t name gifts r
@@ -204,8 +238,8 @@ OfRequest st t (Show a n) r = OfAccess st (place_at a n ∷ []) r
 OfRequest st t (Put a bytes) r = OfAccess st (place_at a (length bytes) ∷ []) r
 OfRequest st t (Move to from n) r = OfAccess st (place_at to n ∷ place_at from n ∷ []) r
 
--- Why a request is refused, if it is, but for want of a place for a list or a part of a pool: the task is not active, or what
--- its request says.
+-- Why a request is refused, if it is, but for want of a place for a list whose members
+-- each have one by itself: the task is not active, or what its request says.
 abbrev pub IsReason : State → Name → Request → Option Reason → Type 0
 IsReason st t request r = MatchBool (not (is_active st.owners t)) (r ≡ Some NotActive) (OfRequest st t request r)
 
@@ -231,8 +265,6 @@ obtains _ = false
 -- whether want of a place for the request has no reason
 abbrev pub is_untold : Request → Bool
 is_untold (ObtainList form number lengths start) = true
-is_untold (Build name number size primary secondary loc) = true
-is_untold (Get name conditional) = true
 is_untold _ = false
 
 -- the code of a task that asks for an abend
@@ -248,10 +280,13 @@ IsAbend code reply = (fallen : List Name) × (reply ≡ Abended code fallen)
 abbrev pub IsFailure : Form → Code → Reply → Type 0
 IsFailure form code reply = MatchBool (is_conditional form) (reply ≡ Rc4) (IsAbend code reply)
 
--- The reply is the one to a request that is refused for the reason.
+-- The reply is the one to a request that is refused for the reason; where a name is not set, there is no request.
 abbrev pub IsRefusal : Request → Reason → Reply → Type 0
 IsRefusal request NotActive reply = reply ≡ NotRun
-IsRefusal request (Shortage n below above) reply = IsFailure (form_of request) (short (family (form_of request))) reply
+IsRefusal request (NotSet name) reply = ⊥
+IsRefusal request (Shortage room) reply = IsFailure (form_of request) (short (family (form_of request))) reply
+IsRefusal request (NoMember k n room) reply = IsFailure (form_of request) (short (family (form_of request))) reply
+IsRefusal request (NoPart cells size room) reply = IsFailure (form_of request) (short (family (form_of request))) reply
 IsRefusal request InvalidNumber reply = IsAbend (bad_subpool (family (form_of request)) (obtains request)) reply
 IsRefusal request (OffDoubleword a) reply = IsAbend (bad_address (family (form_of request))) reply
 IsRefusal request (NoSubpool keeper) reply = IsFailure (form_of request) (not_held (family (form_of request))) reply
@@ -262,7 +297,7 @@ IsRefusal request PoolInUse reply = IsAbend pool_in_use reply
 IsRefusal request TooManyPools reply = IsAbend too_many_pools reply
 IsRefusal request NoPool reply = IsAbend no_such_pool reply
 IsRefusal request NoFreeCell reply = reply ≡ NoCell
-IsRefusal request NoTakenCell reply = IsAbend no_such_cell reply
+IsRefusal request (NoTakenCell spot) reply = IsAbend no_such_cell reply
 IsRefusal request TaskInUse reply = IsAbend task_in_use reply
 IsRefusal request TooManyTasks reply = IsAbend too_many_tasks reply
 IsRefusal request (NotOwned number owner) reply = IsAbend not_owned reply

@@ -1,5 +1,6 @@
 -- What a line asks for once its names are looked up, and the names that it sets.
-use Rattle.std.specs.Prelude.{ℕ, ◌+◌, List, [], ◌∷◌, Option, Some}
+use Rattle.std.specs.Prelude.{ℕ, ◌+◌, not, is_some, List, [], ◌∷◌, find, Option, Some}
+use Rattle.std.specs.List.{flat_map}
 use Rattle.std.specs.Option.{option_map, option_and_then}
 use Rattle.std.specs.FinMap.{FinMap, get, insert}
 use Rattle.mvs_model.specs.declared.name.Name.{Name}
@@ -44,6 +45,26 @@ resolved names (written.Abend n) = Some (request.Abend n)
 resolved names (written.Show location n) = option_map (λ a. request.Show a n) (address_of names location)
 resolved names (written.Put location bytes) = option_map (λ a. request.Put a bytes) (address_of names location)
 resolved names (written.Move to from n) = option_and_then (λ a. option_map (λ b. request.Move a b n) (address_of names from)) (address_of names to)
+
+-- the name that an address is written by, if it is
+abbrev pub name_in : Location → List Name
+name_in (Absolute a) = []
+name_in (Named name n) = name ∷ []
+
+-- the names that a request looks up, from the left
+abbrev pub looked_up : Written → List Name
+looked_up (written.Release form number location n) = name_in location
+looked_up (written.ReleaseArea form number area) = area ∷ []
+looked_up (written.ReleaseList form number locations lengths) = flat_map name_in locations
+looked_up (written.Free pool cell) = name_in cell
+looked_up (written.Show location n) = name_in location
+looked_up (written.Put location bytes) = name_in location
+looked_up (written.Move to from n) = flat_map name_in (to ∷ from ∷ [])
+looked_up _ = []
+
+-- the first of some names that is not set
+abbrev pub first_unset : FinMap name_cmp PlaceValue → List Name → Option Name
+first_unset names looked = find (λ name. not (is_some (get names name))) looked
 
 -- the names that a request sets
 abbrev pub names_set : Written → List Name

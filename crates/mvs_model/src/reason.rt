@@ -17,6 +17,28 @@ pub enum Holder {
     Part(Name),
 }
 
+/// Where an address lies at which no taken cell of a pool begins.
+#[derive(Clone, Copy, Debug, PartialEq, Eq)]
+pub enum CellSpot {
+    /// A cell of the pool begins there, and is free.
+    Untaken,
+    /// It lies inside the cell of the pool that begins at this address.
+    Inside(Addr),
+    /// It lies in no cell of the pool.
+    Elsewhere,
+}
+
+/// What room there is where no place is long enough.
+#[derive(Clone, Copy, Debug, PartialEq, Eq)]
+pub struct Room {
+    /// The greatest length that has a place on the same boundaries and side, 0 where none has.
+    pub longest: u32,
+    /// How many pages of the region below hold nothing.
+    pub below: u32,
+    /// How many pages of the region above hold nothing.
+    pub above: u32,
+}
+
 /// Why a request is refused, by the state before it. What the request itself says is not told again.
 #[derive(Clone, Copy, Debug, PartialEq, Eq)]
 pub enum Reason {
@@ -24,9 +46,14 @@ pub enum Reason {
     NotActive,
     /// A program may not name the subpool number.
     InvalidNumber,
-    /// There is no place of the least length that is wanted: the greatest length that has a place on the same boundaries and
-    /// side, 0 where none has; and how many pages below and above hold nothing.
-    Shortage(u32, u32, u32),
+    /// A name that the request looks up is not set: the first one, from the left.
+    NotSet(Name),
+    /// There is no place of the least length that is wanted.
+    Shortage(Room),
+    /// There is no place for a member of a list, by itself: its number in the list, from 1 on, and the length that it wants.
+    NoMember(u32, u32, Room),
+    /// There is no place for a part of so many cells of so many bytes, the first one of a pool or a further one.
+    NoPart(u32, u32, Room),
     /// A place begins at this address, which is not on a doubleword.
     OffDoubleword(Addr),
     /// The task whose subpool is meant has none under the number.
@@ -45,8 +72,8 @@ pub enum Reason {
     NoPool,
     /// No cell of the pool is free, and the request is conditional.
     NoFreeCell,
-    /// No taken cell of the pool begins at the address.
-    NoTakenCell,
+    /// No taken cell of the pool begins at the address, which lies here.
+    NoTakenCell(CellSpot),
     /// A task of the name is active.
     TaskInUse,
     /// No more tasks can be active.

@@ -1,20 +1,26 @@
--- The greatest length that has a place, and pages that hold nothing.
-use Rattle.std.proofs.Common.{◌≡◌, ℕ, suc, ◌+◌, ◌≤◌, inl, inr, Bool, true, false, cond, Option, Some, None, not, is_some, refl, sym, ap, ◌∙◌, subst, arith}
-use Rattle.std.specs.Prelude.{MatchOption}
+-- The greatest length that has a place, pages that hold nothing, and what stands for a thing that is wanted.
+use Rattle.std.proofs.Common.{◌≡◌, ℕ, suc, ◌+◌, ◌-◌, ◌*◌, ◌/◌, ◌%◌, ◌^◌, ◌<◌, ◌≤◌, inl, inr, Bool, true, false, cond, List, ◌∷◌, Option, Some, None, not, is_some, refl, sym, ap, ◌∙◌, subst, arith}
+use Rattle.std.specs.Prelude.{IfSome, MatchOption}
 use Rattle.std.proofs.lemmas.Bool.{cases_lt}
 use Rattle.std.specs.FinMap.{FinMap}
-use Rattle.mvs_model.specs.declared.reason.Reason.TheVariants.{Shortage}
 use Rattle.mvs_model.specs.Name.{name_cmp}
-use Rattle.mvs_model.specs.Place.{PlaceValue}
-use Rattle.mvs_model.specs.Want.{WantValue, IsWant}
+use Rattle.mvs_model.specs.Place.{PlaceValue, place_at}
+use Rattle.mvs_model.specs.Want.{WantValue, IsWant, fixed_want}
 use Rattle.mvs_model.specs.Finite.{count_below}
-use Rattle.mvs_model.specs.Storage.{Storage, Regions, Places, Chosen, NoPlace, holder}
+use Rattle.mvs_model.specs.Storage.{Storage, Regions, InRegion, IsLength, Places, Chosen, NoPlace, holder}
+use Rattle.mvs_model.specs.View.{IsBounded}
 use Rattle.mvs_model.specs.Owners.{Owners}
-use Rattle.mvs_model.specs.State.{holder as state_holder}
+use Rattle.mvs_model.specs.State.{State, holder as state_holder}
+use Rattle.step_machine.specs.Lists.{list_wants}
 use Rattle.mvs_model.specs.Reports.{page_subpool}
-use Rattle.mvs_model.specs.Reasons.{IsLongest, OfPlace, free_pages}
+use Rattle.mvs_model.specs.declared.reason.Room.{Room}
+use Rattle.mvs_model.specs.declared.reason.Reason.{Reason}
+use Rattle.mvs_model.specs.declared.reason.Reason.TheVariants.{NoMember}
+use Rattle.mvs_model.specs.declared.want.Side.TheVariants.{Below}
+use Rattle.mvs_model.specs.Reasons.{IsLongest, IsRoom, OfMembers, free_pages}
 use Rattle.mvs_model.proofs.StorageLaws.{shorter_place}
 use Rattle.cell_pool.specs.Agree.{Agree}
+use Rattle.cell_pool.specs.Laying.{StandsFor}
 use Rattle.cell_pool.specs.Roots.{Root, pools_of}
 use Rattle.mvs_model.proofs.Seen.{same_holder}
 use Rattle.step_machine.specs.Machine.{machine_state}
@@ -82,20 +88,16 @@ module _ (roots : FinMap name_cmp Root) (st : Storage) (o : Owners) (agree : Agr
   holder_is = sym (same_holder st o (pools_of roots st) agree.parts.storage)
 
   -- what the store finds
-  pub found_place : (p : PlaceValue) → Chosen st.regions (holder st) s want p → OfPlace (machine_state roots st o) s want None
-  found_place p c = inl (refl, (p, subst (λ h. Chosen st.regions h s want p) holder_is c))
+  pub found_place : (p : PlaceValue) → Chosen st.regions (holder st) s want p → (p : PlaceValue) × Chosen st.regions (state_holder (machine_state roots st o)) s want p
+  found_place p c = (p, subst (λ h. Chosen st.regions h s want p) holder_is c)
 
   pub no_place : (n below above b a : ℕ) → NoPlace st.regions (holder st) s want → IsLongest st.regions (holder st) s want n
       → b ≡ st.regions.below → a ≡ st.regions.above
       → below ≡ count_below b (λ p. not (is_some (page_holder st (6 + p)))) → above ≡ count_below a (λ p. not (is_some (page_holder st (4096 + p))))
-      → OfPlace (machine_state roots st o) s want (Some (Shortage n below above))
-  no_place n below above b a none longest eb ea fb fa = inr (
+      → NoPlace st.regions (state_holder (machine_state roots st o)) s want × IsRoom (machine_state roots st o) s want (record { longest = n; below = below; above = above })
+  no_place n below above b a none longest eb ea fb fa = (
     subst (λ h. NoPlace st.regions h s want) holder_is none,
-    (
-      n,
-      subst (λ h. IsLongest st.regions h s want n) holder_is longest,
-      (λ i. Some (Shortage n (below_is i) (above_is i))),
-    ),
+    record { longest = subst (λ h. IsLongest st.regions h s want n) holder_is longest; below = below_is; above = above_is },
   ) where
     seen : page_holder st ≡ page_subpool (machine_state roots st o)
     seen = pages_seen roots st o agree.parts.storage
@@ -105,3 +107,77 @@ module _ (roots : FinMap name_cmp Root) (st : Storage) (o : Owners) (agree : Agr
 
     above_is : above ≡ free_pages (machine_state roots st o) 4096 st.regions.above
     above_is = fa ∙ (λ i. count_below (ea i) (λ p. not (is_some (seen i (4096 + p)))))
+
+-- what is found for a thing is found for another one for which it stands
+module _ (r : Regions) (bounded : IsBounded r) (held : ℕ → Option ℕ) (s : ℕ) (real want : WantValue) (stands : StandsFor real want) where
+  -- no place is so long
+  none_so_long : (n a : ℕ) (w : WantValue) → 0x3000000 < n → Places r held s w n a → ⊥
+  none_so_long n a w l p = at p.0.inside where
+    at : InRegion r (place_at a n) → ⊥
+    at (inl h) = let m : a + n ≤ 0x6000 + 4096 * r.below = h.1 in let b = bounded.below in omega arith
+    at (inr h) = let m : a + n ≤ 0x1000000 + 4096 * r.above = h.1 in let b = bounded.above in omega arith
+
+  as_real : (n a : ℕ) → Places r held s want n a → Places r held s real n a
+  as_real n a p =
+      let m = p.1 in (
+        p.0,
+        record {
+          on_doubleword = m.on_doubleword;
+          start = subst (λ k. a % 2 ^ k ≡ 0) stands.start m.start;
+          within = subst (λ w. IfSome w (λ k. a / 2 ^ k ≡ (a + n - 1) / 2 ^ k)) stands.within m.within;
+          side = λ e. m.side (stands.side ∙ e);
+        },
+      )
+
+  as_want : (n a : ℕ) → Places r held s real n a → Places r held s want n a
+  as_want n a p =
+      let m = p.1 in (
+        p.0,
+        record {
+          on_doubleword = m.on_doubleword;
+          start = subst (λ k. a % 2 ^ k ≡ 0) (sym stands.start) m.start;
+          within = subst (λ w. IfSome w (λ k. a / 2 ^ k ≡ (a + n - 1) / 2 ^ k)) (sym stands.within) m.within;
+          side = λ e. m.side (sym stands.side ∙ e);
+        },
+      )
+
+  pub stands_none : NoPlace r held s want → NoPlace r held s real
+  stands_none none a p = elim stands.length [
+    | inl e ↦ none a (subst (λ n. Places r held s want n a) (sym e.0) (as_want real.least a p))
+    | inr l ↦ none_so_long real.least a real l.0 p
+  ]
+
+  pub stands_chosen : (p : PlaceValue) → Chosen r held s want p → Chosen r held s real p
+  stands_chosen p c = elim stands.length [
+    | inl e ↦ record {
+      length = as_length e p.len c.length;
+      placed = as_real p.len p.addr c.placed;
+      greatest = λ n a l w q. c.greatest n a l (back_length e n w) (as_want n a q);
+      above = λ a q. c.above a (as_want p.len a q);
+    }
+    | inr l ↦ absurd (none_so_long p.len p.addr want (let least = c.length.least in let long = l.1 in omega arith) c.placed)
+  ] where
+    as_length : (want.least ≡ real.least) × (want.most ≡ real.most) → (n : ℕ) → IsLength want n → IsLength real n
+    as_length e n w = let least = w.least in let most = w.most in let el = e.0 in let em = e.1 in record { least = omega arith; most = omega arith; whole = w.whole }
+
+    back_length : (want.least ≡ real.least) × (want.most ≡ real.most) → (n : ℕ) → IsLength real n → IsLength want n
+    back_length e n w = let least = w.least in let most = w.most in let el = e.0 in let em = e.1 in record { least = omega arith; most = omega arith; whole = w.whole }
+
+  pub stands_longest : (n : ℕ) → IsLongest r held s want n → IsLongest r held s real n
+  stands_longest n h = record {
+    whole = h.whole;
+    placed = elim h.placed [ inl e ↦ inl e | inr p ↦ inr (p.0, as_real n p.0 p.1) ];
+    greatest = λ m a w l q. h.greatest m a w l (as_want m a q);
+  }
+
+-- members of a list
+module _ (st : State) (s start k : ℕ) (xs rest : List ℕ) (n : ℕ) (want : WantValue) (e : xs ≡ n ∷ rest) (is : want ≡ fixed_want n start Below) where
+  pub members_first : (m : ℕ) (room : Room) → m ≡ want.least → NoPlace st.regions (state_holder st) s want × IsRoom st s want room → OfMembers st s (list_wants xs start) k (Some (NoMember k m room))
+  members_first m room same h =
+      subst (λ l. OfMembers st s (list_wants l start) k (Some (NoMember k m room))) (sym e)
+      (subst (λ w. OfMembers st s (w ∷ list_wants rest start) k (Some (NoMember k m room))) is (inl (h.0, (room, h.1, ap (λ b. Some (NoMember k b room)) same))))
+
+  pub members_later : (r : Option Reason) → (p : PlaceValue) × Chosen st.regions (state_holder st) s want p → OfMembers st s (list_wants rest start) (k + 1) r → OfMembers st s (list_wants xs start) k r
+  members_later r c h =
+      subst (λ l. OfMembers st s (list_wants l start) k r) (sym e)
+      (subst (λ w. OfMembers st s (w ∷ list_wants rest start) k r) is (inr (c, h)))

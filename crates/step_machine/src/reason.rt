@@ -7,28 +7,19 @@ ghost use Rattle.mvs_model.specs.declared.reason.Holder.{Holder};
 ghost use Rattle.mvs_model.specs.declared.reason.Reason.TheVariants.{NoAccess};
 ghost use Rattle.mvs_model.specs.Changes.{Granted};
 ghost use Rattle.mvs_model.specs.Owners.{is_active, keeper, subpool_meant};
-ghost use Rattle.mvs_model.specs.Reasons.{Holds, IsDeniedIn, OfAccess, OfAttach, OfBuild, OfDelete, OfFree, OfGet, OfNumber, OfPlaces, OfRelease, OfRequest, OfReturn, OfWhole};
+ghost use Rattle.mvs_model.specs.Reasons.{Holds, IsDeniedIn, OfAccess, OfAttach, OfBuild, OfDelete, OfFree, OfGet, OfPlaces, OfRelease, OfRequest, OfReturn, OfWhole};
 ghost use Rattle.mvs_model.specs.Steps as step;
 
 use crate::holder::first_denied;
 use crate::machine::Machine;
 use crate::unreleased::{first_off, overlap, unheld_in};
+use cell_pool::Plan;
 use mvs_model::gifts::Gifts;
 use mvs_model::name::Name;
 use mvs_model::place::{Addr, Place};
 use mvs_model::reason::Reason;
 use mvs_model::request::Request;
 use mvs_model::subpool::SubNo;
-
-// Why a request with a subpool number is refused for it.
-fn number_reason(number: u8) -> Option<Reason>
-    ensures { OfNumber number result }
-{
-    match SubNo::new(number) {
-        Some(_) => None,
-        None => Some(Reason::InvalidNumber),
-    }
-}
 
 // Why the release of a whole subpool is refused.
 fn whole_reason(number: u8) -> Option<Reason>
@@ -81,33 +72,43 @@ impl Machine {
         self.places_reason(name, number, places)
     }
 
-    // Why a pool is not made, but for want of a place.
-    fn build_reason(&self, pool: &Name, number: u8) -> Option<Reason>
-        ensures { OfBuild self.now pool.now number result }
+    // Why a pool is not made.
+    fn build_reason(&self, name: Name, pool: &Name, number: u8, plan: &Plan) -> Option<Reason>
+        requires { is_active self.now.owners name ≡ true }
+        ensures { OfBuild self.now name pool.now number plan.now result }
     {
-        if SubNo::new(number).is_none() {
+        let Some(number) = SubNo::new(number) else {
             return Some(Reason::InvalidNumber);
-        }
+        };
         if self.pools.contains(pool) {
             return Some(Reason::PoolInUse);
         }
         if self.pools.is_full() {
             return Some(Reason::TooManyPools);
         }
-        None
+        let subpool = self.subpool_for(name, number);
+        self.part_reason(subpool, plan.cell_size, plan.primary, plan.side)
     }
 
-    // Why no cell is taken, but for want of a place.
+    // Why no cell is taken.
     fn get_reason(&self, pool: &Name, conditional: bool) -> Option<Reason>
-        ensures { OfGet conditional (get self.now.pools pool.now) result }
+        ensures { OfGet self.now conditional (get self.now.pools pool.now) result }
     {
-        let Some(has_free) = self.pools.has_free(pool) else {
+        let Some(supply) = self.pools.supply(pool) else {
             return Some(Reason::NoPool);
         };
-        if conditional && !has_free {
+        if supply.has_free {
+            return None;
+        }
+        if conditional {
             return Some(Reason::NoFreeCell);
         }
-        None
+        self.part_reason(
+            supply.subpool,
+            supply.cell_size,
+            supply.secondary,
+            supply.side,
+        )
     }
 
     // Why a cell is not given back.
@@ -117,7 +118,7 @@ impl Machine {
         match self.pools.is_taken(&self.store, pool, cell) {
             None => Some(Reason::NoPool),
             Some(true) => None,
-            Some(false) => Some(Reason::NoTakenCell),
+            Some(false) => Some(Reason::NoTakenCell(self.pools.spot(&self.store, pool, cell))),
         }
     }
 
@@ -189,7 +190,8 @@ impl Machine {
         self.access_reason(from)
     }
 
-    /// Why an active task's request is refused, if it is, but for want of a place for a list or a part of a pool.
+    /// Why an active task's request is refused, if it is, but for want of a place for a list whose members each have one by
+    /// itself.
     pub fn reason(&self, name: Name, request: &Request) -> Option<Reason>
         requires { is_active self.now.owners name ≡ true }
         ensures { OfRequest self.now name request.now result }
@@ -198,7 +200,12 @@ impl Machine {
             Request::Obtain { form, number, ask } => {
                 self.obtain_reason(name, *form, *number, ask)
             }
-            Request::ObtainList { number, .. } => number_reason(*number),
+            Request::ObtainList {
+                number,
+                lengths,
+                start,
+                ..
+            } => self.list_reason(name, *number, lengths, *start),
             Request::Release { number, place, .. } => self.release_reason(name, *number, &[*place]),
             Request::ReleaseList { number, places, .. } => self.release_reason(
                 name,
@@ -206,7 +213,17 @@ impl Machine {
                 places.as_slice(),
             ),
             Request::ReleaseWhole { number, .. } => whole_reason(*number),
-            Request::Build { pool, number, .. } => self.build_reason(pool, *number),
+            Request::Build {
+                pool,
+                number,
+                size,
+                primary,
+                secondary,
+                loc,
+            } => {
+                let plan = self.plan(name, *size, *primary, *secondary, *loc);
+                self.build_reason(name, pool, *number, &plan)
+            }
             Request::Get { pool, conditional } => self.get_reason(pool, *conditional),
             Request::Free { pool, cell } => self.free_reason(pool, *cell),
             Request::Delete { pool } => self.delete_reason(pool),

@@ -186,7 +186,7 @@ impl Step {
     }
 
     /// Why a request of the task is refused, if it is, asked before it is made. None also where a place is wanting for a list
-    /// or a part of a pool.
+    /// whose members each have one by itself.
     pub fn reason(&self, name: &Name, request: &Request) -> Option<Reason>
         ensures reason { IsReason self.now.state name.now request.now result }
         ensures told { (reply : TheReply) (new : State)
