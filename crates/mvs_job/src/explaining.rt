@@ -52,7 +52,7 @@ fn line_feed(script: &[u8]) -> Option<usize>
 }
 
 // How many bytes the first line has of a script that has some.
-fn line_end(script: &[u8]) -> usize
+pub(crate) fn line_end(script: &[u8]) -> usize
     requires { 0 < length script.now }
     ensures within { result ≤ length script.now }
     ensures lines { lines_of script.now
