@@ -30,7 +30,6 @@ use Rattle.mvs_job.specs.Streams.{Progress, PrintedUpTo}
 use Rattle.mvs_job.specs.Strict.{PrintsStrictly, RunsStrictly, is_of_served, serves, why_unserved}
 use Rattle.mvs_job.specs.Telling.{WalkValue, IsLent, IsTold, closing, ended, events_told, lent_in, new_walk}
 use Rattle.mvs_job.proofs.Running.{progress_stopped}
-use Rattle.mvs_job.proofs.Serving.{ran_fault}
 
 -- ---- Booleans
 
@@ -65,8 +64,8 @@ serves_lent st fallen t (short.Abended code) = refl
 serves_lent st fallen t short.Subpools = refl
 serves_lent st fallen t short.Map = refl
 
-pub answered_so : (w : WalkValue) (number : ℕ) (told : LineTold) (t : Name) (a : Short) → told ≡ told.Answered t a → IsLent w told → list_all is_of_served (events_told number w told) ≡ not (is_some (why_unserved a))
-answered_so w number told t a e lends =
+pub answered_so : (w : WalkValue) (number : ℕ) (line : LineTold) (t : Name) (a : Short) → line ≡ told.Answered t a → IsLent w line → list_all is_of_served (events_told number w line) ≡ not (is_some (why_unserved a))
+answered_so w number line t a e lends =
     let l = subst (IsLent w) e lends in
     ap (λ x. list_all is_of_served (events_told number w x)) e ∙ alone (serves (lent_in w.step (fallen_in w.reply) t a)) ∙ ap (λ o. serves (lent_in o (fallen_in w.reply) t a)) l.1 ∙ serves_lent l.0.state (fallen_in w.reply) t a
 
@@ -74,7 +73,7 @@ ended_served : (o : Option Bool) (events : List Event) → list_all is_of_served
 ended_served None events e = e
 ended_served (Some abended) events e = e
 
-pub other_served : (w : WalkValue) (number : ℕ) (told : LineTold) → ((t : Name) (a : Short) → told ≡ told.Answered t a → ⊥) → list_all is_of_served (events_told number w told) ≡ true
+pub other_served : (w : WalkValue) (number : ℕ) (line : LineTold) → ((t : Name) (a : Short) → line ≡ told.Answered t a → ⊥) → list_all is_of_served (events_told number w line) ≡ true
 other_served w number told.Nothing other = refl
 other_served w number (told.Began end card) other = ended_served end _ refl
 other_served w number (told.Answered t a) other = absurd (other t a refl)
@@ -103,7 +102,14 @@ module _ (before after : Option (List ℕ)) (w w' : WalkValue) (l : List ℕ) (a
   line_served (told.Answered t x) o other is heard h a = ((events_told w.number w' (told.Answered t x), a, h), and_one all _ (heard ∙ ap (λ o. not (is_some o)) is))
 
   pub line_faulted : (t : LineTold) (o : Option Unserved) (fault : Fault) → t ≡ told.Faulted fault → o ≡ None → IsHeard t o → IsTold w l t w' → Appends before after (printing (events_told w.number w' t)) → RunsStrictly before after w l w' all all (Ok false)
-  line_faulted t o fault e is heard h a = (ran_fault before after w w' l t fault e h a, and_one all _ (heard ∙ ap (λ o. not (is_some o)) is))
+  line_faulted (told.Faulted other) o fault e is heard h a = ((events_told w.number w' (told.Faulted other), a, (other, h.0, refl)), and_one all _ (heard ∙ ap (λ o. not (is_some o)) is))
+  line_faulted told.Nothing o fault e is heard h a = absurd (let f : told.Nothing ≡ told.Faulted fault = e in cc)
+  line_faulted (told.Began end card) o fault e is heard h a = absurd (let f : told.Began end card ≡ told.Faulted fault = e in cc)
+  line_faulted (told.Answered t x) o fault e is heard h a = absurd (let f : told.Answered t x ≡ told.Faulted fault = e in cc)
+
+pub none_of : (o : Option Unserved) → ((why : Unserved) → o ≡ Some why → ⊥) → o ≡ None
+none_of None other = refl
+none_of (Some why) other = absurd (other why refl)
 
 -- ---- the lines so far
 

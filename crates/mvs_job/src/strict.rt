@@ -51,7 +51,7 @@ fn why_unserved(answer: &Answer) -> Option<Unserved>
 }
 
 // The same of what a line told.
-fn unserved(walk: &Walk, told: &LineTold) -> Option<Unserved>
+fn why_of(walk: &Walk, told: &LineTold) -> Option<Unserved>
     requires { IsLent walk.now told.now }
     ensures { (number : ℕ)
         → list_all is_of_served (events_told number walk.now told.now) ≡ not (is_some result) }
@@ -82,7 +82,7 @@ fn hear_line<W: Write, H: Hears>(
         Ok(told) => told,
         Err(stop) => return Err(stop),
     };
-    if let Some(why) = unserved(walk, &told) {
+    if let Some(why) = why_of(walk, &told) {
         hearer.hear(walk, line_number, line, why);
         *all_served = false;
         return Ok(true);

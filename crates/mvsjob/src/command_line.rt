@@ -24,6 +24,7 @@ const STATUSES: &str = "Exit status:
   0   clean: every line was run, and no task abended
   1   with --check: some answer is another one than the script says
   2   with --judge: it is not decided whether a run of the script prints OUTPUT
+  4   with --strict: no task abended, and some line was not served: NOT RUN or NO NAME
   8   every line was run, and some task abended
   12  a line of the script has a fault, and no line behind it was run
   16  the job gave up, or could not begin: standard error says why
@@ -186,15 +187,21 @@ fn with_telling<'a>(command: Command<'a>, alloc: Global) -> Result<Command<'a>, 
         "explain",
         "Says behind the answer to a request why it is refused, in a line that begins with *",
     )?;
-    with_flag(
+    let printing = with_flag(
         explaining,
         alloc,
         "json",
         "Prints each event of the run as a line of JSON; with --explain also why a request is refused",
+    )?;
+    with_flag(
+        printing,
+        alloc,
+        "strict",
+        "Says on standard error of each line whose task is not active, or in which a name is not set, what may be meant",
     )
 }
 
-// The command: a word and ten options, all of which may be left out.
+// The command: a word and eleven options, all of which may be left out.
 fn command<'a>(alloc: Global) -> Result<Command<'a>, AllocError>
     ensures { IfOk result (λ c. (ps : Parsers) × AreParsers ps × (app_of c ≡ command ps)) }
 {
@@ -304,7 +311,9 @@ pub fn settings<'a>(alloc: Global, words: &'a [String]) -> Result<Settings<'a>, 
         × (IsTrue s.explains
         ↔ assigned ps (map string_bytes words.entry.now) (codes "explain") ≡ Some (codes "true"))
         × (IsTrue s.json
-        ↔ assigned ps (map string_bytes words.entry.now) (codes "json") ≡ Some (codes "true"))) }
+        ↔ assigned ps (map string_bytes words.entry.now) (codes "json") ≡ Some (codes "true"))
+        × (IsTrue s.strict
+        ↔ assigned ps (map string_bytes words.entry.now) (codes "strict") ≡ Some (codes "true"))) }
     // Clap finds nothing wrong with words that are taken; an error is of a kind that it finds, or want of memory.
     ensures taken { IfOk result (λ _. FindsWrong (map string_bytes words.entry.now) []) }
     ensures kinds { IfErr result
@@ -323,5 +332,6 @@ pub fn settings<'a>(alloc: Global, words: &'a [String]) -> Result<Settings<'a>, 
         mode: mode(&matches),
         explains: is_set(&matches, "explain"),
         json: is_set(&matches, "json"),
+        strict: is_set(&matches, "strict"),
     })
 }

@@ -7,6 +7,7 @@ ghost use Rattle.mvsjob.specs.Endings.{status_of};
 
 mod answers;
 mod choices;
+mod clues;
 mod command_line;
 mod ending;
 mod explained;
@@ -14,6 +15,7 @@ mod json;
 mod judging;
 mod kept;
 mod piped;
+mod strict;
 
 use answers::{check_answers, write_made};
 use choices::{Mode, Settings};
@@ -28,6 +30,7 @@ use mvs_job::{RunFault, Told, run_job};
 use mvs_model::outcome::Outcome;
 use mvs_model::watched::Watched;
 use piped::Piped;
+use strict::run_strict;
 use std::env;
 use std::fs::File;
 use std::io::{self, BufWriter, ErrorKind, Read, Write};
@@ -119,6 +122,7 @@ fn serve(rt: &HostRuntime, settings: &Settings<'_>) -> Result<Ending, GiveUp> {
     match settings.mode {
         Mode::Run if settings.json => Ok(Ending::Ran(run_json(rt, settings)?)),
         Mode::Run if settings.explains => Ok(Ending::Ran(run_explained(rt, settings)?)),
+        Mode::Run if settings.strict => run_strict(rt, settings),
         Mode::Run => Ok(Ending::Ran(run_named(rt, settings)?)),
         Mode::Check => check_answers(rt, settings),
         Mode::Judge => judge_output(rt, settings),

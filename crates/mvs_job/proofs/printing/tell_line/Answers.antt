@@ -11,6 +11,6 @@ returns-in-Err-print_line-clause-ran g c =
 pub returns-in-Err-print_ended-clause-ran : goal.returns-in-Err-print_ended-clause-ran
 returns-in-Err-print_ended-clause-ran g c = stopped_front c.args.walk.now c.args.line.now (ended c.in-Err.stopped.ended) _ _ c.in-Err.ensures.told c.in-Err-print_ended.ensures.bytes
 
-pub returns-in-Ok-clause-ran : goal.returns-in-Ok-clause-ran
-returns-in-Ok-clause-ran g c =
+pub returns-in-Ok-print_line-clause-ran : goal.returns-in-Ok-print_line-clause-ran
+returns-in-Ok-print_line-clause-ran g c =
     (told_by (Takes c.args.told.now) c.args.walk.now c.line.new.self c.args.line.now c.in-Ok.told c.in-Ok.ensures.told, rw (c.number-line_number.ensures) at c.in-Ok-print_line.ensures.bytes)
