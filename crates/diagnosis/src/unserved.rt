@@ -29,6 +29,24 @@ enum Lacked {
     Name,
 }
 
+impl Lacked {
+    // Writes what a line before is to do.
+    fn write_before<W: fmt::Write>(&self, f: &mut fmt::Formatter<W>, line: u32) -> fmt::Result {
+        match self {
+            Lacked::Task => write!(f, " it begins in line {line}, and is not active here"),
+            Lacked::Name => write!(f, " it is not obtained in line {line}"),
+        }
+    }
+
+    // Writes what a line behind does.
+    fn write_behind<W: fmt::Write>(&self, f: &mut fmt::Formatter<W>, line: u32) -> fmt::Result {
+        match self {
+            Lacked::Task => write!(f, " it is attached in line {line}"),
+            Lacked::Name => write!(f, " it is obtained in line {line}"),
+        }
+    }
+}
+
 /// What is said of a line that was not served.
 #[derive(Clone, Copy)]
 pub struct NotServed<'a> {
@@ -110,17 +128,11 @@ impl<'a> NotServed<'a> {
 
     // Writes what may help.
     fn write_clue<W: fmt::Write>(&self, f: &mut fmt::Formatter<W>) -> fmt::Result {
-        match (self.clue, self.lacked) {
-            (Clue::Nothing, _) => Ok(()),
-            (Clue::Meant(name), _) => write!(f, " did you mean {}?", Plain(name.text())),
-            (Clue::Before(line), Lacked::Task) => {
-                write!(f, " it begins in line {line}, and is not active here")
-            }
-            (Clue::Behind(line), Lacked::Task) => write!(f, " it is attached in line {line}"),
-            (Clue::Before(line), Lacked::Name) => {
-                write!(f, " it is not obtained in line {line}")
-            }
-            (Clue::Behind(line), Lacked::Name) => write!(f, " it is obtained in line {line}"),
+        match &self.clue {
+            Clue::Nothing => Ok(()),
+            Clue::Meant(name) => write!(f, " did you mean {}?", Plain(name.text())),
+            Clue::Before(line) => self.lacked.write_before(f, *line),
+            Clue::Behind(line) => self.lacked.write_behind(f, *line),
         }
     }
 }

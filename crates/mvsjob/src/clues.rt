@@ -70,15 +70,17 @@ impl Search<'_> {
         let Some(edits) = edits_between(self.alloc, self.lacked.text(), name.text()) else {
             return;
         };
-        match self.near {
-            Some((nearest, _)) if nearest <= edits => {}
-            _ => self.near = Some((edits, *name)),
+        if let Some((nearest, _)) = &self.near {
+            if *nearest <= edits {
+                return;
+            }
         }
+        self.near = Some((edits, *name));
     }
 
     // Takes the names of a statement that the line could have.
     fn offer_of(&mut self, task: &Name, statement: &Statement) {
-        match self.lacked {
+        match &self.lacked {
             Lacked::Task(_) => {
                 let name = begun(task, statement).unwrap_or(*task);
                 if self.job.is_active(&name) {
@@ -138,11 +140,15 @@ impl Search<'_> {
 
     // What was found.
     fn clue(&self) -> Clue {
-        match (self.before, self.behind, self.near) {
-            (Some(number), _, _) => Clue::Before(number),
-            (_, Some(number), _) => Clue::Behind(number),
-            (_, _, Some((_, name))) => Clue::Meant(name),
-            _ => Clue::Nothing,
+        if let Some(number) = self.before {
+            return Clue::Before(number);
+        }
+        if let Some(number) = self.behind {
+            return Clue::Behind(number);
+        }
+        match &self.near {
+            Some((_, name)) => Clue::Meant(*name),
+            None => Clue::Nothing,
         }
     }
 }
