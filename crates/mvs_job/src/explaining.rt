@@ -51,8 +51,8 @@ fn line_feed(script: &[u8]) -> Option<usize>
     memchr(b'\n', script)
 }
 
-// How many bytes the first line has of a script that has some.
-pub(crate) fn line_end(script: &[u8]) -> usize
+/// How many bytes the first line has of a script that has some.
+pub fn line_end(script: &[u8]) -> usize
     requires { 0 < length script.now }
     ensures within { result ≤ length script.now }
     ensures lines { lines_of script.now

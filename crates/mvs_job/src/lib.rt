@@ -13,7 +13,7 @@ mod told;
 mod walk;
 mod why;
 
-pub use explaining::explain_script;
+pub use explaining::{explain_script, line_end};
 pub use job::Job;
 pub use printing::{Stop, print_closing, print_line};
 pub use run::{RunFault, run_job};

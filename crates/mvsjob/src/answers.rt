@@ -3,7 +3,7 @@
 
 use crate::choices::{Mode, Settings};
 use crate::ending::{Ending, GiveUp, Unread};
-use crate::kept::first_faulty;
+use crate::faulty::first_faulty;
 use crate::tell;
 use annotated::{write_blank, write_differences, write_statements};
 use judge::write_asking;

@@ -5,9 +5,9 @@ ghost use Rattle.std.specs.Option.{unwrap_or};
 ghost use Rattle.clap.specs.Words.{IsAmong, Kinds, app_of, first_value, found_of, kind_of, new_app, new_rule, with_rule};
 ghost use Rattle.clap.specs.declared.error.kind.ErrorKind.TheVariants.{OutOfMemory};
 ghost use Rattle.clap.specs.declared.builder.value_parser.ValueParser.{ValueParser as Parser};
-ghost use Rattle.mvsjob.specs.CommandLine.{AreParsers, FindsWrong, IsMode, IsOneOf, IsTaken, Parsers, answers_app, assigned, command, flag_rule, judging_app, places, profiles, random_app, telling_app, value_rule, versioned};
+ghost use Rattle.mvsjob.specs.CommandLine.{AreParsers, FindsWrong, IsMode, IsOneOf, IsTaken, Parsers, answers_app, assigned, command, flag_rule, judging_app, places, profiles, random_app, telling_app, value_rule, versioned, whens};
 
-use crate::choices::{Mode, Recipe, Settings};
+use crate::choices::{Mode, Recipe, Settings, When};
 use clap::builder::ValueParser;
 use clap::{Arg, ArgAction, ArgMatches, Command};
 use mvs_model::want::Placement;
@@ -20,7 +20,18 @@ const ABOUT: &str =
 /// The version of this program, and the kit that it is proved with.
 const VERSION: &str = "1.0.0 (rattle-kit-13f logic dac8208d650f15bf)";
 
-const STATUSES: &str = "Exit status:
+const SHORT: &str = "--help has examples and the exit statuses.
+The script's language is described in mvsjob-script(5), which is docs/SCRIPT.md.";
+
+const LONG: &str = "Examples:
+  mvsjob leak.job                    runs a script
+  mvsjob --strict leak.job           and says which lines were not served
+  mvsjob --explain leak.job          and says why requests are refused
+  mvsjob --check homework.job        compares the answers behind => with those of the run
+  mvsjob --random 7 --lines 50 | mvsjob --place high
+                                     runs a random script, its areas at the highest places
+
+Exit status:
   0   clean: every line was run, and no task abended
   1   with --check: some answer is another one than the script says
   2   with --judge: it is not decided whether a run of the script prints OUTPUT
@@ -31,11 +42,17 @@ const STATUSES: &str = "Exit status:
 
 The script's language is described in mvsjob-script(5), which is docs/SCRIPT.md.";
 
+/// The options that have a value, where it is a word of its own.
+static VALUED: [&str; 6] = ["--place", "--judge", "--random", "--lines", "--profile", "--color"];
+
 /// The values of the option `--place`.
 static PLACES: [&str; 2] = ["low", "high"];
 
 /// The values of the option `--profile`.
 static PROFILES: [&str; 5] = ["storage", "tasks", "pools", "tidy", "faults"];
+
+/// The values of the option `--color`.
+static WHENS: [&str; 3] = ["auto", "always", "never"];
 
 // The command without its words: its name, its version, and what the help says around them.
 fn titled<'a>(alloc: Global) -> Command<'a>
@@ -44,7 +61,8 @@ fn titled<'a>(alloc: Global) -> Command<'a>
     Command::new(alloc, "mvsjob")
         .version(VERSION)
         .about(ABOUT)
-        .after_help(STATUSES)
+        .after_help(SHORT)
+        .after_long_help(LONG)
 }
 
 // The command with a word that is said or not.
@@ -201,7 +219,22 @@ fn with_telling<'a>(command: Command<'a>, alloc: Global) -> Result<Command<'a>, 
     )
 }
 
-// The command: a word and eleven options, all of which may be left out.
+// The command with the option that says when printed lines are coloured.
+fn with_color<'a>(command: Command<'a>, alloc: Global) -> Result<Command<'a>, AllocError>
+    ensures { IfOk result
+        (λ c. (color : Parser) × IsOneOf whens color
+        × (app_of c ≡ with_rule (app_of command.entry) (value_rule (codes "color") color))) }
+{
+    with_option(
+        command,
+        alloc,
+        "color",
+        ValueParser::Names(WHENS.as_slice()),
+        "When a run prints ABEND in red and RC 4 in yellow; auto, at a terminal, where it is left out",
+    )
+}
+
+// The command: a word and twelve options, all of which may be left out.
 fn command<'a>(alloc: Global) -> Result<Command<'a>, AllocError>
     ensures { IfOk result (λ c. (ps : Parsers) × AreParsers ps × (app_of c ≡ command ps)) }
 {
@@ -211,7 +244,8 @@ fn command<'a>(alloc: Global) -> Result<Command<'a>, AllocError>
     let judged = with_judging(answered, alloc)?;
     let random = with_random(judged, alloc)?;
     let profiled = with_profile(random, alloc)?;
-    with_telling(profiled, alloc)
+    let telling = with_telling(profiled, alloc)?;
+    with_color(telling, alloc)
 }
 
 // The word for the script.
@@ -253,6 +287,20 @@ fn is_set(matches: &ArgMatches<'_>, name: &str) -> bool
     }
 }
 
+// When printed lines are coloured.
+fn color(matches: &ArgMatches<'_>) -> When
+    ensures { (result ≡ When.Always
+        ↔ first_value (found_of matches.now) (codes "color") ≡ Some (codes "always"))
+        × (result ≡ When.Never
+        ↔ first_value (found_of matches.now) (codes "color") ≡ Some (codes "never")) }
+{
+    match matches.get_str("color") {
+        Some(when) if when == "always" => When::Always,
+        Some(when) if when == "never" => When::Never,
+        _ => When::Auto,
+    }
+}
+
 // What a random script is made of.
 fn profile(matches: &ArgMatches<'_>) -> Profile {
     match matches.get_str("profile") {
@@ -291,6 +339,20 @@ fn mode(matches: &ArgMatches<'_>) -> Mode
     }
 }
 
+/// Whether several words of a command line, the program's name first, name files.
+pub fn names_files(words: &[String]) -> bool {
+    let mut files = 0usize;
+    let mut takes_value = true;
+    for word in words {
+        let word = word.as_str();
+        if !takes_value && (word == "-" || !word.starts_with("-")) {
+            files = files.saturating_add(1);
+        }
+        takes_value = VALUED.iter().any(|option| *option == word);
+    }
+    files > 1
+}
+
 /// Reads the words of a command line, the program's name first. An error is what `clap` has to say of them, a text for the user
 /// (where it is the help that the words ask for, `use_stderr` is false), or want of memory.
 pub fn settings<'a>(alloc: Global, words: &'a [String]) -> Result<Settings<'a>, clap::Error>
@@ -313,7 +375,11 @@ pub fn settings<'a>(alloc: Global, words: &'a [String]) -> Result<Settings<'a>, 
         × (IsTrue s.json
         ↔ assigned ps (map string_bytes words.entry.now) (codes "json") ≡ Some (codes "true"))
         × (IsTrue s.strict
-        ↔ assigned ps (map string_bytes words.entry.now) (codes "strict") ≡ Some (codes "true"))) }
+        ↔ assigned ps (map string_bytes words.entry.now) (codes "strict") ≡ Some (codes "true"))
+        × (s.color ≡ When.Always
+        ↔ assigned ps (map string_bytes words.entry.now) (codes "color") ≡ Some (codes "always"))
+        × (s.color ≡ When.Never
+        ↔ assigned ps (map string_bytes words.entry.now) (codes "color") ≡ Some (codes "never"))) }
     // Clap finds nothing wrong with words that are taken; an error is of a kind that it finds, or want of memory.
     ensures taken { IfOk result (λ _. FindsWrong (map string_bytes words.entry.now) []) }
     ensures kinds { IfErr result
@@ -333,5 +399,6 @@ pub fn settings<'a>(alloc: Global, words: &'a [String]) -> Result<Settings<'a>, 
         explains: is_set(&matches, "explain"),
         json: is_set(&matches, "json"),
         strict: is_set(&matches, "strict"),
+        color: color(&matches),
     })
 }

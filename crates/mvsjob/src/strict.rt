@@ -4,7 +4,7 @@ use crate::choices::Settings;
 use crate::clues::{Lacked, clue_of, unset};
 use crate::ending::{Ending, GiveUp};
 use crate::explained::script;
-use crate::kept::first_faulty;
+use crate::faulty::faulty_in;
 use crate::piped::Piped;
 use crate::tell;
 use diagnosis::NotServed;
@@ -92,7 +92,7 @@ pub fn run_strict(rt: &HostRuntime, settings: &Settings<'_>) -> Result<Ending, G
     match ended {
         Ok(end) if flushed.is_ok() => {
             if end.outcome == Outcome::ScriptFault {
-                tell(rt, settings.file, &first_faulty(&script, 1, true));
+                tell(rt, settings.file, &faulty_in(&script));
             }
             Ok(Ending::of_strict(end))
         }
