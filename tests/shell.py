@@ -1,8 +1,6 @@
-"""The program at the shell: its input, its output, what it is told and what it says, and colours."""
+"""The program at the shell: its input, its output, its words, and what it says of them."""
 
 import os
-import pty
-import re
 import signal
 import subprocess
 import tempfile
@@ -12,9 +10,6 @@ from pathlib import Path
 TOP = Path(__file__).resolve().parent.parent
 FIRST = TOP / "examples/first.job"
 BEGUN = "1 JOB REGION BELOW 1 ABOVE 0\n"
-COLORS = re.compile(rb"\x1b\[[0-9]*m")
-SHOWN = b"JOB REGION BELOW=1\nJOB GETMAIN RC,LV=4097,A=X\nJOB GETMAIN RC,LV=8,A=X\nJOB ABEND 4\n"
-NAMED = b"JOB REGION BELOW=1\nJOB ATTACH TASK=ABEND\nABEND GETMAIN RC,LV=8,A=RC\n"
 
 
 def shell(program, command, stdin=None, **names):
@@ -68,7 +63,7 @@ def outputs(program):
 
 
 def words(program):
-    for said in ("--place middle", "--place low --place high", "--unknown", "--place", "--color sometimes"):
+    for said in ("--place middle", "--place low --place high", "--unknown", "--place"):
         status, out, err = shell(program, f'"$MVSJOB" {said}')
         yield said, status == 16 and out == "" and err.startswith("error: ")
     status, out, err = shell(program, '"$MVSJOB" --place low a.job b.job')
@@ -80,42 +75,6 @@ def words(program):
         yield word, shell(program, f'"$MVSJOB" {word}') == (0, (TOP / "tools" / kept).read_text(), "")
 
 
-def at_terminal(program, *words, **names):
-    """What a run writes whose standard output is a terminal."""
-    ours, theirs = pty.openpty()
-    subprocess.run([program, *words], input=SHOWN, stdout=theirs, env=os.environ | names, timeout=60)
-    os.close(theirs)
-    shown = b""
-    while True:
-        try:
-            more = os.read(ours, 65536)
-        except OSError:
-            more = b""
-        if not more:
-            os.close(ours)
-            return shown.replace(b"\r\n", b"\n")
-        shown += more
-
-
-def colors(program):
-    def printed(*said, script=SHOWN):
-        return subprocess.run([program, *said], input=script, stdout=subprocess.PIPE, timeout=60).stdout
-
-    plain = printed()
-    painted = b"".join((b"\x1b[33m" + line + b"\x1b[0m") if line.endswith(b" RC 4\n") else (b"\x1b[31m" + line + b"\x1b[0m") if b" ABEND " in line else line for line in plain.splitlines(keepends=True))
-    yield "always", printed("--color", "always") == painted != plain
-    yield "never in a pipe", printed("--color", "auto") == printed("--color=never") == plain
-    yield "names that look like answers", printed("--color", "always", script=NAMED) == printed(script=NAMED)
-    names = {"NO_COLOR": ""}
-    yield "at a terminal", at_terminal(program, **names) == painted
-    yield "NO_COLOR", at_terminal(program, NO_COLOR="1") == plain
-    yield "never at a terminal", at_terminal(program, "--color", "never", **names) == plain
-    yield "NO_COLOR and always", at_terminal(program, "--color", "always", NO_COLOR="1") == painted
-    for path in sorted((TOP / "examples").glob("*.job")):
-        script = path.read_bytes()
-        yield f"without colours, {path.name}", COLORS.sub(b"", printed("--color", "always", script=script)) == printed(script=script)
-
-
 def results(program):
     with tempfile.TemporaryDirectory() as folder:
-        return [*inputs(program, folder), *outputs(program), *words(program), *colors(program)]
+        return [*inputs(program, folder), *outputs(program), *words(program)]

@@ -41,6 +41,20 @@ nothing_said first bytes l e is = sym (kind_said bytes l is.says ∙ ap (λ l. n
 pub statement_said : (first : Bool) (bytes : List ℕ) (l : Line) (t : Name) (s : Statement) → l ≡ line.Statement t s → LineOf first bytes l → false ≡ says_nothing bytes
 statement_said first bytes l t s e is = sym (kind_said bytes l is.says ∙ ap (λ l. not (is_statement l)) e)
 
+some_same : (p q : ℕ × Fault) → Some p ≡ Some q → p ≡ q
+some_same p q e = cc
+
+abbrev number_in : ℕ × Fault → ℕ
+number_in p = p.0
+
+abbrev fault_in : ℕ × Fault → Fault
+fault_in p = p.1
+
+some_pair : (a n : ℕ) (x f : Fault) → ◌≡◌ {A = Option (ℕ × Fault)} (Some (a, x)) (Some (n, f)) → (a ≡ n) × (x ≡ f)
+some_pair a n x f g =
+    let e : ◌≡◌ {A = ℕ × Fault} (a, x) (n, f) = some_same (a, x) (n, f) g in
+    (ap number_in e, ap fault_in e)
+
 -- ---- the lines so far
 
 -- So many lines before an index have no fault, and no statement stands before the next one, or one does.
@@ -78,8 +92,8 @@ module _ (text rest : List ℕ) (number : ℕ) (first : Bool) (at passed end : �
 
   pub fault_here : (told : ℕ) (fault : Fault) → told ≡ number + passed → FaultOf is_first (take end rest) fault → IsFirstFault number first (lines_of text) told fault
   fault_here told fault e is n f h =
-      let g : Some (number + passed, fault) ≡ Some (n, f) = sym (further (Some fault) is) ∙ h in
-      (e ∙ (let a : number + passed ≡ n = cc in a), let b : fault ≡ f = cc in b)
+      let g = some_pair (number + passed) n fault f (sym (further (Some fault) is) ∙ h) in
+      (e ∙ g.0, g.1)
 
   pub line_here : (told : ℕ) → told ≡ number + passed → IsLineOf number (lines_of text) told (take end rest)
   line_here told e = record { before = p.before; rest = lines_of (drop at text); parts = p.lines; counted = e ∙ ap (λ n. number + n) p.counted; here = inl (lines_of (drop (end + 1) rest), here) }
@@ -88,8 +102,8 @@ module _ (text : List ℕ) (number : ℕ) (first : Bool) (at passed told : ℕ) 
   none : lines_of (drop at text) ≡ []
   none = ap lines_of (drop_all at text all)
 
-  lacks : (b : Bool) → (n : ℕ) (f : Fault) → (if b then Some (number + passed, OutOfPlace) else None) ≡ Some (n, f) → (told ≡ n) × (OutOfPlace ≡ f)
-  lacks true n f h = (e ∙ (let a : number + passed ≡ n = cc in a), let b : OutOfPlace ≡ f = cc in b)
+  lacks : (b : Bool) → (n : ℕ) (f : Fault) → if◌then◌else◌ {A = Option (ℕ × Fault)} b (Some (number + passed, OutOfPlace)) None ≡ Some (n, f) → (told ≡ n) × (OutOfPlace ≡ f)
+  lacks true n f h = let g = some_pair (number + passed) n OutOfPlace f h in (e ∙ g.0, g.1)
   lacks false n f h = absurd (let g : None ≡ Some (n, f) = h in cc)
 
   pub fault_at_end : IsFirstFault number first (lines_of text) told OutOfPlace

@@ -14,11 +14,10 @@ abbrev pub IsOneOf : List Text → ValueParser → Type 0
 IsOneOf values (Names names) = map (λ name. name.now) names.now ≡ values
 IsOneOf values _ = ⊥
 
--- how the values of `--place`, of `--profile` and of `--color` are read
+-- how the values of `--place` and of `--profile` are read
 pub record Parsers : Type 0 where
   pub place : ValueParser
   pub profile : ValueParser
-  pub color : ValueParser
 
 -- the values of `--place`
 abbrev pub places : List Text
@@ -28,14 +27,9 @@ places = codes "low" ∷ codes "high" ∷ []
 abbrev pub profiles : List Text
 profiles = codes "storage" ∷ codes "tasks" ∷ codes "pools" ∷ codes "tidy" ∷ codes "faults" ∷ []
 
--- the values of `--color`
-abbrev pub whens : List Text
-whens = codes "auto" ∷ codes "always" ∷ codes "never" ∷ []
-
 pub record AreParsers (ps : Parsers) : Type 0 where
   pub place : IsOneOf places ps.place
   pub profile : IsOneOf profiles ps.profile
-  pub color : IsOneOf whens ps.color
 
 -- a word that is said or not
 abbrev pub flag_rule : Text → Rule
@@ -65,12 +59,12 @@ random_app a = with_rule (with_rule a (value_rule (codes "random") (Unsigned 0 1
 abbrev pub telling_app : App → App
 telling_app a = with_rule (with_rule (with_rule a (flag_rule (codes "explain"))) (flag_rule (codes "json"))) (flag_rule (codes "strict"))
 
--- the program's command: a word and twelve options, which may all be left out, and a version
+-- the program's command: a word and eleven options, which may all be left out, and a version
 abbrev pub command : Parsers → App
 command ps =
-    with_rule (telling_app (with_rule (random_app (judging_app (answers_app
+    telling_app (with_rule (random_app (judging_app (answers_app
     (with_rule (with_rule (versioned (new_app (codes "mvsjob"))) (new_rule (codes "FILE"))) (value_rule (codes "place") ps.place)))))
-    (value_rule (codes "profile") ps.profile))) (value_rule (codes "color") ps.color)
+    (value_rule (codes "profile") ps.profile))
 
 -- what of the words clap gives to an argument
 abbrev pub assigned : Parsers → List Text → Text → Option Text

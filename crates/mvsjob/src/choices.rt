@@ -28,15 +28,6 @@ pub enum Mode {
     Random(Recipe),
 }
 
-/// When printed lines are coloured.
-#[derive(Clone, Copy, Debug, PartialEq, Eq)]
-pub enum When {
-    /// At a terminal, where the environment does not say `NO_COLOR`.
-    Auto,
-    Always,
-    Never,
-}
-
 /// Where the script is, which place a grant takes, and what is to be done.
 #[derive(Drop)]
 pub struct Settings<'a> {
@@ -53,6 +44,4 @@ pub struct Settings<'a> {
     pub json: bool,
     /// Whether a run tells each line that was not served.
     pub strict: bool,
-    /// When a run colours what it prints.
-    pub color: When,
 }

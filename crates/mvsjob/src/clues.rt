@@ -180,7 +180,10 @@ pub fn clue_of(
             break 'lines;
         }
         number = number.saturating_add(1);
-        rest = more.unwrap_or(&[]);
+        match more {
+            None => break 'lines,
+            Some(next) => rest = next,
+        }
     }
     search.clue()
 }

@@ -5,9 +5,9 @@ ghost use Rattle.std.specs.Option.{unwrap_or};
 ghost use Rattle.clap.specs.Words.{IsAmong, Kinds, app_of, first_value, found_of, kind_of, new_app, new_rule, with_rule};
 ghost use Rattle.clap.specs.declared.error.kind.ErrorKind.TheVariants.{OutOfMemory};
 ghost use Rattle.clap.specs.declared.builder.value_parser.ValueParser.{ValueParser as Parser};
-ghost use Rattle.mvsjob.specs.CommandLine.{AreParsers, FindsWrong, IsMode, IsOneOf, IsTaken, Parsers, answers_app, assigned, command, flag_rule, judging_app, places, profiles, random_app, telling_app, value_rule, versioned, whens};
+ghost use Rattle.mvsjob.specs.CommandLine.{AreParsers, FindsWrong, IsMode, IsOneOf, IsTaken, Parsers, answers_app, assigned, command, flag_rule, judging_app, places, profiles, random_app, telling_app, value_rule, versioned};
 
-use crate::choices::{Mode, Recipe, Settings, When};
+use crate::choices::{Mode, Recipe, Settings};
 use clap::builder::ValueParser;
 use clap::{Arg, ArgAction, ArgMatches, Command};
 use mvs_model::want::Placement;
@@ -43,16 +43,13 @@ Exit status:
 The script's language is described in mvsjob-script(5), which is docs/SCRIPT.md.";
 
 /// The options that have a value, where it is a word of its own.
-static VALUED: [&str; 6] = ["--place", "--judge", "--random", "--lines", "--profile", "--color"];
+static VALUED: [&str; 5] = ["--place", "--judge", "--random", "--lines", "--profile"];
 
 /// The values of the option `--place`.
 static PLACES: [&str; 2] = ["low", "high"];
 
 /// The values of the option `--profile`.
 static PROFILES: [&str; 5] = ["storage", "tasks", "pools", "tidy", "faults"];
-
-/// The values of the option `--color`.
-static WHENS: [&str; 3] = ["auto", "always", "never"];
 
 // The command without its words: its name, its version, and what the help says around them.
 fn titled<'a>(alloc: Global) -> Command<'a>
@@ -219,22 +216,7 @@ fn with_telling<'a>(command: Command<'a>, alloc: Global) -> Result<Command<'a>, 
     )
 }
 
-// The command with the option that says when printed lines are coloured.
-fn with_color<'a>(command: Command<'a>, alloc: Global) -> Result<Command<'a>, AllocError>
-    ensures { IfOk result
-        (λ c. (color : Parser) × IsOneOf whens color
-        × (app_of c ≡ with_rule (app_of command.entry) (value_rule (codes "color") color))) }
-{
-    with_option(
-        command,
-        alloc,
-        "color",
-        ValueParser::Names(WHENS.as_slice()),
-        "When a run prints ABEND in red and RC 4 in yellow; auto, at a terminal, where it is left out",
-    )
-}
-
-// The command: a word and twelve options, all of which may be left out.
+// The command: a word and eleven options, all of which may be left out.
 fn command<'a>(alloc: Global) -> Result<Command<'a>, AllocError>
     ensures { IfOk result (λ c. (ps : Parsers) × AreParsers ps × (app_of c ≡ command ps)) }
 {
@@ -244,8 +226,7 @@ fn command<'a>(alloc: Global) -> Result<Command<'a>, AllocError>
     let judged = with_judging(answered, alloc)?;
     let random = with_random(judged, alloc)?;
     let profiled = with_profile(random, alloc)?;
-    let telling = with_telling(profiled, alloc)?;
-    with_color(telling, alloc)
+    with_telling(profiled, alloc)
 }
 
 // The word for the script.
@@ -284,20 +265,6 @@ fn is_set(matches: &ArgMatches<'_>, name: &str) -> bool
     match matches.get_str(name) {
         Some(value) => value == "true",
         None => false,
-    }
-}
-
-// When printed lines are coloured.
-fn color(matches: &ArgMatches<'_>) -> When
-    ensures { (result ≡ When.Always
-        ↔ first_value (found_of matches.now) (codes "color") ≡ Some (codes "always"))
-        × (result ≡ When.Never
-        ↔ first_value (found_of matches.now) (codes "color") ≡ Some (codes "never")) }
-{
-    match matches.get_str("color") {
-        Some(when) if when == "always" => When::Always,
-        Some(when) if when == "never" => When::Never,
-        _ => When::Auto,
     }
 }
 
@@ -375,11 +342,7 @@ pub fn settings<'a>(alloc: Global, words: &'a [String]) -> Result<Settings<'a>, 
         × (IsTrue s.json
         ↔ assigned ps (map string_bytes words.entry.now) (codes "json") ≡ Some (codes "true"))
         × (IsTrue s.strict
-        ↔ assigned ps (map string_bytes words.entry.now) (codes "strict") ≡ Some (codes "true"))
-        × (s.color ≡ When.Always
-        ↔ assigned ps (map string_bytes words.entry.now) (codes "color") ≡ Some (codes "always"))
-        × (s.color ≡ When.Never
-        ↔ assigned ps (map string_bytes words.entry.now) (codes "color") ≡ Some (codes "never"))) }
+        ↔ assigned ps (map string_bytes words.entry.now) (codes "strict") ≡ Some (codes "true"))) }
     // Clap finds nothing wrong with words that are taken; an error is of a kind that it finds, or want of memory.
     ensures taken { IfOk result (λ _. FindsWrong (map string_bytes words.entry.now) []) }
     ensures kinds { IfErr result
@@ -399,6 +362,5 @@ pub fn settings<'a>(alloc: Global, words: &'a [String]) -> Result<Settings<'a>, 
         explains: is_set(&matches, "explain"),
         json: is_set(&matches, "json"),
         strict: is_set(&matches, "strict"),
-        color: color(&matches),
     })
 }

@@ -56,7 +56,10 @@ fn write_script<W: Write>(
         if !write_told(rt, writer, &mut session, bytes, settings.explains)? {
             return Ok(Outcome::ScriptFault);
         }
-        rest = more.unwrap_or(&[]);
+        match more {
+            None => break 'lines,
+            Some(next) => rest = next,
+        }
     }
     if !session.goes_on() {
         return Ok(Outcome::ScriptFault);

@@ -8,7 +8,6 @@ ghost use Rattle.mvsjob.specs.Endings.{status_of};
 mod answers;
 mod choices;
 mod clues;
-mod colored;
 mod command_line;
 mod ending;
 mod explained;
@@ -20,8 +19,7 @@ mod piped;
 mod strict;
 
 use answers::{check_answers, write_made};
-use choices::{Mode, Settings, When};
-use colored::Colored;
+use choices::{Mode, Settings};
 use command_line::{names_files, settings};
 use diagnosis::diagnose;
 use ending::{Ending, GiveUp, Unread};
@@ -32,13 +30,12 @@ use faulty::Faulty;
 use kept::Kept;
 use mvs_job::{RunFault, Told, run_job};
 use mvs_model::outcome::Outcome;
-use mvs_model::want::Placement;
 use mvs_model::watched::Watched;
 use piped::Piped;
 use strict::run_strict;
 use std::env;
 use std::fs::File;
-use std::io::{self, BufWriter, ErrorKind, IsTerminal, Read, Write};
+use std::io::{self, BufWriter, ErrorKind, Read, Write};
 use std::process::ExitCode;
 
 // Tells a faulty line on standard error. A failure to do so changes nothing.
@@ -47,73 +44,8 @@ pub(crate) fn tell(rt: &HostRuntime, name: &str, faulty: &Faulty<'_>) {
     let _ = eprint!(rt; "{name}:{}:{diagnosis}", faulty.number);
 }
 
-// What became of a run: how it ended, whether what it printed was flushed, and what it read last.
-#[derive(Drop)]
-struct Run<R> {
-    ended: Result<Outcome, RunFault>,
-    is_flushed: bool,
-    kept: Kept<R>,
-}
-
-// Runs the script that a reader tells, and flushes what it printed.
-fn run_to<R: Read + Drop, W: Write + Drop>(
-    rt: &HostRuntime,
-    reader: R,
-    writer: W,
-    placement: Placement,
-) -> (Run<R>, W) {
-    let mut reader = Watched::new(Kept::new(reader));
-    let mut writer = Watched::new(writer);
-    let told = Told::nothing(rt.alloc());
-    let ended = run_job(rt.alloc(), &mut reader, &mut writer, placement, told);
-    let mut writer = writer.into_inner();
-    let is_flushed = writer.flush().is_ok();
-    let kept = reader.into_inner();
-    let run = Run {
-        ended,
-        is_flushed,
-        kept,
-    };
-    (run, writer)
-}
-
-// How a run ended, of which the line is told that ended it, if one did. A flush that failed is a write that failed.
-fn outcome_of<R>(
-    rt: &HostRuntime,
-    settings: &Settings<'_>,
-    run: &Run<R>,
-    is_closed: bool,
-) -> Result<Outcome, GiveUp> {
-    match run.ended {
-        Ok(outcome) if run.is_flushed => {
-            if outcome == Outcome::ScriptFault {
-                tell(rt, settings.file, &run.kept.faulty());
-            }
-            Ok(outcome)
-        }
-        Ok(_) | Err(RunFault::Write) if is_closed => Err(GiveUp::Pipe),
-        Ok(_) => Err(GiveUp::Job(RunFault::Write)),
-        Err(RunFault::Read) if run.kept.is_directory() => Err(GiveUp::Script(Unread::Directory)),
-        Err(fault) => Err(GiveUp::Job(fault)),
-    }
-}
-
-// Whether what a run prints is coloured.
-fn is_colored(rt: &HostRuntime, when: When) -> bool {
-    match when {
-        When::Always => true,
-        When::Never => false,
-        When::Auto => {
-            let says_no = match env::var(rt, "NO_COLOR") {
-                Ok(value) => !value.is_empty(),
-                Err(_) => false,
-            };
-            !says_no && rt.stdout().is_terminal()
-        }
-    }
-}
-
-// Runs the script that a reader tells.
+// Runs the script that a reader tells, flushes what it printed, and tells the line that ended it, if one did. A flush that fails is a
+// write that failed.
 fn run_from<R: Read + Drop>(
     rt: &HostRuntime,
     reader: R,
@@ -122,13 +54,31 @@ fn run_from<R: Read + Drop>(
     let Ok(writer) = BufWriter::new(rt.alloc(), Piped::new(io::writer(rt))) else {
         return Err(GiveUp::Job(RunFault::Memory));
     };
-    if is_colored(rt, settings.color) {
-        let colored = Colored::new(rt.alloc(), writer);
-        let (run, colored) = run_to(rt, reader, colored, settings.placement);
-        return outcome_of(rt, settings, &run, colored.into_inner().get_ref().is_closed());
+    let mut reader = Watched::new(Kept::new(reader));
+    let mut writer = Watched::new(writer);
+    let told = Told::nothing(rt.alloc());
+    let ended = run_job(
+        rt.alloc(),
+        &mut reader,
+        &mut writer,
+        settings.placement,
+        told,
+    );
+    let mut writer = writer.into_inner();
+    let flushed = writer.flush();
+    let kept = reader.into_inner();
+    match ended {
+        Ok(outcome) if flushed.is_ok() => {
+            if outcome == Outcome::ScriptFault {
+                tell(rt, settings.file, &kept.faulty());
+            }
+            Ok(outcome)
+        }
+        Ok(_) | Err(RunFault::Write) if writer.get_ref().is_closed() => Err(GiveUp::Pipe),
+        Ok(_) => Err(GiveUp::Job(RunFault::Write)),
+        Err(RunFault::Read) if kept.is_directory() => Err(GiveUp::Script(Unread::Directory)),
+        Err(fault) => Err(GiveUp::Job(fault)),
     }
-    let (run, writer) = run_to(rt, reader, writer, settings.placement);
-    outcome_of(rt, settings, &run, writer.get_ref().is_closed())
 }
 
 // Runs the script that the words name.
