@@ -40,7 +40,12 @@ def inputs(program, folder):
     yield "closed input", shell(program, '"$MVSJOB" <&-') == (16, "", "mvsjob: read failed\n")
     yield "an empty script", shell(program, '"$MVSJOB" /dev/null') == (12, "1 JS09\nJOB FAULT RC 12\n", "/dev/null:1:1: JS09: the script has no statement\n")
     status, out, err = shell(program, '"$MVSJOB" "$MVSJOB"')
-    yield "the program as a script", (status, out) == (12, "1 JS02\nJOB FAULT RC 12\n") and err.endswith("no byte of a text: is the file a script?\n")
+    yield "the program as a script", (status, out) == (12, "1 JS01\nJOB FAULT RC 12\n") and err.endswith(":1:256: JS01: a line has at most 255 bytes; is the file a script?\n")
+    said = "-:1:1: JS02: X'00': a script has bytes X'20' to X'7E'\n    ....\n    ^ no byte of a text: is the file a script?\n"
+    yield "bytes that are no text", shell(program, '"$MVSJOB"', stdin=bytes([0, 1, 2, 255])) == (12, "1 JS02\nJOB FAULT RC 12\n", said)
+    checked = b"JOB REGION BELOW=1\nJOB GETMIAN R => RC 0\n"
+    said = "-:2:5: JS03: GETMIAN: no operation\n    JOB GETMIAN R\n        ^^^^^^^ did you mean GETMAIN?\n"
+    yield "a fault that is checked", shell(program, '"$MVSJOB" --check', stdin=checked) == (1, "-:2: expected RC 0, got JS03\n", said)
     status, out, err = shell(program, '"$MVSJOB"', stdin=b"JOB" + bytes(300))
     yield "a long line of no text", (status, out, err) == (12, "1 JS01\nJOB FAULT RC 12\n", "-:1:256: JS01: a line has at most 255 bytes; is the file a script?\n")
     status, out, err = shell(program, 'head -c 17000000 /dev/zero | tr "\\0" "\\n" | "$MVSJOB"')

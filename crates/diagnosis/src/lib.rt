@@ -22,13 +22,13 @@ mod words;
 
 use crate::blamed::{Blamed, blamed_operand};
 pub use crate::columns::Columns;
-pub use crate::near::edits_between;
-pub use crate::unserved::{Clue, NotServed};
 use crate::faults::find_fault;
 use crate::hint::Hint;
 use crate::lacking::row_of as row_of_field;
+pub use crate::near::edits_between;
 use crate::operands::{field_of, second_word};
 use crate::said::Said;
+pub use crate::unserved::{Clue, NotServed};
 use crate::values::{key_hint, keyword_of, range_hint, value_hint};
 use crate::words::{Called, Plain};
 use job_script::fault_digit;

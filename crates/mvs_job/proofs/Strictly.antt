@@ -138,16 +138,22 @@ module _ (start before after : Option (List ℕ)) (script left : List ℕ) (w : 
     so_far_stopped stop r = progress_stopped start before after script w (lines_of left) s.0 w' l lines stop cut r
 
   pub so_far_next : (w' : WalkValue) (l more : List ℕ) → lines_of left ≡ l ∷ lines_of more → w'.number ≡ w.number + 1 → RunsStrictly before after w l w' all all' (Ok true) → SoFar start after script w' more all'
-  so_far_next w' l more cut next (r, e) = (record {
-    events = s.0.events ++ r.0;
-    appended = both r.0 r.1;
-    reached = subst (λ n. Reaches (lines_of script) (s.0.events ++ r.0) n w'.step (lines_of more)) (sym next) (reaches_next (lines_of script) s.0.events r.0 w.number w.step w'.step l (lines_of more) (here w' l (lines_of more) cut) r.2);
-  }, joined r.0 e)
+  so_far_next w' l more cut next (r, e) = (
+    record {
+      events = s.0.events ++ r.0;
+      appended = both r.0 r.1;
+      reached = subst (λ n. Reaches (lines_of script) (s.0.events ++ r.0) n w'.step (lines_of more)) (sym next) (reaches_next (lines_of script) s.0.events r.0 w.number w.step w'.step l (lines_of more) (here w' l (lines_of more) cut) r.2);
+    },
+    joined r.0 e,
+  )
 
   pub so_far_end : (end : Option Bool) (outcome : Outcome) → lines_of left ≡ [] → all' ≡ all → Closes machine w.number w.step (closing w.number end) outcome → Appends before after (printing (closing w.number end)) → PrintsStrictly start after script outcome all'
-  so_far_end end outcome none same closes a =
-      (s.0.events ++ closing w.number end, both (closing w.number end) a, reaches_then (lines_of script) outcome s.0.events (closing w.number end) w.number w.step [] (subst (Reaches (lines_of script) s.0.events w.number w.step) none s.0.reached) closes,
-      joined (closing w.number end) (same ∙ and_one all _ (closing_served w.number end)))
+  so_far_end end outcome none same closes a = (
+    s.0.events ++ closing w.number end,
+    both (closing w.number end) a,
+    reaches_then (lines_of script) outcome s.0.events (closing w.number end) w.number w.step [] (subst (Reaches (lines_of script) s.0.events w.number w.step) none s.0.reached) closes,
+    joined (closing w.number end) (same ∙ and_one all _ (closing_served w.number end)),
+  )
 
 -- the line of a script at an index
 module _ (start before after : Option (List ℕ)) (script rest : List ℕ) (at end : ℕ) (w w' : WalkValue) (all all' : Bool) (is : rest ≡ drop at script) (cut : lines_of rest ≡ take end rest ∷ lines_of (drop (end + 1) rest))

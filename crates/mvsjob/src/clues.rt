@@ -155,13 +155,7 @@ impl Search<'_> {
 
 /// What may help a line of this number in a step. Memory is taken for the search of a near name alone, which finds none where it
 /// is refused.
-pub fn clue_of(
-    alloc: Global,
-    job: &Job,
-    script: &[u8],
-    line_number: u32,
-    lacked: Lacked,
-) -> Clue {
+pub fn clue_of(alloc: Global, job: &Job, script: &[u8], line_number: u32, lacked: Lacked) -> Clue {
     let mut search = Search {
         alloc,
         job,

@@ -24,19 +24,19 @@ use command_line::{names_files, settings};
 use diagnosis::diagnose;
 use ending::{Ending, GiveUp, Unread};
 use explained::run_explained;
+use faulty::Faulty;
 use json::run_json;
 use judging::judge_output;
-use faulty::Faulty;
 use kept::Kept;
 use mvs_job::{RunFault, Told, run_job};
 use mvs_model::outcome::Outcome;
 use mvs_model::watched::Watched;
 use piped::Piped;
-use strict::run_strict;
 use std::env;
 use std::fs::File;
 use std::io::{self, BufWriter, ErrorKind, Read, Write};
 use std::process::ExitCode;
+use strict::run_strict;
 
 // Tells a faulty line on standard error. A failure to do so changes nothing.
 pub(crate) fn tell(rt: &HostRuntime, name: &str, faulty: &Faulty<'_>) {
