@@ -6,17 +6,12 @@ use Rattle.std.proofs.lemmas.List.{drop-drop}
 use Rattle.std.proofs.lemmas.List.Folds.{list_all-append}
 use Rattle.std.specs.Io.KnownBytes.{Appends}
 use Rattle.std.proofs.KnownBytes.{Appends-nil, Appends-trans}
-use Rattle.mvs_model.specs.declared.name.Name.{Name}
 use Rattle.mvs_model.specs.declared.line.Fault.{Fault}
-use Rattle.mvs_model.specs.declared.answer.Answer.{Answer as Short}
-use Rattle.mvs_model.specs.declared.answer.Answer.TheVariants as short
 use Rattle.mvs_model.specs.declared.outcome.Outcome.{Outcome}
 use Rattle.mvs_model.specs.declared.outcome.Outcome.TheVariants.{ScriptFault}
 use Rattle.mvs_model.specs.Answers.{Event}
-use Rattle.mvs_model.specs.Lent.{lent, fallen_in}
 use Rattle.mvs_model.specs.Lines.{lines_of}
 use Rattle.mvs_model.specs.Runs.{machine, IsRun}
-use Rattle.mvs_model.specs.State.{State}
 use Rattle.mvs_model.specs.Texts.{printing}
 use Rattle.mvs_model.specs.Walk.{Closes}
 use Rattle.mvs_model.specs.Going.{Reaches}
@@ -27,8 +22,8 @@ use Rattle.mvs_job.specs.declared.walk.LineTold.{LineTold}
 use Rattle.mvs_job.specs.declared.walk.LineTold.TheVariants as told
 use Rattle.mvs_job.specs.Serving.{RunsLine}
 use Rattle.mvs_job.specs.Streams.{Progress, PrintedUpTo}
-use Rattle.mvs_job.specs.Strict.{PrintsStrictly, RunsStrictly, is_of_served, serves, why_unserved}
-use Rattle.mvs_job.specs.Telling.{WalkValue, IsLent, IsTold, closing, ended, events_told, lent_in, new_walk}
+use Rattle.mvs_job.specs.Strict.{PrintsStrictly, RunsStrictly, is_of_served}
+use Rattle.mvs_job.specs.Telling.{WalkValue, IsTold, closing, events_told, new_walk}
 use Rattle.mvs_job.proofs.Running.{progress_stopped}
 
 -- ---- Booleans
@@ -41,43 +36,7 @@ and_none : (a b : Bool) → b ≡ false → false ≡ (a && b)
 and_none true b e = sym e
 and_none false b e = refl
 
-alone : (b : Bool) → (b && true) ≡ b
-alone true = refl
-alone false = refl
-
--- ---- what a line told
-
-serves_lent : (st : State) (fallen : List Name) (t : Name) (a : Short) → serves (lent st fallen t a) ≡ not (is_some (why_unserved a))
-serves_lent st fallen t short.NotRun = refl
-serves_lent st fallen t short.NoName = refl
-serves_lent st fallen t (short.At a) = refl
-serves_lent st fallen t short.Rc0 = refl
-serves_lent st fallen t (short.Granted n) = refl
-serves_lent st fallen t short.Rc4 = refl
-serves_lent st fallen t short.Cell = refl
-serves_lent st fallen t short.NoCell = refl
-serves_lent st fallen t short.Attached = refl
-serves_lent st fallen t short.Ended = refl
-serves_lent st fallen t short.Done = refl
-serves_lent st fallen t (short.Data p) = refl
-serves_lent st fallen t (short.Abended code) = refl
-serves_lent st fallen t short.Subpools = refl
-serves_lent st fallen t short.Map = refl
-
-pub answered_so : (w : WalkValue) (number : ℕ) (line : LineTold) (t : Name) (a : Short) → line ≡ told.Answered t a → IsLent w line → list_all is_of_served (events_told number w line) ≡ not (is_some (why_unserved a))
-answered_so w number line t a e lends =
-    let l = subst (IsLent w) e lends in
-    ap (λ x. list_all is_of_served (events_told number w x)) e ∙ alone (serves (lent_in w.step (fallen_in w.reply) t a)) ∙ ap (λ o. serves (lent_in o (fallen_in w.reply) t a)) l.1 ∙ serves_lent l.0.state (fallen_in w.reply) t a
-
-ended_served : (o : Option Bool) (events : List Event) → list_all is_of_served events ≡ true → list_all is_of_served (ended o ++ events) ≡ true
-ended_served None events e = e
-ended_served (Some abended) events e = e
-
-pub other_served : (w : WalkValue) (number : ℕ) (line : LineTold) → ((t : Name) (a : Short) → line ≡ told.Answered t a → ⊥) → list_all is_of_served (events_told number w line) ≡ true
-other_served w number told.Nothing other = refl
-other_served w number (told.Began end card) other = ended_served end _ refl
-other_served w number (told.Answered t a) other = absurd (other t a refl)
-other_served w number (told.Faulted fault) other = refl
+-- ---- the end of a job
 
 closing_served : (number : ℕ) (o : Option Bool) → list_all is_of_served (closing number o) ≡ true
 closing_served number None = refl

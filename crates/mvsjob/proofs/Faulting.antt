@@ -38,9 +38,6 @@ kind_said bytes l e = at (says_nothing bytes) e where
 pub nothing_said : (first : Bool) (bytes : List ℕ) (l : Line) → l ≡ line.Nothing → LineOf first bytes l → true ≡ says_nothing bytes
 nothing_said first bytes l e is = sym (kind_said bytes l is.says ∙ ap (λ l. not (is_statement l)) e)
 
-pub statement_said : (first : Bool) (bytes : List ℕ) (l : Line) (t : Name) (s : Statement) → l ≡ line.Statement t s → LineOf first bytes l → false ≡ says_nothing bytes
-statement_said first bytes l t s e is = sym (kind_said bytes l is.says ∙ ap (λ l. not (is_statement l)) e)
-
 some_same : (p q : ℕ × Fault) → Some p ≡ Some q → p ≡ q
 some_same p q e = cc
 
@@ -64,9 +61,6 @@ pub record Passed (text : List ℕ) (number : ℕ) (first : Bool) (at passed : �
   pub counted : passed ≡ length before
   pub few : passed ≤ at
   pub same : first_fault number first (lines_of text) ≡ first_fault (number + passed) is_first (lines_of (drop at text))
-
-pub passed_none : (text : List ℕ) (number : ℕ) (first : Bool) → Passed text number first 0 0 first
-passed_none text number first = record { before = []; lines = refl; counted = refl; few = omega arith; same = ap (λ n. first_fault n first (lines_of text)) (let e : number ≡ number + 0 = omega arith in e) }
 
 module _ (text rest : List ℕ) (number : ℕ) (first : Bool) (at passed end : ℕ) (is_first : Bool) (p : Passed text number first at passed is_first) (is : rest ≡ drop at text) (cut : lines_of rest ≡ take end rest ∷ lines_of (drop (end + 1) rest)) where
   here : lines_of (drop at text) ≡ take end rest ∷ lines_of (drop (end + 1) rest)
