@@ -14,6 +14,7 @@ from pathlib import Path
 TOP = Path(__file__).resolve().parent.parent
 EXAMPLES = sorted((TOP / "examples").glob("*.job"))
 HELP = (TOP / "tools/help.txt").read_text()
+LONG_HELP = (TOP / "tools/help-long.txt").read_text()
 PAGES = {"man1/mvsjob.1": ("OPTIONS", "SEE ALSO"), "man5/mvsjob-script.5": ("GETMAIN", "CPOOL", "FAULTS", "LIMITS")}
 COMPLETIONS = {
     "bash": "share/bash-completion/completions/mvsjob",
@@ -133,7 +134,7 @@ def installed(root):
     version = output(TOP / "tools/version")
     for path in EXAMPLES:
         yield path.name, example(program, root / "share/doc/mvsjob/examples" / path.name)
-    for word, text in {"--help": HELP, "--version": version, "-V": version}.items():
+    for word, text in {"-h": HELP, "--help": LONG_HELP, "--version": version, "-V": version}.items():
         ran = subprocess.run([program, word], env={}, capture_output=True, text=True)
         yield word, (ran.returncode, ran.stdout, ran.stderr) == (0, text, "")
     for page in PAGES:

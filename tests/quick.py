@@ -57,8 +57,8 @@ class Checkout:
 
 
 def cases(checkout):
-    kept = {"--help": (TOP / "tools/help.txt").read_text(), "--version": subprocess.check_output([TOP / "tools/version"], text=True)}
-    kept |= {"-h": kept["--help"], "-V": kept["--version"]}
+    kept = {"-h": (TOP / "tools/help.txt").read_text(), "--help": (TOP / "tools/help-long.txt").read_text()}
+    kept |= dict.fromkeys(("-V", "--version"), subprocess.check_output([TOP / "tools/version"], text=True))
     for word, text in kept.items():
         yield f"{word} at once", checkout.shell(f"./run {word}") == (0, text, "", False)
         yield f"{word} without the kit", checkout.shell(f"./run {word}", path="/usr/bin:/bin") == (0, text, "", False)

@@ -33,7 +33,7 @@ fn byte_hint(line: &[u8], at: usize, byte: u8) -> Hint<'static> {
             Hint::Says("lines of this file end as on Windows")
         }
         0xEF if at == 0 => Hint::Says("a byte order mark: save the file without it"),
-        0..=0x7F => Hint::Nothing,
+        0..=0x7F => Hint::Says("no byte of a text: is the file a script?"),
         _ => Hint::Says("ASCII alone, in remarks too"),
     }
 }
@@ -196,7 +196,11 @@ pub fn find_fault<'a>(alloc: Global, line: &'a [u8], fault: Fault) -> Found<'a> 
         Fault::TooLong => Found {
             at: 255,
             count: line.len().saturating_sub(255),
-            said: Said::TooLong,
+            said: if line.contains(&0) {
+                Said::NoText
+            } else {
+                Said::TooLong
+            },
             hint: Hint::Nothing,
         },
         Fault::InvalidByte => invalid_byte(line),

@@ -16,6 +16,7 @@ mod near;
 mod operands;
 mod refused;
 mod said;
+mod unserved;
 mod values;
 mod words;
 
@@ -24,8 +25,10 @@ pub use crate::columns::Columns;
 use crate::faults::find_fault;
 use crate::hint::Hint;
 use crate::lacking::row_of as row_of_field;
+pub use crate::near::edits_between;
 use crate::operands::{field_of, second_word};
 use crate::said::Said;
+pub use crate::unserved::{Clue, NotServed};
 use crate::values::{key_hint, keyword_of, range_hint, value_hint};
 use crate::words::{Called, Plain};
 use job_script::fault_digit;
@@ -155,18 +158,16 @@ fn write_times<W: fmt::Write>(f: &mut fmt::Formatter<W>, times: usize, text: &st
     Ok(())
 }
 
-impl Diagnosis<'_> {
-    // Writes the line, and below it what is to blame and what may help.
-    fn write_line<W: fmt::Write>(&self, f: &mut fmt::Formatter<W>) -> fmt::Result {
-        writeln!(f, "    {}", Plain(self.line))?;
-        let Columns { first, last } = self.columns;
-        write_times(f, first.saturating_add(3), " ")?;
-        write_times(f, last.saturating_sub(first).saturating_add(1), "^")?;
-        if !matches!(self.hint, Hint::Nothing) {
-            write!(f, " {}", self.hint)?;
-        }
-        writeln!(f)
-    }
+// Writes a line, and marks below some columns.
+fn write_marked<W: fmt::Write>(
+    f: &mut fmt::Formatter<W>,
+    line: &[u8],
+    columns: Columns,
+) -> fmt::Result {
+    writeln!(f, "    {}", Plain(line))?;
+    let Columns { first, last } = columns;
+    write_times(f, first.saturating_add(3), " ")?;
+    write_times(f, last.saturating_sub(first).saturating_add(1), "^")
 }
 
 /// Writes the first column and what is wrong, and below it the line with what is to blame and what may help, each line with its
@@ -183,6 +184,10 @@ impl fmt::Display for Diagnosis<'_> {
         if self.line.is_empty() || self.line.len() > LONGEST {
             return Ok(());
         }
-        self.write_line(f)
+        write_marked(f, self.line, self.columns)?;
+        if !matches!(self.hint, Hint::Nothing) {
+            write!(f, " {}", self.hint)?;
+        }
+        writeln!(f)
     }
 }

@@ -14,6 +14,14 @@ fn edits(alloc: Global, word: &str, other: &str) -> Option<usize> {
     }
 }
 
+/// How many edits lead from one word to another that may be meant.
+pub fn edits_between(alloc: Global, word: &[u8], other: &[u8]) -> Option<usize> {
+    match (str::from_utf8(word), str::from_utf8(other)) {
+        (Ok(word), Ok(other)) => edits(alloc, word, other),
+        _ => None,
+    }
+}
+
 /// The nearest word that was offered so far.
 #[derive(Clone, Copy)]
 pub struct Nearest<'a> {

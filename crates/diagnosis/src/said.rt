@@ -14,6 +14,8 @@ use std::fmt;
 #[derive(Clone, Copy)]
 pub enum Said<'a> {
     TooLong,
+    /// A line that is too long has a byte X'00'.
+    NoText,
     /// The script cannot have this byte.
     Byte(u8),
     /// The line begins with a blank.
@@ -120,6 +122,7 @@ impl fmt::Display for Said<'_> {
     fn fmt<W: fmt::Write>(&self, f: &mut fmt::Formatter<W>) -> fmt::Result {
         match self {
             Said::TooLong => write!(f, "a line has at most 255 bytes"),
+            Said::NoText => write!(f, "a line has at most 255 bytes; is the file a script?"),
             Said::Byte(byte) => write!(f, "X'{byte:02X}': a script has bytes X'20' to X'7E'"),
             Said::Blank => write!(f, "a statement begins with the name of its task"),
             Said::Task(word) => write!(f, "{}: no name of a task", Plain(word)),

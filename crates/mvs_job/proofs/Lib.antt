@@ -7,5 +7,6 @@ pub mod Resolved
 pub mod Running
 pub mod Serving
 pub mod Steady
+pub mod Strictly
 pub mod Valuing
 pub mod Whys

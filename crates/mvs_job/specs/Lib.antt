@@ -5,6 +5,7 @@ pub mod Serving
 pub mod Sessions
 pub mod Steady
 pub mod Streams
+pub mod Strict
 pub mod Telling
 pub mod Valued
 pub mod Why

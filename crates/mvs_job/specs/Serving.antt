@@ -10,7 +10,8 @@ use Rattle.mvs_model.specs.Walk.{ServesLine, Faults, is_first}
 use Rattle.job_script.specs.Writing.{AppendsFront}
 use Rattle.mvs_job.specs.declared.printing.Stop.{Stop}
 use Rattle.mvs_job.specs.declared.printing.Stop.TheVariants as stop
-use Rattle.mvs_job.specs.Telling.{WalkValue}
+use Rattle.mvs_job.specs.declared.walk.LineTold.{LineTold}
+use Rattle.mvs_job.specs.Telling.{WalkValue, IsTold, events_told}
 
 -- what a line may tell: what it is answered, or its fault
 abbrev pub LineTells : WalkValue → List ℕ → List Event → Type 0
@@ -24,3 +25,8 @@ RunsLine before after w line new (Ok true) = (events : List Event) × Appends be
 RunsLine before after w line new (Ok false) = (events : List Event) × Appends before after (printing events) × Faults w.number (is_first w.step) line events
 RunsLine before after w line new (Err stop.Write) = Keeps before after ⊎ ((events : List Event) × LineTells w line events × AppendsFront before after (printing events))
 RunsLine before after w line new (Err stop.Memory) = (events : List Event) × Appends before after (printing events) × StopsForMemory w.number w.step (line ∷ []) events
+
+-- The same of the call that answers what the line told.
+abbrev pub TellsLine : Option (List ℕ) → Option (List ℕ) → WalkValue → List ℕ → WalkValue → Result LineTold Stop → Type 0
+TellsLine before after w line new (Ok told) = IsTold w line told new × Appends before after (printing (events_told w.number new told))
+TellsLine before after w line new (Err stop) = RunsLine before after w line new (Err stop)

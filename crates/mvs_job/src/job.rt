@@ -193,6 +193,20 @@ impl Job {
         self.abended() || self.former
     }
 
+    /// Whether a task of this name is active.
+    pub fn is_active(&self, task: &Name) -> bool
+        ensures { result ≡ is_active self.now.state.owners task.now }
+    {
+        self.step.is_active(task)
+    }
+
+    /// The place that a name was last set to, by any task.
+    pub fn place_of(&self, name: &Name) -> Option<Place>
+        ensures { result ≡ get self.now.names name.now }
+    {
+        self.names.get(name)
+    }
+
     /// The bytes of a place; None where one of them may not be read.
     pub fn bytes(&self, place: Place) -> Option<&[u8]>
         ensures granted { IsSome result ↔ Granted self.now.state place }

@@ -1,11 +1,11 @@
 //! Prints what lines tell, and how a job ends.
 
-ghost use Rattle.std.specs.Prelude.{◌≡◌, ◌<◌, ◌+◌, ◌^◌, ◌∷◌, [], List, true, OnOk, IsErrOf};
+ghost use Rattle.std.specs.Prelude.{◌≡◌, ◌<◌, ◌+◌, ◌^◌, ◌∷◌, [], List, true, IfOk, OnOk, IsErrOf};
 ghost use Rattle.mvs_model.specs.declared.name.Name.{Name as TaskName};
 ghost use Rattle.mvs_model.specs.Lent.{lent};
 ghost use Rattle.mvs_model.specs.Texts.{answer_text, printing};
 ghost use Rattle.job_script.specs.Writing.{Prints};
-ghost use Rattle.mvs_job.specs.Serving.{RunsLine};
+ghost use Rattle.mvs_job.specs.Serving.{RunsLine, TellsLine};
 ghost use Rattle.mvs_job.specs.Telling.{IsLent, IsLentBy, closing, ended, events_told};
 
 use crate::job::Job;
@@ -103,6 +103,34 @@ pub fn print_line<W: Write>(
     }
 }
 
+/// Serves one line, prints what it tells, and answers that.
+pub fn tell_line<W: Write>(
+    walk: &mut Walk,
+    line: &[u8],
+    told: &[Addr],
+    writer: &mut Watched<W>,
+) -> Result<LineTold, Stop>
+    requires { walk.old.number + 1 < 2 ^ 32 }
+    ensures ran { TellsLine (W.contents writer.old.inner) (W.contents writer.new.inner) walk.old
+        line.now walk.new result }
+    ensures lent { IfOk result (IsLent walk.new) }
+    ensures number { walk.new.number ≡ walk.old.number + 1 }
+    ensures ok { OnOk result (writer.new.failed ≡ writer.old.failed) }
+    ensures write { IsErrOf result Stop.Write → writer.new.failed ≡ true }
+{
+    let line_number = walk.number();
+    match walk.line(line, told) {
+        Ok(told) => match print_line(writer, line_number, walk, &told) {
+            Ok(()) => Ok(told),
+            Err(_) => Err(Stop::Write),
+        },
+        Err(stopped) => match print_ended(writer, stopped.ended) {
+            Ok(()) => Err(Stop::Memory),
+            Err(_) => Err(Stop::Write),
+        },
+    }
+}
+
 /// Serves one line, and prints what it tells. Answers whether the job goes on.
 pub fn run_line<W: Write>(
     walk: &mut Walk,
@@ -117,16 +145,9 @@ pub fn run_line<W: Write>(
     ensures ok { OnOk result (writer.new.failed ≡ writer.old.failed) }
     ensures write { IsErrOf result Stop.Write → writer.new.failed ≡ true }
 {
-    let line_number = walk.number();
-    match walk.line(line, told) {
-        Ok(told) => match print_line(writer, line_number, walk, &told) {
-            Ok(()) => Ok(!matches!(told, LineTold::Faulted(_))),
-            Err(_) => Err(Stop::Write),
-        },
-        Err(stopped) => match print_ended(writer, stopped.ended) {
-            Ok(()) => Err(Stop::Memory),
-            Err(_) => Err(Stop::Write),
-        },
+    match tell_line(walk, line, told, writer) {
+        Ok(told) => Ok(!matches!(told, LineTold::Faulted(_))),
+        Err(stop) => Err(stop),
     }
 }
 

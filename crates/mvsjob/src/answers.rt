@@ -3,9 +3,12 @@
 
 use crate::choices::{Mode, Settings};
 use crate::ending::{Ending, GiveUp, Unread};
+use crate::faulty::first_faulty;
+use crate::tell;
 use annotated::{write_blank, write_differences, write_statements};
 use judge::write_asking;
 use mvs_job::{RunFault, Told, run_job};
+use mvs_model::outcome::Outcome;
 use mvs_model::watched::Watched;
 use random_script::{RandomFault, write_script};
 use std::fs;
@@ -30,20 +33,23 @@ pub(crate) fn script(rt: &HostRuntime, settings: &Settings<'_>) -> Result<String
     read.map_err(|error| give_up(&error))
 }
 
-// What a run of the script's statements prints.
+// What a run of the script's statements prints. A faulty one, which ends it, is told.
 fn printed(rt: &HostRuntime, script: &str, settings: &Settings<'_>) -> Result<String, GiveUp> {
     let mut statements = Vec::new(rt.alloc());
     write_statements(&mut statements, script).map_err(|_| RunFault::Memory)?;
     let mut reader = Watched::new(statements.as_slice());
     let mut writer = Watched::new(Vec::new(rt.alloc()));
     let told = Told::nothing(rt.alloc());
-    run_job(
+    let outcome = run_job(
         rt.alloc(),
         &mut reader,
         &mut writer,
         settings.placement,
         told,
     )?;
+    if outcome == Outcome::ScriptFault {
+        tell(rt, settings.file, &first_faulty(&statements, 1, true));
+    }
     String::from_utf8(writer.into_inner()).map_err(|_| GiveUp::NoText)
 }
 

@@ -42,4 +42,6 @@ pub struct Settings<'a> {
     pub explains: bool,
     /// Whether a run tells its events as lines of JSON.
     pub json: bool,
+    /// Whether a run tells each line that was not served.
+    pub strict: bool,
 }

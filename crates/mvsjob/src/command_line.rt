@@ -20,16 +20,31 @@ const ABOUT: &str =
 /// The version of this program, and the kit that it is proved with.
 const VERSION: &str = "1.0.0 (rattle-kit-13f logic dac8208d650f15bf)";
 
-const STATUSES: &str = "Exit status:
+const SHORT: &str = "--help has examples and the exit statuses.
+The script's language is described in mvsjob-script(5), which is docs/SCRIPT.md.";
+
+const LONG: &str = "Examples:
+  mvsjob leak.job                    runs a script
+  mvsjob --strict leak.job           and says which lines were not served
+  mvsjob --explain leak.job          and says why requests are refused
+  mvsjob --check homework.job        compares the answers behind => with those of the run
+  mvsjob --random 7 --lines 50 | mvsjob --place high
+                                     runs a random script, its areas at the highest places
+
+Exit status:
   0   clean: every line was run, and no task abended
   1   with --check: some answer is another one than the script says;
       with --judge: no run of the script prints OUTPUT
   2   with --judge: it is not decided whether a run of the script prints OUTPUT
+  4   with --strict: no task abended, and some line was not served: NOT RUN or NO NAME
   8   every line was run, and some task abended
   12  a line of the script has a fault, and no line behind it was run
   16  the job gave up, or could not begin: standard error says why
 
 The script's language is described in mvsjob-script(5), which is docs/SCRIPT.md.";
+
+/// The options that have a value, where it is a word of its own.
+static VALUED: [&str; 5] = ["--place", "--judge", "--random", "--lines", "--profile"];
 
 /// The values of the option `--place`.
 static PLACES: [&str; 2] = ["low", "high"];
@@ -44,7 +59,8 @@ fn titled<'a>(alloc: Global) -> Command<'a>
     Command::new(alloc, "mvsjob")
         .version(VERSION)
         .about(ABOUT)
-        .after_help(STATUSES)
+        .after_help(SHORT)
+        .after_long_help(LONG)
 }
 
 // The command with a word that is said or not.
@@ -187,15 +203,21 @@ fn with_telling<'a>(command: Command<'a>, alloc: Global) -> Result<Command<'a>, 
         "explain",
         "Says behind the answer to a request why it is refused, in a line that begins with *",
     )?;
-    with_flag(
+    let printing = with_flag(
         explaining,
         alloc,
         "json",
         "Prints each event of the run as a line of JSON; with --explain also why a request is refused",
+    )?;
+    with_flag(
+        printing,
+        alloc,
+        "strict",
+        "Says on standard error of each line whose task is not active, or in which a name is not set, what may be meant",
     )
 }
 
-// The command: a word and ten options, all of which may be left out.
+// The command: a word and eleven options, all of which may be left out.
 fn command<'a>(alloc: Global) -> Result<Command<'a>, AllocError>
     ensures { IfOk result (λ c. (ps : Parsers) × AreParsers ps × (app_of c ≡ command ps)) }
 {
@@ -285,6 +307,20 @@ fn mode(matches: &ArgMatches<'_>) -> Mode
     }
 }
 
+/// Whether several words of a command line, the program's name first, name files.
+pub fn names_files(words: &[String]) -> bool {
+    let mut files = 0usize;
+    let mut takes_value = true;
+    for word in words {
+        let word = word.as_str();
+        if !takes_value && (word == "-" || !word.starts_with("-")) {
+            files = files.saturating_add(1);
+        }
+        takes_value = VALUED.iter().any(|option| *option == word);
+    }
+    files > 1
+}
+
 /// Reads the words of a command line, the program's name first. An error is what `clap` has to say of them, a text for the user
 /// (where it is the help that the words ask for, `use_stderr` is false), or want of memory.
 pub fn settings<'a>(alloc: Global, words: &'a [String]) -> Result<Settings<'a>, clap::Error>
@@ -305,7 +341,9 @@ pub fn settings<'a>(alloc: Global, words: &'a [String]) -> Result<Settings<'a>, 
         × (IsTrue s.explains
         ↔ assigned ps (map string_bytes words.entry.now) (codes "explain") ≡ Some (codes "true"))
         × (IsTrue s.json
-        ↔ assigned ps (map string_bytes words.entry.now) (codes "json") ≡ Some (codes "true"))) }
+        ↔ assigned ps (map string_bytes words.entry.now) (codes "json") ≡ Some (codes "true"))
+        × (IsTrue s.strict
+        ↔ assigned ps (map string_bytes words.entry.now) (codes "strict") ≡ Some (codes "true"))) }
     // Clap finds nothing wrong with words that are taken; an error is of a kind that it finds, or want of memory.
     ensures taken { IfOk result (λ _. FindsWrong (map string_bytes words.entry.now) []) }
     ensures kinds { IfErr result
@@ -324,5 +362,6 @@ pub fn settings<'a>(alloc: Global, words: &'a [String]) -> Result<Settings<'a>, 
         mode: mode(&matches),
         explains: is_set(&matches, "explain"),
         json: is_set(&matches, "json"),
+        strict: is_set(&matches, "strict"),
     })
 }

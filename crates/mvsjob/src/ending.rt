@@ -2,10 +2,10 @@
 
 ghost use Rattle.std.specs.Prelude.{◌≡◌};
 ghost use Rattle.std.specs.Option.{option_map};
-ghost use Rattle.mvsjob.specs.Endings.{status_of, text_of};
+ghost use Rattle.mvsjob.specs.Endings.{status_of, strict_ending, text_of};
 
 use event_json::JsonFault;
-use mvs_job::{RunFault, Stop};
+use mvs_job::{RunFault, Stop, StrictEnd};
 use mvs_model::outcome::Outcome;
 use std::io::ErrorKind;
 
@@ -73,6 +73,8 @@ impl From<Stop> for GiveUp {
 pub enum Ending {
     /// The job ended so.
     Ran(Outcome),
+    /// With `--strict`: no task abended, and some line was not served.
+    NotServed,
     /// The help, the version or the script that the words asked for was printed.
     Printed,
     /// The answers of a run were compared with those that the script says, and one differs, or none.
@@ -86,6 +88,16 @@ pub enum Ending {
 }
 
 impl Ending {
+    /// How a strict run ends.
+    pub fn of_strict(end: StrictEnd) -> Ending
+        ensures { result ≡ strict_ending end.outcome end.all_served }
+    {
+        match end.outcome {
+            Outcome::Clean if !end.all_served => Ending::NotServed,
+            outcome => Ending::Ran(outcome),
+        }
+    }
+
     /// The exit status. This project's choice.
     pub fn status(self) -> u8
         ensures { result ≡ status_of self }
@@ -96,6 +108,7 @@ impl Ending {
             Ending::Judged { accepted: true, .. } => 0,
             Ending::Judged { refused: true, .. } => 1,
             Ending::Judged { .. } => 2,
+            Ending::NotServed => 4,
             Ending::Ran(Outcome::SomeAbend) => 8,
             Ending::Ran(Outcome::ScriptFault) => 12,
             Ending::GaveUp(GiveUp::Pipe) => 141,
@@ -125,6 +138,7 @@ impl Ending {
             Ending::GaveUp(GiveUp::Job(fault)) => Some(fault.text()),
             Ending::GaveUp(GiveUp::Pipe)
             | Ending::Ran(_)
+            | Ending::NotServed
             | Ending::Printed
             | Ending::Checked { .. }
             | Ending::Judged { .. }

@@ -5,7 +5,7 @@ ghost use Rattle.mvs_model.specs.Numbers.{most_script_bytes};
 
 use crate::choices::Settings;
 use crate::ending::{GiveUp, Unread};
-use crate::kept::first_faulty;
+use crate::faulty::faulty_in;
 use crate::piped::Piped;
 use crate::tell;
 use mvs_job::{RunFault, Stop, explain_script};
@@ -65,7 +65,7 @@ pub fn run_explained(rt: &HostRuntime, settings: &Settings<'_>) -> Result<Outcom
     match ended {
         Ok(outcome) if flushed.is_ok() => {
             if outcome == Outcome::ScriptFault {
-                tell(rt, settings.file, &first_faulty(&script, 1, true));
+                tell(rt, settings.file, &faulty_in(&script));
             }
             Ok(outcome)
         }

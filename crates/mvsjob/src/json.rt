@@ -3,7 +3,7 @@
 use crate::choices::Settings;
 use crate::ending::GiveUp;
 use crate::explained::script;
-use crate::kept::first_faulty;
+use crate::faulty::faulty_in;
 use crate::piped::Piped;
 use crate::tell;
 use event_json::{ScriptLine, write_end, write_line};
@@ -81,7 +81,7 @@ pub fn run_json(rt: &HostRuntime, settings: &Settings<'_>) -> Result<Outcome, Gi
     match ended {
         Ok(outcome) if flushed.is_ok() => {
             if outcome == Outcome::ScriptFault {
-                tell(rt, settings.file, &first_faulty(&script, 1, true));
+                tell(rt, settings.file, &faulty_in(&script));
             }
             Ok(outcome)
         }

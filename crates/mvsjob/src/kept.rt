@@ -2,9 +2,10 @@
 
 ghost use Rattle.std.specs.Prelude.{◌≤◌, length};
 
+use crate::faulty::{Faulty, first_faulty};
 use job_script::parted::parted;
 use job_script::read_line;
-use mvs_model::line::{Fault, Line};
+use mvs_model::line::Line;
 use std::io::{self, ErrorKind, Read};
 
 /// How many bytes are kept: those of a read of a job, and of a line that began before it.
@@ -29,15 +30,6 @@ pub struct Kept<R> {
     lines: Lines,
     /// Whether a read has failed because the reader is a directory.
     is_directory: bool,
-}
-
-/// A line with a fault, and its number. Of a script without a statement the line is empty, and its number is the one behind the
-/// last.
-#[derive(Clone, Copy)]
-pub struct Faulty<'a> {
-    pub number: u32,
-    pub line: &'a [u8],
-    pub fault: Fault,
 }
 
 // Whether no line of a text is a statement.
@@ -69,36 +61,6 @@ fn ended(text: &[u8]) -> (usize, u32)
         }
     }
     (end.min(text.len()), lines)
-}
-
-/// The first line of a text that has a fault, where the first line of the text has this number, and whether no statement stands before
-/// it.
-pub fn first_faulty(text: &[u8], number: u32, first: bool) -> Faulty<'_> {
-    let mut read = Line::Nothing;
-    let mut number = number;
-    let mut first = first;
-    let mut rest = text;
-    'lines: while !rest.is_empty() {
-        let (line, more) = parted(rest, b'\n');
-        if let Err(fault) = read_line(line, first, &mut read) {
-            return Faulty {
-                number,
-                line,
-                fault,
-            };
-        }
-        first = first && matches!(read, Line::Nothing);
-        number = number.saturating_add(1);
-        match more {
-            None => break 'lines,
-            Some(next) => rest = next,
-        }
-    }
-    Faulty {
-        number,
-        line: &[],
-        fault: Fault::OutOfPlace,
-    }
 }
 
 impl Lines {

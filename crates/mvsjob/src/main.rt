@@ -7,23 +7,27 @@ ghost use Rattle.mvsjob.specs.Endings.{status_of};
 
 mod answers;
 mod choices;
+mod clues;
 mod command_line;
 mod ending;
 mod explained;
+mod faulty;
 mod json;
 mod judging;
 mod kept;
 mod piped;
+mod strict;
 
 use answers::{check_answers, write_made};
 use choices::{Mode, Settings};
-use command_line::settings;
+use command_line::{names_files, settings};
 use diagnosis::diagnose;
 use ending::{Ending, GiveUp, Unread};
 use explained::run_explained;
+use faulty::Faulty;
 use json::run_json;
 use judging::judge_output;
-use kept::{Faulty, Kept};
+use kept::Kept;
 use mvs_job::{RunFault, Told, run_job};
 use mvs_model::outcome::Outcome;
 use mvs_model::watched::Watched;
@@ -32,6 +36,7 @@ use std::env;
 use std::fs::File;
 use std::io::{self, BufWriter, ErrorKind, Read, Write};
 use std::process::ExitCode;
+use strict::run_strict;
 
 // Tells a faulty line on standard error. A failure to do so changes nothing.
 pub(crate) fn tell(rt: &HostRuntime, name: &str, faulty: &Faulty<'_>) {
@@ -41,7 +46,7 @@ pub(crate) fn tell(rt: &HostRuntime, name: &str, faulty: &Faulty<'_>) {
 
 // Runs the script that a reader tells, flushes what it printed, and tells the line that ended it, if one did. A flush that fails is a
 // write that failed.
-pub(crate) fn run_from<R: Read + Drop>(
+fn run_from<R: Read + Drop>(
     rt: &HostRuntime,
     reader: R,
     settings: &Settings<'_>,
@@ -87,10 +92,14 @@ fn run_named(rt: &HostRuntime, settings: &Settings<'_>) -> Result<Outcome, GiveU
     }
 }
 
-// Prints what `clap` says of the words.
-fn explain(rt: &HostRuntime, error: &clap::Error) -> Result<Ending, GiveUp> {
-    if error.kind() == clap::error::ErrorKind::OutOfMemory {
+// Prints what `clap` says of the words, and that one FILE is taken where there are more.
+fn explain(rt: &HostRuntime, words: &[String], error: &clap::Error) -> Result<Ending, GiveUp> {
+    let kind = error.kind();
+    if kind == clap::error::ErrorKind::OutOfMemory {
         return Err(GiveUp::Job(RunFault::Memory));
+    }
+    if kind == clap::error::ErrorKind::UnknownArgument && names_files(words) {
+        let _ = eprintln!(rt; "mvsjob: one FILE is taken, and several are named: call it for each");
     }
     match error.print(rt) {
         Ok(()) if error.use_stderr() => Ok(Ending::Refused),
@@ -119,6 +128,7 @@ fn serve(rt: &HostRuntime, settings: &Settings<'_>) -> Result<Ending, GiveUp> {
     match settings.mode {
         Mode::Run if settings.json => Ok(Ending::Ran(run_json(rt, settings)?)),
         Mode::Run if settings.explains => Ok(Ending::Ran(run_explained(rt, settings)?)),
+        Mode::Run if settings.strict => run_strict(rt, settings),
         Mode::Run => Ok(Ending::Ran(run_named(rt, settings)?)),
         Mode::Check => check_answers(rt, settings),
         Mode::Judge => judge_output(rt, settings),
@@ -154,7 +164,7 @@ fn serve_words(rt: &HostRuntime, words: &[String]) -> ExitCode {
         Err(error) => finish(
             rt,
             "-",
-            explain(rt, &error).unwrap_or_else(|why| Ending::GaveUp(why)),
+            explain(rt, words, &error).unwrap_or_else(|why| Ending::GaveUp(why)),
         ),
     }
 }

@@ -1,5 +1,5 @@
 use Rattle.std.proofs.Common.{length}
-use Rattle.mvsjob.proofs.kept.first_faulty.Given as goal
+use Rattle.mvsjob.proofs.clues.clue_of.Given as goal
 
 abbrev pub decreases-lines : goal.decreases-lines
 decreases-lines l = length l.rest

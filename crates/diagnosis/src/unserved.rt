@@ -1,0 +1,154 @@
+//! What is said of a line that was not served: its task is not active, or a name in it is not set.
+
+ghost use Rattle.std.specs.Prelude.{◌≤◌, length};
+ghost use Rattle.diagnosis.specs.Blame.{AreWithin};
+
+use crate::columns::Columns;
+use crate::operands::second_word;
+use crate::words::Plain;
+use crate::write_marked;
+use mvs_model::name::Name;
+use std::fmt;
+
+/// What may help.
+#[derive(Clone, Copy)]
+pub enum Clue {
+    Nothing,
+    /// Another name is meant.
+    Meant(Name),
+    /// A line before this one is to begin the task, or to set the name.
+    Before(u32),
+    /// A line behind this one does.
+    Behind(u32),
+}
+
+// What there is not: an active task, or a name that is set.
+#[derive(Clone, Copy)]
+enum Lacked {
+    Task,
+    Name,
+}
+
+impl Lacked {
+    // Writes what a line before is to do.
+    fn write_before<W: fmt::Write>(&self, f: &mut fmt::Formatter<W>, line: u32) -> fmt::Result {
+        match self {
+            Lacked::Task => write!(f, " it begins in line {line}, and is not active here"),
+            Lacked::Name => write!(f, " it is not obtained in line {line}"),
+        }
+    }
+
+    // Writes what a line behind does.
+    fn write_behind<W: fmt::Write>(&self, f: &mut fmt::Formatter<W>, line: u32) -> fmt::Result {
+        match self {
+            Lacked::Task => write!(f, " it is attached in line {line}"),
+            Lacked::Name => write!(f, " it is obtained in line {line}"),
+        }
+    }
+}
+
+/// What is said of a line that was not served.
+#[derive(Clone, Copy)]
+pub struct NotServed<'a> {
+    pub columns: Columns,
+    line: &'a [u8],
+    lacked: Lacked,
+    name: Name,
+    clue: Clue,
+}
+
+// Whether a name may stand behind such a byte.
+fn leads(byte: u8) -> bool {
+    matches!(byte, b' ' | b',' | b'(' | b'=')
+}
+
+// Whether a name may end before such a byte.
+fn follows(byte: u8) -> bool {
+    matches!(byte, b' ' | b',' | b')' | b'+')
+}
+
+// Whether a name stands in a line from a place on, as a word of its own.
+fn stands(line: &[u8], at: usize, name: &[u8]) -> bool {
+    let before = match line.get(at.wrapping_sub(1)) {
+        Some(byte) => leads(*byte),
+        None => true,
+    };
+    let behind = match line.get(at.saturating_add(name.len())) {
+        Some(byte) => follows(*byte),
+        None => true,
+    };
+    match line.get(at..) {
+        Some(rest) => before && behind && rest.starts_with(name),
+        None => false,
+    }
+}
+
+// Where a name stands among the operands of a line.
+fn place_of(line: &[u8], name: &[u8]) -> usize {
+    let (_, rest) = second_word(line);
+    let start = line.len().saturating_sub(rest.len());
+    for at in 0..line.len() {
+        if at >= start && stands(line, at, name) {
+            return at;
+        }
+    }
+    start
+}
+
+impl<'a> NotServed<'a> {
+    /// A line whose task is not active.
+    pub fn without_task(line: &'a [u8], task: Name, clue: Clue) -> NotServed<'a>
+        ensures { 1 ≤ length line.now → AreWithin line.now result.columns }
+    {
+        let count = task.text().len();
+        NotServed {
+            columns: Columns::of(line, 0, count),
+            line,
+            lacked: Lacked::Task,
+            name: task,
+            clue,
+        }
+    }
+
+    /// A line with a name that is not set.
+    pub fn without_name(line: &'a [u8], name: Name, clue: Clue) -> NotServed<'a>
+        ensures { 1 ≤ length line.now → AreWithin line.now result.columns }
+    {
+        let text = name.text();
+        let at = place_of(line, text);
+        let count = text.len();
+        NotServed {
+            columns: Columns::of(line, at, count),
+            line,
+            lacked: Lacked::Name,
+            name,
+            clue,
+        }
+    }
+
+    // Writes what may help.
+    fn write_clue<W: fmt::Write>(&self, f: &mut fmt::Formatter<W>) -> fmt::Result {
+        match &self.clue {
+            Clue::Nothing => Ok(()),
+            Clue::Meant(name) => write!(f, " did you mean {}?", Plain(name.text())),
+            Clue::Before(line) => self.lacked.write_before(f, *line),
+            Clue::Behind(line) => self.lacked.write_behind(f, *line),
+        }
+    }
+}
+
+/// Writes the first column and why the line was not served, and below it the line with what there is not and what may help, each
+/// line with its end. The texts are this project's choice.
+impl fmt::Display for NotServed<'_> {
+    fn fmt<W: fmt::Write>(&self, f: &mut fmt::Formatter<W>) -> fmt::Result {
+        let column = self.columns.first.max(1);
+        let name = Plain(self.name.text());
+        match self.lacked {
+            Lacked::Task => writeln!(f, "{column}: NOT RUN: no task {name} is active")?,
+            Lacked::Name => writeln!(f, "{column}: NO NAME: {name} is not set")?,
+        }
+        write_marked(f, self.line, self.columns)?;
+        self.write_clue(f)?;
+        writeln!(f)
+    }
+}

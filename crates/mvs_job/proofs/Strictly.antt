@@ -1,0 +1,133 @@
+-- A script that is run strictly, a line at a time.
+use Rattle.std.proofs.Common.{◌≡◌, ℕ, ◌+◌, ◌<◌, ◌≤◌, List, [], ◌∷◌, ◌++◌, length, take, drop, Option, Some, None, Bool, true, false, Result, Ok, Err, inl, inr, refl, sym, ap, ◌∙◌, subst}
+use Rattle.std.specs.Prelude.{◌&&◌, not, is_some}
+use Rattle.std.specs.List.{list_all}
+use Rattle.std.proofs.lemmas.List.{drop-drop}
+use Rattle.std.proofs.lemmas.List.Folds.{list_all-append}
+use Rattle.std.specs.Io.KnownBytes.{Appends}
+use Rattle.std.proofs.KnownBytes.{Appends-nil, Appends-trans}
+use Rattle.mvs_model.specs.declared.line.Fault.{Fault}
+use Rattle.mvs_model.specs.declared.outcome.Outcome.{Outcome}
+use Rattle.mvs_model.specs.declared.outcome.Outcome.TheVariants.{ScriptFault}
+use Rattle.mvs_model.specs.Answers.{Event}
+use Rattle.mvs_model.specs.Lines.{lines_of}
+use Rattle.mvs_model.specs.Runs.{machine, IsRun}
+use Rattle.mvs_model.specs.Texts.{printing}
+use Rattle.mvs_model.specs.Walk.{Closes}
+use Rattle.mvs_model.specs.Going.{Reaches}
+use Rattle.mvs_model.proofs.Going.{printed_both, reaches_next, reaches_then}
+use Rattle.mvs_job.specs.declared.printing.Stop.{Stop}
+use Rattle.mvs_job.specs.declared.strict.Unserved.{Unserved}
+use Rattle.mvs_job.specs.declared.walk.LineTold.{LineTold}
+use Rattle.mvs_job.specs.declared.walk.LineTold.TheVariants as told
+use Rattle.mvs_job.specs.Serving.{RunsLine}
+use Rattle.mvs_job.specs.Streams.{Progress, PrintedUpTo}
+use Rattle.mvs_job.specs.Strict.{PrintsStrictly, RunsStrictly, is_of_served}
+use Rattle.mvs_job.specs.Telling.{WalkValue, IsTold, closing, events_told, new_walk}
+use Rattle.mvs_job.proofs.Running.{progress_stopped}
+
+-- ---- Booleans
+
+and_one : (a b : Bool) → b ≡ true → a ≡ (a && b)
+and_one true b e = sym e
+and_one false b e = refl
+
+and_none : (a b : Bool) → b ≡ false → false ≡ (a && b)
+and_none true b e = sym e
+and_none false b e = refl
+
+-- ---- the end of a job
+
+closing_served : (number : ℕ) (o : Option Bool) → list_all is_of_served (closing number o) ≡ true
+closing_served number None = refl
+closing_served number (Some abended) = refl
+
+-- ---- a line
+
+module _ (before after : Option (List ℕ)) (w w' : WalkValue) (l : List ℕ) (all : Bool) where
+  abbrev IsHeard : LineTold → Option Unserved → Type 0
+  IsHeard t o = list_all is_of_served (events_told w.number w' t) ≡ not (is_some o)
+
+  pub line_unserved : (t : LineTold) (o : Option Unserved) (why : Unserved) → o ≡ Some why → IsHeard t o → IsTold w l t w' → Appends before after (printing (events_told w.number w' t)) → RunsStrictly before after w l w' all false (Ok true)
+  line_unserved (told.Faulted fault) o why is heard h a = absurd (let f : true ≡ false = heard ∙ ap (λ o. not (is_some o)) is in cc)
+  line_unserved told.Nothing o why is heard h a = ((events_told w.number w' told.Nothing, a, h), and_none all _ (heard ∙ ap (λ o. not (is_some o)) is))
+  line_unserved (told.Began end card) o why is heard h a = ((events_told w.number w' (told.Began end card), a, h), and_none all _ (heard ∙ ap (λ o. not (is_some o)) is))
+  line_unserved (told.Answered t x) o why is heard h a = ((events_told w.number w' (told.Answered t x), a, h), and_none all _ (heard ∙ ap (λ o. not (is_some o)) is))
+
+  pub line_served : (t : LineTold) (o : Option Unserved) → ((fault : Fault) → t ≡ told.Faulted fault → ⊥) → o ≡ None → IsHeard t o → IsTold w l t w' → Appends before after (printing (events_told w.number w' t)) → RunsStrictly before after w l w' all all (Ok true)
+  line_served (told.Faulted fault) o other is heard h a = absurd (other fault refl)
+  line_served told.Nothing o other is heard h a = ((events_told w.number w' told.Nothing, a, h), and_one all _ (heard ∙ ap (λ o. not (is_some o)) is))
+  line_served (told.Began end card) o other is heard h a = ((events_told w.number w' (told.Began end card), a, h), and_one all _ (heard ∙ ap (λ o. not (is_some o)) is))
+  line_served (told.Answered t x) o other is heard h a = ((events_told w.number w' (told.Answered t x), a, h), and_one all _ (heard ∙ ap (λ o. not (is_some o)) is))
+
+  pub line_faulted : (t : LineTold) (o : Option Unserved) (fault : Fault) → t ≡ told.Faulted fault → o ≡ None → IsHeard t o → IsTold w l t w' → Appends before after (printing (events_told w.number w' t)) → RunsStrictly before after w l w' all all (Ok false)
+  line_faulted (told.Faulted other) o fault e is heard h a = ((events_told w.number w' (told.Faulted other), a, (other, h.0, refl)), and_one all _ (heard ∙ ap (λ o. not (is_some o)) is))
+  line_faulted told.Nothing o fault e is heard h a = absurd (let f : told.Nothing ≡ told.Faulted fault = e in cc)
+  line_faulted (told.Began end card) o fault e is heard h a = absurd (let f : told.Began end card ≡ told.Faulted fault = e in cc)
+  line_faulted (told.Answered t x) o fault e is heard h a = absurd (let f : told.Answered t x ≡ told.Faulted fault = e in cc)
+
+pub none_of : (o : Option Unserved) → ((why : Unserved) → o ≡ Some why → ⊥) → o ≡ None
+none_of None other = refl
+none_of (Some why) other = absurd (other why refl)
+
+-- ---- the lines so far
+
+-- what is printed so far is the printing of a run up to here, and each line was served, or not
+abbrev pub SoFar : Option (List ℕ) → Option (List ℕ) → List ℕ → WalkValue → List ℕ → Bool → Type 0
+SoFar start now script w left all = (p : Progress start now script w (lines_of left)) × (all ≡ list_all is_of_served p.events)
+
+pub so_far_start : (start : Option (List ℕ)) (script : List ℕ) (w : WalkValue) → w ≡ new_walk → SoFar start start script w script true
+so_far_start start script w e = subst (λ w. SoFar start start script w script true) (sym e) (record { events = []; appended = Appends-nil start; reached = record { served = []; lines = refl; counted = refl; leads = (refl, refl) } }, refl)
+
+module _ (start before after : Option (List ℕ)) (script left : List ℕ) (w : WalkValue) (all all' : Bool) (s : SoFar start before script w left all) where
+  both : (events : List Event) → Appends before after (printing events) → Appends start after (printing (s.0.events ++ events))
+  both events a = rw (printed_both s.0.events events) (Appends-trans start before after (printing s.0.events) (printing events) s.0.appended a)
+
+  joined : (events : List Event) → all' ≡ (all && list_all is_of_served events) → all' ≡ list_all is_of_served (s.0.events ++ events)
+  joined events e = e ∙ ap (λ b. b && list_all is_of_served events) s.1 ∙ sym (list_all-append is_of_served s.0.events events)
+
+  module _ (w' : WalkValue) (l : List ℕ) (lines : List (List ℕ)) (cut : lines_of left ≡ l ∷ lines) where
+    here : Reaches (lines_of script) s.0.events w.number w.step (l ∷ lines)
+    here = subst (Reaches (lines_of script) s.0.events w.number w.step) cut s.0.reached
+
+    pub so_far_fault : RunsStrictly before after w l w' all all' (Ok false) → PrintsStrictly start after script ScriptFault all'
+    so_far_fault (r, e) = (s.0.events ++ r.0, both r.0 r.1, reaches_then (lines_of script) ScriptFault s.0.events r.0 w.number w.step (l ∷ lines) here (inl (r.2, refl)), joined r.0 e)
+
+    pub so_far_stopped : (stop : Stop) → RunsStrictly before after w l w' all all' (Err stop) → PrintedUpTo stop start after script
+    so_far_stopped stop r = progress_stopped start before after script w (lines_of left) s.0 w' l lines stop cut r
+
+  pub so_far_next : (w' : WalkValue) (l more : List ℕ) → lines_of left ≡ l ∷ lines_of more → w'.number ≡ w.number + 1 → RunsStrictly before after w l w' all all' (Ok true) → SoFar start after script w' more all'
+  so_far_next w' l more cut next (r, e) = (
+    record {
+      events = s.0.events ++ r.0;
+      appended = both r.0 r.1;
+      reached = subst (λ n. Reaches (lines_of script) (s.0.events ++ r.0) n w'.step (lines_of more)) (sym next) (reaches_next (lines_of script) s.0.events r.0 w.number w.step w'.step l (lines_of more) (here w' l (lines_of more) cut) r.2);
+    },
+    joined r.0 e,
+  )
+
+  pub so_far_end : (end : Option Bool) (outcome : Outcome) → lines_of left ≡ [] → all' ≡ all → Closes machine w.number w.step (closing w.number end) outcome → Appends before after (printing (closing w.number end)) → PrintsStrictly start after script outcome all'
+  so_far_end end outcome none same closes a = (
+    s.0.events ++ closing w.number end,
+    both (closing w.number end) a,
+    reaches_then (lines_of script) outcome s.0.events (closing w.number end) w.number w.step [] (subst (Reaches (lines_of script) s.0.events w.number w.step) none s.0.reached) closes,
+    joined (closing w.number end) (same ∙ and_one all _ (closing_served w.number end)),
+  )
+
+-- the line of a script at an index
+module _ (start before after : Option (List ℕ)) (script rest : List ℕ) (at end : ℕ) (w w' : WalkValue) (all all' : Bool) (is : rest ≡ drop at script) (cut : lines_of rest ≡ take end rest ∷ lines_of (drop (end + 1) rest))
+    (s : SoFar start before script w (drop at script) all) where
+  here_cut : lines_of (drop at script) ≡ take end rest ∷ lines_of (drop (end + 1) rest)
+  here_cut = ap lines_of (sym is) ∙ cut
+
+  pub line_on : w'.number ≡ w.number + 1 → (b : Bool) → b ≡ true → RunsStrictly before after w (take end rest) w' all all' (Ok b) → SoFar start after script w' (drop (at + (end + 1)) script) all'
+  line_on next b e x =
+      subst (λ left. SoFar start after script w' left all') (ap (drop (end + 1)) is ∙ drop-drop (end + 1) at script)
+      (so_far_next start before after script (drop at script) w all all' s w' (take end rest) (drop (end + 1) rest) here_cut next (subst (λ b. RunsStrictly before after w (take end rest) w' all all' (Ok b)) e x))
+
+  pub line_fault : (b : Bool) → b ≡ false → RunsStrictly before after w (take end rest) w' all all' (Ok b) → PrintsStrictly start after script ScriptFault all'
+  line_fault b e x =
+      so_far_fault start before after script (drop at script) w all all' s w' (take end rest) (lines_of (drop (end + 1) rest)) here_cut (subst (λ b. RunsStrictly before after w (take end rest) w' all all' (Ok b)) e x)
+
+  pub line_gave_up : (stop : Stop) → RunsStrictly before after w (take end rest) w' all all' (Err stop) → PrintedUpTo stop start after script
+  line_gave_up = so_far_stopped start before after script (drop at script) w all all' s w' (take end rest) (lines_of (drop (end + 1) rest)) here_cut

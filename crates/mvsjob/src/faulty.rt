@@ -1,0 +1,92 @@
+//! The line whose fault ends a job.
+
+ghost use Rattle.std.specs.Prelude.{◌≡◌, ◌≤◌, ◌<◌, ◌+◌, ◌^◌, ℕ, Bool, List, length};
+ghost use Rattle.mvs_model.specs.Answers.{Event};
+ghost use Rattle.mvs_model.specs.Lines.{lines_of};
+ghost use Rattle.mvs_model.specs.Numbers.{most_script_bytes};
+ghost use Rattle.mvs_model.specs.Reading.{LineOf, says_nothing};
+ghost use Rattle.mvs_model.specs.Runs.{IsRun};
+ghost use Rattle.mvsjob.specs.Faulty.{EndsAt, IsFirstFault, IsLineOf};
+
+use job_script::read_line;
+use mvs_job::line_end;
+use mvs_model::laws::same_fault;
+use mvs_model::line::{Fault, Line};
+use mvs_model::outcome::Outcome;
+
+/// A line with a fault, and its number. Of a script without a statement the line is empty, and its number is the one behind the
+/// last.
+#[derive(Clone, Copy)]
+pub struct Faulty<'a> {
+    pub number: u32,
+    pub line: &'a [u8],
+    pub fault: Fault,
+}
+
+// Whether a line says nothing that says this.
+fn says_nothing(read: &Line) -> bool
+    ensures { (first : Bool) (bytes : List ℕ) → LineOf first bytes read.now
+        → result ≡ says_nothing bytes }
+{
+    match read {
+        Line::Nothing => true,
+        Line::Statement(..) => false,
+    }
+}
+
+// The number of the line behind so many lines, of which the first has a number.
+fn number_behind(number: u32, passed: usize) -> u32
+    ensures { number + passed < 2 ^ 32 → result ≡ number + passed }
+{
+    if passed <= (u32::MAX - number) as usize {
+        number + passed as u32
+    } else {
+        u32::MAX
+    }
+}
+
+/// The first line of a text that has a fault, where the first line of the text has this number, and whether no statement stands before
+/// it.
+pub fn first_faulty(text: &[u8], number: u32, first: bool) -> Faulty<'_>
+    ensures fault { number + length text.now + 1 < 2 ^ 32
+        → IsFirstFault number first (lines_of text.now) result.number result.fault }
+    ensures line { number + length text.now + 1 < 2 ^ 32
+        → IsLineOf number (lines_of text.now) result.number result.line.now }
+{
+    let mut read = Line::Nothing;
+    let mut at = 0;
+    let mut passed = 0;
+    let mut is_first = first;
+    'lines: while at < text.len() {
+        let rest = &text[at..];
+        let end = line_end(rest);
+        let line = &rest[..end];
+        if let Err(fault) = read_line(line, is_first, &mut read) {
+            return Faulty {
+                number: number_behind(number, passed),
+                line,
+                fault,
+            };
+        }
+        is_first &= says_nothing(&read);
+        passed += 1;
+        at += end + 1;
+    }
+    Faulty {
+        number: number_behind(number, passed),
+        line: &[],
+        fault: Fault::OutOfPlace,
+    }
+}
+
+/// The line whose fault ends the runs of a script that end with one.
+pub fn faulty_in(script: &[u8]) -> Faulty<'_>
+    requires { length script.now ≤ most_script_bytes }
+    // Where a run of the script ends with a fault, that is what it tells last.
+    ensures ended { (events : List Event) → IsRun script.now events Outcome.ScriptFault
+        → EndsAt result.number result.fault events }
+    ensures line { IsLineOf 1 (lines_of script.now) result.number result.line.now }
+{
+    same_fault();
+    first_faulty(script, 1, true)
+}
