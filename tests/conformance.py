@@ -1,8 +1,8 @@
 """The judge, on what the plain machine prints with places of its own.
 
 What it prints for a script of conformance/scripts or a random one, with a WHERE behind each request for areas, is accepted with each of
-its placements, and never refused; what a wrong variant prints is refused, on some script, or not decided where its fault shows in pools
-alone; and nothing is accepted of which a byte is another one that tells no address.
+its placements, and never refused; what a wrong variant prints is not accepted, on some script; and nothing is accepted of which a byte
+is another one that tells no address.
 """
 
 import random
