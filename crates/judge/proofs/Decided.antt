@@ -312,24 +312,9 @@ module _ (told : List ℕ) (w w1 w2 : WalkValue) (l q : List ℕ) (tl tq : LineT
 
 -- ---- the lines of a script
 
--- one line, or two, at the front of a script
-pub first_line : (script text : List ℕ) (w w' : WalkValue) (n : ℕ) (verdict : Verdict) → lines_of script ≡ take n script ∷ lines_of (drop (n + 1) script) → Decides (take n script ∷ []) text w verdict w' → DecidesFirst script text w (n + 1) verdict w'
-first_line script text w w' n verdict cut d = (take n script ∷ [], cut, d)
-
-pub first_lines : (script rest text : List ℕ) (w w' : WalkValue) (n m : ℕ) (verdict : Verdict) → rest ≡ drop (n + 1) script → lines_of script ≡ take n script ∷ lines_of (drop (n + 1) script) → lines_of rest ≡ take m rest ∷ lines_of (drop (m + 1) rest)
-    → Decides (take n script ∷ take m rest ∷ []) text w verdict w' → DecidesFirst script text w (n + 1 + (m + 1)) verdict w'
-first_lines script rest text w w' n m verdict is cut cut_rest d = (
-  take n script ∷ take m rest ∷ [],
-  cut ∙ ap (λ lines. take n script ∷ lines) (ap lines_of (sym is) ∙ cut_rest ∙ ap (λ x. take m rest ∷ lines_of x) (ap (drop (m + 1)) is ∙ drop-drop (m + 1) (n + 1) script)),
-  d,
-)
-
 -- Each run of the script that prints the output comes here.
 abbrev pub Comes : List ℕ → List ℕ → ℕ → ℕ → WalkValue → Type 0
 Comes script output at done w = (outcome : Outcome) → IsPrinting script output outcome → MayPrint w.number w.step (lines_of (drop at script)) (drop done output) outcome
-
-pub comes_first : (script output : List ℕ) (w : WalkValue) → w ≡ new_walk → Comes script output 0 0 w
-comes_first script output w e outcome may = subst (λ w. MayPrint w.number w.step (lines_of script) output outcome) (sym e) may
 
 module _ (script output rest left : List ℕ) (at done taken : ℕ) (w w' : WalkValue) (rest_is : rest ≡ drop at script) (left_is : left ≡ drop done output) (c : Comes script output at done w) where
   here : (served : List (List ℕ)) → lines_of rest ≡ served ++ lines_of (drop taken rest) → (outcome : Outcome) → IsPrinting script output outcome → MayPrint w.number w.step (served ++ lines_of (drop taken rest)) left outcome

@@ -1,6 +1,6 @@
 -- Each reason tells the reply.
-use Rattle.std.proofs.Common.{◌≡◌, ℕ, zero, suc, ◌+◌, ◌-◌, ◌⊎◌, inl, inr, Bool, true, false, cond, List, [], ◌∷◌, length, map, Option, Some, None, refl, sym, ap, ◌∙◌, subst, arith, ◌==◌, ◌&&◌, nat_le, MatchBool, ◌<◌, ◌≤◌, ◌*◌, ◌/◌}
-use Rattle.std.specs.Prelude.{not, IfSome, MatchOption, is_some, ◌^◌}
+use Rattle.std.proofs.Common.{◌≡◌, ℕ, zero, suc, ◌+◌, ◌-◌, ◌⊎◌, inl, inr, Bool, true, false, cond, List, [], ◌∷◌, length, map, Option, Some, None, refl, sym, ap, ◌∙◌, subst, arith, ◌==◌, ◌&&◌, nat_le, MatchBool, ◌<◌, ◌≤◌, ◌*◌}
+use Rattle.std.specs.Prelude.{not, MatchOption}
 use Rattle.std.proofs.lemmas.Bool.{and_from, and_left, and_right, false_from_ne_true}
 use Rattle.std.specs.List.{AllByRecursion, list_all}
 use Rattle.std.specs.FinMap.{get, len, contains_key}
@@ -24,13 +24,13 @@ use Rattle.mvs_model.specs.declared.reason.Holder.{Holder}
 use Rattle.mvs_model.specs.declared.reason.Room.{Room}
 use Rattle.mvs_model.specs.declared.reason.Reason.{Reason}
 use Rattle.mvs_model.specs.declared.reason.Reason.TheVariants.{NotActive, InvalidNumber, Shortage, NoMember, NoPart, OffDoubleword, NoSubpool, NotHeld, Overlap, WholeOfZero, PoolInUse, TooManyPools, NoPool, NoFreeCell, NoTakenCell, TaskInUse, TooManyTasks, NotOwned, ActiveSubtask, Asked, NoAccess}
-use Rattle.mvs_model.specs.Place.{PlaceValue, place_at, round8}
+use Rattle.mvs_model.specs.Place.{PlaceValue, place_at}
 use Rattle.mvs_model.specs.declared.want.Side.TheVariants.{Below}
 use Rattle.mvs_model.specs.Storage.{Regions, InRegion, Places, Chosen, NoPlace, Covers, covers}
 use Rattle.mvs_model.specs.Want.{AskValue, WantValue, fixed_want}
 use Rattle.mvs_model.specs.Gifts.{GiftsValue}
 use Rattle.mvs_model.specs.Owners.{Owners, is_active, entry, keeper, subpool_meant, has_subtask, gives_shared, IsSpare, Binds, SubpoolOf}
-use Rattle.mvs_model.specs.Pools.{Pool, part_length, part_want, cell_at}
+use Rattle.mvs_model.specs.Pools.{Pool, part_want, cell_at}
 use Rattle.mvs_model.specs.State.{State, holder, subpool_in, plain, granted}
 use Rattle.mvs_model.specs.Codes.{family, is_conditional, short, bad_subpool, not_held, task_in_use, too_many_tasks, not_owned}
 use Rattle.mvs_model.specs.Changes.{HeldPlain, Misses, Disjoint, Granted, GrantTo, ShortOf, ListGrant, ListShort, with_part}
@@ -87,7 +87,7 @@ any_short st s (want ∷ wants) k reason (inl h) = (inl h.0, (k, want.least, h.1
 any_short st s (want ∷ wants) k reason (inr h) = let m = any_short st s wants (k + 1) reason h.1 in (inr m.0, m.1)
 
 -- what is bound is entered
-bound_entry : (o after : Owners) (t : Name) (number s : ℕ) → Binds o t number s after → entry after t number ≡ Some s
+pub bound_entry : (o after : Owners) (t : Name) (number s : ℕ) → Binds o t number s after → entry after t number ≡ Some s
 bound_entry o after t number s b = b.table (t, number) ∙ at (same_name t t) (number == number) (same_name_self t) (grind (arith, nat_tests)) where
   at : (a b : Bool) → a ≡ true → b ≡ true → cond (a && b) (Some s) (get o.table (t, number)) ≡ Some s
   at true true e f = refl

@@ -1,6 +1,6 @@
 -- A request that takes the addresses that it is told obeys.
-use Rattle.std.proofs.Common.{◌≡◌, ◌≤◌, ◌⊎◌, ℕ, inl, inr, Bool, true, List, [], ◌∷◌, map, arith, sym, ap, ◌∙◌, subst}
-use Rattle.std.specs.Prelude.{not, ◌≢◌, ◌&&◌, nat_le}
+use Rattle.std.proofs.Common.{◌≡◌, ◌≤◌, ◌⊎◌, ℕ, inl, inr, true, List, [], ◌∷◌, map, arith, sym, ap, ◌∙◌, subst}
+use Rattle.std.specs.Prelude.{not, ◌≢◌, nat_le}
 use Rattle.std.specs.List.{list_all}
 use Rattle.std.proofs.lemmas.Bool.{and_parts}
 use Rattle.std.proofs.lemmas.Bool.Decides.{nat_tests}

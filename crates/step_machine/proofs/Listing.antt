@@ -2,7 +2,6 @@
 use Rattle.std.proofs.Common.{◌≡◌, ℕ, ◌≤◌, inl, inr, Bool, true, false, cond, List, [], ◌∷◌, ◌++◌, length, Option, Some, None, Ok, Err, refl, sym, ap, ◌∙◌, subst, append_assoc, arith}
 use Rattle.std.specs.Prelude.{IfSome, MatchOption, ◌&&◌, ◌==◌, suc}
 use Rattle.std.specs.Option.{unwrap_or}
-use Rattle.std.proofs.lemmas.Bool.Decides.{nat_tests}
 use Rattle.std.specs.FinMap.{FinMap, get}
 use Rattle.mvs_model.specs.declared.name.Name.{Name}
 use Rattle.mvs_model.specs.declared.code.Form.{Form}
@@ -19,8 +18,8 @@ use Rattle.mvs_model.specs.Changes.{ListGrant, ListShort}
 use Rattle.mvs_model.specs.Subpool.{is_subpool_number}
 use Rattle.mvs_model.specs.Determined.{ListTakesTold}
 use Rattle.mvs_model.specs.Steps.{Fails, is_invalid, ObtainListStep}
-use Rattle.mvs_model.proofs.Orders.{same_name_self}
 use Rattle.mvs_model.proofs.Owning.{enters_some}
+use Rattle.mvs_model.proofs.Reasons.{bound_entry}
 use Rattle.mvs_model.proofs.Seen.{no_place_seen}
 use Rattle.cell_pool.specs.Agree.{Agree}
 use Rattle.cell_pool.specs.Roots.{Root, pools_of}
@@ -50,14 +49,6 @@ pub first_taken_back : (st mid new : Storage) (s start n : ℕ) (rest lengths : 
     → ShortEach mid s (list_wants rest start) → Release mid s p new → ShortEach st s (list_wants lengths start) × (new ≡ st)
 first_taken_back st mid new s start n rest lengths p e is after g h r =
     (subst (λ l. ShortEach st s (list_wants l start)) (sym e) (inr (p, mid, after, g, h)), taken_back st mid new s _ p is g r)
-
--- what is bound is entered
-bound_entry : (o after : Owners) (t : Name) (number s : ℕ) → Binds o t number s after → entry after t number ≡ Some s
-bound_entry o after t number s b = b.table (t, number) ∙ at (same_name t t) (number == number) (same_name_self t) (grind (arith, nat_tests)) where
-  at : (a b : Bool) → a ≡ true → b ≡ true → cond (a && b) (Some s) (get o.table (t, number)) ≡ Some s
-  at true true e f = refl
-  at true false e f = absurd (let g : false ≡ true = f in cc)
-  at false b e f = absurd (let g : false ≡ true = e in cc)
 
 -- the subpool that a task would have
 bound_some : (o : Owners) (t : Name) (number s : ℕ) → entry o t number ≡ None → (after : Owners) × Binds o t number s after
