@@ -1,12 +1,11 @@
 -- A request for an area, and a question behind it where the area lies.
-use Rattle.std.proofs.Common.{◌≡◌, ℕ, ◌+◌, ◌<◌, ◌≤◌, ◌⊎◌, inl, inr, Bool, true, false, cond, List, [], ◌∷◌, map, Option, Some, None, arith, refl, sym, ap, ◌∙◌, subst}
+use Rattle.std.proofs.Common.{◌≡◌, ℕ, ◌<◌, ◌⊎◌, inl, inr, Bool, true, false, cond, List, [], ◌∷◌, Some, arith, refl, sym, ap, ◌∙◌, subst}
 use Rattle.std.specs.Prelude.{not, ◌||◌, ◌^◌}
 use Rattle.std.specs.Bool.{MatchBool}
 use Rattle.std.specs.FinMap.{FinMap, get, insert, get-insert, contains_key}
 use Rattle.std.proofs.lemmas.Bool.{cases_lt}
 use Rattle.mvs_model.specs.declared.name.Name.{Name}
 use Rattle.mvs_model.specs.declared.code.Form.{Form}
-use Rattle.mvs_model.specs.declared.line.Line.TheVariants as line
 use Rattle.mvs_model.specs.declared.line.Statement.TheVariants as says
 use Rattle.mvs_model.specs.declared.line.Written.{Written}
 use Rattle.mvs_model.specs.declared.line.Written.TheVariants as written
@@ -14,23 +13,23 @@ use Rattle.mvs_model.specs.declared.request.Request.TheVariants as request
 use Rattle.mvs_model.specs.declared.request.Reply.TheVariants.{Obtained}
 use Rattle.mvs_model.specs.Place.{PlaceValue}
 use Rattle.mvs_model.specs.Want.{AskValue, WantValue, IsAsk, want_of}
-use Rattle.mvs_model.specs.Name.{name_cmp, same_name}
+use Rattle.mvs_model.specs.Name.{name_cmp}
 use Rattle.mvs_model.specs.Owners.{is_active, keeper}
 use Rattle.mvs_model.specs.Storage.{Chosen, InRegion, Regions}
 use Rattle.mvs_model.specs.State.{State, holder}
 use Rattle.mvs_model.specs.Codes.{family, is_conditional, short}
 use Rattle.mvs_model.specs.Changes.{GrantTo, ShortOf}
-use Rattle.mvs_model.specs.Steps.{Step, Fails, side_for, is_invalid}
+use Rattle.mvs_model.specs.Steps.{Fails, side_for, is_invalid}
 use Rattle.mvs_model.specs.Replies.{answer_of, grant_answer, is_abend, where_answer}
 use Rattle.mvs_model.specs.Resolving.{all_set, names_set, places_in}
 use Rattle.mvs_model.specs.Answers as tells
 use Rattle.mvs_model.specs.Answers.{Answer, Event, Told, At}
 use Rattle.mvs_model.specs.Job.{JobValue}
-use Rattle.mvs_model.specs.Runs.{Condition, Any, Makes, Does, machine, job_machine}
+use Rattle.mvs_model.specs.Runs.{Condition, Any, Makes, Does}
 use Rattle.mvs_model.specs.View.{IsBounded}
 use Rattle.mvs_model.specs.Determined.{granted_at, TakesTold}
 use Rattle.mvs_model.proofs.Kept.{enters_tasks}
-use Rattle.mvs_model.proofs.OneOwners.{one_subpool, one_enters}
+use Rattle.mvs_model.proofs.OneOwners.{one_subpool}
 use Rattle.mvs_model.proofs.OneSteps.{by_two, no_grant, none_granted, one_grant, one_step, round8_some}
 use Rattle.mvs_model.proofs.Orders.{name_cmp_total, same_name_self}
 use Rattle.mvs_model.proofs.RegionsKept.{grant_inside}

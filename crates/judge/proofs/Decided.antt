@@ -1,5 +1,5 @@
 -- What lines decide of a text that a run may print.
-use Rattle.std.proofs.Common.{Decides as Tests, eqb, ◌≡◌, ◌≢◌, ℕ, ◌+◌, ◌<◌, ◌⊎◌, inl, inr, Bool, true, false, List, [], ◌∷◌, ◌++◌, length, drop, take, ◌≤◌, ◌-◌, codes, decimal, Option, Some, None, append_assoc, append-nil, length-append, arith, refl, sym, ap, ◌∙◌, subst}
+use Rattle.std.proofs.Common.{Decides as Tests, eqb, ◌≡◌, ℕ, ◌+◌, ◌<◌, ◌⊎◌, inl, inr, Bool, false, List, [], ◌∷◌, ◌++◌, length, drop, take, ◌≤◌, ◌-◌, codes, decimal, Option, Some, None, append_assoc, append-nil, length-append, arith, refl, sym, ap, ◌∙◌, subst}
 use Rattle.std.specs.Prelude.{◌^◌}
 use Rattle.std.proofs.Math.Seq.{take-append_seam}
 use Rattle.std.proofs.lemmas.Bool.Decides.{nat_tests}
@@ -13,17 +13,17 @@ use Rattle.mvs_model.specs.declared.line.Line.TheVariants as line
 use Rattle.mvs_model.specs.declared.line.Statement.TheVariants as says
 use Rattle.mvs_model.specs.declared.line.Written.TheVariants as written
 use Rattle.mvs_model.specs.declared.outcome.Outcome.{Outcome}
-use Rattle.mvs_model.specs.Answers.{Answer, Event, Faulted, Told, At}
+use Rattle.mvs_model.specs.Answers.{Event, Faulted, Told, At}
 use Rattle.mvs_model.specs.Name.{trimmed}
 use Rattle.mvs_model.specs.Job.{JobValue}
 use Rattle.mvs_model.specs.Card.{CardValue, IsCard}
-use Rattle.mvs_model.specs.Lines.{IsLine, lines_of}
+use Rattle.mvs_model.specs.Lines.{lines_of}
 use Rattle.mvs_model.specs.Start.{start}
 use Rattle.mvs_model.specs.Reading.{LineOf, FaultOf, hex_number}
 use Rattle.mvs_model.specs.Runs.{Condition, IsPrinting, machine, job_machine}
 use Rattle.mvs_model.specs.Texts.{printing, reply_line, said, hex}
 use Rattle.mvs_model.specs.View.{IsBounded}
-use Rattle.mvs_model.specs.Walk.{Closes, Serves, ServesLine, Faults, Walks, JobEnds, is_first}
+use Rattle.mvs_model.specs.Walk.{Closes, Serves, ServesLine, Faults, is_first}
 use Rattle.mvs_model.specs.Want.{AskValue, IsAsk}
 use Rattle.mvs_model.proofs.Going.{line_keeps, printed_both}
 use Rattle.mvs_model.proofs.Kept.{Closed}
@@ -34,12 +34,12 @@ use Rattle.mvs_model.proofs.ValueTexts.{hex_writes}
 use Rattle.step_machine.specs.Taking.{Takes}
 use Rattle.mvs_job.specs.declared.walk.LineTold.{LineTold}
 use Rattle.mvs_job.specs.declared.walk.LineTold.TheVariants as tells
-use Rattle.mvs_job.specs.Telling.{IsToldBy, WalkValue, closing, events_told, new_walk}
+use Rattle.mvs_job.specs.Telling.{IsToldBy, WalkValue, closing, events_told}
 use Rattle.judge.specs.declared.deciding.Verdict.{Verdict}
 use Rattle.judge.specs.declared.deciding.Verdict.TheVariants.{On, Refused}
-use Rattle.judge.specs.Deciding.{AsksArea, Decides, DecidesFirst, IsNoPrinting, InBounds, IsClosed, IsGrant, IsQuestion, MayPrint, PrintsEnd, leaves_open}
+use Rattle.judge.specs.Deciding.{Decides, DecidesFirst, IsNoPrinting, InBounds, IsClosed, IsGrant, IsQuestion, MayPrint, PrintsEnd, leaves_open}
 use Rattle.judge.proofs.Settled.{serves_same}
-use Rattle.judge.proofs.Areas.{Apart, Located, asked, located}
+use Rattle.judge.proofs.Areas.{Apart, asked, located}
 
 -- ---- texts
 

@@ -1,6 +1,6 @@
-use Rattle.std.proofs.Common.{◌≡◌, length, arith, sym, ◌∙◌}
+use Rattle.std.proofs.Common.{◌≡◌, arith, sym, ◌∙◌}
 use Rattle.mvs_model.proofs.Tests.{false_true}
-use Rattle.judge.proofs.Decided.{fault_refused, in_bounds, line_on, line_refused}
+use Rattle.judge.proofs.Decided.{in_bounds, line_on, line_refused}
 use Rattle.judge.proofs.deciding.decide_line.Goals as goal
 
 pub returns : goal.returns

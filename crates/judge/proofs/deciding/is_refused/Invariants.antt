@@ -1,4 +1,4 @@
-use Rattle.std.proofs.Common.{◌≡◌, ◌+◌, ◌-◌, ◌≤◌, length}
+use Rattle.std.proofs.Common.{◌+◌, ◌-◌, ◌≤◌, length}
 use Rattle.judge.specs.Deciding.{InBounds}
 use Rattle.judge.proofs.Decided.{Comes}
 use Rattle.judge.proofs.deciding.is_refused.Given as goal

@@ -1,4 +1,4 @@
-use Rattle.std.proofs.Common.{◌≡◌, ◌++◌, [], ap, ◌∙◌}
+use Rattle.std.proofs.Common.{◌++◌, [], ap, ◌∙◌}
 use Rattle.mvs_model.specs.Answers.{At}
 use Rattle.mvs_model.specs.Determined.{one_page}
 use Rattle.mvs_model.specs.Texts.{reply_line, said}
