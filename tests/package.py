@@ -28,7 +28,7 @@ COMPLETED = {
     ("--place", "=", "l"): "low",
     ("--place", "="): "low high",
     ("--v",): "--version",
-    ("fir",): "first.job first.out",
+    ("fir",): "first.job first.out first.why",
 }
 COMPLETE = 'source "$1"; COMP_WORDS=(mvsjob "${@:2}"); COMP_CWORD=$(($# - 1)); _mvsjob; echo "${COMPREPLY[*]}"'
 

@@ -1,5 +1,6 @@
 //! What of a line is to blame for a fault that is none of an operand.
 
+use crate::LONGEST;
 use crate::hint::Hint;
 use crate::lacking::{conflict, missing};
 use crate::near::{near_form, near_operation};
@@ -190,17 +191,23 @@ fn out_of_place(line: &[u8]) -> Found<'_> {
     }
 }
 
+// What is said of a line that is too long. Only the bytes are looked at that a line may have, which are there however it was read.
+fn too_long(line: &[u8]) -> Said<'_> {
+    let front = &line[..line.len().min(LONGEST)];
+    if front.contains(&0) {
+        Said::NoText
+    } else {
+        Said::TooLong
+    }
+}
+
 /// What of a line is to blame for its fault, where that is none of an operand.
 pub fn find_fault<'a>(alloc: Global, line: &'a [u8], fault: Fault) -> Found<'a> {
     match fault {
         Fault::TooLong => Found {
-            at: 255,
-            count: line.len().saturating_sub(255),
-            said: if line.contains(&0) {
-                Said::NoText
-            } else {
-                Said::TooLong
-            },
+            at: LONGEST,
+            count: line.len().saturating_sub(LONGEST),
+            said: too_long(line),
             hint: Hint::Nothing,
         },
         Fault::InvalidByte => invalid_byte(line),
