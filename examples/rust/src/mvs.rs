@@ -1,4 +1,7 @@
 //! A session, safe: each call keeps the rules of mvs.h for every input.
+// The wrapper has more than this program calls.
+#![allow(dead_code)]
+
 use std::marker::PhantomData;
 
 #[repr(C)]
