@@ -49,18 +49,25 @@ fn is_silent(text: &[u8]) -> bool {
     }
 }
 
-// Where the last of the lines that have ended ends, and how many there are.
-fn ended(text: &[u8]) -> (usize, u32)
-    ensures { result.0 ≤ length text.now }
+// How many lines of a text have ended.
+fn ended_lines(text: &[u8]) -> u32 {
+    let mut lines = 0u32;
+    for byte in text {
+        lines = lines.wrapping_add(u32::from(*byte == b'\n'));
+    }
+    lines
+}
+
+// Where the last of them ends.
+fn ended(text: &[u8]) -> usize
+    ensures { result ≤ length text.now }
 {
-    let (mut end, mut lines) = (0, 0u32);
-    for (i, byte) in text.iter().enumerate() {
-        if *byte == b'\n' {
-            end = i + 1;
-            lines = lines.saturating_add(1);
+    for i in (0..text.len()).rev() {
+        if text[i] == b'\n' {
+            return i + 1;
         }
     }
-    (end.min(text.len()), lines)
+    0
 }
 
 impl Lines {
@@ -76,7 +83,8 @@ impl Lines {
     // Lets go of the lines that have ended.
     fn let_go(&mut self) {
         let len = self.len.min(ROOM);
-        let (from, lines) = ended(&self.bytes[..len]);
+        let from = ended(&self.bytes[..len]);
+        let lines = ended_lines(&self.bytes[..from]);
         self.number = self.number.saturating_add(lines);
         if self.first {
             self.first = is_silent(&self.bytes[..from]);
