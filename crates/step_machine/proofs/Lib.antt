@@ -10,6 +10,7 @@ mod Holding
 mod Listing
 mod Longest
 mod Obtaining
+mod Owning
 mod Places
 mod Pooling
 mod Releasing

@@ -1,4 +1,5 @@
 pub mod Access
+pub mod Facts
 pub mod Lists
 pub mod Machine
 pub mod Reports

@@ -4,6 +4,7 @@
 mod access;
 mod cells;
 mod codes;
+mod facts;
 mod holder;
 mod machine;
 mod obtain;
@@ -17,4 +18,5 @@ mod subtasking;
 mod tell;
 mod unreleased;
 
+pub use facts::OwnedSubpool;
 pub use step::Step;

@@ -13,9 +13,11 @@ ghost use Rattle.mvs_model.specs.Reasons.{IsReason, IsReplyFor};
 ghost use Rattle.mvs_model.specs.State.{State};
 ghost use Rattle.mvs_model.specs.Replies.{is_abend};
 ghost use Rattle.mvs_model.specs.Answered.{Answered};
+ghost use Rattle.step_machine.specs.Facts.{owned_at};
 ghost use Rattle.step_machine.specs.Taking.{Takes};
 ghost use Rattle.step_machine.specs.Reports.{HasNone, IsMapEnd, IsMapRun, IsSubpoolLine};
 
+use crate::facts::OwnedSubpool;
 use crate::machine::Machine;
 use crate::obtain_list::first_told;
 use crate::tell::{
@@ -29,6 +31,7 @@ use mvs_model::place::{Addr, Place};
 use mvs_model::reason::Reason;
 use mvs_model::report::{MapRun, SubpoolLine};
 use mvs_model::request::{Reply, Request};
+use mvs_model::subpool::SubpoolId;
 use mvs_model::want::Placement;
 use std::alloc::Global;
 use std::marker::Model;
@@ -183,6 +186,13 @@ impl Step {
         ensures { MatchOption result (IsMapEnd self.now.state from) (IsMapRun self.now.state from) }
     {
         self.machine.map_run(from)
+    }
+
+    /// A subpool, where a task owns it.
+    pub fn owned(&self, subpool: SubpoolId) -> Option<OwnedSubpool>
+        ensures { result ≡ owned_at self.now.state subpool }
+    {
+        self.machine.owned(subpool)
     }
 
     /// Why a request of the task is refused, if it is, asked before it is made. None also where a place is wanting for a list

@@ -1,4 +1,3 @@
-use Rattle.std.proofs.Common.{sym}
 use Rattle.step_machine.proofs.Longest.{members_first, members_later}
 use Rattle.step_machine.proofs.machine.Machine.+members_reason.Goals as goal
 

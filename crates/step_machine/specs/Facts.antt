@@ -1,0 +1,33 @@
+-- What goes with a task that ends, by the state before it: the subpools that tasks own.
+use Rattle.std.specs.Prelude.{ℕ, ◌+◌, ◌==◌, false, true, List, [], ◌∷◌, Option, Some, None}
+use Rattle.std.specs.Option.{option_map}
+use Rattle.mvs_model.specs.Finite.{has, count_below}
+use Rattle.mvs_model.specs.Numbers.{most_subpools, first_page_below, first_page_above}
+use Rattle.mvs_model.specs.Reports.{bytes_held, each_below, label_of, page_subpool}
+use Rattle.mvs_model.specs.State.{State}
+use Rattle.step_machine.specs.declared.facts.OwnedSubpool.{OwnedSubpool}
+
+-- how many pages of a region, from its first page on, are assigned to a subpool
+abbrev pub pages_in : State → ℕ → ℕ → ℕ → ℕ
+pages_in st s first count = count_below count (λ p. has (λ r. r == s) (page_subpool st (first + p)))
+
+-- how many pages of both regions are
+abbrev pub pages_of : State → ℕ → ℕ
+pages_of st s = pages_in st s first_page_below st.regions.below + pages_in st s first_page_above st.regions.above
+
+-- how many bytes a subpool holds, outside of pools and in them
+abbrev pub bytes_of : State → ℕ → ℕ
+bytes_of st s = bytes_held st s false + bytes_held st s true
+
+-- a subpool that a task owns
+abbrev pub owned_at : State → ℕ → Option OwnedSubpool
+owned_at st s = option_map (λ l. record { number = l.0; owner = l.1; bytes = bytes_of st s; pages = pages_of st s }) (label_of st.owners (Some s))
+
+-- one thing as a list, or none
+abbrev pub listed : {X : Type 0} → Option X → List X
+listed None = []
+listed (Some x) = x ∷ []
+
+-- all subpools that tasks own
+abbrev pub owned_subpools : State → List OwnedSubpool
+owned_subpools st = each_below most_subpools (λ s. listed (owned_at st s))
