@@ -16,3 +16,4 @@ pub mod Areas
 pub mod Resolving
 pub mod Writing
 pub mod ReasonTexts
+pub mod FactTexts

@@ -14,6 +14,7 @@ ghost use Rattle.job_script.specs.Stated.{is_in_place, byte_checks, field_of, St
 use crate::addresses::{is_name, name};
 pub use crate::answers::{print_abend, print_said};
 pub use crate::data_lines::print_data;
+pub use crate::freed::print_freed;
 pub use crate::line_buffer::{LineBuffer, Pushed};
 pub use crate::names::Names;
 use crate::operations::{Operation, read_operation};
@@ -32,6 +33,7 @@ mod answers;
 mod checks;
 mod data_lines;
 pub mod digits;
+mod freed;
 pub mod given;
 mod in_front;
 pub mod items;

@@ -1,0 +1,62 @@
+//! The line that says what goes with a task that ends.
+
+ghost use Rattle.std.specs.Prelude.{◌≡◌, ◌≤◌, ◌+◌, ◌++◌, length};
+ghost use Rattle.job_script.specs.FactTexts.{freed_line, freed_said, pages_said};
+ghost use Rattle.job_script.specs.Writing.{Prints};
+
+use crate::print::write_all;
+use crate::text::Text;
+use mvs_model::name::Name;
+use mvs_model::subpool::SubNo;
+use mvs_model::watched::{Failed, Watched};
+use std::io::Write;
+
+// Puts how many pages behind a text.
+fn push_pages(text: &mut Text, pages: u32)
+    requires { length text.old ≤ 100 }
+    ensures text { text.new ≡ text.old ++ pages_said pages }
+    ensures len { length text.new ≤ length text.old + 16 }
+{
+    text.push_decimal(pages);
+    if pages == 1 {
+        text.push_all(b" page");
+    } else {
+        text.push_all(b" pages");
+    }
+}
+
+// Puts behind a text that a subpool is freed.
+fn push_freed(text: &mut Text, number: u32, owner: &Name, bytes: u32, pages: u32)
+    requires { length text.old ≤ 2 }
+    ensures text { text.new ≡ text.old ++ freed_said number owner.now bytes pages }
+    ensures len { length text.new ≤ length text.old + 100 }
+{
+    text.push_all(b"SP ");
+    text.push_decimal(number);
+    text.push_all(b" of ");
+    text.push_name(owner);
+    text.push_all(b" is freed: ");
+    text.push_decimal(bytes);
+    text.push_all(b" bytes in ");
+    push_pages(text, pages);
+    text.push_all(b". (rule 52)");
+}
+
+/// Prints the line that says that a subpool goes with its owner: its number, the owner, the bytes that it held, and the pages
+/// that it had.
+pub fn print_freed<W: Write>(
+    writer: &mut Watched<W>,
+    number: SubNo,
+    owner: &Name,
+    bytes: u32,
+    pages: u32,
+) -> Result<(), Failed>
+    ensures { Prints W.contents writer.old writer.new result
+        (freed_line number owner.now bytes pages) }
+{
+    let mut text = Text::new();
+    text.push_all(b"* ");
+    push_freed(&mut text, u32::from(number.get()), owner, bytes, pages);
+    text.push_all(b"\n");
+    write_all(writer, text.as_slice())
+}
