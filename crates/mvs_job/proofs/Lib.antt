@@ -1,6 +1,7 @@
 pub mod Explained
 pub mod Feeding
 pub mod FirstLine
+pub mod Freeing
 pub mod Mapping
 pub mod Numbers
 pub mod Resolved

@@ -1,4 +1,5 @@
 pub mod Exchanging
+pub mod Facts
 pub mod Explaining
 pub mod Giving
 pub mod Serving

@@ -20,6 +20,7 @@ ghost use Rattle.mvs_model.specs.Resolving.{first_unset, looked_up, resolved};
 ghost use Rattle.mvs_model.specs.Runs.{Asks, Does};
 ghost use Rattle.mvs_model.specs.State.{State};
 ghost use Rattle.mvs_model.specs.View.{IsBounded};
+ghost use Rattle.step_machine.specs.Facts.{owned_at};
 ghost use Rattle.step_machine.specs.Taking.{Takes};
 ghost use Rattle.step_machine.specs.Reports.{HasNone, IsMapEnd, IsMapRun, IsSubpoolLine};
 ghost use Rattle.mvs_job.specs.Telling.{IsLentBy, card_said};
@@ -37,10 +38,11 @@ use mvs_model::place::{Addr, Place};
 use mvs_model::reason::Reason;
 use mvs_model::report::{MapRun, SubpoolLine};
 use mvs_model::request::{Reply, Request};
+use mvs_model::subpool::SubpoolId;
 use mvs_model::want::Placement;
 use std::alloc::Global;
 use std::marker::Model;
-use step_machine::Step;
+use step_machine::{OwnedSubpool, Step};
 
 /// A step with the names that it has set, and what became of the former steps.
 #[derive(Drop)]
@@ -233,6 +235,13 @@ impl Job {
         ensures bounded { IsBounded self.now.state.regions }
     {
         self.step.map_run(from)
+    }
+
+    /// A subpool, where a task owns it.
+    pub fn owned(&self, subpool: SubpoolId) -> Option<OwnedSubpool>
+        ensures { result ≡ owned_at self.now.state subpool }
+    {
+        self.step.owned(subpool)
     }
 
     /// Why a statement of the step is refused, if it is, asked before it is served. The request that it asks for is written

@@ -1,6 +1,7 @@
 //! Runs jobs: a whole script from a reader to a writer, or line by line.
 #![tactic(auto)]
 
+mod ends;
 mod explaining;
 mod job;
 mod printing;

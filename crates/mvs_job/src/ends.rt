@@ -1,0 +1,147 @@
+//! What goes with a task that ends: the subpools that tasks own before it ends, and those of them that go.
+
+ghost use Rattle.std.specs.Prelude.{◌≡◌, [], Some};
+ghost use Rattle.mvs_model.specs.Lent.{lent};
+ghost use Rattle.mvs_model.specs.Name.{same_name};
+ghost use Rattle.mvs_model.specs.Owners.{goes};
+ghost use Rattle.mvs_model.specs.State.{State};
+ghost use Rattle.step_machine.specs.Facts.{owned_subpools};
+ghost use Rattle.job_script.specs.Writing.{Prints};
+ghost use Rattle.mvs_job.specs.Facts.{IsSurvey, end_of, freed_lines, subpool_line};
+
+use crate::job::Job;
+use crate::walk::Walk;
+use job_script::print_freed;
+use mvs_model::answer::Answer;
+use mvs_model::name::Name;
+use mvs_model::numbers::MOST_SUBPOOLS;
+use mvs_model::reason::Reason;
+use mvs_model::short_list::ShortList;
+use mvs_model::subpool::{SubNo, SubpoolId};
+use mvs_model::watched::{Failed, Watched};
+use std::io::Write;
+use step_machine::OwnedSubpool;
+
+/// What the next line is asked for.
+#[derive(Clone, Copy, Debug, PartialEq, Eq)]
+pub(crate) struct Asked {
+    /// Why it is refused.
+    pub(crate) reason: Option<Reason>,
+    /// Whether it may end its task.
+    pub(crate) ends: bool,
+}
+
+/// Subpools that tasks own.
+pub(crate) type OwnedSubpools = ShortList<OwnedSubpool, 0, MOST_SUBPOOLS>;
+
+/// No subpool.
+pub(crate) fn no_subpools() -> OwnedSubpools
+    ensures { result ≡ [] }
+{
+    OwnedSubpools::empty(OwnedSubpool {
+        number: SubNo::of(0),
+        owner: Name::of(b"NONE"),
+        bytes: 0,
+        pages: 0,
+    })
+}
+
+// All subpools that tasks own.
+fn owned_subpools(job: &Job) -> OwnedSubpools
+    ensures { result ≡ owned_subpools job.now.state }
+{
+    let mut subpools = no_subpools();
+    for s in 0..MOST_SUBPOOLS {
+        if let Some(subpool) = job.owned(SubpoolId::new(s as u16)) {
+            subpools.push(subpool);
+        }
+    }
+    subpools
+}
+
+/// Takes the subpools that the tasks of the step own, if they are asked for.
+pub(crate) fn survey(walk: &Walk, asked: bool, subpools: &mut OwnedSubpools)
+    ensures { IsSurvey asked walk.now.step subpools.new }
+{
+    if !asked {
+        return;
+    }
+    if let Some(job) = walk.job() {
+        *subpools = owned_subpools(job);
+    }
+}
+
+// Whether two names are the same.
+fn is_same(one: &Name, other: &Name) -> bool
+    ensures { result ≡ same_name one.now other.now }
+{
+    *one == *other
+}
+
+// Whether a task ends, with one that does and those that fall with it.
+fn goes(task: &Name, fallen: &[Name], other: &Name) -> bool
+    ensures { result ≡ goes task.now fallen.now other.now }
+{
+    let mut any = is_same(other, task);
+    for name in fallen {
+        any |= is_same(other, name);
+    }
+    any
+}
+
+// Prints what becomes of a subpool at the end of a task and of those that fall with it.
+fn print_subpool<W: Write>(
+    writer: &mut Watched<W>,
+    task: &Name,
+    fallen: &[Name],
+    subpool: &OwnedSubpool,
+) -> Result<(), Failed>
+    ensures { Prints W.contents writer.old writer.new result
+        (subpool_line (task.now, fallen.now) subpool.now) }
+{
+    if !goes(task, fallen, &subpool.owner) {
+        return Ok(());
+    }
+    print_freed(
+        writer,
+        subpool.number,
+        &subpool.owner,
+        subpool.bytes,
+        subpool.pages,
+    )
+}
+
+// Prints which subpools go with a task and those that fall with it.
+fn print_subpools<W: Write>(
+    writer: &mut Watched<W>,
+    task: &Name,
+    fallen: &[Name],
+    subpools: &[OwnedSubpool],
+) -> Result<(), Failed>
+    ensures { Prints W.contents writer.old writer.new result
+        (freed_lines subpools.now (Some (task.now, fallen.now))) }
+{
+    for subpool in subpools {
+        print_subpool(writer, task, fallen, subpool)?;
+    }
+    Ok(())
+}
+
+/// Prints which subpools go where an answer ends its task.
+pub(crate) fn print_end<W: Write>(
+    writer: &mut Watched<W>,
+    task: &Name,
+    fallen: &[Name],
+    answer: &Answer,
+    subpools: &[OwnedSubpool],
+) -> Result<(), Failed>
+    ensures { (st : State)
+        → Prints W.contents writer.old writer.new result
+        (freed_lines subpools.now (end_of task.now (lent st fallen.now task.now answer.now))) }
+{
+    match answer {
+        Answer::Abended(_) => print_subpools(writer, task, fallen, subpools),
+        Answer::Ended => print_subpools(writer, task, &[], subpools),
+        _ => Ok(()),
+    }
+}
