@@ -1,7 +1,8 @@
 -- A script that is run with reasons, a line at a time.
-use Rattle.std.proofs.Common.{◌≡◌, ◌≢◌, ℕ, ◌+◌, ◌<◌, ◌≤◌, List, [], ◌∷◌, ◌++◌, length, take, drop, get_or, codes, append_assoc, append-nil, add-one, arith, Option, Some, None, Result, Bool, true, false, Ok, Err, inl, inr, ◌⊎◌, refl, sym, ap, ◌∙◌, subst}
+use Rattle.std.proofs.Common.{◌≡◌, ◌≢◌, ℕ, ◌+◌, ◌<◌, ◌≤◌, List, [], ◌∷◌, ◌++◌, length, take, drop, get_or, codes, append_assoc, append-nil, add-one, arith, Option, Some, None, Result, Bool, true, false, cond, Ok, Err, inl, inr, ◌⊎◌, refl, sym, ap, ◌∙◌, subst}
 use Rattle.std.proofs.Math.Seq.{drop-cons}
 use Rattle.std.proofs.lemmas.List.{take-append-drop, take_all, drop_all, drop-drop}
+use Rattle.std.proofs.lemmas.Grind.{flat_map-append}
 use Rattle.std.specs.List.{flat_map, AllByRecursion}
 use Rattle.std.specs.Io.KnownBytes.{Appends, Keeps}
 use Rattle.std.proofs.KnownBytes.{Appends-kept, Appends-nil, Appends-trans}
@@ -20,16 +21,25 @@ use Rattle.mvs_model.specs.Lines.{lines_of}
 use Rattle.mvs_model.specs.Resolving.{resolved}
 use Rattle.mvs_model.specs.Runs.{machine}
 use Rattle.mvs_model.specs.Texts.{printing}
-use Rattle.mvs_model.specs.Walk.{Closes, JobEnds, Walks}
+use Rattle.mvs_model.specs.Walk.{Closes, JobEnds, ServesLine, Walks}
 use Rattle.mvs_model.proofs.Going.{printed_both}
 use Rattle.job_script.specs.ReasonTexts.{reason_line, reason_said}
 use Rattle.job_script.specs.Writing.{AppendsFront}
 use Rattle.job_script.proofs.Appending.{front_longer, front_more}
 use Rattle.mvs_job.specs.declared.printing.Stop.{Stop}
 use Rattle.mvs_job.specs.declared.printing.Stop.TheVariants as stop
-use Rattle.mvs_job.specs.Explaining.{Explains, ExplainsLine, Interleaves, IsExplained, IsExplanation, IsStarred, Part, SoFar, WritesExplained, reason_text, spoken}
-use Rattle.mvs_job.specs.Serving.{RunsLine}
-use Rattle.mvs_job.specs.Telling.{WalkValue, new_walk}
+use Rattle.mvs_job.specs.Explaining.{Explains, ExplainsLine, Interleaves, IsBehind, IsExplained, IsExplanation, IsStarred, Part, SoFar, WritesExplained, reason_text, spoken}
+use Rattle.mvs_job.specs.Facts.{IsAsked, IsFreeing, IsSurvey, ended_by, freed_by, freed_lines, may_end, subpool_line}
+use Rattle.mvs_job.specs.declared.ends.Asked.{Asked}
+use Rattle.mvs_job.specs.declared.walk.LineTold.{LineTold}
+use Rattle.mvs_job.specs.declared.walk.LineTold.TheVariants as told
+use Rattle.step_machine.specs.Facts.{owned_subpools}
+use Rattle.step_machine.specs.declared.facts.OwnedSubpool.{OwnedSubpool}
+use Rattle.job_script.specs.FactTexts.{freed_line, freed_said}
+use Rattle.mvs_model.specs.declared.line.Fault.{Fault}
+use Rattle.mvs_model.specs.Owners.{goes}
+use Rattle.mvs_job.specs.Serving.{RunsLine, TellsLine}
+use Rattle.mvs_job.specs.Telling.{IsTold, WalkValue, events_told, new_walk}
 use Rattle.mvs_job.proofs.Feeding.{all_before, lines_ended, lines_last}
 
 -- ---- the first line
@@ -53,21 +63,42 @@ line_whole bytes some none =
 
 -- ---- a line
 
-module _ (before mid after : Option (List ℕ)) (w w' : WalkValue) (l why : List ℕ) (is : IsExplanation w.step l why) where
-  pub line_explained : (b : Bool) → b ≡ true → RunsLine before mid w l w' (Ok b) → Appends mid after why → ExplainsLine before after w l w' (Ok true)
-  line_explained b e r a =
-      let h : RunsLine before mid w l w' (Ok true) = subst (λ b. RunsLine before mid w l w' (Ok b)) e r in
-      (h.0, why, Appends-trans before mid after (printing h.0) why h.1 a, h.2, is)
+-- a line that has no fault was served
+served : (w w' : WalkValue) (l : List ℕ) (t : LineTold) → ((fault : Fault) → t ≡ told.Faulted fault → ⊥) → IsTold w l t w' → ServesLine machine w.number w.step l (events_told w.number w' t) w'.step
+served w w' l (told.Faulted fault) other h = absurd (other fault refl)
+served w w' l told.Nothing other h = h
+served w w' l (told.Began end card) other h = h
+served w w' l (told.Answered t a) other h = h
 
-  pub line_cut : (b : Bool) → b ≡ true → RunsLine before mid w l w' (Ok b) → AppendsFront mid after why → ExplainsLine before after w l w' (Err stop.Write)
-  line_cut b e r a =
-      let h : RunsLine before mid w l w' (Ok true) = subst (λ b. RunsLine before mid w l w' (Ok b)) e r in
-      inr (h.0, why, inl (w'.step, h.2), is, front_more before mid after (printing h.0) why h.1 a)
+-- which subpools go, by those that were taken before
+pub freeing : (step : Option JobValue) (l : List ℕ) (asked : Asked) (subpools : List OwnedSubpool) → IsAsked step l asked → IsSurvey asked.ends step subpools → (events : List Event) → IsFreeing step l events (freed_by asked.ends subpools events)
+freeing None l asked subpools is survey events = ap (λ b. freed_by b subpools events) is
+freeing (Some job) l asked subpools (inl (said, of, why, e)) survey events =
+    inl (said, of, (asked.reason, why, at asked.ends refl ∙ ap (λ b. freed_by b (owned_subpools job.state) events) e)) where
+      at : (b : Bool) → asked.ends ≡ b → freed_by b subpools events ≡ freed_by b (owned_subpools job.state) events
+      at true same = ap (λ s. freed_lines s (ended_by events)) (survey same job refl)
+      at false same = refl
+freeing (Some job) l asked subpools (inr (fault, of, e)) survey events = inr (fault, of, ap (λ b. freed_by b subpools events) e)
 
-pub line_stopped : (before after : Option (List ℕ)) (w w' : WalkValue) (l why : List ℕ) → IsExplanation w.step l why → (s : Stop) → RunsLine before after w l w' (Err s) → ExplainsLine before after w l w' (Err s)
-line_stopped before after w w' l why is stop.Write (inl kept) = inl kept
-line_stopped before after w w' l why is stop.Write (inr (events, tells, front)) = inr (events, why, tells, is, front_longer before after (printing events) why front)
-line_stopped before after w w' l why is stop.Memory h = h
+module _ (w : WalkValue) (l why : List ℕ) (asked : Asked) (subpools : List OwnedSubpool) (is : IsExplanation w.step l why) (ends : IsAsked w.step l asked) (survey : IsSurvey asked.ends w.step subpools) where
+  behind : (events : List Event) → IsBehind w.step l events (why ++ freed_by asked.ends subpools events)
+  behind events = (why, freed_by asked.ends subpools events, is, freeing w.step l asked subpools ends survey events, refl)
+
+  module _ (before mid after : Option (List ℕ)) (w' : WalkValue) (t : LineTold) (other : (fault : Fault) → t ≡ told.Faulted fault → ⊥) (tells : TellsLine before mid w l w' (Ok t)) where
+    pub line_explained : Appends mid after (why ++ freed_by asked.ends subpools (events_told w.number w' t)) → ExplainsLine before after w l w' (Ok true)
+    line_explained a =
+        let events = events_told w.number w' t in
+        (events, why ++ freed_by asked.ends subpools events, Appends-trans before mid after (printing events) _ tells.1 a, served w w' l t other tells.0, behind events)
+
+    pub line_cut : AppendsFront mid after (why ++ freed_by asked.ends subpools (events_told w.number w' t)) → ExplainsLine before after w l w' (Err stop.Write)
+    line_cut a =
+        let events = events_told w.number w' t in
+        inr (events, why ++ freed_by asked.ends subpools events, inl (w'.step, served w w' l t other tells.0), behind events, front_more before mid after (printing events) _ tells.1 a)
+
+  pub line_stopped : (before after : Option (List ℕ)) (w' : WalkValue) (s : Stop) → RunsLine before after w l w' (Err s) → ExplainsLine before after w l w' (Err s)
+  line_stopped before after w' stop.Write (inl kept) = inl kept
+  line_stopped before after w' stop.Write (inr (events, tells, front)) = inr (events, why ++ freed_by asked.ends subpools events, tells, behind events, front_longer before after (printing events) _ front)
+  line_stopped before after w' stop.Memory h = h
 
 -- ---- the lines so far
 
@@ -133,22 +164,57 @@ none_left script at h = ap lines_of (drop_all at script h)
 
 -- ---- the printing in it
 
-starred_line : (t : Name) (request : Request) (reason : Reason) → (said : List ℕ) × (reason_line t request reason ≡ 42 ∷ said ++ 10 ∷ [])
-starred_line t request reason = (codes " " ++ reason_said t request reason, refl)
+starred_none : IsStarred []
+starred_none = ([], refl)
+
+starred_one : (said : List ℕ) → IsStarred (42 ∷ said ++ 10 ∷ [])
+starred_one said = (said ∷ [], sym (append-nil (42 ∷ said ++ 10 ∷ [])))
+
+starred_both : (one other : List ℕ) → IsStarred one → IsStarred other → IsStarred (one ++ other)
+starred_both one other a b = (a.0 ++ b.0, ap (λ x. x ++ other) a.1 ∙ ap (λ x. flat_map (λ said. 42 ∷ said ++ 10 ∷ []) a.0 ++ x) b.1 ∙ sym (flat_map-append (λ said. 42 ∷ said ++ 10 ∷ []) a.0 b.0))
+
+starred_line : (t : Name) (request : Request) (reason : Reason) → IsStarred (reason_line t request reason)
+starred_line t request reason = starred_one (codes " " ++ reason_said t request reason)
 
 text_starred : (job : JobValue) (l : Line) (r : Option Reason) → IsStarred (reason_text job l r)
-text_starred job l None = inl refl
-text_starred job line.Nothing (Some reason) = inl refl
-text_starred job (line.Statement t (says.Request a)) (Some reason) = inr (starred_line t (spoken (resolved job.names a)) reason)
-text_starred job (line.Statement t (says.Region below above fill residence)) (Some reason) = inr (starred_line t Return reason)
-text_starred job (line.Statement t (says.Where name)) (Some reason) = inr (starred_line t Return reason)
-text_starred job (line.Statement t says.ReportSubpools) (Some reason) = inr (starred_line t Return reason)
-text_starred job (line.Statement t says.ReportMap) (Some reason) = inr (starred_line t Return reason)
+text_starred job l None = starred_none
+text_starred job line.Nothing (Some reason) = starred_none
+text_starred job (line.Statement t (says.Request a)) (Some reason) = starred_line t (spoken (resolved job.names a)) reason
+text_starred job (line.Statement t (says.Region below above fill residence)) (Some reason) = starred_line t Return reason
+text_starred job (line.Statement t (says.Where name)) (Some reason) = starred_line t Return reason
+text_starred job (line.Statement t says.ReportSubpools) (Some reason) = starred_line t Return reason
+text_starred job (line.Statement t says.ReportMap) (Some reason) = starred_line t Return reason
 
 explanation_starred : (old : Option JobValue) (l why : List ℕ) → IsExplanation old l why → IsStarred why
-explanation_starred None l why e = inl e
+explanation_starred None l why e = subst IsStarred (sym e) starred_none
 explanation_starred (Some job) l why (inl (said, is, (r, of, e))) = subst IsStarred (sym e) (text_starred job said r)
-explanation_starred (Some job) l why (inr (fault, is, e)) = inl e
+explanation_starred (Some job) l why (inr (fault, is, e)) = subst IsStarred (sym e) starred_none
+
+subpool_starred : (e : Name × List Name) (s : OwnedSubpool) → IsStarred (subpool_line e s)
+subpool_starred e s = at (goes e.0 e.1 s.owner) where
+  at : (b : Bool) → IsStarred (cond b (freed_line s.number s.owner s.bytes s.pages) [])
+  at true = starred_one (codes " " ++ freed_said s.number s.owner s.bytes s.pages)
+  at false = starred_none
+
+each_starred : (e : Name × List Name) (subpools : List OwnedSubpool) → IsStarred (flat_map (subpool_line e) subpools)
+each_starred e [] = starred_none
+each_starred e (s ∷ subpools) = starred_both (subpool_line e s) _ (subpool_starred e s) (each_starred e subpools)
+
+lines_starred : (subpools : List OwnedSubpool) (ended : Option (Name × List Name)) → IsStarred (freed_lines subpools ended)
+lines_starred subpools None = starred_none
+lines_starred subpools (Some e) = each_starred e subpools
+
+freed_starred : (asked : Bool) (subpools : List OwnedSubpool) (events : List Event) → IsStarred (freed_by asked subpools events)
+freed_starred true subpools events = lines_starred subpools (ended_by events)
+freed_starred false subpools events = starred_none
+
+freeing_starred : (old : Option JobValue) (l : List ℕ) (events : List Event) (freed : List ℕ) → IsFreeing old l events freed → IsStarred freed
+freeing_starred None l events freed e = subst IsStarred (sym e) starred_none
+freeing_starred (Some job) l events freed (inl (said, is, (r, of, e))) = subst IsStarred (sym e) (freed_starred (may_end said r) (owned_subpools job.state) events)
+freeing_starred (Some job) l events freed (inr (fault, is, e)) = subst IsStarred (sym e) starred_none
+
+behind_starred : (old : Option JobValue) (l : List ℕ) (events : List Event) (text : List ℕ) → IsBehind old l events text → IsStarred text
+behind_starred old l events text (why, freed, is, goes, e) = subst IsStarred (sym e) (starred_both why freed (explanation_starred old l why is) (freeing_starred old l events freed goes))
 
 abbrev IsSplit : Outcome → ℕ → Option JobValue → List (List ℕ) → List ℕ → Type 0
 IsSplit outcome number old lines text =
@@ -157,7 +223,7 @@ IsSplit outcome number old lines text =
 
 last_part : (outcome : Outcome) (number : ℕ) (old : Option JobValue) (lines : List (List ℕ)) (text : List ℕ) (events : List Event) → Walks machine (JobEnds machine outcome) number old lines events → text ≡ printing events → IsSplit outcome number old lines text
 last_part outcome number old lines text events w e =
-    (events, record { told = printing events; why = [] } ∷ [], w, sym (append-nil (printing events)), e ∙ sym (append-nil (printing events)) ∙ sym (append-nil (printing events ++ [])), (inl refl, tt))
+    (events, record { told = printing events; why = [] } ∷ [], w, sym (append-nil (printing events)), e ∙ sym (append-nil (printing events)) ∙ sym (append-nil (printing events ++ [])), (starred_none, tt))
 
 split : (outcome : Outcome) (lines : List (List ℕ)) (number : ℕ) (old : Option JobValue) (text : List ℕ) → Explains (Ok outcome) number old lines text → IsSplit outcome number old lines text
 split outcome [] number old text h = last_part outcome number old [] text h.0 h.1 h.2
@@ -169,7 +235,7 @@ split outcome (l ∷ lines) number old text (inr (mid, events, why, rest, serves
       inr (mid, events, s.0, serves, refl, s.2),
       printed_both events s.0 ∙ ap (λ x. printing events ++ x) s.3,
       e ∙ ap (λ x. (printing events ++ why) ++ x) s.4,
-      (explanation_starred old l why is, s.5),
+      (behind_starred old l events why is, s.5),
     )
 
 -- Without its reasons the text of a run with reasons is the printing of a run.

@@ -1,5 +1,5 @@
 -- The subpools that tasks own, one after another, and the names of tasks.
-use Rattle.std.proofs.Common.{◌≡◌, ℕ, ◌+◌, ◌≤◌, ◌++◌, List, [], ◌∷◌, length, length-append, append-nil, Bool, true, false, Option, Some, None, refl, sym, ap, ◌∙◌, arith}
+use Rattle.std.proofs.Common.{◌≡◌, ℕ, ◌+◌, ◌≤◌, ◌++◌, List, [], ◌∷◌, length, length-append, append-nil, Bool, true, false, Option, Some, None, refl, sym, ap, subst, ◌∙◌, arith}
 use Rattle.std.specs.Prelude.{nat_eq}
 use Rattle.std.specs.Cmp.Lexicographic.{pointwise}
 use Rattle.std.proofs.lemmas.Bool.Decides.{Decides-eqb}
@@ -7,9 +7,16 @@ use Rattle.std.proofs.lemmas.Slice.Eq.{slice_eq-Decides}
 use Rattle.mvs_model.specs.Name.{same_name}
 use Rattle.mvs_model.specs.Reports.{each_below}
 use Rattle.mvs_model.specs.State.{State}
-use Rattle.mvs_model.proofs.Orders.{same_name_self, told}
+use Rattle.mvs_model.proofs.Orders.{same_name_self, told as told_apart}
 use Rattle.step_machine.specs.Facts.{listed, owned_at}
 use Rattle.step_machine.specs.declared.facts.OwnedSubpool.{OwnedSubpool}
+use Rattle.mvs_model.specs.declared.name.Name.{Name}
+use Rattle.mvs_model.specs.declared.answer.Answer.{Answer as Short}
+use Rattle.mvs_model.specs.Lent.{lent, fallen_in}
+use Rattle.mvs_job.specs.declared.walk.LineTold.{LineTold}
+use Rattle.mvs_job.specs.declared.walk.LineTold.TheVariants as told
+use Rattle.mvs_job.specs.Facts.{end_of, ended_by, freed_by, freed_lines}
+use Rattle.mvs_job.specs.Telling.{WalkValue, IsLent, events_told, lent_in}
 use Rattle.mvs_job.proofs.Numbers.{each_next}
 
 -- two names that are told to be the same
@@ -17,7 +24,7 @@ pub same_is : (a b : List ℕ) → pointwise nat_eq a b ≡ same_name a b
 same_is a b = at (pointwise nat_eq a b) refl where
   at : (v : Bool) → pointwise nat_eq a b ≡ v → v ≡ same_name a b
   at true e = let s : a ≡ b = (slice_eq-Decides Decides-eqb a b _ refl).0 e in sym (ap (same_name a) (sym s) ∙ same_name_self a)
-  at false e = sym (told a b (λ same. let f : false ≡ true = sym e ∙ (slice_eq-Decides Decides-eqb a b _ refl).1 same in cc))
+  at false e = sym (told_apart a b (λ same. let f : false ≡ true = sym e ∙ (slice_eq-Decides Decides-eqb a b _ refl).1 same in cc))
 
 module _ (st : State) (s : ℕ) (subpools : List OwnedSubpool) (few : length subpools ≤ s) (each : subpools ≡ each_below s (λ n. listed (owned_at st n))) where
   -- one subpool more, and none
@@ -35,3 +42,15 @@ module _ (st : State) (s : ℕ) (subpools : List OwnedSubpool) (few : length sub
     (let n = ap length e in omega (arith, n, few)),
     e ∙ each ∙ sym (append-nil (each_below s row)) ∙ ap (λ v. each_below s row ++ listed v) (sym is) ∙ sym (each_next row s),
   )
+
+-- what goes where a statement was answered
+pub answered_frees : (w : WalkValue) (t : LineTold) (task : Name) (a : Short) (ends : Bool) (subpools : List OwnedSubpool) (fallen : List Name) → ends ≡ true → t ≡ told.Answered task a → IsLent w t → fallen ≡ fallen_in w.reply → (number : ℕ)
+    → (st : State) × (freed_lines subpools (end_of task (lent st fallen task a)) ≡ freed_by ends subpools (events_told number w t))
+answered_frees w t task a false subpools fallen asked is lends falls number = absurd (let f : false ≡ true = asked in cc)
+answered_frees w t task a true subpools fallen asked is lends falls number =
+    let l = subst (IsLent w) is lends in (
+      l.0.state,
+      ap (λ names. freed_lines subpools (end_of task (lent l.0.state names task a))) falls
+      ∙ ap (λ step. freed_lines subpools (end_of task (lent_in step (fallen_in w.reply) task a))) (sym l.1)
+      ∙ ap (λ x. freed_lines subpools (ended_by (events_told number w x))) (sym is),
+    )

@@ -146,7 +146,7 @@ served_in_step P o step later t s reply (Ok answer) is does lent = (step, later,
 served_in_step P o step later t s reply (Err e) is takes lent = subst (λ o. TakesMemory o (line.Statement t s) []) (sym is) takes
 
 -- texts that are printed by two calls, one behind the other
-both_written : {W X Y E F : Type 0} (contents : W → Option (List ℕ)) (old mid new : WatchedValue W) (u : X) (result : Result Y F) (first second : List ℕ) → Prints {W = W} {X = X} {E = E} contents old mid (Ok u) first → Prints {W = W} {X = Y} {E = F} contents mid new result second
+pub both_written : {W X Y E F : Type 0} (contents : W → Option (List ℕ)) (old mid new : WatchedValue W) (u : X) (result : Result Y F) (first second : List ℕ) → Prints {W = W} {X = X} {E = E} contents old mid (Ok u) first → Prints {W = W} {X = Y} {E = F} contents mid new result second
     → Prints {W = W} {X = Y} {E = F} contents old new result (first ++ second)
 both_written contents old mid new u (Ok v) first second p q = record { bytes = Appends-trans (contents old.inner) (contents mid.inner) (contents new.inner) first second p.bytes q.bytes; ok = q.ok ∙ p.ok; err = tt }
 both_written contents old mid new u (Err e) first second p q = record { bytes = front_more (contents old.inner) (contents mid.inner) (contents new.inner) first second p.bytes q.bytes; ok = tt; err = q.err }

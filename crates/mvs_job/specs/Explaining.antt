@@ -1,4 +1,4 @@
--- A run of a script with reasons: behind what a line tells stands why its request is refused, if it is.
+-- A run of a script with reasons: behind what a line tells stands why its request is refused, if it is, and what goes where it ends a task.
 use Rattle.std.specs.Prelude.{◌≡◌, ◌⊎◌, ℕ, ◌+◌, List, [], ◌∷◌, ◌++◌, Option, Some, None, Result, Ok, Err, Bool, true, false}
 use Rattle.std.specs.List.{flat_map, AllByRecursion}
 use Rattle.std.specs.Io.KnownBytes.{Appends, Keeps}
@@ -29,6 +29,7 @@ use Rattle.job_script.specs.ReasonTexts.{reason_line}
 use Rattle.job_script.specs.Writing.{AppendsFront}
 use Rattle.mvs_job.specs.declared.printing.Stop.{Stop}
 use Rattle.mvs_job.specs.declared.printing.Stop.TheVariants as stop
+use Rattle.mvs_job.specs.Facts.{IsFreeing}
 use Rattle.mvs_job.specs.Serving.{LineTells}
 use Rattle.mvs_job.specs.Telling.{WalkValue}
 use Rattle.mvs_job.specs.Why.{OfLine}
@@ -67,9 +68,13 @@ said_of (line.Statement t s) request (Some reason) = reason_line t request reaso
 
 -- ---- a run
 
+-- The text stands behind these events of the next line: why it is refused, and which subpools go where it ends a task.
+abbrev pub IsBehind : Option JobValue → List ℕ → List Event → List ℕ → Type 0
+IsBehind old bytes events text = (why : List ℕ) × (freed : List ℕ) × IsExplanation old bytes why × IsFreeing old bytes events freed × (text ≡ why ++ freed)
+
 -- How a run with reasons may stop, at the number of the next line, in this step or before the first, with these lines left, when
 -- this text is written last: it ends so, at a line with a fault or behind the last line; a write fails, when nothing or a front
--- of what a line tells and of its reason is written; or memory is wanting for the answer to a line.
+-- of what a line tells and of what stands behind it is written; or memory is wanting for the answer to a line.
 abbrev pub StopsSo : Result Outcome Stop → ℕ → Option JobValue → List (List ℕ) → List ℕ → Type 0
 StopsSo (Ok outcome) number old [] text = (events : List Event) × Closes machine number old events outcome × (text ≡ printing events)
 StopsSo (Ok outcome) number old (l ∷ lines) text = (events : List Event) × Faults number (is_first old) l events × (outcome ≡ ScriptFault) × (text ≡ printing events)
@@ -77,18 +82,18 @@ StopsSo (Err stop.Write) number old [] text = (events : List Event) × (outcome 
 StopsSo (Err stop.Write) number old (l ∷ lines) text =
     (text ≡ [])
     ⊎ ((events : List Event) × (why : List ℕ) × (rest : List ℕ) × LineTells (record { step = old; number = number; reply = reply.NotRun }) l events
-    × IsExplanation old l why × (printing events ++ why ≡ text ++ rest))
+    × IsBehind old l events why × (printing events ++ why ≡ text ++ rest))
 StopsSo (Err stop.Memory) number old [] text = ⊥
 StopsSo (Err stop.Memory) number old (l ∷ lines) text = (events : List Event) × StopsForMemory number old (l ∷ lines) events × (text ≡ printing events)
 
 -- From the line of this number on this text may be written, until the run stops: it stops before the first of the lines, or that
--- line is served, what it tells is printed, why it is refused stands behind that, and the run goes on.
+-- line is served, what it tells is printed, why it is refused and what goes stands behind that, and the run goes on.
 abbrev pub Explains : Result Outcome Stop → ℕ → Option JobValue → List (List ℕ) → List ℕ → Type 0
 Explains how number old [] text = StopsSo how number old [] text
 Explains how number old (l ∷ lines) text =
     StopsSo how number old (l ∷ lines) text
     ⊎ ((mid : Option JobValue) × (events : List Event) × (why : List ℕ) × (rest : List ℕ)
-    × ServesLine machine number old l events mid × IsExplanation old l why × (text ≡ (printing events ++ why) ++ rest) × Explains how (number + 1) mid lines rest)
+    × ServesLine machine number old l events mid × IsBehind old l events why × (text ≡ (printing events ++ why) ++ rest) × Explains how (number + 1) mid lines rest)
 
 -- The text is that of a run of the script with reasons, which stops so.
 abbrev pub IsExplained : List ℕ → List ℕ → Result Outcome Stop → Type 0
@@ -100,14 +105,14 @@ WritesExplained before after script how = (text : List ℕ) × Appends before af
 
 -- ---- the printing in it
 
--- some printed events, and a reason behind them
+-- some printed events, and what stands behind them
 pub record Part : Type 0 where
   pub told : List ℕ
   pub why : List ℕ
 
--- Nothing, or a text from an asterisk up to a line feed.
+-- Texts one behind another, each from an asterisk up to a line feed.
 abbrev pub IsStarred : List ℕ → Type 0
-IsStarred why = (why ≡ []) ⊎ ((said : List ℕ) × (why ≡ 42 ∷ said ++ 10 ∷ []))
+IsStarred why = (lines : List (List ℕ)) × (why ≡ flat_map (λ said. 42 ∷ said ++ 10 ∷ []) lines)
 
 -- The text is the printing of a run of the script with reasons between the events.
 pub record Interleaves (script text : List ℕ) (outcome : Outcome) : Type 0 where
@@ -123,10 +128,10 @@ pub record Interleaves (script text : List ℕ) (outcome : Outcome) : Type 0 whe
 -- What the call for one line does, between two moments of a writer.
 abbrev pub ExplainsLine : Option (List ℕ) → Option (List ℕ) → WalkValue → List ℕ → WalkValue → Result Bool Stop → Type 0
 ExplainsLine before after w line new (Ok true) =
-    (events : List Event) × (why : List ℕ) × Appends before after (printing events ++ why) × ServesLine machine w.number w.step line events new.step × IsExplanation w.step line why
+    (events : List Event) × (why : List ℕ) × Appends before after (printing events ++ why) × ServesLine machine w.number w.step line events new.step × IsBehind w.step line events why
 ExplainsLine before after w line new (Ok false) = (events : List Event) × Appends before after (printing events) × Faults w.number (is_first w.step) line events
 ExplainsLine before after w line new (Err stop.Write) =
-    Keeps before after ⊎ ((events : List Event) × (why : List ℕ) × LineTells w line events × IsExplanation w.step line why × AppendsFront before after (printing events ++ why))
+    Keeps before after ⊎ ((events : List Event) × (why : List ℕ) × LineTells w line events × IsBehind w.step line events why × AppendsFront before after (printing events ++ why))
 ExplainsLine before after w line new (Err stop.Memory) = (events : List Event) × Appends before after (printing events) × StopsForMemory w.number w.step (line ∷ []) events
 
 -- What stands between two moments of a writer is written behind the lines before, in whatever way the run stops behind it.

@@ -1,5 +1,5 @@
 -- What is told of the subpools that go with a task that ends.
-use Rattle.std.specs.Prelude.{◌≡◌, ◌⊎◌, ◌||◌, ℕ, Bool, true, false, List, [], ◌∷◌, Option, Some, None, is_some, if◌then◌else◌}
+use Rattle.std.specs.Prelude.{◌≡◌, ◌⊎◌, ℕ, Bool, true, false, not, List, [], ◌∷◌, Option, Some, None, if◌then◌else◌}
 use Rattle.std.specs.List.{flat_map}
 use Rattle.mvs_model.specs.declared.name.Name.{Name}
 use Rattle.mvs_model.specs.declared.line.Fault.{Fault}
@@ -8,8 +8,10 @@ use Rattle.mvs_model.specs.declared.line.Line.TheVariants as line
 use Rattle.mvs_model.specs.declared.line.Statement.{Statement}
 use Rattle.mvs_model.specs.declared.line.Statement.TheVariants as says
 use Rattle.mvs_model.specs.declared.line.Written.{Written}
-use Rattle.mvs_model.specs.declared.line.Written.TheVariants.{Return, ObtainList}
+use Rattle.mvs_model.specs.declared.line.Written.TheVariants.{Obtain, ObtainList, Release, ReleaseArea, ReleaseList, Return}
 use Rattle.mvs_model.specs.declared.reason.Reason.{Reason}
+use Rattle.mvs_model.specs.declared.reason.Reason.TheVariants.{NotActive, NotSet, Shortage, NoMember, NoSubpool, NotHeld, Overlap, NoFreeCell}
+use Rattle.mvs_model.specs.Codes.{is_conditional}
 use Rattle.mvs_model.specs.Answers.{Answer, Ended, Abended, Event, Told}
 use Rattle.mvs_model.specs.Job.{JobValue}
 use Rattle.mvs_model.specs.Owners.{goes}
@@ -40,21 +42,52 @@ abbrev pub freed_lines : List OwnedSubpool → Option (Name × List Name) → Li
 freed_lines subpools None = []
 freed_lines subpools (Some e) = flat_map (subpool_line e) subpools
 
+-- the same, where it was asked for
+abbrev pub freed_by : Bool → List OwnedSubpool → List Event → List ℕ
+freed_by asked subpools events = if asked then freed_lines subpools (ended_by events) else []
+
+-- whether a statement asks for a return code in place of an abend
+abbrev pub asks_for_code : Statement → Bool
+asks_for_code (says.Request (Obtain form number ask variable area)) = is_conditional form
+asks_for_code (says.Request (ObtainList form number lengths start areas)) = is_conditional form
+asks_for_code (says.Request (Release form number location len)) = is_conditional form
+asks_for_code (says.Request (ReleaseArea form number area)) = is_conditional form
+asks_for_code (says.Request (ReleaseList form number locations lengths)) = is_conditional form
+asks_for_code _ = false
+
 -- whether a statement may end its task though it has no reason: a return, and a list for which a place is wanting
-abbrev pub ends_untold : Line → Bool
-ends_untold (line.Statement t (says.Request Return)) = true
-ends_untold (line.Statement t (says.Request (ObtainList form number lengths start areas))) = true
+abbrev pub ends_untold : Statement → Bool
+ends_untold (says.Request Return) = true
+ends_untold (says.Request (ObtainList form number lengths start areas)) = not (is_conditional form)
 ends_untold _ = false
 
--- whether a line with this reason may end its task
+-- whether a statement with this reason may end its task
+abbrev pub ends_told : Statement → Reason → Bool
+ends_told s NotActive = false
+ends_told s (NotSet name) = false
+ends_told s NoFreeCell = false
+ends_told s (Shortage room) = not (asks_for_code s)
+ends_told s (NoMember k bytes room) = not (asks_for_code s)
+ends_told s (NoSubpool keeper) = not (asks_for_code s)
+ends_told s (NotHeld a holder) = not (asks_for_code s)
+ends_told s (Overlap one other a) = not (asks_for_code s)
+ends_told s _ = true
+
+-- whether a statement may end its task, by its reason
+abbrev pub statement_ends : Statement → Option Reason → Bool
+statement_ends s None = ends_untold s
+statement_ends s (Some reason) = ends_told s reason
+
+-- the same of a line
 abbrev pub may_end : Line → Option Reason → Bool
-may_end l r = is_some r || ends_untold l
+may_end line.Nothing r = false
+may_end (line.Statement t s) r = statement_ends s r
 
 -- The text says which subpools go, with which tasks, where the next line tells these events: by the step before it.
 abbrev pub IsFreeing : Option JobValue → List ℕ → List Event → List ℕ → Type 0
 IsFreeing None bytes events text = text ≡ []
 IsFreeing (Some job) bytes events text =
-    ((l : Line) × LineOf false bytes l × ((r : Option Reason) × OfLine job l r × (text ≡ (if may_end l r then freed_lines (owned_subpools job.state) (ended_by events) else []))))
+    ((l : Line) × LineOf false bytes l × ((r : Option Reason) × OfLine job l r × (text ≡ freed_by (may_end l r) (owned_subpools job.state) events)))
     ⊎ ((fault : Fault) × FaultOf false bytes fault × (text ≡ []))
 
 -- What the next line is asked for: its reason, and whether it may end its task.

@@ -1,24 +1,50 @@
-//! Runs a script with reasons: behind what a line tells stands why its request is refused.
+//! Runs a script with reasons: behind what a line tells stands why its request is refused, and what goes where it ends a task.
 
-ghost use Rattle.std.specs.Prelude.{◌≡◌, ◌≢◌, ◌<◌, ◌≤◌, ◌+◌, ◌^◌, ◌∷◌, ℕ, List, length, take, drop, slice_index, true, OnOk, IfOk, IsErrOf, MatchOption};
+ghost use Rattle.std.specs.Prelude.{◌≡◌, ◌≢◌, ◌<◌, ◌≤◌, ◌+◌, ◌^◌, ◌∷◌, ◌++◌, ℕ, List, length, take, drop, slice_index, true, OnOk, IfOk, IsErrOf, MatchOption};
 ghost use Rattle.mvs_model.specs.Lines.{lines_of};
 ghost use Rattle.mvs_model.specs.Numbers.{most_script_bytes};
-ghost use Rattle.mvs_job.specs.Explaining.{ExplainsLine, Interleaves, WritesExplained};
+ghost use Rattle.job_script.specs.Writing.{Prints};
+ghost use Rattle.mvs_job.specs.Explaining.{ExplainsLine, Interleaves, WritesExplained, said_of};
+ghost use Rattle.mvs_job.specs.Facts.{freed_by};
+ghost use Rattle.mvs_job.specs.Telling.{IsLent, events_told};
 ghost use Rattle.std.specs.Io.KnownBytes.{Appends};
 
-use crate::printing::{Stop, print_closing, run_line};
-use crate::walk::Walk;
+use crate::ends::{Asked, OwnedSubpools, no_subpools, print_frees, survey};
+use crate::printing::{Stop, print_closing, tell_line};
+use crate::walk::{LineTold, Walk};
 use crate::why::Why;
 use memchr::memchr;
 use mvs_model::outcome::Outcome;
 use mvs_model::want::Placement;
-use mvs_model::watched::Watched;
+use mvs_model::watched::{Failed, Watched};
 use std::alloc::Global;
 use std::io::Write;
+use step_machine::OwnedSubpool;
 
-// Serves one line, and prints what it tells and why it is refused. Answers whether the job goes on.
+// Prints why a line is refused that told this, and which subpools go where it ended a task.
+fn print_behind<W: Write>(
+    writer: &mut Watched<W>,
+    why: &Why,
+    asked: &Asked,
+    subpools: &[OwnedSubpool],
+    walk: &Walk,
+    told: &LineTold,
+) -> Result<(), Failed>
+    requires { IsLent walk.now told.now }
+    ensures { (number : ℕ)
+        → Prints W.contents writer.old writer.new result
+        (said_of why.now.read why.now.request asked.now.reason
+        ++ freed_by asked.now.ends subpools.now (events_told number walk.now told.now)) }
+{
+    why.print(writer, &asked.reason)?;
+    print_frees(writer, asked.ends, walk, told, subpools)
+}
+
+// Serves one line, and prints what it tells, why it is refused, and which subpools go where it ends a task. Answers whether the
+// job goes on.
 fn explain_line<W: Write>(
     why: &mut Why,
+    subpools: &mut OwnedSubpools,
     walk: &mut Walk,
     line: &[u8],
     writer: &mut Watched<W>,
@@ -30,14 +56,18 @@ fn explain_line<W: Write>(
     ensures ok { OnOk result (writer.new.failed ≡ writer.old.failed) }
     ensures write { IsErrOf result Stop.Write → writer.new.failed ≡ true }
 {
-    let reason = why.ask(walk, line);
-    match run_line(walk, line, &[], writer) {
-        Ok(true) => match why.print(writer, &reason) {
-            Ok(()) => Ok(true),
-            Err(_) => Err(Stop::Write),
-        },
-        Ok(false) => Ok(false),
-        Err(stop) => Err(stop),
+    let asked = why.ask(walk, line);
+    survey(walk, asked.ends, subpools);
+    let told = match tell_line(walk, line, &[], writer) {
+        Ok(told) => told,
+        Err(stop) => return Err(stop),
+    };
+    if let LineTold::Faulted(_) = told {
+        return Ok(false);
+    }
+    match print_behind(writer, why, &asked, subpools.as_slice(), walk, &told) {
+        Ok(()) => Ok(true),
+        Err(_) => Err(Stop::Write),
     }
 }
 
@@ -64,8 +94,8 @@ pub fn line_end(script: &[u8]) -> usize
     }
 }
 
-/// Runs a script, and prints behind what a line tells a line that begins with `*` and says why its request is refused, if it is
-/// and there is a reason. It takes 16,777,215 bytes at most.
+/// Runs a script, and prints behind what a line tells lines that begin with `*`: one that says why its request is refused, if it
+/// is and there is a reason, and one for each subpool that goes with a task that it ends. It takes 16,777,215 bytes at most.
 pub fn explain_script<W: Write>(
     alloc: Global,
     script: &[u8],
@@ -73,7 +103,7 @@ pub fn explain_script<W: Write>(
     placement: Placement,
 ) -> Result<Outcome, Stop>
     requires { length script.now ≤ most_script_bytes }
-    // Each reason stands behind what its line tells, and is that of the step before the line.
+    // Each reason stands behind what its line tells, and is that of the step before the line; so are the subpools that go.
     ensures explained { WritesExplained (W.contents writer.old.inner)
         (W.contents writer.new.inner) script.now result }
     // Without the reasons it is the printing of a run.
@@ -85,11 +115,12 @@ pub fn explain_script<W: Write>(
 {
     let mut walk = Walk::new(alloc, placement);
     let mut why = Why::new();
+    let mut subpools = no_subpools();
     let mut at = 0;
     'lines: while at < script.len() {
         let rest = &script[at..];
         let end = line_end(rest);
-        match explain_line(&mut why, &mut walk, &rest[..end], writer) {
+        match explain_line(&mut why, &mut subpools, &mut walk, &rest[..end], writer) {
             Ok(true) => at += end + 1,
             Ok(false) => return Ok(Outcome::ScriptFault),
             Err(stop) => return Err(stop),

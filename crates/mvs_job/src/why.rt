@@ -3,8 +3,10 @@
 ghost use Rattle.std.specs.Prelude.{Some};
 ghost use Rattle.job_script.specs.Writing.{Prints};
 ghost use Rattle.mvs_job.specs.Explaining.{IsExplanation, said_of};
+ghost use Rattle.mvs_job.specs.Facts.{IsAsked};
 ghost use Rattle.mvs_job.specs.Why.{OfBytes, OfNext};
 
+use crate::ends::{Asked, statement_ends};
 use crate::job::Job;
 use crate::walk::{Walk, card_of};
 use job_script::{print_reason, read_line};
@@ -29,33 +31,37 @@ impl Why {
         }
     }
 
-    // Why a line is refused in a step.
-    fn reason_in(&mut self, job: &Job, line: &[u8]) -> Option<Reason>
-        ensures reason { OfBytes job.now line.now result }
+    // Why a line is refused in a step, and whether it may end its task.
+    fn ask_in(&mut self, job: &Job, line: &[u8]) -> Asked
+        ensures reason { OfBytes job.now line.now result.reason }
         ensures text { IsExplanation (Some job.now) line.now
-            (said_of self.new.read self.new.request result) }
+            (said_of self.new.read self.new.request result.reason) }
+        ensures asked { IsAsked (Some job.now) line.now result }
     {
         let Ok(()) = read_line(line, false, &mut self.read) else {
-            return None;
+            return Asked::nothing();
         };
         let Line::Statement(task, statement) = &self.read else {
-            return None;
+            return Asked::nothing();
         };
         if card_of(task, statement).is_some() {
-            return None;
+            return Asked::nothing();
         }
-        job.reason(task, statement, &mut self.request)
+        let reason = job.reason(task, statement, &mut self.request);
+        let ends = statement_ends(statement, &reason);
+        Asked { reason, ends }
     }
 
-    // Why the next line is refused, and what is printed of that.
-    pub(crate) fn ask(&mut self, walk: &Walk, line: &[u8]) -> Option<Reason>
-        ensures reason { OfNext walk.now.step line.now result }
+    // Why the next line is refused, and what is printed of that; and whether it may end its task.
+    pub(crate) fn ask(&mut self, walk: &Walk, line: &[u8]) -> Asked
+        ensures reason { OfNext walk.now.step line.now result.reason }
         ensures text { IsExplanation walk.now.step line.now
-            (said_of self.new.read self.new.request result) }
+            (said_of self.new.read self.new.request result.reason) }
+        ensures asked { IsAsked walk.now.step line.now result }
     {
         match walk.job() {
-            Some(job) => self.reason_in(job, line),
-            None => None,
+            Some(job) => self.ask_in(job, line),
+            None => Asked::nothing(),
         }
     }
 
@@ -65,7 +71,7 @@ impl Why {
     pub fn reason(&mut self, walk: &Walk, line: &[u8]) -> Option<Reason>
         ensures { OfNext walk.now.step line.now result }
     {
-        self.ask(walk, line)
+        self.ask(walk, line).reason
     }
 
     // Prints why the line is refused that was asked about last.
