@@ -100,23 +100,15 @@ WritesExplained before after script how = (text : List ℕ) × Appends before af
 
 -- ---- the printing in it
 
--- some printed events, and a reason behind them
-pub record Part : Type 0 where
-  pub told : List ℕ
-  pub why : List ℕ
+-- the text of the lines of a text that do not begin with an asterisk
+abbrev pub without_starred : List ℕ → List ℕ
+without_starred text = ended_text (filter (λ l. not (is_prefix (codes "*") l)) (lines_of text))
 
--- Nothing, or a text from an asterisk up to a line feed.
-abbrev pub IsStarred : List ℕ → Type 0
-IsStarred why = (why ≡ []) ⊎ ((said : List ℕ) × (why ≡ 42 ∷ said ++ 10 ∷ []))
-
--- The text is the printing of a run of the script with reasons between the events.
-pub record Interleaves (script text : List ℕ) (outcome : Outcome) : Type 0 where
+-- The text is written for a run of the script: without the lines that begin with an asterisk, it is the printing without these.
+pub record Annotates (script text : List ℕ) (outcome : Outcome) : Type 0 where
   pub events : List Event
   pub run : IsRun script events outcome
-  pub parts : List Part
-  pub printed : printing events ≡ flat_map (λ p. p.told) parts
-  pub written : text ≡ flat_map (λ p. p.told ++ p.why) parts
-  pub starred : AllByRecursion (λ p. IsStarred p.why) parts
+  pub printed : without_starred text ≡ without_starred (printing events)
 
 -- ---- what calls do
 
