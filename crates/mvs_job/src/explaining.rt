@@ -3,7 +3,7 @@
 ghost use Rattle.std.specs.Prelude.{◌≡◌, ◌≢◌, ◌<◌, ◌≤◌, ◌+◌, ◌^◌, ◌∷◌, ℕ, List, length, take, drop, slice_index, true, OnOk, IfOk, IsErrOf, MatchOption};
 ghost use Rattle.mvs_model.specs.Lines.{lines_of};
 ghost use Rattle.mvs_model.specs.Numbers.{most_script_bytes};
-ghost use Rattle.mvs_job.specs.Explaining.{ExplainsLine, Interleaves, WritesExplained};
+ghost use Rattle.mvs_job.specs.Explaining.{Annotates, ExplainsLine, WritesExplained};
 ghost use Rattle.std.specs.Io.KnownBytes.{Appends};
 
 use crate::printing::{Stop, print_closing, run_line};
@@ -76,10 +76,10 @@ pub fn explain_script<W: Write>(
     // Each reason stands behind what its line tells, and is that of the step before the line.
     ensures explained { WritesExplained (W.contents writer.old.inner)
         (W.contents writer.new.inner) script.now result }
-    // Without the reasons it is the printing of a run.
+    // Without the lines that begin with an asterisk it is the printing of a run without these.
     ensures run { IfOk result
         (λ outcome. (text : List ℕ) × Appends (W.contents writer.old.inner)
-        (W.contents writer.new.inner) text × Interleaves script.now text outcome) }
+        (W.contents writer.new.inner) text × Annotates script.now text outcome) }
     ensures ok { OnOk result (writer.new.failed ≡ writer.old.failed) }
     ensures write { IsErrOf result Stop.Write → writer.new.failed ≡ true }
 {
