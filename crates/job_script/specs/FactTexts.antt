@@ -2,6 +2,7 @@
 use Rattle.std.specs.Prelude.{ℕ, ◌==◌, List, ◌++◌, codes, decimal, if◌then◌else◌}
 use Rattle.mvs_model.specs.declared.name.Name.{Name}
 use Rattle.mvs_model.specs.Name.{trimmed}
+use Rattle.job_script.specs.ReasonTexts.{one_line}
 
 -- how many pages
 abbrev pub pages_said : ℕ → List ℕ
@@ -14,4 +15,4 @@ freed_said number owner bytes pages =
 
 -- the line of it, which is a comment in the language of scripts
 abbrev pub freed_line : ℕ → Name → ℕ → ℕ → List ℕ
-freed_line number owner bytes pages = codes "* " ++ freed_said number owner bytes pages ++ codes "\n"
+freed_line number owner bytes pages = one_line (codes "* " ++ freed_said number owner bytes pages)

@@ -1,5 +1,6 @@
 -- What is printed of the reason for which a request is refused, with the rules of RULES.md that say so. (this project's own notation)
-use Rattle.std.specs.Prelude.{ℕ, ◌*◌, ◌/◌, ◌%◌, List, [], ◌++◌, codes, decimal}
+use Rattle.std.specs.Prelude.{ℕ, ◌*◌, ◌/◌, ◌%◌, ◌==◌, List, [], ◌++◌, codes, decimal}
+use Rattle.std.specs.List.{before_first}
 use Rattle.mvs_model.specs.declared.name.Name.{Name}
 use Rattle.mvs_model.specs.declared.request.Request.{Request}
 use Rattle.mvs_model.specs.declared.request.Request.TheVariants.{Obtain, ObtainList, Release, ReleaseList, ReleaseWhole, Build, Get, Free, Delete, Attach}
@@ -141,6 +142,10 @@ reason_said t request Asked = trimmed t ++ codes " asks for this abend. (rule 55
 reason_said t request (NoAccess a holder) = no_access_said a holder
 reason_said t request reason = named_said request reason
 
+-- a text as one line, which ends before a line feed of the text: only a name that no script has can have one
+abbrev pub one_line : List ℕ → List ℕ
+one_line text = before_first (λ b. b == 10) text ++ codes "\n"
+
 -- the line of a reason, which is a comment in the language of scripts
 abbrev pub reason_line : Name → Request → Reason → List ℕ
-reason_line t request reason = codes "* " ++ reason_said t request reason ++ codes "\n"
+reason_line t request reason = one_line (codes "* " ++ reason_said t request reason)

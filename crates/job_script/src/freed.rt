@@ -5,6 +5,7 @@ ghost use Rattle.job_script.specs.FactTexts.{freed_line, freed_said, pages_said}
 ghost use Rattle.job_script.specs.Writing.{Prints};
 
 use crate::print::write_all;
+use crate::reasons::end_line;
 use crate::text::Text;
 use mvs_model::name::Name;
 use mvs_model::subpool::SubNo;
@@ -57,6 +58,6 @@ pub fn print_freed<W: Write>(
     let mut text = Text::new();
     text.push_all(b"* ");
     push_freed(&mut text, u32::from(number.get()), owner, bytes, pages);
-    text.push_all(b"\n");
+    end_line(&mut text);
     write_all(writer, text.as_slice())
 }

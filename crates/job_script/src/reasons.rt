@@ -1,8 +1,9 @@
 //! The line that says why a request is refused.
 
-ghost use Rattle.std.specs.Prelude.{◌≡◌, ◌≤◌, ◌+◌, ◌++◌, length, decimal};
+ghost use Rattle.std.specs.Prelude.{◌≡◌, ◌≤◌, ◌<◌, ◌+◌, ◌++◌, ◌==◌, length, decimal};
+ghost use Rattle.std.specs.List.{position_or_len};
 ghost use Rattle.mvs_model.specs.Name.{trimmed};
-ghost use Rattle.job_script.specs.ReasonTexts.{cell_of, holder_said, least_of, named, named_said, no_access_said, no_cell_said, no_member_said, no_part_said, no_subpool_said, not_held_said, not_owned_said, number_of, off_said, overlap_said, reason_line, reason_said, shortage_said, spot_said, subtask_said};
+ghost use Rattle.job_script.specs.ReasonTexts.{cell_of, holder_said, least_of, named, named_said, no_access_said, no_cell_said, no_member_said, no_part_said, no_subpool_said, not_held_said, not_owned_said, number_of, off_said, one_line, overlap_said, reason_line, reason_said, shortage_said, spot_said, subtask_said};
 ghost use Rattle.job_script.specs.Writing.{Prints};
 
 use crate::print::write_all;
@@ -380,6 +381,29 @@ fn push_reason(text: &mut Text, task: &Name, request: &Request, reason: &Reason)
     }
 }
 
+// How many bytes stand before the first line feed.
+fn line_len(bytes: &[u8]) -> usize
+    ensures len { result ≡ position_or_len (λ b. b == 10) bytes.now }
+    ensures within { result ≤ length bytes.now }
+{
+    for (i, byte) in bytes.iter().enumerate() {
+        if *byte == b'\n' {
+            return i;
+        }
+    }
+    bytes.len()
+}
+
+/// Makes one line of a text.
+pub fn end_line(text: &mut Text)
+    requires { length text.old < 160 }
+    ensures { text.new ≡ one_line text.old }
+{
+    let len = line_len(text.as_slice());
+    text.cut(len);
+    text.push(b'\n');
+}
+
 /// Prints the line that says why a request of a task is refused.
 pub fn print_reason<W: Write>(
     writer: &mut Watched<W>,
@@ -393,6 +417,6 @@ pub fn print_reason<W: Write>(
     let mut text = Text::new();
     text.push_all(b"* ");
     push_reason(&mut text, task, request, reason);
-    text.push_all(b"\n");
+    end_line(&mut text);
     write_all(writer, text.as_slice())
 }

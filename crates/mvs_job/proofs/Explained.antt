@@ -1,43 +1,30 @@
 -- A script that is run with reasons, a line at a time.
-use Rattle.std.proofs.Common.{◌≡◌, ◌≢◌, ℕ, ◌+◌, ◌<◌, ◌≤◌, List, [], ◌∷◌, ◌++◌, length, take, drop, get_or, codes, append_assoc, append-nil, add-one, arith, Option, Some, None, Result, Bool, true, false, cond, Ok, Err, inl, inr, ◌⊎◌, refl, sym, ap, ◌∙◌, subst}
+use Rattle.std.proofs.Common.{◌≡◌, ◌≢◌, ℕ, ◌+◌, ◌<◌, ◌≤◌, List, [], ◌∷◌, ◌++◌, length, take, drop, get_or, append_assoc, append-nil, add-one, arith, Option, Some, None, Result, Bool, true, false, Ok, Err, inl, inr, ◌⊎◌, refl, sym, ap, ◌∙◌, subst}
 use Rattle.std.proofs.Math.Seq.{drop-cons}
 use Rattle.std.proofs.lemmas.List.{take-append-drop, take_all, drop_all, drop-drop}
-use Rattle.std.proofs.lemmas.Grind.{flat_map-append}
-use Rattle.std.specs.List.{flat_map, AllByRecursion}
+use Rattle.std.specs.List.{AllByRecursion}
 use Rattle.std.specs.Io.KnownBytes.{Appends, Keeps}
 use Rattle.std.proofs.KnownBytes.{Appends-kept, Appends-nil, Appends-trans}
-use Rattle.mvs_model.specs.declared.name.Name.{Name}
-use Rattle.mvs_model.specs.declared.line.Line.{Line}
-use Rattle.mvs_model.specs.declared.line.Line.TheVariants as line
-use Rattle.mvs_model.specs.declared.line.Statement.TheVariants as says
 use Rattle.mvs_model.specs.declared.outcome.Outcome.{Outcome}
 use Rattle.mvs_model.specs.declared.outcome.Outcome.TheVariants.{ScriptFault}
-use Rattle.mvs_model.specs.declared.reason.Reason.{Reason}
-use Rattle.mvs_model.specs.declared.request.Request.{Request}
-use Rattle.mvs_model.specs.declared.request.Request.TheVariants.{Return}
 use Rattle.mvs_model.specs.Answers.{Event}
-use Rattle.mvs_model.specs.Job.{JobValue}
 use Rattle.mvs_model.specs.Lines.{lines_of}
-use Rattle.mvs_model.specs.Resolving.{resolved}
 use Rattle.mvs_model.specs.Runs.{machine}
 use Rattle.mvs_model.specs.Texts.{printing}
-use Rattle.mvs_model.specs.Walk.{Closes, JobEnds, ServesLine, Walks}
-use Rattle.mvs_model.proofs.Going.{printed_both}
-use Rattle.job_script.specs.ReasonTexts.{reason_line, reason_said}
+use Rattle.mvs_model.specs.Walk.{Closes, ServesLine}
 use Rattle.job_script.specs.Writing.{AppendsFront}
 use Rattle.job_script.proofs.Appending.{front_longer, front_more}
 use Rattle.mvs_job.specs.declared.printing.Stop.{Stop}
 use Rattle.mvs_job.specs.declared.printing.Stop.TheVariants as stop
-use Rattle.mvs_job.specs.Explaining.{Explains, ExplainsLine, Interleaves, IsBehind, IsExplained, IsExplanation, IsStarred, Part, SoFar, WritesExplained, reason_text, spoken}
-use Rattle.mvs_job.specs.Facts.{IsAsked, IsFreeing, IsSurvey, ended_by, freed_by, freed_lines, may_end, subpool_line}
+use Rattle.mvs_job.specs.Explaining.{Explains, ExplainsLine, IsBehind, IsExplanation, SoFar, WritesExplained}
+use Rattle.mvs_job.specs.Facts.{IsAsked, IsFreeing, IsSurvey, ended_by, freed_by, freed_lines}
 use Rattle.mvs_job.specs.declared.ends.Asked.{Asked}
 use Rattle.mvs_job.specs.declared.walk.LineTold.{LineTold}
 use Rattle.mvs_job.specs.declared.walk.LineTold.TheVariants as told
 use Rattle.step_machine.specs.Facts.{owned_subpools}
 use Rattle.step_machine.specs.declared.facts.OwnedSubpool.{OwnedSubpool}
-use Rattle.job_script.specs.FactTexts.{freed_line, freed_said}
 use Rattle.mvs_model.specs.declared.line.Fault.{Fault}
-use Rattle.mvs_model.specs.Owners.{goes}
+use Rattle.mvs_model.specs.Job.{JobValue}
 use Rattle.mvs_job.specs.Serving.{RunsLine, TellsLine}
 use Rattle.mvs_job.specs.Telling.{IsTold, WalkValue, events_told, new_walk}
 use Rattle.mvs_job.proofs.Feeding.{all_before, lines_ended, lines_last}
@@ -161,88 +148,3 @@ module _ (start before after : Option (List ℕ)) (script rest : List ℕ) (at e
 -- behind the last line
 pub none_left : (script : List ℕ) (at : ℕ) → length script ≤ at → lines_of (drop at script) ≡ []
 none_left script at h = ap lines_of (drop_all at script h)
-
--- ---- the printing in it
-
-starred_none : IsStarred []
-starred_none = ([], refl)
-
-starred_one : (said : List ℕ) → IsStarred (42 ∷ said ++ 10 ∷ [])
-starred_one said = (said ∷ [], sym (append-nil (42 ∷ said ++ 10 ∷ [])))
-
-starred_both : (one other : List ℕ) → IsStarred one → IsStarred other → IsStarred (one ++ other)
-starred_both one other a b = (a.0 ++ b.0, ap (λ x. x ++ other) a.1 ∙ ap (λ x. flat_map (λ said. 42 ∷ said ++ 10 ∷ []) a.0 ++ x) b.1 ∙ sym (flat_map-append (λ said. 42 ∷ said ++ 10 ∷ []) a.0 b.0))
-
-starred_line : (t : Name) (request : Request) (reason : Reason) → IsStarred (reason_line t request reason)
-starred_line t request reason = starred_one (codes " " ++ reason_said t request reason)
-
-text_starred : (job : JobValue) (l : Line) (r : Option Reason) → IsStarred (reason_text job l r)
-text_starred job l None = starred_none
-text_starred job line.Nothing (Some reason) = starred_none
-text_starred job (line.Statement t (says.Request a)) (Some reason) = starred_line t (spoken (resolved job.names a)) reason
-text_starred job (line.Statement t (says.Region below above fill residence)) (Some reason) = starred_line t Return reason
-text_starred job (line.Statement t (says.Where name)) (Some reason) = starred_line t Return reason
-text_starred job (line.Statement t says.ReportSubpools) (Some reason) = starred_line t Return reason
-text_starred job (line.Statement t says.ReportMap) (Some reason) = starred_line t Return reason
-
-explanation_starred : (old : Option JobValue) (l why : List ℕ) → IsExplanation old l why → IsStarred why
-explanation_starred None l why e = subst IsStarred (sym e) starred_none
-explanation_starred (Some job) l why (inl (said, is, (r, of, e))) = subst IsStarred (sym e) (text_starred job said r)
-explanation_starred (Some job) l why (inr (fault, is, e)) = subst IsStarred (sym e) starred_none
-
-subpool_starred : (e : Name × List Name) (s : OwnedSubpool) → IsStarred (subpool_line e s)
-subpool_starred e s = at (goes e.0 e.1 s.owner) where
-  at : (b : Bool) → IsStarred (cond b (freed_line s.number s.owner s.bytes s.pages) [])
-  at true = starred_one (codes " " ++ freed_said s.number s.owner s.bytes s.pages)
-  at false = starred_none
-
-each_starred : (e : Name × List Name) (subpools : List OwnedSubpool) → IsStarred (flat_map (subpool_line e) subpools)
-each_starred e [] = starred_none
-each_starred e (s ∷ subpools) = starred_both (subpool_line e s) _ (subpool_starred e s) (each_starred e subpools)
-
-lines_starred : (subpools : List OwnedSubpool) (ended : Option (Name × List Name)) → IsStarred (freed_lines subpools ended)
-lines_starred subpools None = starred_none
-lines_starred subpools (Some e) = each_starred e subpools
-
-freed_starred : (asked : Bool) (subpools : List OwnedSubpool) (events : List Event) → IsStarred (freed_by asked subpools events)
-freed_starred true subpools events = lines_starred subpools (ended_by events)
-freed_starred false subpools events = starred_none
-
-freeing_starred : (old : Option JobValue) (l : List ℕ) (events : List Event) (freed : List ℕ) → IsFreeing old l events freed → IsStarred freed
-freeing_starred None l events freed e = subst IsStarred (sym e) starred_none
-freeing_starred (Some job) l events freed (inl (said, is, (r, of, e))) = subst IsStarred (sym e) (freed_starred (may_end said r) (owned_subpools job.state) events)
-freeing_starred (Some job) l events freed (inr (fault, is, e)) = subst IsStarred (sym e) starred_none
-
-behind_starred : (old : Option JobValue) (l : List ℕ) (events : List Event) (text : List ℕ) → IsBehind old l events text → IsStarred text
-behind_starred old l events text (why, freed, is, goes, e) = subst IsStarred (sym e) (starred_both why freed (explanation_starred old l why is) (freeing_starred old l events freed goes))
-
-abbrev IsSplit : Outcome → ℕ → Option JobValue → List (List ℕ) → List ℕ → Type 0
-IsSplit outcome number old lines text =
-    (events : List Event) × (parts : List Part) × Walks machine (JobEnds machine outcome) number old lines events × (printing events ≡ flat_map (λ p. p.told) parts)
-    × (text ≡ flat_map (λ p. p.told ++ p.why) parts) × AllByRecursion (λ p. IsStarred p.why) parts
-
-last_part : (outcome : Outcome) (number : ℕ) (old : Option JobValue) (lines : List (List ℕ)) (text : List ℕ) (events : List Event) → Walks machine (JobEnds machine outcome) number old lines events → text ≡ printing events → IsSplit outcome number old lines text
-last_part outcome number old lines text events w e =
-    (events, record { told = printing events; why = [] } ∷ [], w, sym (append-nil (printing events)), e ∙ sym (append-nil (printing events)) ∙ sym (append-nil (printing events ++ [])), (starred_none, tt))
-
-split : (outcome : Outcome) (lines : List (List ℕ)) (number : ℕ) (old : Option JobValue) (text : List ℕ) → Explains (Ok outcome) number old lines text → IsSplit outcome number old lines text
-split outcome [] number old text h = last_part outcome number old [] text h.0 h.1 h.2
-split outcome (l ∷ lines) number old text (inl h) = last_part outcome number old (l ∷ lines) text h.0 (inl (h.1, h.2)) h.3
-split outcome (l ∷ lines) number old text (inr (mid, events, why, rest, serves, is, e, more)) =
-    let s = split outcome lines (number + 1) mid rest more in (
-      events ++ s.0,
-      record { told = printing events; why = why } ∷ s.1,
-      inr (mid, events, s.0, serves, refl, s.2),
-      printed_both events s.0 ∙ ap (λ x. printing events ++ x) s.3,
-      e ∙ ap (λ x. (printing events ++ why) ++ x) s.4,
-      (behind_starred old l events why is, s.5),
-    )
-
--- Without its reasons the text of a run with reasons is the printing of a run.
-interleaved : (script text : List ℕ) (outcome : Outcome) → IsExplained script text (Ok outcome) → Interleaves script text outcome
-interleaved script text outcome h =
-    let s = split outcome (lines_of script) 1 None text h in
-    record { events = s.0; run = s.2; parts = s.1; printed = s.3; written = s.4; starred = s.5 }
-
-pub interleaves : (start after : Option (List ℕ)) (script : List ℕ) (outcome : Outcome) → WritesExplained start after script (Ok outcome) → (text : List ℕ) × Appends start after text × Interleaves script text outcome
-interleaves start after script outcome h = (h.0, h.1, interleaved script h.0 outcome h.2)

@@ -95,7 +95,7 @@ pub stands_start : (start : Option (List ℕ)) → Stands start start [] new_wal
 stands_start start = record { lines = []; cut = refl; each = tt; unended = tt; counted = refl; events = []; leads = (refl, refl); appended = Appends-nil start }
 
 -- the lines of what was told, however it goes on
-lines_cut : (lines : List (List ℕ)) (rest : List ℕ) → AllByRecursion IsUnended lines → lines_of (ended_text lines ++ rest) ≡ lines ++ lines_of rest
+pub lines_cut : (lines : List (List ℕ)) (rest : List ℕ) → AllByRecursion IsUnended lines → lines_of (ended_text lines ++ rest) ≡ lines ++ lines_of rest
 lines_cut [] rest each = refl
 lines_cut (l ∷ lines) rest each =
     ap lines_of (append_assoc l (10 ∷ ended_text lines) rest) ∙ lines_ended l (ended_text lines ++ rest) each.0 ∙ ap (λ x. l ∷ x) (lines_cut lines rest each.1)

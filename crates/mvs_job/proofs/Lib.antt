@@ -7,6 +7,7 @@ pub mod Numbers
 pub mod Resolved
 pub mod Running
 pub mod Serving
+pub mod Starred
 pub mod Steady
 pub mod Strictly
 pub mod Valuing

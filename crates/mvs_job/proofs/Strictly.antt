@@ -1,5 +1,5 @@
 -- A script that is run strictly, a line at a time.
-use Rattle.std.proofs.Common.{◌≡◌, ℕ, ◌+◌, ◌<◌, ◌≤◌, List, [], ◌∷◌, ◌++◌, length, take, drop, Option, Some, None, Bool, true, false, Result, Ok, Err, inl, inr, refl, sym, ap, ◌∙◌, subst}
+use Rattle.std.proofs.Common.{◌≡◌, ℕ, ◌+◌, List, [], ◌∷◌, ◌++◌, take, drop, Option, Some, None, Bool, true, false, Ok, Err, inl, refl, sym, ap, ◌∙◌, subst}
 use Rattle.std.specs.Prelude.{◌&&◌, not, is_some}
 use Rattle.std.specs.List.{list_all}
 use Rattle.std.proofs.lemmas.List.{drop-drop}
@@ -11,7 +11,7 @@ use Rattle.mvs_model.specs.declared.outcome.Outcome.{Outcome}
 use Rattle.mvs_model.specs.declared.outcome.Outcome.TheVariants.{ScriptFault}
 use Rattle.mvs_model.specs.Answers.{Event}
 use Rattle.mvs_model.specs.Lines.{lines_of}
-use Rattle.mvs_model.specs.Runs.{machine, IsRun}
+use Rattle.mvs_model.specs.Runs.{machine}
 use Rattle.mvs_model.specs.Texts.{printing}
 use Rattle.mvs_model.specs.Walk.{Closes}
 use Rattle.mvs_model.specs.Going.{Reaches}
@@ -20,7 +20,6 @@ use Rattle.mvs_job.specs.declared.printing.Stop.{Stop}
 use Rattle.mvs_job.specs.declared.strict.Unserved.{Unserved}
 use Rattle.mvs_job.specs.declared.walk.LineTold.{LineTold}
 use Rattle.mvs_job.specs.declared.walk.LineTold.TheVariants as told
-use Rattle.mvs_job.specs.Serving.{RunsLine}
 use Rattle.mvs_job.specs.Streams.{Progress, PrintedUpTo}
 use Rattle.mvs_job.specs.Strict.{PrintsStrictly, RunsStrictly, is_of_served}
 use Rattle.mvs_job.specs.Telling.{WalkValue, IsTold, closing, events_told, new_walk}

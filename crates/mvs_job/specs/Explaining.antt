@@ -1,6 +1,6 @@
 -- A run of a script with reasons: behind what a line tells stands why its request is refused, if it is, and what goes where it ends a task.
-use Rattle.std.specs.Prelude.{◌≡◌, ◌⊎◌, ℕ, ◌+◌, List, [], ◌∷◌, ◌++◌, Option, Some, None, Result, Ok, Err, Bool, true, false}
-use Rattle.std.specs.List.{flat_map, AllByRecursion}
+use Rattle.std.specs.Prelude.{◌≡◌, ◌⊎◌, ℕ, ◌+◌, ◌==◌, List, [], ◌∷◌, ◌++◌, slice_index, Option, Some, None, Result, Ok, Err, Bool, true, false, not}
+use Rattle.std.specs.List.{filter}
 use Rattle.std.specs.Io.KnownBytes.{Appends, Keeps}
 use Rattle.mvs_model.specs.declared.name.Name.{Name}
 use Rattle.mvs_model.specs.declared.line.Line.{Line}
@@ -18,7 +18,7 @@ use Rattle.mvs_model.specs.declared.request.Request.TheVariants.{Return}
 use Rattle.mvs_model.specs.declared.request.Reply.TheVariants as reply
 use Rattle.mvs_model.specs.Answers.{Event}
 use Rattle.mvs_model.specs.Job.{JobValue}
-use Rattle.mvs_model.specs.Lines.{lines_of}
+use Rattle.mvs_model.specs.Lines.{ended_text, lines_of}
 use Rattle.mvs_model.specs.Memory.{StopsForMemory}
 use Rattle.mvs_model.specs.Reading.{LineOf, FaultOf}
 use Rattle.mvs_model.specs.Resolving.{resolved}
@@ -105,23 +105,15 @@ WritesExplained before after script how = (text : List ℕ) × Appends before af
 
 -- ---- the printing in it
 
--- some printed events, and what stands behind them
-pub record Part : Type 0 where
-  pub told : List ℕ
-  pub why : List ℕ
+-- the text without its lines that begin with an asterisk
+abbrev pub without_starred : List ℕ → List ℕ
+without_starred text = ended_text (filter (λ l. not (slice_index l 0 == 42)) (lines_of text))
 
--- Texts one behind another, each from an asterisk up to a line feed.
-abbrev pub IsStarred : List ℕ → Type 0
-IsStarred why = (lines : List (List ℕ)) × (why ≡ flat_map (λ said. 42 ∷ said ++ 10 ∷ []) lines)
-
--- The text is the printing of a run of the script with reasons between the events.
-pub record Interleaves (script text : List ℕ) (outcome : Outcome) : Type 0 where
+-- The text is written for a run of the script: without the lines that begin with an asterisk, it is the printing without these.
+pub record Annotates (script text : List ℕ) (outcome : Outcome) : Type 0 where
   pub events : List Event
   pub run : IsRun script events outcome
-  pub parts : List Part
-  pub printed : printing events ≡ flat_map (λ p. p.told) parts
-  pub written : text ≡ flat_map (λ p. p.told ++ p.why) parts
-  pub starred : AllByRecursion (λ p. IsStarred p.why) parts
+  pub printed : without_starred text ≡ without_starred (printing events)
 
 -- ---- what calls do
 

@@ -11,8 +11,6 @@ use Rattle.mvs_model.specs.Texts.{printing}
 use Rattle.mvs_job.specs.declared.printing.Stop.{Stop}
 use Rattle.mvs_job.specs.declared.strict.Unserved.{Unserved}
 use Rattle.mvs_job.specs.declared.strict.Unserved.TheVariants as why
-use Rattle.mvs_job.specs.declared.walk.LineTold.{LineTold}
-use Rattle.mvs_job.specs.declared.walk.LineTold.TheVariants as told
 use Rattle.mvs_job.specs.Serving.{RunsLine}
 use Rattle.mvs_job.specs.Telling.{WalkValue}
 

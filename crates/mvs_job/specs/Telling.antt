@@ -12,7 +12,6 @@ use Rattle.mvs_model.specs.Answers.{Answer, NotRun, Region, Event, Told, StepEnd
 use Rattle.mvs_model.specs.Card.{CardValue}
 use Rattle.mvs_model.specs.Changes.{Granted}
 use Rattle.mvs_model.specs.Job.{JobValue}
-use Rattle.mvs_model.specs.declared.request.Request.{Request}
 use Rattle.mvs_model.specs.declared.request.Reply.{Reply}
 use Rattle.mvs_model.specs.declared.request.Reply.TheVariants as reply
 use Rattle.mvs_model.specs.contracts.request.Reply.{the_row}

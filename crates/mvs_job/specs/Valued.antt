@@ -1,6 +1,6 @@
 -- What becomes of a job by a request that is given by values, and by bytes that are written: no name is set, and the number of the
 -- next line stays.
-use Rattle.std.specs.Prelude.{◌≡◌, ◌≤◌, ◌||◌, ℕ, List, Bool, true, false, Option, Some, None, MatchBool, MatchOption}
+use Rattle.std.specs.Prelude.{◌≡◌, ◌≤◌, ◌||◌, ℕ, List, Bool, true, false, Some, MatchBool, MatchOption}
 use Rattle.mvs_model.specs.declared.name.Name.{Name}
 use Rattle.mvs_model.specs.declared.request.Request.{Request}
 use Rattle.mvs_model.specs.declared.request.Request.TheVariants.{Build}
@@ -9,7 +9,6 @@ use Rattle.mvs_model.specs.Changes.{Granted, Writes}
 use Rattle.mvs_model.specs.Job.{JobValue}
 use Rattle.mvs_model.specs.Place.{PlaceValue}
 use Rattle.mvs_model.specs.Replies.{is_abend}
-use Rattle.mvs_model.specs.State.{State}
 use Rattle.mvs_model.specs.Steps.{Step, bytes_from}
 use Rattle.mvs_job.specs.Telling.{WalkValue}
 

@@ -4,7 +4,7 @@ ghost use Rattle.std.specs.Prelude.{◌≡◌, ◌≢◌, ◌<◌, ◌≤◌, �
 ghost use Rattle.mvs_model.specs.Lines.{lines_of};
 ghost use Rattle.mvs_model.specs.Numbers.{most_script_bytes};
 ghost use Rattle.job_script.specs.Writing.{Prints};
-ghost use Rattle.mvs_job.specs.Explaining.{ExplainsLine, Interleaves, WritesExplained, said_of};
+ghost use Rattle.mvs_job.specs.Explaining.{Annotates, ExplainsLine, WritesExplained, said_of};
 ghost use Rattle.mvs_job.specs.Facts.{freed_by};
 ghost use Rattle.mvs_job.specs.Telling.{IsLent, events_told};
 ghost use Rattle.std.specs.Io.KnownBytes.{Appends};
@@ -106,10 +106,10 @@ pub fn explain_script<W: Write>(
     // Each reason stands behind what its line tells, and is that of the step before the line; so are the subpools that go.
     ensures explained { WritesExplained (W.contents writer.old.inner)
         (W.contents writer.new.inner) script.now result }
-    // Without the reasons it is the printing of a run.
+    // Without the lines that begin with an asterisk it is the printing of a run without these.
     ensures run { IfOk result
         (λ outcome. (text : List ℕ) × Appends (W.contents writer.old.inner)
-        (W.contents writer.new.inner) text × Interleaves script.now text outcome) }
+        (W.contents writer.new.inner) text × Annotates script.now text outcome) }
     ensures ok { OnOk result (writer.new.failed ≡ writer.old.failed) }
     ensures write { IsErrOf result Stop.Write → writer.new.failed ≡ true }
 {

@@ -1,6 +1,7 @@
-use Rattle.std.proofs.Common.{refl, arith, ◌∙◌, ◌+◌, drop}
+use Rattle.std.proofs.Common.{arith, ◌∙◌, drop}
 use Rattle.std.proofs.lemmas.List.{take_rest}
-use Rattle.mvs_job.proofs.Explained.{interleaves, line_fault, line_gave_up, line_on, none_left, so_far_end, so_far_in_end, so_far_start}
+use Rattle.mvs_job.proofs.Starred.{annotates}
+use Rattle.mvs_job.proofs.Explained.{line_fault, line_gave_up, line_on, none_left, so_far_end, so_far_in_end}
 use Rattle.mvs_job.proofs.explaining.explain_script.Goals as goal
 
 pub lines-preserved : goal.lines-preserved
@@ -16,7 +17,7 @@ returns-in-Ok-false-clause-explained g c =
     line_fault _ _ _ c.args.script.now _ c.lines.at c.line_end-end.result c.lines.walk c.explain_line.new.walk (take_rest c.args.script.now c.lines.at) c.line_end-end.ensures.lines c.lines.invariant.so_far _ c.in-Ok-false.field-0-test c.in-Ok-false.ensures.ran
 
 pub returns-in-Ok-false-clause-run : goal.returns-in-Ok-false-clause-run
-returns-in-Ok-false-clause-run g c = interleaves _ _ _ _
+returns-in-Ok-false-clause-run g c = annotates _ _ _ _
     (line_fault _ _ _ c.args.script.now _ c.lines.at c.line_end-end.result c.lines.walk c.explain_line.new.walk (take_rest c.args.script.now c.lines.at) c.line_end-end.ensures.lines c.lines.invariant.so_far _ c.in-Ok-false.field-0-test c.in-Ok-false.ensures.ran)
 
 pub returns-in-Err-clause-explained : goal.returns-in-Err-clause-explained
@@ -28,7 +29,7 @@ returns-in-Ok-clause-explained g c =
     so_far_end _ _ _ c.args.script.now (drop c.lines.at c.args.script.now) c.lines.walk c.lines.invariant.so_far _ _ (none_left c.args.script.now c.lines.at (omega (arith, c.lines-test.false))) c.close-closing.ensures (rw (c.number.ensures) at c.in-Ok.ensures.bytes)
 
 pub returns-in-Ok-clause-run : goal.returns-in-Ok-clause-run
-returns-in-Ok-clause-run g c = interleaves _ _ _ _
+returns-in-Ok-clause-run g c = annotates _ _ _ _
     (so_far_end _ _ _ c.args.script.now (drop c.lines.at c.args.script.now) c.lines.walk c.lines.invariant.so_far _ _ (none_left c.args.script.now c.lines.at (omega (arith, c.lines-test.false))) c.close-closing.ensures (rw (c.number.ensures) at c.in-Ok.ensures.bytes))
 
 pub returns-clause-explained : goal.returns-clause-explained

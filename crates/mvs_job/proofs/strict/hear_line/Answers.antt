@@ -1,4 +1,3 @@
-use Rattle.std.proofs.Common.{refl}
 use Rattle.mvs_job.proofs.Strictly.{line_faulted, line_served, line_unserved, none_of}
 use Rattle.mvs_job.proofs.strict.hear_line.Goals as goal
 use Rattle.mvs_job.proofs.strict.hear_line.Goals.{in-Faulted, in_default-matches}

@@ -1,4 +1,4 @@
-use Rattle.std.proofs.Common.{refl, ap, arith, ◌≡◌, ◌∙◌, ◌+◌, drop}
+use Rattle.std.proofs.Common.{refl, ap, arith, ◌≡◌, ◌∙◌, drop}
 use Rattle.std.proofs.lemmas.List.{take_rest}
 use Rattle.mvs_job.proofs.Strictly.{line_fault, line_gave_up, line_on, so_far_end, so_far_start}
 use Rattle.mvs_job.proofs.Explained.{none_left}

@@ -1,0 +1,225 @@
+-- What is left of a text without its lines that begin with an asterisk.
+use Rattle.std.proofs.Common.{◌≡◌, ◌≢◌, ℕ, zero, suc, ◌+◌, ◌==◌, List, [], ◌∷◌, ◌++◌, get_or, take, codes, decimal, append_assoc, append-nil, arith, Bool, true, false, not, cond, Option, Some, None, Ok, inl, inr, ◌⊎◌, refl, sym, ap, ◌∙◌, subst}
+use Rattle.std.specs.Prelude.{slice_index}
+use Rattle.std.specs.List.{flat_map, filter, before_first, position_or_len, AllByRecursion}
+use Rattle.std.proofs.lemmas.List.Elements.{filter-append}
+use Rattle.std.proofs.lemmas.List.Sums.{fails_before_first, prefix_len-le-length}
+use Rattle.std.specs.Io.KnownBytes.{Appends}
+use Rattle.mvs_model.specs.declared.name.Name.{Name}
+use Rattle.mvs_model.specs.declared.line.Line.{Line}
+use Rattle.mvs_model.specs.declared.line.Line.TheVariants as line
+use Rattle.mvs_model.specs.declared.line.Statement.TheVariants as says
+use Rattle.mvs_model.specs.declared.outcome.Outcome.{Outcome}
+use Rattle.mvs_model.specs.declared.reason.Reason.{Reason}
+use Rattle.mvs_model.specs.declared.request.Request.{Request}
+use Rattle.mvs_model.specs.declared.request.Request.TheVariants.{Return}
+use Rattle.mvs_model.specs.Answers.{Answer, NotRun, NoName, At, Rc0, Granted, Rc4, Cell, NoCell, Attached, Ended, Done, Data, Abended, Subpools, Map, Region, Event, Told, StepEnded, Faulted}
+use Rattle.mvs_model.specs.Job.{JobValue}
+use Rattle.mvs_model.specs.Lines.{ended_text, lines_of, IsUnended}
+use Rattle.mvs_model.specs.Name.{trimmed}
+use Rattle.mvs_model.specs.Resolving.{resolved}
+use Rattle.mvs_model.specs.Runs.{machine}
+use Rattle.mvs_model.specs.Texts.{answer_text, code_text, data_lines, fault_number, map_text, printing, reply_line, said, subpool_text, text_of}
+use Rattle.mvs_model.specs.Walk.{JobEnds, Walks}
+use Rattle.mvs_model.proofs.Going.{printed_both}
+use Rattle.job_script.specs.ReasonTexts.{reason_line, reason_said}
+use Rattle.mvs_model.specs.Owners.{goes}
+use Rattle.step_machine.specs.Facts.{owned_subpools}
+use Rattle.step_machine.specs.declared.facts.OwnedSubpool.{OwnedSubpool}
+use Rattle.job_script.specs.FactTexts.{freed_line, freed_said}
+use Rattle.mvs_job.specs.Facts.{IsFreeing, ended_by, freed_by, freed_lines, may_end, subpool_line}
+use Rattle.mvs_job.specs.Explaining.{Annotates, Explains, IsBehind, IsExplained, IsExplanation, reason_text, spoken, WritesExplained, without_starred}
+use Rattle.mvs_job.proofs.Feeding.{all_before, lines_cut, lines_ended}
+
+-- ---- texts that end in a line feed
+
+-- The last byte is a line feed.
+abbrev IsClosed : List ℕ → Type 0
+IsClosed text = (front : List ℕ) × (text ≡ front ++ 10 ∷ [])
+
+-- The same, or there is no byte.
+abbrev IsEnded : List ℕ → Type 0
+IsEnded text = (text ≡ []) ⊎ IsClosed text
+
+closed_behind : (front text : List ℕ) → IsClosed text → IsClosed (front ++ text)
+closed_behind front text c = (front ++ c.0, ap (λ x. front ++ x) c.1 ∙ sym (append_assoc front c.0 (10 ∷ [])))
+
+ended_both : (one other : List ℕ) → IsEnded one → IsEnded other → IsEnded (one ++ other)
+ended_both one other a (inl e) = subst IsEnded (sym (append-nil one) ∙ ap (λ x. one ++ x) (sym e)) a
+ended_both one other a (inr c) = inr (closed_behind one other c)
+
+ended_each : {X : Type 0} (f : X → List ℕ) (xs : List X) → ((x : X) → IsEnded (f x)) → IsEnded (flat_map f xs)
+ended_each f [] each = inl refl
+ended_each f (x ∷ xs) each = ended_both (f x) (flat_map f xs) (each x) (ended_each f xs each)
+
+-- ---- what is printed ends so
+
+reply_closed : (number : ℕ) (t : Name) (text : List ℕ) → IsClosed (reply_line number t text)
+reply_closed number t text = (decimal number ++ codes " " ++ trimmed t ++ codes " " ++ text, refl)
+
+data_ended : (number : ℕ) (t : Name) (lines offset : ℕ) (bytes : List ℕ) → IsEnded (data_lines number t lines offset bytes)
+unfolding data_lines
+data_ended number t zero offset bytes = inl refl
+data_ended number t (suc lines) offset bytes = ended_both _ _ (inr (reply_closed number t _)) (data_ended number t lines _ _)
+
+answer_ended : (number : ℕ) (t : Name) (answer : Answer) → IsEnded (answer_text number t answer)
+answer_ended number t (Data bytes) = data_ended number t _ 0 bytes
+answer_ended number t (Abended code fallen) =
+    ended_both _ _ (inr (reply_closed number t (codes "ABEND " ++ code_text code))) (ended_each (λ x. reply_line number x (codes "ENDED WITH " ++ trimmed t)) fallen (λ x. inr (reply_closed number x _)))
+answer_ended number t (Subpools []) = inr (reply_closed number t (codes "SP NONE"))
+answer_ended number t (Subpools (l ∷ lines)) = ended_each (λ l. reply_line number t (subpool_text l)) (l ∷ lines) (λ l. inr (reply_closed number t _))
+answer_ended number t (Map runs) = ended_each (λ r. reply_line number t (map_text r)) runs (λ r. inr (reply_closed number t _))
+answer_ended number t NotRun = inr (reply_closed number t _)
+answer_ended number t NoName = inr (reply_closed number t _)
+answer_ended number t (At a) = inr (reply_closed number t _)
+answer_ended number t Rc0 = inr (reply_closed number t _)
+answer_ended number t (Granted n) = inr (reply_closed number t _)
+answer_ended number t Rc4 = inr (reply_closed number t _)
+answer_ended number t Cell = inr (reply_closed number t _)
+answer_ended number t NoCell = inr (reply_closed number t _)
+answer_ended number t Attached = inr (reply_closed number t _)
+answer_ended number t Ended = inr (reply_closed number t _)
+answer_ended number t Done = inr (reply_closed number t _)
+answer_ended number t (Region card) = inr (reply_closed number t _)
+
+event_ended : (event : Event) → IsEnded (text_of event)
+event_ended (Told number t answer) = answer_ended number t answer
+event_ended (StepEnded true) = inr (codes "STEP ENDED RC 8", refl)
+event_ended (StepEnded false) = inr (codes "STEP ENDED RC 0", refl)
+event_ended (Faulted number fault) = inr (closed_behind (decimal number ++ codes " JS0" ++ decimal (fault_number fault)) (codes "\nJOB FAULT RC 12\n") (codes "\nJOB FAULT RC 12", refl))
+
+printing_ended : (events : List Event) → IsEnded (printing events)
+printing_ended events = ended_each text_of events event_ended
+
+-- ---- the lines of such a text
+
+-- the lines with a byte in front of the first
+cut_more : (b : ℕ) (text : List ℕ) (lines : List (List ℕ)) → (feed : Bool) → (b == 10) ≡ feed → AllByRecursion IsUnended lines → text ++ 10 ∷ [] ≡ ended_text lines → (more : List (List ℕ)) × AllByRecursion IsUnended more × ((b ∷ text) ++ 10 ∷ [] ≡ ended_text more)
+cut_more b text lines true is each e = ([] ∷ lines, (tt, each), (let f : b ≡ 10 = grind arith in ap (λ c. c ∷ text ++ 10 ∷ []) f ∙ ap (λ x. 10 ∷ x) e))
+cut_more b [] [] false is each e = absurd (let no : 10 ∷ [] ≡ [] = e in cc)
+cut_more b (c ∷ text) [] false is each e = absurd (let no : c ∷ (text ++ 10 ∷ []) ≡ [] = e in cc)
+cut_more b text (l ∷ lines) false is each e = ((b ∷ l) ∷ lines, (((let f : b ≢ 10 = grind arith in f), each.0), each.1), ap (λ x. b ∷ x) e)
+
+cut : (text : List ℕ) → (lines : List (List ℕ)) × AllByRecursion IsUnended lines × (text ++ 10 ∷ [] ≡ ended_text lines)
+cut [] = ([] ∷ [], (tt, tt), refl)
+cut (b ∷ text) = let c = cut text in cut_more b text c.0 (b == 10) refl c.1 c.2
+
+lines_in : (text : List ℕ) → IsEnded text → (lines : List (List ℕ)) × AllByRecursion IsUnended lines × (text ≡ ended_text lines)
+lines_in text (inl e) = ([], tt, e)
+lines_in text (inr c) = let k = cut c.0 in (k.0, k.1, c.1 ∙ k.2)
+
+text_both : (one other : List (List ℕ)) → ended_text (one ++ other) ≡ ended_text one ++ ended_text other
+text_both [] other = refl
+text_both (l ∷ one) other = ap (λ x. l ++ 10 ∷ x) (text_both one other) ∙ sym (append_assoc l (10 ∷ ended_text one) (ended_text other))
+
+-- what is left of two texts one behind the other
+left_both : (one other : List ℕ) → IsEnded one → without_starred (one ++ other) ≡ without_starred one ++ without_starred other
+left_both one other ended =
+    let k = lines_in one ended in
+    let kept : List ℕ → Bool = λ l. not (slice_index l 0 == 42) in
+    let whole : lines_of (one ++ other) ≡ k.0 ++ lines_of other = ap (λ x. lines_of (x ++ other)) k.2 ∙ lines_cut k.0 other k.1 in
+    let alone : lines_of one ≡ k.0 = ap lines_of (sym (append-nil one)) ∙ ap (λ x. lines_of (x ++ [])) k.2 ∙ lines_cut k.0 [] k.1 ∙ append-nil k.0 in
+    ap (λ ls. ended_text (filter kept ls)) whole
+    ∙ ap ended_text (filter-append kept k.0 (lines_of other))
+    ∙ text_both (filter kept k.0) (filter kept (lines_of other))
+    ∙ ap (λ ls. ended_text (filter kept ls) ++ without_starred other) (sym alone)
+
+-- ---- what is left out
+
+-- Of the text in front of another one nothing is left.
+abbrev IsLeftOut : List ℕ → Type 0
+IsLeftOut text = (more : List ℕ) → without_starred (text ++ more) ≡ without_starred more
+
+none_left_out : (text : List ℕ) → text ≡ [] → IsLeftOut text
+none_left_out text e more = ap (λ x. without_starred (x ++ more)) e
+
+unended : (text : List ℕ) → IsUnended (before_first (λ b. b == 10) text)
+unended text = all_before text (position_or_len (λ b. b == 10) text) (λ k inside. let no : (get_or text k 0 == 10) ≡ false = fails_before_first (λ b. b == 10) text k 0 inside in grind arith) (prefix_len-le-length _ text)
+
+starred_out : (text : List ℕ) → IsUnended text → slice_index text 0 ≡ 42 → IsLeftOut (text ++ 10 ∷ [])
+starred_out text none star more =
+    ap (λ ls. ended_text (filter (λ l. not (slice_index l 0 == 42)) ls)) (ap lines_of (append_assoc text (10 ∷ []) more) ∙ lines_ended text more none)
+    ∙ ap (λ b. ended_text (cond (not (b == 42)) (text ∷ filter (λ l. not (slice_index l 0 == 42)) (lines_of more)) (filter (λ l. not (slice_index l 0 == 42)) (lines_of more)))) star
+
+begins_so : (text : List ℕ) → slice_index (before_first (λ b. b == 10) (42 ∷ text)) 0 ≡ 42
+begins_so text =
+    let more : 1 + position_or_len (λ b. b == 10) text ≡ suc (position_or_len (λ b. b == 10) text) = omega arith in
+    ap (λ n. slice_index (take n (42 ∷ text)) 0) more
+
+reason_out : (t : Name) (request : Request) (reason : Reason) → IsLeftOut (reason_line t request reason)
+reason_out t request reason =
+    starred_out (before_first (λ b. b == 10) (codes "* " ++ reason_said t request reason)) (unended (codes "* " ++ reason_said t request reason)) (begins_so (codes " " ++ reason_said t request reason))
+
+text_out : (job : JobValue) (l : Line) (r : Option Reason) → IsLeftOut (reason_text job l r)
+text_out job l None = none_left_out [] refl
+text_out job line.Nothing (Some reason) = none_left_out [] refl
+text_out job (line.Statement t (says.Request a)) (Some reason) = reason_out t (spoken (resolved job.names a)) reason
+text_out job (line.Statement t (says.Region below above fill residence)) (Some reason) = reason_out t Return reason
+text_out job (line.Statement t (says.Where name)) (Some reason) = reason_out t Return reason
+text_out job (line.Statement t says.ReportSubpools) (Some reason) = reason_out t Return reason
+text_out job (line.Statement t says.ReportMap) (Some reason) = reason_out t Return reason
+
+explanation_out : (old : Option JobValue) (l why : List ℕ) → IsExplanation old l why → IsLeftOut why
+explanation_out None l why e = none_left_out why e
+explanation_out (Some job) l why (inl (said, is, (r, of, e))) = subst IsLeftOut (sym e) (text_out job said r)
+explanation_out (Some job) l why (inr (fault, is, e)) = none_left_out why e
+
+out_both : (one other : List ℕ) → IsLeftOut one → IsLeftOut other → IsLeftOut (one ++ other)
+out_both one other a b more = ap without_starred (append_assoc one other more) ∙ a (other ++ more) ∙ b more
+
+subpool_out : (e : Name × List Name) (s : OwnedSubpool) → IsLeftOut (subpool_line e s)
+subpool_out e s = at (goes e.0 e.1 s.owner) where
+  at : (b : Bool) → IsLeftOut (cond b (freed_line s.number s.owner s.bytes s.pages) [])
+  at true =
+      let text = freed_said s.number s.owner s.bytes s.pages in
+      starred_out (before_first (λ b. b == 10) (codes "* " ++ text)) (unended (codes "* " ++ text)) (begins_so (codes " " ++ text))
+  at false = none_left_out [] refl
+
+each_out : (e : Name × List Name) (subpools : List OwnedSubpool) → IsLeftOut (flat_map (subpool_line e) subpools)
+each_out e [] = none_left_out [] refl
+each_out e (s ∷ subpools) = out_both (subpool_line e s) (flat_map (subpool_line e) subpools) (subpool_out e s) (each_out e subpools)
+
+lines_out : (subpools : List OwnedSubpool) (ended : Option (Name × List Name)) → IsLeftOut (freed_lines subpools ended)
+lines_out subpools None = none_left_out [] refl
+lines_out subpools (Some e) = each_out e subpools
+
+freed_out : (asked : Bool) (subpools : List OwnedSubpool) (events : List Event) → IsLeftOut (freed_by asked subpools events)
+freed_out true subpools events = lines_out subpools (ended_by events)
+freed_out false subpools events = none_left_out [] refl
+
+freeing_out : (old : Option JobValue) (l : List ℕ) (events : List Event) (freed : List ℕ) → IsFreeing old l events freed → IsLeftOut freed
+freeing_out None l events freed e = none_left_out freed e
+freeing_out (Some job) l events freed (inl (said, is, (r, of, e))) = subst IsLeftOut (sym e) (freed_out (may_end said r) (owned_subpools job.state) events)
+freeing_out (Some job) l events freed (inr (fault, is, e)) = none_left_out freed e
+
+behind_out : (old : Option JobValue) (l : List ℕ) (events : List Event) (text : List ℕ) → IsBehind old l events text → IsLeftOut text
+behind_out old l events text (why, freed, is, frees, e) = subst IsLeftOut (sym e) (out_both why freed (explanation_out old l why is) (freeing_out old l events freed frees))
+
+-- ---- a run
+
+abbrev Left : Outcome → ℕ → Option JobValue → List (List ℕ) → List ℕ → Type 0
+Left outcome number old lines text = (events : List Event) × Walks machine (JobEnds machine outcome) number old lines events × (without_starred text ≡ without_starred (printing events))
+
+left : (outcome : Outcome) (lines : List (List ℕ)) (number : ℕ) (old : Option JobValue) (text : List ℕ) → Explains (Ok outcome) number old lines text → Left outcome number old lines text
+left outcome [] number old text h = (h.0, h.1, ap without_starred h.2)
+left outcome (l ∷ lines) number old text (inl h) = (h.0, inl (h.1, h.2), ap without_starred h.3)
+left outcome (l ∷ lines) number old text (inr (mid, events, why, rest, serves, is, e, more)) =
+    let s = left outcome lines (number + 1) mid rest more in
+    let told = printing events in (
+      events ++ s.0,
+      inr (mid, events, s.0, serves, refl, s.1),
+      ap without_starred (e ∙ append_assoc told why rest)
+      ∙ left_both told (why ++ rest) (printing_ended events)
+      ∙ ap (λ x. without_starred told ++ x) (behind_out old l events why is rest ∙ s.2)
+      ∙ sym (left_both told (printing s.0) (printing_ended events))
+      ∙ ap without_starred (sym (printed_both events s.0)),
+    )
+
+annotated : (script text : List ℕ) (outcome : Outcome) → IsExplained script text (Ok outcome) → Annotates script text outcome
+annotated script text outcome h =
+    let s = left outcome (lines_of script) 1 None text h in
+    record { events = s.0; run = s.1; printed = s.2 }
+
+-- Without its reasons the text of a run with reasons is the printing of a run.
+pub annotates : (start after : Option (List ℕ)) (script : List ℕ) (outcome : Outcome) → WritesExplained start after script (Ok outcome) → (text : List ℕ) × Appends start after text × Annotates script text outcome
+annotates start after script outcome h = (h.0, h.1, annotated script h.0 outcome h.2)
