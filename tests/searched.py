@@ -115,7 +115,7 @@ def obtain(dice, task, name):
     if form == "R":
         return f"{task} GETMAIN R,LV={max(length, 4000)},A={name}{number}"
     if form == "VRC":
-        return f"{task} GETMAIN VRC,LV=(512,{length}),A={name}{number}{bounds}"
+        return f"{task} GETMAIN VRC,LV=({length},512),A={name}{number}{bounds}"
     return f"{task} GETMAIN {form},LV={length},A={name}{number}{bounds}"
 
 
@@ -198,10 +198,11 @@ def other_address(printed, dice):
 
 
 def is_told(script):
-    """Whether each grant is asked for its place, and none is a list's or a pool's."""
-    lines = script.splitlines()
-    grants = [k for k, line in enumerate(lines) if re.search(r"(GETMAIN|STORAGE OBTAIN|CPOOL)", line)]
-    return not re.search("GETMAIN L|CPOOL", script) and all(" WHERE " in "".join(lines[k + 1 : k + 2]) for k in grants)
+    """Whether the place of each grant is asked for right behind it, and none is a list's or a pool's."""
+    lines = script.splitlines() + [""]
+    grants = [(k, re.match(r"(\w+) (?:GETMAIN|STORAGE OBTAIN).*,A(?:DDR)?=(\w+)", line)) for k, line in enumerate(lines)]
+    told = all(lines[k + 1] == f"{grant[1]} WHERE {grant[2]}" for k, grant in grants if grant)
+    return told and not re.search("GETMAIN L|CPOOL", script)
 
 
 def no_address(printed):
