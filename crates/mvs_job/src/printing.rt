@@ -104,6 +104,7 @@ pub fn print_line<W: Write>(
 }
 
 /// Serves one line, prints what it tells, and answers that.
+#[inline(always)]
 pub fn tell_line<W: Write>(
     walk: &mut Walk,
     line: &[u8],

@@ -49,11 +49,20 @@ fn is_silent(text: &[u8]) -> bool {
     }
 }
 
+// How many lines have ended in a few bytes, fewer than 256: a byte counts them, so that many are looked at together.
+fn ended_in_block(block: &[u8]) -> u8 {
+    let mut lines = 0u8;
+    for byte in block {
+        lines = lines.wrapping_add(u8::from(*byte == b'\n'));
+    }
+    lines
+}
+
 // How many lines of a text have ended.
 fn ended_lines(text: &[u8]) -> u32 {
     let mut lines = 0u32;
-    for byte in text {
-        lines = lines.wrapping_add(u32::from(*byte == b'\n'));
+    for block in text.chunks(240) {
+        lines = lines.wrapping_add(u32::from(ended_in_block(block)));
     }
     lines
 }
