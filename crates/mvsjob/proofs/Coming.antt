@@ -190,15 +190,15 @@ writes_of left more before after P Q f (told, rest, written, consumed, is, appen
 module _ (left unread more before after : Option (List ℕ)) (same : left ≡ unread) where
   pub written_ok : (r : Result Outcome RunFault) → IfOk r (λ outcome. Exchanges left more before after (λ told script written. (length told ≤ 16777215) × IsPrinting script written outcome))
       → IfOk r (λ outcome. Writes unread before after (λ script written. IsPrinting script written outcome))
-  written_ok (Ok outcome) h = subst (λ l. Writes l before after (λ script written. IsPrinting script written outcome)) same (writes_of left more before after _ (λ script written. IsPrinting script written outcome) (λ told script written p. p.1) h)
+  written_ok (Ok outcome) h = subst (λ l. Writes l before after (λ script written. IsPrinting script written outcome)) same (writes_of left more before after (λ told script written. (length told ≤ 16777215) × IsPrinting script written outcome) (λ script written. IsPrinting script written outcome) (λ told script written p. p.1) h)
   written_ok (Err fault) h = tt
 
   pub written_front : (r : Result Outcome RunFault) → IfErr r (λ fault. Exchanges left more before after (λ told script written. (length told ≤ 16777216) × IsPrintingFront script written × (fault ≡ ReadTooLong → 16777215 < length told)))
       → IfErr r (λ fault. Writes unread before after (λ script written. IsPrintingFront script written))
   written_front (Ok outcome) h = tt
-  written_front (Err fault) h = subst (λ l. Writes l before after (λ script written. IsPrintingFront script written)) same (writes_of left more before after _ (λ script written. IsPrintingFront script written) (λ told script written p. p.1) h)
+  written_front (Err fault) h = subst (λ l. Writes l before after (λ script written. IsPrintingFront script written)) same (writes_of left more before after (λ told script written. (length told ≤ 16777216) × IsPrintingFront script written × (fault ≡ ReadTooLong → 16777215 < length told)) (λ script written. IsPrintingFront script written) (λ told script written p. p.1) h)
 
   pub written_before : (r : Result Outcome RunFault) → IfErr r (λ fault. fault ≡ Memory → Exchanges left more before after (λ told script written. IsPrintingBefore script written))
       → IfErr r (λ fault. fault ≡ Memory → Writes unread before after (λ script written. IsPrintingBefore script written))
   written_before (Ok outcome) h = tt
-  written_before (Err fault) h = λ e. subst (λ l. Writes l before after (λ script written. IsPrintingBefore script written)) same (writes_of left more before after _ (λ script written. IsPrintingBefore script written) (λ told script written p. p) (h e))
+  written_before (Err fault) h = λ e. subst (λ l. Writes l before after (λ script written. IsPrintingBefore script written)) same (writes_of left more before after (λ told script written. IsPrintingBefore script written) (λ script written. IsPrintingBefore script written) (λ told script written p. p) (h e))

@@ -280,7 +280,8 @@ pub fn run_faultless<R: Read + Drop, L: Listens + Drop, W: Write>(
     ensures healthy { OnOk result.ended (writer.new.failed ≡ false) }
     ensures write { IsErrOf result.ended RunFault.Write → writer.new.failed ≡ true }
 {
-    let mut reader = Watched::new(Faultless::new(reader, listener));
+    let faultless = Faultless::new(reader, listener);
+    let mut reader = Watched::new(faultless);
     let ended = run_job(alloc, &mut reader, writer, placement, Told::nothing(alloc));
     let reader = reader.into_inner();
     End {
