@@ -1,12 +1,10 @@
 -- What is passed on of a script, a byte at a time.
-use Rattle.std.proofs.Common.{◌≡◌, ◌≢◌, ℕ, ◌+◌, ◌<◌, ◌==◌, ◌&&◌, Bool, true, false, if◌then◌else◌, slice_set, ◌≤◌, List, [], ◌∷◌, ◌++◌, length, take, drop, append_assoc, append-nil, Option, Some, None, is_some, refl, sym, ap, ◌∙◌, arith, length-append, lt-ltb, ne_eqb, eq-eqb, eqb-true, subst, Result, Ok, Err, IfOk, IfErr}
-use Rattle.std.specs.List.{AllByRecursion, onto_first}
+use Rattle.std.proofs.Common.{◌≡◌, ◌≢◌, ℕ, ◌<◌, ◌==◌, ◌&&◌, Bool, true, false, if◌then◌else◌, slice_set, ◌≤◌, List, [], ◌∷◌, ◌++◌, length, take, drop, append_assoc, append-nil, Option, Some, None, is_some, refl, sym, ap, ◌∙◌, arith, length-append, lt-ltb, ne_eqb, eq-eqb, eqb-true, subst, Result, Ok, Err, IfOk, IfErr}
 use Rattle.std.specs.Option.{option_map}
 use Rattle.std.specs.Io.KnownBytes.{Consumes, IsAtEnd, Keeps}
 use Rattle.mvs_model.specs.declared.line.Fault.{Fault}
-use Rattle.mvs_model.specs.declared.line.Fault.TheVariants.{TooLong}
 use Rattle.mvs_model.specs.Lines.{lines_of, ended_text, IsUnended}
-use Rattle.mvs_model.specs.Reading.{FaultOf, LineOf, checks, first_of, is_empty, says_nothing}
+use Rattle.mvs_model.specs.Reading.{FaultOf, LineOf, is_empty, says_nothing}
 use Rattle.mvs_model.specs.declared.line.Line.{Line}
 use Rattle.mvs_model.specs.declared.outcome.Outcome.{Outcome}
 use Rattle.mvs_model.specs.Memory.{IsPrintingBefore}

@@ -1,4 +1,4 @@
-use Rattle.std.proofs.Common.{◌≡◌, ◌∙◌, ap, List, ℕ, Option}
+use Rattle.std.proofs.Common.{◌∙◌, ap}
 use Rattle.std.specs.Option.{option_map}
 use Rattle.mvsjob.specs.Faultless.{known_coming, without_faults}
 use Rattle.mvsjob.proofs.Coming.{written_ok, written_front, written_before}
