@@ -10,5 +10,6 @@ complete -c mvsjob -l profile -x -a 'storage tasks pools tidy faults' -d 'What a
 complete -c mvsjob -l explain -d 'Say behind an answer why a request is refused'
 complete -c mvsjob -l json -d 'Print each event as a line of JSON'
 complete -c mvsjob -l strict -d 'Say on standard error of lines that were not served what may be meant'
+complete -c mvsjob -l interactive -d 'Ask for each line, and go on without one that has a fault'
 complete -c mvsjob -s h -l help -d 'Print help'
 complete -c mvsjob -s V -l version -d 'Print version'

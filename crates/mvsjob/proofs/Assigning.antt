@@ -1,5 +1,5 @@
 -- What clap gives the words of the program's command.
-use Rattle.std.proofs.Common.{◌≡◌, ◌∙◌, ◌⊎◌, inl, inr, sym, ap, refl, true, List}
+use Rattle.std.proofs.Common.{◌≡◌, ◌∙◌, ◌⊎◌, inl, inr, sym, ap, refl, true, List, Result, Ok, Err, IfOk}
 use Rattle.clap.specs.Words.{App, HasMatchesOf, IsAmong, Kinds, Text, app_of, fault_of, first_of, first_value, found_of, is_simple, is_simple_and_free, matches_of}
 use Rattle.clap.proofs.OnLiterals.{clap_on_literals}
 use Rattle.clap.proofs.WalkLemmas.{first_value-rows}
@@ -28,3 +28,8 @@ pub value_found : (c : Command) (words : List Text) (ps : Parsers) (m : ArgMatch
 value_found c words ps m is has name =
     let rows = (has (ap is_simple is ∙ command_is_simple ps)).0 ∙ ap (λ a. matches_of a words) is in
     first_value-rows (found_of m) name ∙ ap (first_of name) rows
+
+-- what is so of each value, is so
+pub if_ok : {T E : Type 0} (r : Result T E) (P Q : T → Type 0) → IfOk r P → ((x : T) → P x → Q x) → IfOk r Q
+if_ok (Ok x) P Q h f = f x h
+if_ok (Err e) P Q h f = tt

@@ -57,9 +57,9 @@ random_app a = with_rule (with_rule a (value_rule (codes "random") (Unsigned 0 1
 
 -- and with what else a run tells, and how
 abbrev pub telling_app : App → App
-telling_app a = with_rule (with_rule (with_rule a (flag_rule (codes "explain"))) (flag_rule (codes "json"))) (flag_rule (codes "strict"))
+telling_app a = with_rule (with_rule (with_rule (with_rule a (flag_rule (codes "explain"))) (flag_rule (codes "json"))) (flag_rule (codes "strict"))) (flag_rule (codes "interactive"))
 
--- the program's command: a word and eleven options, which may all be left out, and a version
+-- the program's command: a word and twelve options, which may all be left out, and a version
 abbrev pub command : Parsers → App
 command ps =
     telling_app (with_rule (random_app (judging_app (answers_app

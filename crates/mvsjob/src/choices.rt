@@ -44,4 +44,6 @@ pub struct Settings<'a> {
     pub json: bool,
     /// Whether a run tells each line that was not served.
     pub strict: bool,
+    /// Whether a run asks for its lines, and goes on without those that have a fault.
+    pub interactive: bool,
 }

@@ -26,6 +26,7 @@ The script's language is described in mvsjob-script(5), which is docs/SCRIPT.md.
 const LONG: &str = "Examples:
   mvsjob leak.job                    runs a script
   mvsjob --strict leak.job           and says which lines were not served
+  mvsjob                             runs the lines that are typed, until the end of input (Ctrl-D)
   mvsjob --explain leak.job          and says why requests are refused
   mvsjob --check homework.job        compares the answers behind => with those of the run
   mvsjob --random 7 --lines 50 | mvsjob --place high
@@ -38,7 +39,8 @@ Exit status:
   2   with --judge: it is not decided whether a run of the script prints OUTPUT
   4   with --strict: no task abended, and some line was not served: NOT RUN or NO NAME
   8   every line was run, and some task abended
-  12  a line of the script has a fault, and no line behind it was run
+  12  a line of the script has a fault, and no line behind it was run; at a terminal
+      faulty lines are left out, and 12 says that there was no REGION statement
   16  the job gave up, or could not begin: standard error says why
 
 The script's language is described in mvsjob-script(5), which is docs/SCRIPT.md.";
@@ -209,15 +211,21 @@ fn with_telling<'a>(command: Command<'a>, alloc: Global) -> Result<Command<'a>, 
         "json",
         "Prints each event of the run as a line of JSON; with --explain also why a request is refused",
     )?;
-    with_flag(
+    let strict = with_flag(
         printing,
         alloc,
         "strict",
         "Says on standard error of each line whose task is not active, or in which a name is not set, what may be meant",
+    )?;
+    with_flag(
+        strict,
+        alloc,
+        "interactive",
+        "Asks for each line on standard error, tells one that has a fault, and goes on without it; so does a run from a terminal to a terminal",
     )
 }
 
-// The command: a word and eleven options, all of which may be left out.
+// The command: a word and twelve options, all of which may be left out.
 fn command<'a>(alloc: Global) -> Result<Command<'a>, AllocError>
     ensures { IfOk result (λ c. (ps : Parsers) × AreParsers ps × (app_of c ≡ command ps)) }
 {
@@ -343,7 +351,10 @@ pub fn settings<'a>(alloc: Global, words: &'a [String]) -> Result<Settings<'a>, 
         × (IsTrue s.json
         ↔ assigned ps (map string_bytes words.entry.now) (codes "json") ≡ Some (codes "true"))
         × (IsTrue s.strict
-        ↔ assigned ps (map string_bytes words.entry.now) (codes "strict") ≡ Some (codes "true"))) }
+        ↔ assigned ps (map string_bytes words.entry.now) (codes "strict") ≡ Some (codes "true"))
+        × (IsTrue s.interactive
+        ↔ assigned ps (map string_bytes words.entry.now) (codes "interactive")
+        ≡ Some (codes "true"))) }
     // Clap finds nothing wrong with words that are taken; an error is of a kind that it finds, or want of memory.
     ensures taken { IfOk result (λ _. FindsWrong (map string_bytes words.entry.now) []) }
     ensures kinds { IfErr result
@@ -363,5 +374,6 @@ pub fn settings<'a>(alloc: Global, words: &'a [String]) -> Result<Settings<'a>, 
         explains: is_set(&matches, "explain"),
         json: is_set(&matches, "json"),
         strict: is_set(&matches, "strict"),
+        interactive: is_set(&matches, "interactive"),
     })
 }

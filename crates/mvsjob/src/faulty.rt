@@ -1,6 +1,6 @@
 //! The line whose fault ends a job.
 
-ghost use Rattle.std.specs.Prelude.{◌≡◌, ◌≤◌, ◌<◌, ◌+◌, ◌^◌, ℕ, Bool, List, length};
+ghost use Rattle.std.specs.Prelude.{◌≡◌, ◌≤◌, ◌<◌, ◌+◌, ◌^◌, [], ℕ, Bool, List, length};
 ghost use Rattle.mvs_model.specs.Answers.{Event};
 ghost use Rattle.mvs_model.specs.Lines.{lines_of};
 ghost use Rattle.mvs_model.specs.Numbers.{most_script_bytes};
@@ -23,8 +23,23 @@ pub struct Faulty<'a> {
     pub fault: Fault,
 }
 
-// Whether a line says nothing that says this.
-fn says_nothing(read: &Line) -> bool
+impl Faulty<'_> {
+    /// The fault of a script without a statement, where the line behind the last has this number.
+    pub fn behind(number: u32) -> Faulty<'static>
+        ensures number { result.number ≡ number }
+        ensures line { result.line.now ≡ [] }
+        ensures fault { result.fault ≡ Fault.OutOfPlace }
+    {
+        Faulty {
+            number,
+            line: &[],
+            fault: Fault::OutOfPlace,
+        }
+    }
+}
+
+/// Whether a line says nothing that says this.
+pub fn says_nothing(read: &Line) -> bool
     ensures { (first : Bool) (bytes : List ℕ) → LineOf first bytes read.now
         → result ≡ says_nothing bytes }
 {

@@ -11,12 +11,14 @@ mod clues;
 mod command_line;
 mod ending;
 mod explained;
+mod faultless;
 mod faulty;
 mod json;
 mod judging;
 mod kept;
 mod piped;
 mod strict;
+mod terminal;
 
 use answers::{check_answers, write_made};
 use choices::{Mode, Settings};
@@ -37,6 +39,7 @@ use std::fs::File;
 use std::io::{self, BufWriter, ErrorKind, Read, Write};
 use std::process::ExitCode;
 use strict::run_strict;
+use terminal::{is_at_terminal, run_at_terminal};
 
 // Tells a faulty line on standard error. A failure to do so changes nothing.
 pub(crate) fn tell(rt: &HostRuntime, name: &str, faulty: &Faulty<'_>) {
@@ -44,18 +47,43 @@ pub(crate) fn tell(rt: &HostRuntime, name: &str, faulty: &Faulty<'_>) {
     let _ = eprint!(rt; "{name}:{}:{diagnosis}", faulty.number);
 }
 
-// Runs the script that a reader tells, flushes what it printed, and tells the line that ended it, if one did. A flush that fails is a
-// write that failed.
+type Output<'a> = BufWriter<Piped<io::Printer<'a, HostRuntime>>>;
+
+// The writer of what a job prints.
+pub(crate) fn opened(rt: &HostRuntime) -> Result<Output<'_>, GiveUp> {
+    match BufWriter::new(rt.alloc(), Piped::new(io::writer(rt))) {
+        Ok(writer) => Ok(writer),
+        Err(_) => Err(GiveUp::Job(RunFault::Memory)),
+    }
+}
+
+// Flushes what a job printed that ended so, and whose reader is a directory or not. A flush that fails is a write that failed.
+pub(crate) fn concluded(
+    ended: Result<Outcome, RunFault>,
+    mut writer: Output<'_>,
+    is_directory: bool,
+) -> Result<Outcome, GiveUp> {
+    let flushed = writer.flush();
+    match ended {
+        Ok(outcome) if flushed.is_ok() => Ok(outcome),
+        Ok(_) | Err(RunFault::Write) if writer.get_ref().is_closed() => Err(GiveUp::Pipe),
+        Ok(_) => Err(GiveUp::Job(RunFault::Write)),
+        Err(RunFault::Read) if is_directory => Err(GiveUp::Script(Unread::Directory)),
+        Err(fault) => Err(GiveUp::Job(fault)),
+    }
+}
+
+// Runs the script that a reader tells, and tells the line that ended it, if one did.
 fn run_from<R: Read + Drop>(
     rt: &HostRuntime,
     reader: R,
     settings: &Settings<'_>,
 ) -> Result<Outcome, GiveUp> {
-    let Ok(writer) = BufWriter::new(rt.alloc(), Piped::new(io::writer(rt))) else {
-        return Err(GiveUp::Job(RunFault::Memory));
-    };
+    if is_at_terminal(rt, settings) {
+        return run_at_terminal(rt, reader, settings);
+    }
     let mut reader = Watched::new(Kept::new(reader));
-    let mut writer = Watched::new(writer);
+    let mut writer = Watched::new(opened(rt)?);
     let told = Told::nothing(rt.alloc());
     let ended = run_job(
         rt.alloc(),
@@ -64,21 +92,12 @@ fn run_from<R: Read + Drop>(
         settings.placement,
         told,
     );
-    let mut writer = writer.into_inner();
-    let flushed = writer.flush();
     let kept = reader.into_inner();
-    match ended {
-        Ok(outcome) if flushed.is_ok() => {
-            if outcome == Outcome::ScriptFault {
-                tell(rt, settings.file, &kept.faulty());
-            }
-            Ok(outcome)
-        }
-        Ok(_) | Err(RunFault::Write) if writer.get_ref().is_closed() => Err(GiveUp::Pipe),
-        Ok(_) => Err(GiveUp::Job(RunFault::Write)),
-        Err(RunFault::Read) if kept.is_directory() => Err(GiveUp::Script(Unread::Directory)),
-        Err(fault) => Err(GiveUp::Job(fault)),
+    let outcome = concluded(ended, writer.into_inner(), kept.is_directory())?;
+    if outcome == Outcome::ScriptFault {
+        tell(rt, settings.file, &kept.faulty());
     }
+    Ok(outcome)
 }
 
 // Runs the script that the words name.

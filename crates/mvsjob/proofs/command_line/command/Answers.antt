@@ -1,13 +1,8 @@
-use Rattle.std.proofs.Common.{◌≡◌, Result, Ok, Err, ◌∙◌, ap, codes}
-use Rattle.std.specs.Prelude.{IfOk}
+use Rattle.std.proofs.Common.{◌≡◌, ◌∙◌, ap, codes}
 use Rattle.clap.specs.Words.{app_of, with_rule}
 use Rattle.mvsjob.specs.CommandLine.{AreParsers, Parsers, answers_app, command, judging_app, random_app, telling_app, value_rule}
+use Rattle.mvsjob.proofs.Assigning.{if_ok}
 use Rattle.mvsjob.proofs.command_line.command.Goals as goal
-
--- what is so of each value, is so
-if_ok : {T E : Type 0} (r : Result T E) (P Q : T → Type 0) → IfOk r P → ((x : T) → P x → Q x) → IfOk r Q
-if_ok (Ok x) P Q h f = f x h
-if_ok (Err e) P Q h f = tt
 
 pub returns : goal.returns
 returns c =

@@ -1,0 +1,11 @@
+use Rattle.std.proofs.Common.{◌≡◌, ◌∙◌, ap, codes}
+use Rattle.clap.specs.Words.{app_of, with_rule}
+use Rattle.mvsjob.specs.CommandLine.{flag_rule, telling_app}
+use Rattle.mvsjob.proofs.Assigning.{if_ok}
+use Rattle.mvsjob.proofs.command_line.with_telling.Goals as goal
+
+pub returns : goal.returns
+returns c =
+    let printing = c.in_ok-printing.ensures ∙ ap (λ a. with_rule a (flag_rule (codes "json"))) c.in_ok-explaining.ensures in
+    let strict = c.in_ok-strict.ensures ∙ ap (λ a. with_rule a (flag_rule (codes "strict"))) printing in
+    if_ok c.with_flag-4.result _ (λ new. app_of new ≡ telling_app (app_of c.args.command)) c.with_flag-4.ensures (λ new made. made ∙ ap (λ a. with_rule a (flag_rule (codes "interactive"))) strict)

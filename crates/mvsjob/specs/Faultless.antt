@@ -1,0 +1,56 @@
+-- A script without its faulty lines.
+use Rattle.std.specs.Prelude.{ℕ, ◌==◌, ◌&&◌, Bool, true, if◌then◌else◌, List, [], ◌∷◌, ◌++◌, drop, Option, Some, None, is_some, option_map}
+use Rattle.std.specs.Io.KnownBytes.{Appends}
+use Rattle.mvs_model.specs.Lines.{lines_of, ended_text}
+use Rattle.mvs_model.specs.Reading.{checks, first_of, is_empty, says_nothing}
+use Rattle.mvs_job.specs.Exchanging.{IsRest}
+
+-- whether a line has a fault, where no statement came before it, or one did
+unfoldable pub is_faulty : Bool → List ℕ → Bool
+is_faulty first line = is_some (first_of (checks first line))
+
+-- the lines that have no fault, where those that have one count for nothing. `first` says whether no statement came before
+abbrev pub faultless : Bool → List (List ℕ) → List (List ℕ)
+faultless first [] = []
+faultless first (l ∷ lines) = if is_faulty first l then faultless first lines else l ∷ faultless (first && says_nothing l) lines
+
+-- the script without its faulty lines
+abbrev pub without_faults : List ℕ → List ℕ
+without_faults script = ended_text (faultless true (lines_of script))
+
+-- Where it is known what is left to be told, P holds of that and of what is written; and else of some bytes and of what is written.
+abbrev pub Writes : Option (List ℕ) → Option (List ℕ) → Option (List ℕ) → (List ℕ → List ℕ → Type 0) → Type 0
+Writes left before after P = (script : List ℕ) × (written : List ℕ) × IsRest left script × Appends before after written × P script written
+
+-- ---- as it comes
+
+-- what is passed on of a line
+abbrev pub passed : Bool → List ℕ → List ℕ
+passed first line = if is_faulty first line then [] else line ++ 10 ∷ []
+
+-- whether no statement came before the next line
+abbrev pub first_behind : Bool → List ℕ → Bool
+first_behind first line = if is_faulty first line then first else first && says_nothing line
+
+-- what is passed on of a line of which some bytes were read, and of the bytes that are left
+abbrev pub passed_of : Bool → List ℕ → List ℕ → List ℕ
+passed_of first line [] = if is_empty line then [] else passed first line
+passed_of first line (b ∷ left) = if b == 10 then passed first line ++ passed_of (first_behind first line) [] left else passed_of first (line ++ b ∷ []) left
+
+-- the rest of a line that has ended, of which so many bytes were passed on
+abbrev pub rest_of : List ℕ → Option ℕ → List ℕ
+rest_of line None = []
+rest_of line (Some given) = drop given line ++ 10 ∷ []
+
+-- what was read of the line that has not ended
+abbrev pub begun : List ℕ → Option ℕ → List ℕ
+begun line None = line
+begun line (Some given) = []
+
+-- what is passed on from here: the rest of a line, and of the bytes that are left, unless the end was reached
+abbrev pub coming : Bool → Bool → List ℕ → Option ℕ → List ℕ → List ℕ
+coming first ended line given left = rest_of line given ++ (if ended then [] else passed_of first (begun line given) left)
+
+-- the same, where it is known what is left
+abbrev pub known_coming : Bool → Bool → List ℕ → Option ℕ → Option (List ℕ) → Option (List ℕ)
+known_coming first ended line given left = option_map (coming first ended line given) left
