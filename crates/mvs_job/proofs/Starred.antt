@@ -209,10 +209,10 @@ left outcome (l ∷ lines) number old text (inr (mid, events, why, rest, serves,
       events ++ s.0,
       inr (mid, events, s.0, serves, refl, s.1),
       ap without_starred (e ∙ append_assoc told why rest)
-      ∙ left_both told (why ++ rest) (printing_ended events)
-      ∙ ap (λ x. without_starred told ++ x) (behind_out old l events why is rest ∙ s.2)
-      ∙ sym (left_both told (printing s.0) (printing_ended events))
-      ∙ ap without_starred (sym (printed_both events s.0)),
+          ∙ left_both told (why ++ rest) (printing_ended events)
+          ∙ ap (λ x. without_starred told ++ x) (behind_out old l events why is rest ∙ s.2)
+          ∙ sym (left_both told (printing s.0) (printing_ended events))
+          ∙ ap without_starred (sym (printed_both events s.0)),
     )
 
 annotated : (script text : List ℕ) (outcome : Outcome) → IsExplained script text (Ok outcome) → Annotates script text outcome
