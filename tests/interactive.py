@@ -27,11 +27,11 @@ TYPED = [
     "JOB RETURN",
 ]
 ASKED = (
-    "1> -:1:5: JS09: GETMAIN: REGION is missing: the first statement is a REGION statement\n",
-    "1> 2> -:2:5: JS03: GETMIAN: no operation\n    JOB GETMIAN R,LV=8,A=X\n        ^^^^^^^ did you mean GETMAIN?\n2> 3> 4> -:4:256: JS01: a line has at most 255 bytes",
+    "1> -:1:5: JS09: the first statement is REGION\n",
+    "1> 2> -:2:5: JS03: GETMIAN: no operation\n    JOB GETMIAN R,LV=8,A=X\n        ^^^^^^^ did you mean GETMAIN?\n2> 3> 4> -:4:256: JS01: a line has at most 255 bytes\n",
     "4> 5> \n",
 )
-PRINTED = f"1 {BEGUN}\n3 JOB NO NAME\n4 JOB RC 0\nSTEP ENDED RC 0\n"
+PRINTED = f"1 {BEGUN}\n3 JOB NO NAME\n4 JOB ENDED\nSTEP ENDED RC 0\n"
 
 
 def called(program, script, *words):
@@ -115,7 +115,7 @@ def typed(program, *words):
         ("JOB GETMAIN RC,LV=4097,A=X\n", "2 JOB RC 4\n3> "),
         ("JOB GETMIAN R\n", "-:3:5: JS03: GETMIAN: no operation\n    JOB GETMIAN R\n        ^^^^^^^ did you mean GETMAIN?\n3> "),
         ("\n", "4> "),
-        ("JOB RETURN\n", "4 JOB RC 0\n5> "),
+        ("JOB RETURN\n", "4 JOB ENDED\n5> "),
         ("\x04", "\nSTEP ENDED RC 0\n"),
     ]
     try:
