@@ -75,13 +75,13 @@ def is_asked(said):
 class Terminal:
     """The program at a terminal that does not echo; what it says on standard error and prints comes together."""
 
-    def __init__(self, program, *words):
+    def __init__(self, program, *words, **names):
         self.master, self.slave = pty.openpty()
         modes = termios.tcgetattr(self.slave)
         modes[1] &= ~termios.OPOST
         modes[3] &= ~termios.ECHO
         termios.tcsetattr(self.slave, termios.TCSANOW, modes)
-        self.run = subprocess.Popen([program, *words], stdin=self.slave, stdout=self.slave, stderr=self.slave)
+        self.run = subprocess.Popen([program, *words], stdin=self.slave, stdout=self.slave, stderr=self.slave, env=os.environ | {"NO_COLOR": "1"} | names)
         os.close(self.slave)
 
     def read(self, end, seconds=20):

@@ -12,10 +12,12 @@ _mvsjob() {
         mapfile -t COMPREPLY < <(compgen -W "low high" -- "$word")
     elif [ "$before" = --profile ]; then
         mapfile -t COMPREPLY < <(compgen -W "storage tasks pools tidy faults" -- "$word")
+    elif [ "$before" = --color ]; then
+        mapfile -t COMPREPLY < <(compgen -W "auto always never" -- "$word")
     elif [ "$before" = --random ] || [ "$before" = --lines ]; then
         return
     elif [[ $word == -* ]]; then
-        mapfile -t COMPREPLY < <(compgen -W "--place --check --blank --judge --ask --random --lines --profile --explain --json --strict --interactive --help --version -h -V" -- "$word")
+        mapfile -t COMPREPLY < <(compgen -W "--place --check --blank --judge --ask --random --lines --profile --explain --json --strict --interactive --color --help --version -h -V" -- "$word")
     else
         compopt -o filenames 2> /dev/null
         mapfile -t COMPREPLY < <(compgen -f -- "$word")

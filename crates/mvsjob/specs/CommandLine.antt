@@ -6,6 +6,8 @@ use Rattle.clap.specs.Walk.{Rule}
 use Rattle.clap.specs.declared.builder.action.ArgAction.TheVariants.{SetTrue}
 use Rattle.clap.specs.declared.builder.value_parser.ValueParser.{ValueParser}
 use Rattle.clap.specs.declared.builder.value_parser.ValueParser.TheVariants.{Names, NonEmptyString, Unsigned}
+use Rattle.mvsjob.specs.declared.choices.Color.{Color}
+use Rattle.mvsjob.specs.declared.choices.Color.TheVariants.{Auto, Always, Never}
 use Rattle.mvsjob.specs.declared.choices.Mode.{Mode}
 use Rattle.mvsjob.specs.declared.choices.Mode.TheVariants.{Run, Check, Judge, Blank, Ask, Random}
 
@@ -14,10 +16,11 @@ abbrev pub IsOneOf : List Text → ValueParser → Type 0
 IsOneOf values (Names names) = map (λ name. name.now) names.now ≡ values
 IsOneOf values _ = ⊥
 
--- how the values of `--place` and of `--profile` are read
+-- how the values of `--place`, of `--profile` and of `--color` are read
 pub record Parsers : Type 0 where
   pub place : ValueParser
   pub profile : ValueParser
+  pub color : ValueParser
 
 -- the values of `--place`
 abbrev pub places : List Text
@@ -27,9 +30,14 @@ places = codes "low" ∷ codes "high" ∷ []
 abbrev pub profiles : List Text
 profiles = codes "storage" ∷ codes "tasks" ∷ codes "pools" ∷ codes "tidy" ∷ codes "faults" ∷ []
 
+-- the values of `--color`
+abbrev pub colors : List Text
+colors = codes "auto" ∷ codes "always" ∷ codes "never" ∷ []
+
 pub record AreParsers (ps : Parsers) : Type 0 where
   pub place : IsOneOf places ps.place
   pub profile : IsOneOf profiles ps.profile
+  pub color : IsOneOf colors ps.color
 
 -- a word that is said or not
 abbrev pub flag_rule : Text → Rule
@@ -59,12 +67,12 @@ random_app a = with_rule (with_rule a (value_rule (codes "random") (Unsigned 0 1
 abbrev pub telling_app : App → App
 telling_app a = with_rule (with_rule (with_rule (with_rule a (flag_rule (codes "explain"))) (flag_rule (codes "json"))) (flag_rule (codes "strict"))) (flag_rule (codes "interactive"))
 
--- the program's command: a word and twelve options, which may all be left out, and a version
+-- the program's command: a word and thirteen options, which may all be left out, and a version
 abbrev pub command : Parsers → App
 command ps =
-    telling_app (with_rule (random_app (judging_app (answers_app
+    with_rule (telling_app (with_rule (random_app (judging_app (answers_app
     (with_rule (with_rule (versioned (new_app (codes "mvsjob"))) (new_rule (codes "FILE"))) (value_rule (codes "place") ps.place)))))
-    (value_rule (codes "profile") ps.profile))
+    (value_rule (codes "profile") ps.profile))) (value_rule (codes "color") ps.color)
 
 -- what of the words clap gives to an argument
 abbrev pub assigned : Parsers → List Text → Text → Option Text
@@ -79,6 +87,12 @@ pub record IsMode (random judge check blank ask : Option Text) (mode : Mode) : T
   pub blanks : random ≡ None → judge ≡ None → check ≢ Some (codes "true") → blank ≡ Some (codes "true") → mode ≡ Blank
   pub asks : random ≡ None → judge ≡ None → check ≢ Some (codes "true") → blank ≢ Some (codes "true") → ask ≡ Some (codes "true") → mode ≡ Ask
   pub runs : random ≡ None → judge ≡ None → check ≢ Some (codes "true") → blank ≢ Some (codes "true") → ask ≢ Some (codes "true") → mode ≡ Run
+
+-- Answers are coloured where `--color` says `always`, not where it says `never`, and else as it is found out.
+pub record IsColor (said : Option Text) (color : Color) : Type 0 where
+  pub always : said ≡ Some (codes "always") → color ≡ Always
+  pub never : said ≢ Some (codes "always") → said ≡ Some (codes "never") → color ≡ Never
+  pub auto : said ≢ Some (codes "always") → said ≢ Some (codes "never") → color ≡ Auto
 
 -- Clap takes the words.
 abbrev pub IsTaken : List Text → Type 0

@@ -11,6 +11,15 @@ pub struct Recipe {
     pub profile: Profile,
 }
 
+/// Whether answers are coloured.
+#[derive(Clone, Copy, Debug, PartialEq, Eq)]
+pub enum Color {
+    /// Where they are seen at a terminal, unless the environment has a NO_COLOR.
+    Auto,
+    Always,
+    Never,
+}
+
 /// What is to be done.
 #[derive(Clone, Copy, Debug, PartialEq, Eq)]
 pub enum Mode {
@@ -46,4 +55,5 @@ pub struct Settings<'a> {
     pub strict: bool,
     /// Whether a run asks for its lines, and goes on without those that have a fault.
     pub interactive: bool,
+    pub color: Color,
 }

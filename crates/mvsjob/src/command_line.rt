@@ -5,9 +5,9 @@ ghost use Rattle.std.specs.Option.{unwrap_or};
 ghost use Rattle.clap.specs.Words.{IsAmong, Kinds, app_of, first_value, found_of, kind_of, new_app, new_rule, with_rule};
 ghost use Rattle.clap.specs.declared.error.kind.ErrorKind.TheVariants.{OutOfMemory};
 ghost use Rattle.clap.specs.declared.builder.value_parser.ValueParser.{ValueParser as Parser};
-ghost use Rattle.mvsjob.specs.CommandLine.{AreParsers, FindsWrong, IsMode, IsOneOf, IsTaken, Parsers, answers_app, assigned, command, flag_rule, judging_app, places, profiles, random_app, telling_app, value_rule, versioned};
+ghost use Rattle.mvsjob.specs.CommandLine.{AreParsers, FindsWrong, IsColor, IsMode, IsOneOf, IsTaken, Parsers, answers_app, assigned, colors, command, flag_rule, judging_app, places, profiles, random_app, telling_app, value_rule, versioned};
 
-use crate::choices::{Mode, Recipe, Settings};
+use crate::choices::{Color, Mode, Recipe, Settings};
 use clap::builder::ValueParser;
 use clap::{Arg, ArgAction, ArgMatches, Command};
 use mvs_model::want::Placement;
@@ -46,7 +46,17 @@ Exit status:
 The script's language is described in mvsjob-script(5), which is docs/SCRIPT.md.";
 
 /// The options that have a value, where it is a word of its own.
-static VALUED: [&str; 5] = ["--place", "--judge", "--random", "--lines", "--profile"];
+static VALUED: [&str; 6] = [
+    "--place",
+    "--judge",
+    "--random",
+    "--lines",
+    "--profile",
+    "--color",
+];
+
+/// The values of the option `--color`.
+static COLORS: [&str; 3] = ["auto", "always", "never"];
 
 /// The values of the option `--place`.
 static PLACES: [&str; 2] = ["low", "high"];
@@ -225,7 +235,22 @@ fn with_telling<'a>(command: Command<'a>, alloc: Global) -> Result<Command<'a>, 
     )
 }
 
-// The command: a word and twelve options, all of which may be left out.
+// The command with the colours of answers.
+fn with_color<'a>(command: Command<'a>, alloc: Global) -> Result<Command<'a>, AllocError>
+    ensures { IfOk result
+        (λ c. (color : Parser) × IsOneOf colors color
+        × (app_of c ≡ with_rule (app_of command.entry) (value_rule (codes "color") color))) }
+{
+    with_option(
+        command,
+        alloc,
+        "color",
+        ValueParser::Names(COLORS.as_slice()),
+        "Whether lines with ABEND or RC 4 are coloured; where it is left out auto, at a terminal without NO_COLOR",
+    )
+}
+
+// The command: a word and thirteen options, all of which may be left out.
 fn command<'a>(alloc: Global) -> Result<Command<'a>, AllocError>
     ensures { IfOk result (λ c. (ps : Parsers) × AreParsers ps × (app_of c ≡ command ps)) }
 {
@@ -235,7 +260,8 @@ fn command<'a>(alloc: Global) -> Result<Command<'a>, AllocError>
     let judged = with_judging(answered, alloc)?;
     let random = with_random(judged, alloc)?;
     let profiled = with_profile(random, alloc)?;
-    with_telling(profiled, alloc)
+    let telling = with_telling(profiled, alloc)?;
+    with_color(telling, alloc)
 }
 
 // The word for the script.
@@ -274,6 +300,29 @@ fn is_set(matches: &ArgMatches<'_>, name: &str) -> bool
     match matches.get_str(name) {
         Some(value) => value == "true",
         None => false,
+    }
+}
+
+// Whether an option has this value.
+fn says(matches: &ArgMatches<'_>, name: &str, value: &str) -> bool
+    ensures { IsTrue result ↔ first_value (found_of matches.now) name.now ≡ Some value.now }
+{
+    match matches.get_str(name) {
+        Some(said) => said == value,
+        None => false,
+    }
+}
+
+// Whether answers are coloured.
+fn color(matches: &ArgMatches<'_>) -> Color
+    ensures { IsColor (first_value (found_of matches.now) (codes "color")) result }
+{
+    if says(matches, "color", "always") {
+        Color::Always
+    } else if says(matches, "color", "never") {
+        Color::Never
+    } else {
+        Color::Auto
     }
 }
 
@@ -354,7 +403,8 @@ pub fn settings<'a>(alloc: Global, words: &'a [String]) -> Result<Settings<'a>, 
         ↔ assigned ps (map string_bytes words.entry.now) (codes "strict") ≡ Some (codes "true"))
         × (IsTrue s.interactive
         ↔ assigned ps (map string_bytes words.entry.now) (codes "interactive")
-        ≡ Some (codes "true"))) }
+        ≡ Some (codes "true"))
+        × IsColor (assigned ps (map string_bytes words.entry.now) (codes "color")) s.color) }
     // Clap finds nothing wrong with words that are taken; an error is of a kind that it finds, or want of memory.
     ensures taken { IfOk result (λ _. FindsWrong (map string_bytes words.entry.now) []) }
     ensures kinds { IfErr result
@@ -375,5 +425,6 @@ pub fn settings<'a>(alloc: Global, words: &'a [String]) -> Result<Settings<'a>, 
         json: is_set(&matches, "json"),
         strict: is_set(&matches, "strict"),
         interactive: is_set(&matches, "interactive"),
+        color: color(&matches),
     })
 }

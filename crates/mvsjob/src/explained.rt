@@ -6,14 +6,13 @@ ghost use Rattle.mvs_model.specs.Numbers.{most_script_bytes};
 use crate::choices::Settings;
 use crate::ending::{GiveUp, Unread};
 use crate::faulty::faulty_in;
-use crate::piped::Piped;
-use crate::tell;
+use crate::{opened, tell};
 use mvs_job::{RunFault, Stop, explain_script};
 use mvs_model::numbers::MOST_SCRIPT_BYTES;
 use mvs_model::outcome::Outcome;
 use mvs_model::watched::Watched;
 use std::fs::File;
-use std::io::{self, BufWriter, ErrorKind, Read, Write};
+use std::io::{ErrorKind, Read, Write};
 
 // The bytes that a reader tells, and no more than tell that the script is too long.
 fn bytes_of<R: Read + Drop>(rt: &HostRuntime, reader: R) -> Result<Vec<u8>, GiveUp> {
@@ -50,10 +49,7 @@ pub fn script(rt: &HostRuntime, settings: &Settings<'_>) -> Result<Vec<u8>, Give
 /// Runs the script that the words name, which is read whole before, and says behind each answer why a request is refused.
 pub fn run_explained(rt: &HostRuntime, settings: &Settings<'_>) -> Result<Outcome, GiveUp> {
     let script = script(rt, settings)?;
-    let Ok(writer) = BufWriter::new(rt.alloc(), Piped::new(io::writer(rt))) else {
-        return Err(GiveUp::Job(RunFault::Memory));
-    };
-    let mut writer = Watched::new(writer);
+    let mut writer = Watched::new(opened(rt, settings)?);
     let ended = explain_script(
         rt.alloc(),
         script.as_slice(),
@@ -69,7 +65,7 @@ pub fn run_explained(rt: &HostRuntime, settings: &Settings<'_>) -> Result<Outcom
             }
             Ok(outcome)
         }
-        Ok(_) | Err(Stop::Write) if writer.get_ref().is_closed() => Err(GiveUp::Pipe),
+        Ok(_) | Err(Stop::Write) if writer.get_ref().get_ref().is_closed() => Err(GiveUp::Pipe),
         Ok(_) => Err(GiveUp::Job(RunFault::Write)),
         Err(stop) => Err(GiveUp::from(stop)),
     }

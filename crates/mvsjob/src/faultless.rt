@@ -8,9 +8,6 @@ ghost use Rattle.std.specs.Io.KnownBytes.{Keeps};
 ghost use Rattle.mvsjob.specs.Faultless.{Writes, begun, coming, first_behind, known_coming, passed, rest_of, without_faults};
 
 use crate::faulty::says_nothing;
-
-
-
 use job_script::{LineBuffer, read_line};
 use mvs_job::{RunFault, Told, run_job};
 use mvs_model::line::{Fault, Line};

@@ -8,6 +8,7 @@ ghost use Rattle.mvsjob.specs.Endings.{status_of};
 mod answers;
 mod choices;
 mod clues;
+mod coloured;
 mod command_line;
 mod ending;
 mod explained;
@@ -22,6 +23,7 @@ mod terminal;
 
 use answers::{check_answers, write_made};
 use choices::{Mode, Settings};
+use coloured::{Coloured, is_coloured};
 use command_line::{names_files, settings};
 use diagnosis::diagnose;
 use ending::{Ending, GiveUp, Unread};
@@ -47,12 +49,15 @@ pub(crate) fn tell(rt: &HostRuntime, name: &str, faulty: &Faulty<'_>) {
     let _ = eprint!(rt; "{name}:{}:{diagnosis}", faulty.number);
 }
 
-type Output<'a> = BufWriter<Piped<io::Printer<'a, HostRuntime>>>;
+type Output<'a> = Coloured<BufWriter<Piped<io::Printer<'a, HostRuntime>>>>;
 
 // The writer of what a job prints.
-pub(crate) fn opened(rt: &HostRuntime) -> Result<Output<'_>, GiveUp> {
+pub(crate) fn opened<'a>(
+    rt: &'a HostRuntime,
+    settings: &Settings<'_>,
+) -> Result<Output<'a>, GiveUp> {
     match BufWriter::new(rt.alloc(), Piped::new(io::writer(rt))) {
-        Ok(writer) => Ok(writer),
+        Ok(writer) => Ok(Coloured::new(writer, is_coloured(rt, settings.color))),
         Err(_) => Err(GiveUp::Job(RunFault::Memory)),
     }
 }
@@ -66,7 +71,7 @@ pub(crate) fn concluded(
     let flushed = writer.flush();
     match ended {
         Ok(outcome) if flushed.is_ok() => Ok(outcome),
-        Ok(_) | Err(RunFault::Write) if writer.get_ref().is_closed() => Err(GiveUp::Pipe),
+        Ok(_) | Err(RunFault::Write) if writer.get_ref().get_ref().is_closed() => Err(GiveUp::Pipe),
         Ok(_) => Err(GiveUp::Job(RunFault::Write)),
         Err(RunFault::Read) if is_directory => Err(GiveUp::Script(Unread::Directory)),
         Err(fault) => Err(GiveUp::Job(fault)),
@@ -83,7 +88,7 @@ fn run_from<R: Read + Drop>(
         return run_at_terminal(rt, reader, settings);
     }
     let mut reader = Watched::new(Kept::new(reader));
-    let mut writer = Watched::new(opened(rt)?);
+    let mut writer = Watched::new(opened(rt, settings)?);
     let told = Told::nothing(rt.alloc());
     let ended = run_job(
         rt.alloc(),

@@ -5,15 +5,14 @@ use crate::clues::{Lacked, clue_of, unset};
 use crate::ending::{Ending, GiveUp};
 use crate::explained::script;
 use crate::faulty::faulty_in;
-use crate::piped::Piped;
-use crate::tell;
+use crate::{opened, tell};
 use diagnosis::NotServed;
 use job_script::read_line;
 use mvs_job::{Hears, Job, RunFault, Stop, Unserved, Walk, run_strictly};
 use mvs_model::line::Line;
 use mvs_model::outcome::Outcome;
 use mvs_model::watched::Watched;
-use std::io::{self, BufWriter, Write};
+use std::io::Write;
 
 // Tells lines of a script on standard error.
 #[derive(Drop)]
@@ -71,10 +70,7 @@ impl Hears for Teller<'_> {
 /// Runs the script that the words name, which is read whole before, and tells each line that was not served.
 pub fn run_strict(rt: &HostRuntime, settings: &Settings<'_>) -> Result<Ending, GiveUp> {
     let script = script(rt, settings)?;
-    let Ok(writer) = BufWriter::new(rt.alloc(), Piped::new(io::writer(rt))) else {
-        return Err(GiveUp::Job(RunFault::Memory));
-    };
-    let mut writer = Watched::new(writer);
+    let mut writer = Watched::new(opened(rt, settings)?);
     let mut teller = Teller {
         rt,
         name: settings.file,
@@ -96,7 +92,7 @@ pub fn run_strict(rt: &HostRuntime, settings: &Settings<'_>) -> Result<Ending, G
             }
             Ok(Ending::of_strict(end))
         }
-        Ok(_) | Err(Stop::Write) if writer.get_ref().is_closed() => Err(GiveUp::Pipe),
+        Ok(_) | Err(Stop::Write) if writer.get_ref().get_ref().is_closed() => Err(GiveUp::Pipe),
         Ok(_) => Err(GiveUp::Job(RunFault::Write)),
         Err(stop) => Err(GiveUp::from(stop)),
     }

@@ -51,7 +51,7 @@ pub fn run_at_terminal<R: Read + Drop>(
     reader: R,
     settings: &Settings<'_>,
 ) -> Result<Outcome, GiveUp> {
-    let mut writer = Watched::new(opened(rt)?);
+    let mut writer = Watched::new(opened(rt, settings)?);
     let prompter = Prompter {
         rt,
         name: settings.file,

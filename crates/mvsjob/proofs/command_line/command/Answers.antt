@@ -11,8 +11,9 @@ returns c =
     let random = c.in_ok-random.ensures ∙ ap random_app (c.in_ok-judged.ensures ∙ ap judging_app (c.in_ok-answered.ensures ∙ ap answers_app script)) in
     let profiled = c.in_ok-profiled.ensures in
     let whole = profiled.2 ∙ ap (λ a. with_rule a (value_rule (codes "profile") profiled.0)) random in
-    if_ok c.with_telling.result _ (λ new. (ps : Parsers) × AreParsers ps × (app_of new ≡ command ps)) c.with_telling.ensures (λ new made. (
-      record { place = placed.0; profile = profiled.0 },
-      record { place = placed.1; profile = profiled.1 },
-      made ∙ ap telling_app whole,
+    let telling = c.in_ok-telling.ensures ∙ ap telling_app whole in
+    if_ok c.with_color.result _ (λ new. (ps : Parsers) × AreParsers ps × (app_of new ≡ command ps)) c.with_color.ensures (λ new made. (
+      record { place = placed.0; profile = profiled.0; color = made.0 },
+      record { place = placed.1; profile = profiled.1; color = made.1 },
+      made.2 ∙ ap (λ a. with_rule a (value_rule (codes "color") made.0)) telling,
     ))

@@ -5,9 +5,11 @@ use Rattle.mvsjob.proofs.faultless.FaultlessRead.read.Goals as goal
 pub returns-in-Some-clause-bytes : goal.returns-in-Some-clause-bytes
 returns-in-Some-clause-bytes g c =
     let a = c.await_line.new.self.lines in
-    let n = c.next.new.self in
-    (read_byte _ a.first a.ended n.first n.ended a.line n.line a.given n.given (g.R.Read.remaining c.await_line.new.self.inner) c.args.buf.now c.in-Some.byte c.in_ok-await_line.ensures.kept
-    (room_of c.args.buf.now c.is_empty.result c.is_empty.ensures c.if-is_empty.false) c.in-Some.ensures, λ e. absurd (omega (arith, e)))
+    let n = c.next.new.self in (
+      read_byte _ a.first a.ended n.first n.ended a.line n.line a.given n.given (g.R.Read.remaining c.await_line.new.self.inner) c.args.buf.now c.in-Some.byte c.in_ok-await_line.ensures.kept
+          (room_of c.args.buf.now c.is_empty.result c.is_empty.ensures c.if-is_empty.false) c.in-Some.ensures,
+      λ e. absurd (omega (arith, e)),
+    )
 
 pub returns-in-None-clause-bytes : goal.returns-in-None-clause-bytes
 returns-in-None-clause-bytes g c =
