@@ -1,5 +1,5 @@
 -- The subpools that tasks own, one after another, and the names of tasks.
-use Rattle.std.proofs.Common.{◌≡◌, ℕ, ◌+◌, ◌≤◌, ◌++◌, List, [], ◌∷◌, length, length-append, append-nil, Bool, true, false, Option, Some, None, refl, sym, ap, subst, ◌∙◌, arith}
+use Rattle.std.proofs.Common.{◌≡◌, ℕ, ◌+◌, ◌≤◌, ◌++◌, List, [], ◌∷◌, length, length-append, append-nil, Bool, true, false, Some, None, refl, sym, ap, subst, ◌∙◌, arith}
 use Rattle.std.specs.Prelude.{nat_eq}
 use Rattle.std.specs.Cmp.Lexicographic.{pointwise}
 use Rattle.std.proofs.lemmas.Bool.Decides.{Decides-eqb}
@@ -51,6 +51,6 @@ answered_frees w t task a true subpools fallen asked is lends falls number =
     let l = subst (IsLent w) is lends in (
       l.0.state,
       ap (λ names. freed_lines subpools (end_of task (lent l.0.state names task a))) falls
-      ∙ ap (λ step. freed_lines subpools (end_of task (lent_in step (fallen_in w.reply) task a))) (sym l.1)
-      ∙ ap (λ x. freed_lines subpools (ended_by (events_told number w x))) (sym is),
+          ∙ ap (λ step. freed_lines subpools (end_of task (lent_in step (fallen_in w.reply) task a))) (sym l.1)
+          ∙ ap (λ x. freed_lines subpools (ended_by (events_told number w x))) (sym is),
     )

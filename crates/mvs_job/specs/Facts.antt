@@ -7,7 +7,6 @@ use Rattle.mvs_model.specs.declared.line.Line.{Line}
 use Rattle.mvs_model.specs.declared.line.Line.TheVariants as line
 use Rattle.mvs_model.specs.declared.line.Statement.{Statement}
 use Rattle.mvs_model.specs.declared.line.Statement.TheVariants as says
-use Rattle.mvs_model.specs.declared.line.Written.{Written}
 use Rattle.mvs_model.specs.declared.line.Written.TheVariants.{Obtain, ObtainList, Release, ReleaseArea, ReleaseList, Return}
 use Rattle.mvs_model.specs.declared.reason.Reason.{Reason}
 use Rattle.mvs_model.specs.declared.reason.Reason.TheVariants.{NotActive, NotSet, Shortage, NoMember, NoSubpool, NotHeld, Overlap, NoFreeCell}

@@ -1,4 +1,4 @@
-use Rattle.std.proofs.Common.{◌++◌, codes}
+use Rattle.std.proofs.Common.{codes}
 use Rattle.mvs_model.specs.Texts.{hex}
 use Rattle.job_script.proofs.Appending.{behind}
 use Rattle.job_script.proofs.reasons.push_spot.Goals as goal

@@ -1,4 +1,4 @@
-use Rattle.std.proofs.Common.{ℕ, length, ap, sym, ◌∙◌, arith}
+use Rattle.std.proofs.Common.{length, ap, sym, ◌∙◌, arith}
 use Rattle.step_machine.specs.Facts.{listed, owned_at}
 use Rattle.mvs_job.proofs.Freeing.{none_more, one_more}
 use Rattle.mvs_job.proofs.Numbers.{each_none}

@@ -1,6 +1,6 @@
 use Rattle.std.proofs.Common.{arith}
 use Rattle.std.proofs.lemmas.List.{take_rest}
-use Rattle.mvsjob.proofs.Faulting.{fault_at_end, fault_here, line_at_end, line_here, passed_next}
+use Rattle.mvsjob.proofs.Faulting.{passed_next}
 use Rattle.mvsjob.proofs.faulty.first_faulty.Goals as goal
 
 pub lines-preserved : goal.lines-preserved
