@@ -1,10 +1,14 @@
-"""The judge, on what the plain machine prints with places of its own.
+"""The judge, on what the plain machine prints with places and cells of its own.
 
-What it prints for a script of conformance/scripts or a random one, with a WHERE behind each request for areas, is accepted with each of
-its placements, and never refused; what a wrong variant prints is not accepted, on some script; and nothing is accepted of which a byte
-is another one that tells no address.
+What it prints for a script of conformance/scripts or a random one, with a WHERE behind each request for areas or a cell, is accepted with each of
+its placements, and never refused; so is what it prints for a random script of cell pools, where it takes the cells of each part upwards
+or its parts lie where the judge would put them; what a wrong variant prints is refused, on some script; and where a byte
+is another one that tells no address, it is refused, or left open where it may be: at a list, or behind a line that no answer tells all of.
+A random script has the same bytes for ever.
 """
 
+import hashlib
+import os.path
 import random
 import re
 import subprocess
@@ -13,12 +17,17 @@ from functools import partial
 from pathlib import Path
 
 import plain_emulator
+import pool_scripts
 
-SCRIPTS = sorted((Path(__file__).resolve().parent.parent / "conformance/scripts").glob("*.job"))
+HERE = Path(__file__).resolve().parent
+SCRIPTS = sorted((HERE.parent / "conformance/scripts").glob("*.job"))
+HELD = [line.split() for line in (HERE / "random_scripts.sha256").read_text().splitlines()]
 PLACEMENTS = ("low", "high", "page", "random")
+ORDERS = ("first", "last", "random")
 PROFILES = ("storage", "tasks", "tidy", "faults")
 ACCEPTED, REFUSED, UNDECIDED = ("ACCEPTED", 0), ("REFUSED", 1), ("UNDECIDED", 2)
 RANDOM = 400
+POOLS = 120
 CHANGED = 200
 
 
@@ -26,17 +35,19 @@ def asked(program, script):
     return subprocess.run([program, "--ask"], input=script, capture_output=True, text=True).stdout
 
 
-def judged(program, script, printed):
-    """The first line of what the judge says, and its exit status."""
+def judgement(program, script, printed):
+    """What the judge says, and its exit status."""
     with tempfile.NamedTemporaryFile("w") as output:
         output.write(printed)
         output.flush()
         ran = subprocess.run([program, "--judge", output.name], input=script, capture_output=True, text=True)
-    return ran.stdout.partition("\n")[0], ran.returncode
+    return ran.stdout, ran.returncode
 
 
-def is_accepted(program, script, printed):
-    return judged(program, script, printed) == ACCEPTED
+def judged(program, script, printed):
+    """The first line of that, and its exit status."""
+    said, status = judgement(program, script, printed)
+    return said.partition("\n")[0], status
 
 
 def is_told(script, placement):
@@ -72,6 +83,20 @@ def of_seed(program, seed):
     return is_judged(program, random_script(program, seed), PLACEMENTS[seed // 4 % len(PLACEMENTS)], seed)
 
 
+def of_cells(program, seed):
+    """Whether the plain machine's printings of a random script of pools are accepted, with its placements and orders of cells.
+
+    All are accepted of which answers tell where each part begins, or whose parts lie where the judge puts them; none is refused.
+    """
+    script = asked(program, pool_scripts.pool_script(seed))
+    for placement in PLACEMENTS:
+        for order in ORDERS:
+            verdict = judged(program, script, plain_emulator.run(script, placement, None, seed, order))
+            if verdict != ACCEPTED and (verdict != UNDECIDED or placement == "low" or order == "first"):
+                return False
+    return True
+
+
 def changed(printed, dice):
     """A printing with one byte that is another one, which is none of an address."""
     places = [k for k, char in enumerate(printed) if char != "\n"]
@@ -81,22 +106,53 @@ def changed(printed, dice):
     return printed[:at] + chr((ord(printed[at]) - 31) % 95 + 32) + printed[at + 1 :]
 
 
+def answered(printed, number):
+    """Where the answer to a line begins and ends."""
+    starts = [(m.start(), int(m[1])) for m in re.finditer(r"^(\d+) ", printed, re.M)]
+    begin = next((at for at, n in starts if n >= number), len(printed))
+    return begin, next((at for at, n in starts if n > number), len(printed))
+
+
+def may_find(script, printed, other):
+    """What may be found of a printing that is changed."""
+    at = len(os.path.commonprefix((printed, other)))
+    for number, line in enumerate(script.splitlines(), 1):
+        begin, end = answered(printed, number)
+        if at < begin:
+            return (REFUSED,)
+        if re.match(r"\w+ +CPOOL +(BUILD|GET)", line):
+            return (UNDECIDED,)
+        if re.match(r"\w+ +GETMAIN +L", line):
+            if at < end:
+                return (UNDECIDED,)
+            if " RC 0\n" not in printed[begin:end]:  # other places may serve
+                return (REFUSED, UNDECIDED)
+    return (REFUSED,)
+
+
 def of_change(program, seed):
-    """Whether nothing is accepted of which a byte, the last line or its last newline is another one."""
+    """Whether a printing is refused of which a byte, the last line or its last newline is another one, or is left open where it may."""
     dice = random.Random(seed)
     script = random_script(program, seed)
     printed = plain_emulator.run(script, "page")
     others = [changed(printed, dice), printed + "\n", printed[:-1], "".join(printed.splitlines(True)[:-1])]
-    return all(judged(program, script, other) in (REFUSED, UNDECIDED) for other in others)
+    return all(judged(program, script, other) in may_find(script, printed, other) for other in others)
 
 
 def of_wrong(program, wrong):
-    """Whether a wrong variant is not accepted on some script of the corpus."""
+    """Whether a wrong variant is refused on some script of the corpus."""
     for path in SCRIPTS:
         script = asked(program, path.read_text())
-        if not is_accepted(program, script, plain_emulator.run(script, "low", wrong)):
+        if judged(program, script, plain_emulator.run(script, "low", wrong)) == REFUSED:
             return True
     return False
+
+
+def is_held(program, held):
+    """Whether a random script has the bytes that it has for ever."""
+    checksum, profile, seed, lines = held
+    words = ("--random", seed, "--lines", lines, "--profile", profile)
+    return hashlib.sha256(subprocess.run([program, *words], capture_output=True).stdout).hexdigest() == checksum
 
 
 def groups(program, each):
@@ -104,5 +160,7 @@ def groups(program, each):
     name = lambda case: f"{case[0].stem}, {case[1]}"  # noqa: E731
     yield "judged corpus", each(partial(of_corpus, program), cases, name, chunksize=20)
     yield "judged random scripts", each(partial(of_seed, program), range(RANDOM), str, chunksize=10)
+    yield "judged cells", each(partial(of_cells, program), range(POOLS), str, chunksize=5)
     yield "judged changes", each(partial(of_change, program), range(CHANGED), str, chunksize=10)
     yield "judged wrong variants", each(partial(of_wrong, program), sorted(plain_emulator.WRONG), str)
+    yield "bytes of random scripts", each(partial(is_held, program), HELD, lambda held: " ".join(held[1:]))

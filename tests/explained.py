@@ -1,14 +1,21 @@
-"""`--explain`: scripts whose whole output is known, random ones, the texts and rules of docs/EXPLAIN.md, and the cost."""
+"""`--explain`: scripts whose whole output is known, random ones, facts beside those of the plain machine, the texts and rules of
+docs/EXPLAIN.md, and the cost."""
 
 import re
 import subprocess
 import time
 from pathlib import Path
 
+import plain_facts
+import plain_shortages
+import random_scripts
+
 TOP = Path(__file__).resolve().parent.parent
 REASONS = TOP / "tests/reasons"
 PROFILES = ["storage", "tasks", "pools", "tidy", "faults"]
 RANDOM_SCRIPTS = 5000
+FACT_SCRIPTS = 1000
+WANTING_SCRIPTS = 600
 
 
 def whole():
@@ -40,6 +47,25 @@ def same_bytes(program, seed):
     script = called(program, b"", "--random", str(seed), "--lines", "60", "--profile", profile)[0]
     plain, explained = called(program, script, *words), called(program, script, "--explain", *words)
     return (unstarred(explained[0]), *explained[1:]) == plain
+
+
+def as_plain(program, seed):
+    """Whether the facts behind what is granted in a random script, and the names in what is refused, are those of the plain machine."""
+    placement = "high" if seed % 2 else "low"
+    profile = PROFILES[seed % 4]
+    script = called(program, b"", "--random", str(seed), "--lines", "60", "--profile", profile)[0]
+    explained = called(program, script, "--explain", "--place", placement)[0].decode()
+    told = plain_facts.told(script.decode().splitlines(), placement, plain_facts.addresses(explained))
+    return plain_facts.without_reasons(explained) == list(told)
+
+
+def as_wanting(program, seed):
+    """Whether the reasons for want of a place in a random script are those of the plain machine."""
+    placement = "high" if seed % 2 else "low"
+    kind = ("storage", "pools", "anything")[seed % 3]
+    script = getattr(random_scripts, kind)(seed, False).text()
+    explained = called(program, script.encode(), "--explain", "--place", placement)[0].decode()
+    return plain_shortages.of(explained) == list(plain_shortages.told(script.splitlines(), placement))
 
 
 def starred():
@@ -79,5 +105,7 @@ def quick_enough(program):
 def groups(program, each):
     yield "explained scripts", each(as_known, whole(), lambda path: path.name)
     yield "explained random scripts", each(same_bytes, range(RANDOM_SCRIPTS), str, chunksize=20)
+    yield "facts of random scripts", each(as_plain, range(FACT_SCRIPTS), str, chunksize=20)
+    yield "wants of random scripts", each(as_wanting, range(WANTING_SCRIPTS), str, chunksize=20)
     yield "texts of reasons", lambda: list(texts())
     yield "cost of reasons", lambda: [("long script", quick_enough(program))]

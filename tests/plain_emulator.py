@@ -22,7 +22,7 @@ class Fault(Exception):
 class Placed(Machine):
     """The plain machine with places of its own."""
 
-    placement, dice = "low", random.Random(0)
+    placement, order, dice = "low", "first", random.Random(0)
 
     def find(self, runs, length, start, within):
         unit, found = 1 << start, []
@@ -37,6 +37,10 @@ class Placed(Machine):
         if not found:
             return None
         return self.dice.choice(found) if self.placement == "random" else found[-1]
+
+
+    def pick(self, free):
+        return self.dice.choice(free) if self.order == "random" else free[-1 if self.order == "last" else 0]
 
 
 class SharedPages(Placed):
@@ -349,15 +353,15 @@ def answers(kind, lines):
         yield f"STEP ENDED RC {8 if machine.some_abend else 0}"
 
 
-def emulator(placement="low", wrong=None, seed=0):
-    """A machine with such places, and wrong in such a way."""
+def emulator(placement="low", wrong=None, seed=0, order="first"):
+    """A machine with such places, which takes free cells in such an order, and wrong in such a way."""
     kind = WRONG[wrong] if wrong else Placed
-    return type(kind.__name__, (kind,), {"placement": placement, "dice": random.Random(seed)})
+    return type(kind.__name__, (kind,), {"placement": placement, "order": order, "dice": random.Random(seed)})
 
 
-def run(script, placement="low", wrong=None, seed=0):
+def run(script, placement="low", wrong=None, seed=0, order="first"):
     """What the emulator prints for a script."""
-    return "".join(f"{line}\n" for line in answers(emulator(placement, wrong, seed), script.splitlines()))
+    return "".join(f"{line}\n" for line in answers(emulator(placement, wrong, seed, order), script.splitlines()))
 
 
 if __name__ == "__main__":

@@ -304,16 +304,21 @@ class Machine:
         self.pools[name] = pool
         return "RC 0"
 
+    def pick(self, free):
+        """The cell that is taken of those that are free."""
+        return free[0]
+
     def get(self, name, cell, conditional=False):
         if name not in self.pools:
             raise Abend("U4002")
         pool = self.pools[name]
-        free = next((a for a in pool.cells() if a not in pool.taken), None)
-        if free is None and conditional:
+        free = [a for a in pool.cells() if a not in pool.taken]
+        if not free and conditional:
             return "NO CELL"
-        if free is None:
+        if not free:
             self.grant_part(pool, pool.secondary)
-            free = next(a for a in pool.cells() if a not in pool.taken)
+            free = [a for a in pool.cells() if a not in pool.taken]
+        free = self.pick(free)
         pool.taken.add(free)
         self.write((free, pool.size), [self.fill] * pool.size)
         self.names[cell] = (free, pool.size)

@@ -17,7 +17,7 @@ _mvsjob() {
     elif [ "$before" = --random ] || [ "$before" = --lines ]; then
         return
     elif [[ $word == -* ]]; then
-        mapfile -t COMPREPLY < <(compgen -W "--place --check --blank --judge --ask --random --lines --profile --explain --json --strict --interactive --color --help --version -h -V" -- "$word")
+        mapfile -t COMPREPLY < <(compgen -W "--place --check --blank --assemble --judge --ask --random --lines --profile --explain --json --page --strict --interactive --color --help --version -h -V" -- "$word")
     else
         compopt -o filenames 2> /dev/null
         mapfile -t COMPREPLY < <(compgen -f -- "$word")

@@ -1,8 +1,8 @@
 -- The parts of a pool, one after another.
-use Rattle.std.proofs.Common.{◌≡◌, ℕ, zero, suc, ◌+◌, ◌/◌, ◌<◌, ◌≤◌, [], ◌∷◌, length, refl, sym, ap, ◌∙◌, arith}
+use Rattle.std.proofs.Common.{◌≡◌, ℕ, zero, suc, ◌+◌, ◌/◌, ◌<◌, ◌≤◌, [], ◌∷◌, length, get_or, refl, sym, ap, ◌∙◌, arith}
 use Rattle.std.specs.Int.{from_be_bytes, w32, bit_at}
-use Rattle.std.specs.Prelude.{◌==◌, ◌-◌, ◌%◌, map}
-use Rattle.std.specs.List.{range_with_len, Contains}
+use Rattle.std.specs.Prelude.{◌==◌, ◌-◌, ◌%◌}
+use Rattle.std.specs.List.{Contains}
 use Rattle.std.proofs.lemmas.List.FromFn.{length-map-range_with_len, get_or-map-range_with_len}
 use Rattle.mvs_model.specs.Place.{place_at}
 use Rattle.mvs_model.specs.Pools.{Part, part_length}
@@ -19,17 +19,25 @@ pub same_flag : (m n : ℕ → ℕ) (a i : ℕ) → n (a + 16 + i / 8) ≡ m (a 
 unfolding flag
 same_flag m n a i e = ap (λ b. bit_at b (7 - i % 8) == 1) e
 
--- a part of the list of parts
+-- how many parts the list has, and one of them
+pub parts_len : (m : ℕ → ℕ) (r : Root) → length (parts_of m r) ≡ r.count
+unfolding parts_of
+parts_len m r = length-map-range_with_len (part_of m r) 0 r.count
+
+pub part_in_list : (m : ℕ → ℕ) (r : Root) (j : ℕ) (d : Part) → j < r.count → get_or (parts_of m r) j d ≡ part_of m r j
+unfolding parts_of
+part_in_list m r j d l = get_or-map-range_with_len (part_of m r) 0 r.count j j d l (omega arith)
+
 pub part_contained : (m : ℕ → ℕ) (r : Root) (j : ℕ) → j < r.count → Contains (parts_of m r) (part_of m r j)
 unfolding parts_of
-part_contained m r j l = (j, (let e : length (map (part_of m r) (range_with_len 0 r.count)) ≡ r.count = length-map-range_with_len (part_of m r) 0 r.count in omega (arith, e)), get_or-map-range_with_len (part_of m r) 0 r.count j j (part_of m r j) l (omega arith))
+part_contained m r j l = (j, (let e = parts_len m r in omega (arith, e)), part_in_list m r j (part_of m r j) l)
 
 pub contained_part : (m : ℕ → ℕ) (r : Root) (x : Part) → Contains (parts_of m r) x → (j : ℕ) × (j < r.count) × (part_of m r j ≡ x)
 unfolding parts_of
 contained_part m r x h =
-    let size : length (map (part_of m r) (range_with_len 0 r.count)) ≡ r.count = length-map-range_with_len (part_of m r) 0 r.count in
+    let size = parts_len m r in
     let low : h.0 < r.count = (let l = h.1 in omega (arith, size, l)) in
-    (h.0, low, sym (get_or-map-range_with_len (part_of m r) 0 r.count h.0 h.0 x low (omega arith)) ∙ h.2)
+    (h.0, low, sym (part_in_list m r h.0 x low) ∙ h.2)
 
 -- where each part says the same of the next one, the parts are where they were
 module _ (m n : ℕ → ℕ) (r : Root) (next : (j : ℕ) → j < r.count → next_at n (part_addr m r.first j) ≡ next_at m (part_addr m r.first j)) where

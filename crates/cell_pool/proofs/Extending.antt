@@ -108,14 +108,20 @@ module _ (roots : FinMap name_cmp Root) (old one two new : Storage) (agree : Agr
   full_two : AreFull (byte_of two) r.first r.count
   full_two = full_kept roots old two agree keeps name r is r.count (omega arith) full
 
-  free_cell : IsFreeAt new (extended r p.addr) p.addr 0 0
+  last_addr : p.addr ≡ part_addr (byte_of new) r.first r.count
+  last_addr = sym (ap (part_addr (byte_of new) r.first) last ∙ addr_new roots two new two_kept.0 name r is k last p.addr link r.secondary few lays.next lays.cells lays.taken lays.sized lays.flags beside)
+
+  free_cell : IsFreeAt new (extended r p.addr) p.addr 0 0 p.addr
   free_cell = record {
     number = r.count;
     is_part = omega arith;
-    addr = sym (ap (part_addr (byte_of new) r.first) last ∙ addr_new roots two new two_kept.0 name r is k last p.addr link r.secondary few lays.next lays.cells lays.taken lays.sized lays.flags beside);
+    addr = last_addr;
     is_cell = subst (λ n. 0 < n) (sym (new_count roots two new two_kept.0 name r is k last p.addr link r.secondary few lays.next lays.cells lays.taken lays.sized lays.flags beside)) (omega arith);
     clear = new_flag roots two new two_kept.0 name r is k last p.addr link r.secondary few lays.next lays.cells lays.taken lays.sized lays.flags beside 0 (omega arith);
     of_taken = sym (new_word roots two new two_kept.0 name r is k last p.addr link r.secondary few lays.next lays.cells lays.taken lays.sized lays.flags beside 8 (omega arith) ∙ lays.taken);
+    open_number = r.count;
+    is_open = omega arith;
+    open_addr = last_addr;
     full = full_before roots two new two_kept.0 name r is k last p.addr link r.secondary few lays.next lays.cells lays.taken lays.sized lays.flags beside full_two;
   }
 

@@ -10,7 +10,7 @@ use Rattle.mvs_model.specs.Name.{name_cmp}
 use Rattle.mvs_model.specs.Place.{PlaceValue, place_at}
 use Rattle.mvs_model.specs.Storage.{Storage, NoPlace, has_address}
 use Rattle.mvs_model.specs.Owners.{Owners}
-use Rattle.mvs_model.specs.Pools.{part_length, part_want, first_cell, IsFreeCell, IsCellOf}
+use Rattle.mvs_model.specs.Pools.{Part, part_length, part_want, first_cell, IsFreeCell, IsCellOf}
 use Rattle.mvs_model.specs.View.{state_of}
 use Rattle.mvs_model.specs.Changes.{TakesCell, with_part}
 use Rattle.mvs_model.specs.Steps.{GetStep, GetsMore}
@@ -19,7 +19,7 @@ use Rattle.cell_pool.specs.Layout.{byte_of, count_at, taken_at, flag, head_lengt
 use Rattle.cell_pool.specs.Roots.{Root, extended, free_in, part_addr, part_of, pool_of, pools_of}
 use Rattle.cell_pool.specs.Agree.{IsCounted, AgreeParts, Agree}
 use Rattle.cell_pool.specs.Marks.{Marks}
-use Rattle.cell_pool.specs.Walk.{IsFreeAt, AllTaken, Fills}
+use Rattle.cell_pool.specs.Walk.{IsChain, IsFreeAt, AllTaken, Fills}
 use Rattle.mvs_model.specs.Answered.{Answered, cell_reply}
 use Rattle.cell_pool.specs.Extended.{Extended, NoRoom}
 use Rattle.cell_pool.proofs.Chains.{contained_part}
@@ -28,15 +28,18 @@ use Rattle.mvs_model.proofs.Stand.{holder_state}
 use Rattle.cell_pool.proofs.Frame.{get-pools_of, pool_from}
 use Rattle.cell_pool.proofs.Walking.{chain_of, has_cell}
 use Rattle.cell_pool.proofs.Taking.{agree_mid, keeps_new, takes_agrees, was_free, takes_seen}
-use Rattle.cell_pool.proofs.Counts.{count_full}
+use Rattle.cell_pool.proofs.Counts.{count_full, count_some}
 use Rattle.cell_pool.proofs.Counted.{some_free, counted_kept, booked_kept, booked_pools, booked_agrees}
-use Rattle.cell_pool.proofs.Recounted.{counted_other, counted_taken}
+use Rattle.cell_pool.proofs.Recounted.{counted_other, counted_taken, one_number}
+use Rattle.cell_pool.proofs.Opening.{all_set, counts}
+use Rattle.cell_pool.proofs.Untaken.{is_free}
+use Rattle.mvs_model.proofs.TakenCells.{never}
 use Rattle.std.proofs.lemmas.Bool.{cases_lt}
 use Rattle.mvs_model.specs.Name.{same_name}
 use Rattle.mvs_model.proofs.Tests.{match_true, match_false}
 
 -- what was taken, by a spot
-module _ (roots : FinMap name_cmp Root) (old : Storage) (agree : AgreeParts roots old) (name : Name) (r : Root) (is : get roots name ≡ Some r) (a i taken : ℕ) (new : Storage) (p : PlaceValue) (spot : IsFreeAt old r a i taken)
+module _ (roots : FinMap name_cmp Root) (old : Storage) (agree : AgreeParts roots old) (name : Name) (r : Root) (is : get roots name ≡ Some r) (a i taken open_part : ℕ) (new : Storage) (p : PlaceValue) (spot : IsFreeAt old r a i taken open_part)
     (done : (mid : Storage) × Marks old a i true (taken + 1) mid × Fills mid p r.fill new) (place : p ≡ place_at (a + head_length (count_at (byte_of old) a) + i * r.cell_size) r.cell_size) where
   low : i < count_at (byte_of old) (part_addr (byte_of old) r.first spot.number)
   low = subst (λ b. i < count_at (byte_of old) b) spot.addr spot.is_cell
@@ -90,15 +93,15 @@ module _ (roots : FinMap name_cmp Root) (old : Storage) (agree : AgreeParts root
         counted_kept roots done.0 new (agree_mid roots old done.0 new agree name r is spot.number spot.is_part i low (taken + 1) marks _ refl clear more fills) (keeps_new roots old done.0 new agree name r is spot.number spot.is_part i low (taken + 1) marks _ refl clear more fills) n q e
         (counted_other roots old done.0 agree name r is spot.number spot.is_part i low true (taken + 1) marks n q e ne (counted n q e))
 
-    got_here : IsCounted (byte_of new) (record r { free = r.free - 1; open_part = a })
-    got_here = subst (λ b. IsCounted (byte_of new) (record r { free = r.free - 1; open_part = b })) (sym spot.addr)
+    got_here : IsCounted (byte_of new) (record r { free = r.free - 1; open_part = open_part })
+    got_here = subst (λ b. IsCounted (byte_of new) (record r { free = r.free - 1; open_part = b })) (sym spot.open_addr)
         (booked_kept roots done.0 new (agree_mid roots old done.0 new agree name r is spot.number spot.is_part i low (taken + 1) marks _ refl clear more fills) (keeps_new roots old done.0 new agree name r is spot.number spot.is_part i low (taken + 1) marks _ refl clear more fills) name r is _ _
-        (counted_taken roots old done.0 agree name r is spot.number spot.is_part i low true (taken + 1) marks more room spot.full (counted name r is)))
+        (counted_taken roots old done.0 agree name r is spot.number spot.is_part i low true (taken + 1) marks more room spot.open_number spot.is_open spot.full (counted name r is)))
 
     pub got_some : 1 ≤ r.free
     got_some = let c = (counted name r is).free in let h : 1 ≤ free_in (byte_of old) r.first r.count = some_free (byte_of old) r.first r.count spot.number spot.is_part room in omega arith
 
-    module _ (new_roots : FinMap name_cmp Root) (now : (n : Name) → get new_roots n ≡ cond (same_name n name) (Some (record r { free = r.free - 1; open_part = a })) (get roots n)) where
+    module _ (new_roots : FinMap name_cmp Root) (now : (n : Name) → get new_roots n ≡ cond (same_name n name) (Some (record r { free = r.free - 1; open_part = open_part })) (get roots n)) where
       pub got_pools : pools_of new_roots new ≡ pools_of roots new
       got_pools = booked_pools roots new_roots new name r is _ _ now
 
@@ -133,34 +136,70 @@ module _ (roots : FinMap name_cmp Root) (old : Storage) (agree : AgreeParts root
           (inr (none_free, match_false _ _ conditional e (inl (subst (λ h. NoPlace old.regions h r.subpool (part_want r.cell_size r.secondary r.side)) (λ k d. sym (holder_state old o (pools_of roots old) agree.storage d) k) none, a)))),
     )
 
-    -- a further part, and its first cell
-    module _ (a : ℕ) (new_roots : FinMap name_cmp Root) (mid new : Storage) (e : Extended roots old name r a new_roots mid) (agree_mid : AgreeParts new_roots mid) (p : PlaceValue)
-        (done : (last : Storage) × Marks mid a 0 true (0 + 1) last × Fills last p r.fill new) (place : p ≡ place_at (a + head_length (count_at (byte_of mid) a) + 0 * r.cell_size) r.cell_size) where
+    -- a further part, and a cell of it
+    module _ (a : ℕ) (new_roots : FinMap name_cmp Root) (mid : Storage) (e : Extended roots old name r a new_roots mid) (agree_mid : AgreeParts new_roots mid) where
+      ch : IsChain mid (extended r a)
+      ch = chain_of new_roots mid name (extended r a) agree_mid e.root
+
       pool_is : (o : Owners) → pool_of (byte_of mid) (extended r a) ≡ with_part (pool_of (byte_of old) r) r.secondary e.place
       pool_is o =
           let f : Some (pool_of (byte_of mid) (extended r a)) ≡ Some (with_part (pool_of (byte_of old) r) r.secondary e.place) =
           sym (pool_from new_roots mid name (extended r a) e.root) ∙ put_here (state_of old o (pools_of roots old)) (state_of mid o (pools_of new_roots mid)) name (Some (with_part (pool_of (byte_of old) r) r.secondary e.place)) (e.extends o).pools in
           cc
 
-      in_last : (j : ℕ) → j ≡ r.count → IsCellOf r.cell_size (part_of (byte_of mid) (extended r a) j) (first_cell r.cell_size (part_of (byte_of mid) (extended r a) j) + 0 * r.cell_size) → IsCellOf r.cell_size (record { place = e.place; count = r.secondary }) (first_cell r.cell_size (part_of (byte_of mid) (extended r a) j) + 0 * r.cell_size)
-      in_last j f h = subst (λ part. IsCellOf r.cell_size part (first_cell r.cell_size (part_of (byte_of mid) (extended r a) j) + 0 * r.cell_size)) (ap (part_of (byte_of mid) (extended r a)) f ∙ e.part) h
+      pub last_count : count_at (byte_of mid) a ≡ r.secondary
+      last_count = ap (count_at (byte_of mid)) (e.free.addr ∙ ap (part_addr (byte_of mid) r.first) e.is_last) ∙ ap (λ (q : Part). q.count) e.part
 
-      gets_more : (o : Owners) → GetsMore (state_of old o (pools_of roots old)) name (pool_of (byte_of old) r) (Cell p) (state_of new o (pools_of new_roots new))
-      gets_more o = (
-        e.place,
-        state_of mid o (pools_of new_roots mid),
-        e.extends o,
-        (
-          first_cell r.cell_size (part_of (byte_of mid) (extended r a) e.free.number) + 0 * r.cell_size,
-          in_last e.free.number e.is_last (0, subst (λ b. 0 < count_at (byte_of mid) b) e.free.addr e.free.is_cell, refl),
+      in_last : (j k : ℕ) → j ≡ r.count → IsCellOf r.cell_size (part_of (byte_of mid) (extended r a) j) k → IsCellOf r.cell_size (record { place = e.place; count = r.secondary }) k
+      in_last j k f h = subst (λ part. IsCellOf r.cell_size part k) (ap (part_of (byte_of mid) (extended r a)) f ∙ e.part) h
+
+      -- each cell of the part is free
+      pub fresh : (i c : ℕ) → i < r.secondary → c ≡ a + head_length r.secondary + i * r.cell_size → IsFreeCell (pool_of (byte_of mid) (extended r a)) c
+      fresh i c l at =
+          let m = byte_of mid in
+          let n = last_count in
+          let taken = counts mid (extended r a) ch e.free.number e.free.is_part a e.free.addr in
+          let none = e.free.of_taken in
+          let low : i < count_at m a = omega arith in
+          is_free mid (extended r a) ch c a (count_at m a) (taken_at m a) i
+          (record { number = e.free.number; is_part = e.free.is_part; addr = e.free.addr; cells = refl; of_taken = refl; of_past = refl }) low
+          (at ∙ ap (λ k. a + head_length k + i * r.cell_size) (sym n)) (never _ (λ t. let some = count_some (count_at m a) i (flag m a) low t in absurd (omega arith)))
+
+      -- and a free one is of the part
+      module _ (b i taken open_part : ℕ) (spot : IsFreeAt mid (extended r a) b i taken open_part) (new : Storage) (p : PlaceValue)
+          (done : (last : Storage) × Marks mid b i true (taken + 1) last × Fills last p r.fill new) (place : p ≡ place_at (b + head_length (count_at (byte_of mid) b) + i * r.cell_size) r.cell_size) where
+        spot_last : spot.number ≡ r.count
+        spot_last = elim (cases_lt spot.number r.count) [
+          | inl l ↦
+              let m = byte_of mid in
+              let f = e.free in
+              let same : f.open_number ≡ f.number = one_number new_roots mid agree_mid name (extended r a) e.root f.open_number f.number f.is_open f.is_part (sym f.open_addr ∙ f.addr) in
+              let here = e.is_last in
+              let full : count_at m (part_addr m r.first spot.number) ≤ taken_at m (part_addr m r.first spot.number) = f.full spot.number (omega arith) in
+              let set : flag m (part_addr m r.first spot.number) i ≡ true = all_set mid (extended r a) ch spot.number spot.is_part (part_addr m r.first spot.number) refl _ _ refl refl full i (subst (λ k. i < count_at m k) spot.addr spot.is_cell) in
+              let never : true ≡ false = sym set ∙ ap (λ k. flag m k i) (sym spot.addr) ∙ spot.clear in absurd (cc)
+          | inr l ↦ (let h = spot.is_part in omega arith)
+        ]
+
+        cell : ℕ
+        cell = first_cell r.cell_size (part_of (byte_of mid) (extended r a) spot.number) + i * r.cell_size
+
+        gets_more : (o : Owners) → GetsMore (state_of old o (pools_of roots old)) name (pool_of (byte_of old) r) (Cell p) (state_of new o (pools_of new_roots new))
+        unfolding cell
+        gets_more o = (
+          e.place,
+          state_of mid o (pools_of new_roots mid),
+          e.extends o,
           (
-            subst (λ q. TakesCell (state_of mid o (pools_of new_roots mid)) name q (first_cell r.cell_size (part_of (byte_of mid) (extended r a) e.free.number) + 0 * r.cell_size) (state_of new o (pools_of new_roots new))) (pool_is o)
-                (got_cell new_roots mid agree_mid name (extended r a) e.root a 0 0 new p e.free done place o),
-            ap Cell (place_is new_roots mid agree_mid name (extended r a) e.root a 0 0 new p e.free done place),
+            cell,
+            in_last spot.number cell spot_last (i, subst (λ k. i < count_at (byte_of mid) k) spot.addr spot.is_cell, refl),
+            (
+              subst (λ q. TakesCell (state_of mid o (pools_of new_roots mid)) name q cell (state_of new o (pools_of new_roots new))) (pool_is o) (got_cell new_roots mid agree_mid name (extended r a) e.root b i taken open_part new p spot done place o),
+              ap Cell (place_is new_roots mid agree_mid name (extended r a) e.root b i taken open_part new p spot done place),
+            ),
           ),
-        ),
-      )
+        )
 
-      pub got_more : conditional ≡ false → (o : Owners) (t : Name) → GetStep (state_of old o (pools_of roots old)) t name conditional (get (pools_of roots old) name) (Cell p) (state_of new o (pools_of new_roots new))
-      got_more f o t = subst (λ v. GetStep (state_of old o (pools_of roots old)) t name conditional v (Cell p) (state_of new o (pools_of new_roots new))) (sym (pool_from roots old name r is))
-          (inr (none_free, match_false _ _ conditional f (inr (gets_more o))))
+        pub got_more : conditional ≡ false → (o : Owners) (t : Name) → GetStep (state_of old o (pools_of roots old)) t name conditional (get (pools_of roots old) name) (Cell p) (state_of new o (pools_of new_roots new))
+        got_more f o t = subst (λ v. GetStep (state_of old o (pools_of roots old)) t name conditional v (Cell p) (state_of new o (pools_of new_roots new))) (sym (pool_from roots old name r is))
+            (inr (none_free, match_false _ _ conditional f (inr (gets_more o))))

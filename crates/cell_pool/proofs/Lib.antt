@@ -29,3 +29,5 @@ pub mod Deleting
 pub mod Tallied
 pub mod Pooled
 pub mod Told
+pub mod Untaken
+pub mod Telling

@@ -1,5 +1,5 @@
 -- What is kept of the pools once a cell is taken or given back.
-use Rattle.std.proofs.Common.{◌≡◌, ◌≢◌, ℕ, ◌+◌, ◌-◌, ◌/◌, ◌<◌, ◌≤◌, inl, inr, Bool, true, false, cond, Some, sym, ap, ◌∙◌, arith}
+use Rattle.std.proofs.Common.{◌≡◌, ◌≢◌, ℕ, ◌+◌, ◌-◌, ◌/◌, ◌<◌, ◌≤◌, inl, inr, Bool, true, false, cond, Some, sym, ap, ◌∙◌, subst, arith}
 use Rattle.std.specs.Prelude.{◌==◌}
 use Rattle.std.proofs.lemmas.Bool.{cases_lt, eqb-true, eq-eqb}
 use Rattle.std.specs.FinMap.{FinMap, get}
@@ -52,15 +52,17 @@ module _ (roots : FinMap name_cmp Root) (old new : Storage) (agree : AgreeParts 
   below n l full = full_same (byte_of old) (byte_of new) r.first n (λ j h. counts j (omega arith)) (λ j h. takens j (omega arith) (λ e. absurd (omega arith))) full
 
   -- a cell is taken
-  pub counted_taken : taken ≡ taken_at (byte_of old) (part_addr (byte_of old) r.first p) + 1 → taken_at (byte_of old) (part_addr (byte_of old) r.first p) + 1 ≤ count_at (byte_of old) (part_addr (byte_of old) r.first p) → AreFull (byte_of old) r.first p
-      → IsCounted (byte_of old) r → IsCounted (byte_of new) (record r { free = r.free - 1; open_part = part_addr (byte_of old) r.first p })
-  counted_taken more room full c = record {
+  pub counted_taken : taken ≡ taken_at (byte_of old) (part_addr (byte_of old) r.first p) + 1 → taken_at (byte_of old) (part_addr (byte_of old) r.first p) + 1 ≤ count_at (byte_of old) (part_addr (byte_of old) r.first p) → (k : ℕ) → k < r.count → AreFull (byte_of old) r.first k
+      → IsCounted (byte_of old) r → IsCounted (byte_of new) (record r { free = r.free - 1; open_part = part_addr (byte_of old) r.first k })
+  counted_taken more room k lk full c = record {
     last = λ k e. c.last k e ∙ sym (addrs k (omega arith));
     free = (let e : free_in (byte_of new) r.first r.count + 1 ≡ free_in (byte_of old) r.first r.count = free_less (byte_of old) (byte_of new) r.first r.count p lp counts takens (here ∙ more) room in let f = c.free in omega arith);
-    number = p;
-    is_part = lp;
-    open_part = sym (addrs p lp);
-    full = below p (omega arith) full;
+    number = k;
+    is_part = lk;
+    open_part = sym (addrs k lk);
+    full = full_same (byte_of old) (byte_of new) r.first k (λ j h. counts j (omega arith)) (λ j h. takens j (omega arith) (λ e. absurd (
+        let f : count_at (byte_of old) (part_addr (byte_of old) r.first p) ≤ taken_at (byte_of old) (part_addr (byte_of old) r.first p) = subst (λ q. count_at (byte_of old) (part_addr (byte_of old) r.first q) ≤ taken_at (byte_of old) (part_addr (byte_of old) r.first q)) e (full j h) in
+        omega arith))) full;
   }
 
   -- or given back

@@ -1,9 +1,10 @@
 -- What is told of a pool.
-use Rattle.std.proofs.Common.{◌≡◌, ℕ, zero, suc, ◌+◌, ◌*◌, ◌<◌, ◌≤◌, inl, inr, Bool, true, false, Option, Some, None, refl, sym, ap, ◌∙◌, subst, arith, is_some}
+use Rattle.std.proofs.Common.{◌≡◌, ℕ, zero, suc, ◌+◌, ◌-◌, ◌*◌, ◌<◌, ◌≤◌, inl, inr, Bool, true, false, Option, Some, None, get_or, refl, sym, ap, ◌∙◌, subst, arith, is_some}
 use Rattle.std.specs.Prelude.{MatchBool, MatchOption}
 use Rattle.std.specs.Option.{option_map}
 use Rattle.std.proofs.lemmas.Bool.{cases_lt, and_right, true_from_ne_false}
 use Rattle.std.proofs.lemmas.Bool.Decides.{nat_tests}
+use Rattle.std.proofs.lemmas.Option.{slice_get-get_or}
 use Rattle.std.specs.FinMap.{FinMap, get}
 use Rattle.std.specs.FinSet as set
 use Rattle.mvs_model.specs.declared.name.Name.{Name}
@@ -12,17 +13,19 @@ use Rattle.mvs_model.specs.Finite.{count_below}
 use Rattle.mvs_model.specs.Place.{place_at}
 use Rattle.mvs_model.specs.Storage.{Storage, has_address}
 use Rattle.mvs_model.specs.Pools.{Pool, first_cell, IsFreeCell}
-use Rattle.mvs_model.proofs.Decide.{Decided, found_below}
+use Rattle.mvs_model.proofs.Decide.{found_below}
 use Rattle.mvs_model.proofs.Stuck.{decided_false}
 use Rattle.cell_pool.specs.Layout.{byte_of, count_at, taken_at, flag}
-use Rattle.cell_pool.specs.Roots.{Root, free_in, part_addr, part_of, is_taken, taken_of, pool_of, pools_of}
+use Rattle.cell_pool.specs.Roots.{Root, free_in, part_addr, part_of, parts_of, is_taken, taken_of, pool_of, pools_of}
 use Rattle.cell_pool.specs.Agree.{AgreeParts, IsCounted}
 use Rattle.cell_pool.specs.Walk.{IsChain, IsTakenAt}
 use Rattle.mvs_model.specs.declared.reason.CellSpot.{CellSpot}
 use Rattle.mvs_model.specs.Reasons.{IsSpot}
 use Rattle.cell_pool.specs.Cells.{IsSupply}
+use Rattle.mvs_model.specs.Newest.{IsNewest}
+use Rattle.mvs_model.specs.declared.report.Newest.{Newest}
 use Rattle.cell_pool.specs.declared.walk.Taken.{Taken}
-use Rattle.cell_pool.proofs.Chains.{part_contained}
+use Rattle.cell_pool.proofs.Chains.{part_contained, part_in_list, parts_len}
 use Rattle.cell_pool.proofs.Frame.{get-pools_of, pool_from}
 use Rattle.cell_pool.proofs.Getting.{none_free}
 use Rattle.cell_pool.proofs.Opening.{all_taken, counts, not_all}
@@ -104,3 +107,21 @@ module _ (roots : FinMap name_cmp Root) (st : Storage) (agree : AgreeParts roots
         → (pool : Pool) × (get (pools_of roots st) name ≡ Some pool) × (b ≡ set.contains pool.taken c)
     taken_told x c None b same e h = (pool_of (byte_of st) r, pool_from roots st name r is, e ∙ sym (ap (set.contains (taken_of (byte_of st) r)) (sym same) ∙ contains-taken (byte_of st) r x ∙ and_right _ _ h))
     taken_told x c (Some s) b same e h = (pool_of (byte_of st) r, pool_from roots st name r is, e ∙ sym (ap (set.contains (taken_of (byte_of st) r)) (sym same) ∙ cell_set s.part s.cell s.taken x h))
+
+    -- the part that was put to it last
+    pub newest_told : (newest : Newest) → newest.parts ≡ r.count → part_of (byte_of st) r (r.count - 1) ≡ record { place = newest.place; count = newest.cells } → newest.cell_size ≡ r.cell_size
+        → (pool : Pool) × (get (pools_of roots st) name ≡ Some pool) × IsNewest pool newest
+    newest_told newest parts part size = (
+      pool_of (byte_of st) r,
+      pool_from roots st name r is,
+      record {
+        parts = parts ∙ sym (parts_len (byte_of st) r);
+        last = slice_get-get_or (parts_of (byte_of st) r) (newest.parts - 1) (record { place = newest.place; count = newest.cells }) (let some = ch.some in let l = parts_len (byte_of st) r in omega arith)
+            ∙ ap Some (ap (λ n. get_or (parts_of (byte_of st) r) (n - 1) (record { place = newest.place; count = newest.cells })) parts ∙ part_in_list (byte_of st) r (r.count - 1) (record { place = newest.place; count = newest.cells }) (let some = ch.some in omega arith) ∙ part);
+        cell_size = size;
+      },
+    )
+
+    -- where it is
+    pub last_is : IsCounted (byte_of st) r → r.last ≡ part_addr (byte_of st) r.first (r.count - 1)
+    last_is counted = counted.last (r.count - 1) (let some = ch.some in omega arith)

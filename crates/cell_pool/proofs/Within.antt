@@ -102,15 +102,26 @@ module _ (st : Storage) (r : Root) (ch : IsChain st r) (x : ℕ) where
         let g = in_part h in let k = has_is' in
         one st r ch h.part p.number (x / 8) h.is_part p.is_part (omega (arith, g.0), omega (arith, g.1)) (omega (arith, k.0), omega (arith, k.1)) ∙ sym p.addr
 
-    -- the number of the cell that holds it
-    number : (h : Holds) → (h.cell < count) × (first + h.cell * size ≤ x) × (x < first + h.cell * size + size)
-    number h =
+    -- where the cell that holds it begins
+    begin_is : (h : Holds) → (h.cell < count) × (h.begin ≡ first + h.cell * size)
+    begin_is h =
         let s = same_part h in
         let n : count_at (byte_of st) (part_addr (byte_of st) r.first h.part) ≡ count = ap (count_at (byte_of st)) s ∙ sym p.cells in
         let at : h.begin ≡ part_addr (byte_of st) r.first h.part + head_length (count_at (byte_of st) (part_addr (byte_of st) r.first h.part)) + h.cell * r.cell_size = let e = h.at in omega arith in
-        let here : h.begin ≡ first + h.cell * size = at ∙ (λ q. s q + head_length (n q) + h.cell * r.cell_size) ∙ sym (λ q. e q + h.cell * f q) in
+        (subst (λ q. h.cell < q) n h.is_cell, at ∙ (λ q. s q + head_length (n q) + h.cell * r.cell_size) ∙ sym (λ q. e q + h.cell * f q))
+
+    -- the number of the cell that holds it
+    number : (h : Holds) → (h.cell < count) × (first + h.cell * size ≤ x) × (x < first + h.cell * size + size)
+    number h =
+        let b = begin_is h in
+        let here = b.1 in
         let low = h.low in let high = h.high in
-        (subst (λ q. h.cell < q) n h.is_cell, omega arith, omega arith)
+        (b.0, omega arith, omega arith)
+
+    -- no cell begins at the address where none of its part does
+    pub none_begins : ((i : ℕ) → i < count → x ≡ first + i * size → ⊥) → IsCell (pool_of (byte_of st) r) x → ⊥
+    unfolding begins_at
+    none_begins none is = let s = ch.size in let h = begins_at x is (omega arith) (omega arith) in let b = begin_is h in none h.cell b.0 b.1
 
     pub no_number : ((i : ℕ) → i < count → first + i * size ≤ x → x < first + i * size + size → ⊥) → in_taken (pool_of (byte_of st) r) x ≡ false
     no_number none = never _ (λ q. let h = (holds q).0 in let n = number h in none h.cell n.0 n.1 n.2)

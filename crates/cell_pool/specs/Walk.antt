@@ -49,16 +49,19 @@ pub record IsTakenAt (st : Storage) (r : Root) (a i taken : ℕ) (past : Bool) (
   pub of_taken : taken ≡ taken_at (byte_of st) a
   pub of_past : past ≡ is_past (byte_of st) r (number + 1)
 
--- The part at the address is one of the pool, and all parts before it are full; its cell of this number is free, and so many of
--- its cells are taken.
-pub record IsFreeAt (st : Storage) (r : Root) (a i taken : ℕ) : Type 0 where
+-- The part at the address is one of the pool; its cell of this number is free, and so many of its cells are taken; and the part
+-- at the other address is one of the pool too, before which all parts are full.
+pub record IsFreeAt (st : Storage) (r : Root) (a i taken open_part : ℕ) : Type 0 where
   pub number : ℕ
   pub is_part : number < r.count
   pub addr : a ≡ part_addr (byte_of st) r.first number
   pub is_cell : i < count_at (byte_of st) a
   pub clear : flag (byte_of st) a i ≡ false
   pub of_taken : taken ≡ taken_at (byte_of st) a
-  pub full : AreFull (byte_of st) r.first number
+  pub open_number : ℕ
+  pub is_open : open_number < r.count
+  pub open_addr : open_part ≡ part_addr (byte_of st) r.first open_number
+  pub full : AreFull (byte_of st) r.first open_number
 
 -- Each cell of the pool is taken.
 abbrev pub AllTaken : Storage → Root → Type 0

@@ -1,13 +1,14 @@
 //! Laying out a part.
 
-ghost use Rattle.std.specs.Prelude.{◌≡◌, ◌+◌, ◌<◌, ◌≤◌, ◌^◌, MatchOption};
-ghost use Rattle.mvs_model.specs.Place.{place_at};
-ghost use Rattle.mvs_model.specs.Storage.{AllHeld, Grant, IsStorage, NoPlace, holder};
+ghost use Rattle.std.specs.Prelude.{◌≡◌, ◌+◌, ◌<◌, ◌≤◌, ◌^◌, ℕ, Some, MatchOption};
+ghost use Rattle.mvs_model.specs.Place.{PlaceValue, place_at};
+ghost use Rattle.mvs_model.specs.Storage.{AllHeld, Chosen, Grant, IsStorage, NoPlace, holder};
 ghost use Rattle.mvs_model.specs.Pools.{part_length, part_want};
 ghost use Rattle.mvs_model.specs.View.{IsBounded};
 ghost use Rattle.cell_pool.specs.Layout.{head_length};
 ghost use Rattle.cell_pool.specs.Laying.{LaysOut, PutsWord, StandsFor};
 
+use crate::walk::bytes_before;
 use crate::words::{fill, put};
 use mvs_model::bounded::{CellCount, CellSize, Exponent, Length};
 use mvs_model::place::{Addr, Place};
@@ -34,13 +35,28 @@ pub fn part_want(size: CellSize, count: CellCount, side: Side) -> Want
     Want::fixed(Length::new(length as u32), Exponent::new(3), side)
 }
 
-// Obtains storage for a part of so many cells of a size.
+// Where a part of so many cells begins whose first cell is at the address that is told.
+fn part_told(told: Option<Addr>, count: CellCount) -> Option<Addr>
+    ensures { (a : ℕ) → told ≡ Some (a + head_length count) → result ≡ Some a }
+{
+    let Some(first) = told else {
+        return None;
+    };
+    let before = bytes_before(count.get());
+    if first.get() < before {
+        return None;
+    }
+    Some(Addr::new(first.get() - before))
+}
+
+// Obtains storage for a part of so many cells of a size, where its first cell is at the address that is told, if such a place serves.
 pub(crate) fn obtain_part(
     store: &mut Store,
     subpool: SubpoolId,
     size: CellSize,
     count: CellCount,
     side: Side,
+    told: Option<Addr>,
 ) -> Option<Place>
     requires { IsBounded store.old.storage.regions }
     ensures obtained { MatchOption result
@@ -48,13 +64,16 @@ pub(crate) fn obtain_part(
         (part_want size count side) × (store.new.storage ≡ store.old.storage))
         (λ p. Grant store.old.storage subpool (part_want size count side) p store.new.storage
         × IsStorage store.new.storage) }
+    ensures told { (q : PlaceValue) → told ≡ Some (q.addr + head_length count)
+        → Chosen store.old.storage.regions (holder store.old.storage) subpool
+        (part_want size count side) q → result ≡ Some q }
 {
     let bytes = part_bytes(size.get(), count.get());
     if bytes > 0x7FFF_FFFF {
         return None;
     }
     let want = Want::fixed(Length::new(bytes as u32), Exponent::new(3), side);
-    store.obtain(subpool, &want, None)
+    store.obtain(subpool, &want, part_told(told, count))
 }
 
 // Writes a word.

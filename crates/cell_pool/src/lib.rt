@@ -4,6 +4,7 @@
 mod entry;
 pub mod laws;
 mod laying;
+mod newest;
 mod open;
 mod plan;
 mod pools;

@@ -1,16 +1,18 @@
 //! The search for a free cell.
 
-ghost use Rattle.std.specs.Prelude.{◌≡◌, ◌<◌, ◌≤◌, ◌+◌, ◌-◌, ◌*◌, ◌/◌, ◌%◌, ◌^◌, ◌==◌, ℕ, true, false, MatchOption, length, slice_index};
+ghost use Rattle.std.specs.Prelude.{◌≡◌, ◌<◌, ◌≤◌, ◌+◌, ◌-◌, ◌*◌, ◌/◌, ◌%◌, ◌^◌, ◌==◌, ℕ, true, false, Some, MatchOption, length, slice_index};
 ghost use Rattle.std.specs.Int.{bit_at};
 ghost use Rattle.mvs_model.specs.Finite.{count_below};
 ghost use Rattle.mvs_model.specs.Storage.{AllHeld};
 ghost use Rattle.mvs_model.specs.Place.{place_at};
+ghost use Rattle.mvs_model.specs.Pools.{IsFreeCell};
 ghost use Rattle.cell_pool.specs.Agree.{IsCounted};
-ghost use Rattle.cell_pool.specs.Layout.{byte_of, count_at, taken_at, flag};
+ghost use Rattle.cell_pool.specs.Layout.{byte_of, count_at, flag, head_length, taken_at};
+ghost use Rattle.cell_pool.specs.Roots.{pool_of};
 ghost use Rattle.cell_pool.specs.Walk.{IsChain, IsFreeAt};
 
 use crate::root::Root;
-use crate::walk::Spot;
+use crate::walk::{Spot, find_untaken};
 use crate::words::{is_set, read_header};
 use mvs_model::place::{Addr, Place};
 use subpool_store::Store;
@@ -114,11 +116,12 @@ fn first_free(store: &Store, part: u32, count: u32) -> u32
 }
 
 // The first free cell of the earliest part that has one, where some cell is free.
-pub(crate) fn find_free(store: &Store, root: &Root) -> Spot
+fn find_free(store: &Store, root: &Root) -> Spot
     requires chain { IsChain store.now.storage root.now }
     requires counted { IsCounted (byte_of store.now.storage) root.now }
     requires free { 1 ≤ root.now.free }
-    ensures free { IsFreeAt store.now.storage root.now result.part result.cell result.taken }
+    ensures free { IsFreeAt store.now.storage root.now result.part result.cell result.taken
+        result.open_part }
     ensures count { result.count ≡ count_at (byte_of store.now.storage) result.part }
 {
     let mut part = root.open_part();
@@ -130,9 +133,32 @@ pub(crate) fn find_free(store: &Store, root: &Root) -> Spot
                 cell: first_free(store, part, header.count),
                 count: header.count,
                 taken: header.taken,
+                open_part: part,
             };
         }
         part = header.next;
     }
     unreachable!()
+}
+
+// A free cell of the pool, where some cell is free: the one at the address that is told, if it is free, else the first of the earliest
+// part that has one.
+pub(crate) fn find_spot(store: &Store, root: &Root, told: Option<Addr>) -> Spot
+    requires chain { IsChain store.now.storage root.now }
+    requires counted { IsCounted (byte_of store.now.storage) root.now }
+    requires free { 1 ≤ root.now.free }
+    ensures free { IsFreeAt store.now.storage root.now result.part result.cell result.taken
+        result.open_part }
+    ensures count { result.count ≡ count_at (byte_of store.now.storage) result.part }
+    ensures told { (a : ℕ) → told ≡ Some a
+        → IsFreeCell (pool_of (byte_of store.now.storage) root.now) a
+        → a ≡ result.part + head_length result.count + result.cell * root.now.cell_size }
+{
+    let Some(told) = told else {
+        return find_free(store, root);
+    };
+    match find_untaken(store, root, told.get()) {
+        Some(spot) => spot,
+        None => find_free(store, root),
+    }
 }

@@ -1,6 +1,6 @@
 //! The cell pools of a step.
 
-ghost use Rattle.std.specs.Prelude.{◌≡◌, ◌≢◌, ◌<◌, ◌≤◌, ◌+◌, ◌-◌, ◌*◌, ◌^◌, ◌==◌, ℕ, nat_le, not, Some, None, IsSome, true, false, IfOk, IfErr, OnOk, OnErr, MatchOption, MatchBool, if◌then◌else◌};
+ghost use Rattle.std.specs.Prelude.{◌≡◌, ◌≢◌, ◌<◌, ◌≤◌, ◌+◌, ◌-◌, ◌*◌, ◌^◌, ◌==◌, ℕ, nat_le, not, Some, None, IsSome, true, false, IfOk, IfErr, IfSome, OnOk, OnErr, MatchOption, MatchBool, if◌then◌else◌};
 ghost use Rattle.slab.specs.Slab.{get as slab_get};
 ghost use Rattle.mvs_model.specs.Pools.{Pool, in_taken};
 ghost use Rattle.mvs_model.specs.Place.{place_at};
@@ -10,6 +10,7 @@ ghost use Rattle.cell_pool.specs.Walk.{Fills, IsChain, IsFreeAt, IsTakenAt, Meet
 ghost use Rattle.cell_pool.specs.declared.entry.Entry.{Entry as TheEntry};
 ghost use Rattle.std.specs.FinMap.{get, empty, len, contains_key};
 ghost use Rattle.mvs_model.specs.Name.{same_name};
+ghost use Rattle.mvs_model.specs.Newest.{IsNewest};
 ghost use Rattle.mvs_model.specs.Numbers.{most_pools};
 ghost use Rattle.mvs_model.specs.Finite.{Keeps};
 ghost use Rattle.cell_pool.specs.Roots.{Root as TheRoot};
@@ -24,15 +25,18 @@ ghost use Rattle.cell_pool.specs.Cells.{HasPart, IsSupply, IsTakenCell, Touches,
 ghost use Rattle.mvs_model.specs.Reasons.{IsSpot};
 ghost use Rattle.std.specs.FinSet as set;
 ghost use Rattle.mvs_model.specs.State.{in_cell};
-ghost use Rattle.mvs_model.specs.Steps.{DeleteStep, FreeStep, GetStep};
+ghost use Rattle.mvs_model.specs.Steps.{DeleteStep, FreeStep, GetStep, new_pool};
 ghost use Rattle.cell_pool.specs.Roots.{extended, pool_of, pools_of, taken_of};
 ghost use Rattle.cell_pool.specs.Agree.{Agree};
 ghost use Rattle.mvs_model.specs.Answered.{Answered, cell_reply};
-ghost use Rattle.cell_pool.specs.Extended.{Extended, NoRoom};
+ghost use Rattle.cell_pool.specs.Extended.{Extended, MayAdd, NoRoom};
+ghost use Rattle.cell_pool.specs.Telling.{CellTakesTold, PartTakesTold};
+ghost use Rattle.mvs_model.specs.Place.{PlaceValue};
 
 use crate::entry::{Entry, find, find_key, has_none, remove, remove_each, set_root};
 use crate::laying::{lay_out, obtain_part, put_word};
-use crate::open::find_free;
+use crate::newest::newest_of;
+use crate::open::find_spot;
 use crate::plan::Plan;
 use crate::release::release_parts;
 use crate::report::bytes_in;
@@ -47,6 +51,7 @@ use mvs_model::name::Name;
 use mvs_model::numbers::MOST_POOLS;
 use mvs_model::place::{Addr, Place};
 use mvs_model::reason::CellSpot;
+use mvs_model::report::Newest;
 use mvs_model::subpool::SubpoolId;
 use mvs_model::subpool_set::SubpoolSet;
 use mvs_model::want::Side;
@@ -259,14 +264,16 @@ impl Pools {
         self.replace(name, root.with_freed(open));
     }
 
-    /// Makes a pool in the subpool, with a first part as the plan says (Assembler Services Reference, CPOOL BUILD). Refused are, in this order, a name that a pool has
-    /// (user 4008), a pool beyond 64 (user 4007), and want of a place for the part (878); the codes are this project's choice.
+    /// Makes a pool in the subpool, with a first part as the plan says (Assembler Services Reference, CPOOL BUILD), whose first cell is at the address that is told,
+    /// if the part may lie so. Refused are, in this order, a name that a pool has (user 4008), a pool beyond 64 (user 4007), and
+    /// want of a place for the part (878); the codes are this project's choice.
     pub fn build(
         &mut self,
         store: &mut Store,
         name: &Name,
         subpool: SubpoolId,
         plan: &Plan,
+        told: Option<Addr>,
     ) -> Result<(), Code>
         requires { Agree self.old store.old.storage }
         ensures built { OnOk result
@@ -274,6 +281,9 @@ impl Pools {
             store.new.storage) }
         ensures refused { IfErr result
             (IsRefusal self.old store.old.storage name.now subpool plan.now) }
+        ensures told { (a : ℕ) → told ≡ Some a
+            → OnOk result (PartTakesTold store.old.storage name.now (new_pool subpool plan.now)
+            plan.now.primary a (pools_of self.new store.new.storage)) }
         ensures agree { Agree self.new store.new.storage }
         ensures unchanged { OnErr result (store.new.storage ≡ store.old.storage) }
         ensures pools_unchanged { OnErr result (self.new ≡ self.old) }
@@ -285,7 +295,8 @@ impl Pools {
             return Err(Code::TOO_MANY_POOLS);
         }
         let primary = plan.primary;
-        let Some(place) = obtain_part(store, subpool, plan.cell_size, primary, plan.side) else {
+        let Some(place) = obtain_part(store, subpool, plan.cell_size, primary, plan.side, told)
+        else {
             return Err(Code::SHORTAGE);
         };
         let first = place.addr();
@@ -327,8 +338,15 @@ impl Pools {
         self.entries.len()
     }
 
-    // Puts a further part to the pool, whose parts are full, where there is a place for it.
-    fn extend(&mut self, store: &mut Store, name: &Name, root: &Root) -> Option<Root>
+    // Puts a further part to the pool, whose parts are full, where there is a place for it. Its first cell is at the address that is
+    // told, if the part may lie so.
+    fn extend(
+        &mut self,
+        store: &mut Store,
+        name: &Name,
+        root: &Root,
+        told: Option<Addr>,
+    ) -> Option<Root>
         requires agree { Agree self.old store.old.storage }
         requires root { get self.old name.now ≡ Some root.now }
         requires full { root.now.free ≡ 0 }
@@ -338,6 +356,8 @@ impl Pools {
             (λ r. (a : ℕ) × (r ≡ extended root.now a)
             × Extended self.old store.old.storage name.now root.now a self.new
             store.new.storage) }
+        ensures told { (q : PlaceValue) → told ≡ Some (q.addr + head_length root.now.secondary)
+            → MayAdd store.old.storage root.now q → result ≡ Some (extended root.now q.addr) }
         ensures agree { Agree self.new store.new.storage }
     {
         let Some(place) = obtain_part(
@@ -346,6 +366,7 @@ impl Pools {
             root.cell_size,
             root.secondary,
             root.side,
+            told,
         ) else {
             return None;
         };
@@ -419,15 +440,18 @@ impl Pools {
         remove_each(&mut self.entries, subpools);
     }
 
-    /// Takes a free cell of the pool: the lowest one of the earliest part that has one (Assembler Services Reference, CPOOL
-    /// GET; which one is this project's choice). Where no cell is free, a conditional request gets none, and another one a
-    /// cell of a further part. Refused are a name that no pool has (user 4002) and want of a place for the further part (878);
-    /// the codes are this project's choice.
+    /// Takes a free cell of the pool: the one at the address that is told, and where none is told, or it is not free, the lowest
+    /// one of the earliest part that has one (Assembler Services Reference, CPOOL GET; which one is this project's choice).
+    /// Where no cell is free, a conditional request gets none, and another one a cell of a further part, which is put so that its
+    /// first cell is at the address `first`, if it may lie so. Refused are a name that no pool has (user 4002) and want of a
+    /// place for the further part (878); the codes are this project's choice.
     pub fn get(
         &mut self,
         store: &mut Store,
         name: &Name,
         conditional: bool,
+        told: Option<Addr>,
+        first: Option<Addr>,
     ) -> Result<Option<Place>, Code>
         requires { Agree self.old store.old.storage }
         ensures answer { (o : Owners) (t : TheName)
@@ -435,6 +459,9 @@ impl Pools {
             Answered cell_reply
             (λ reply new. GetStep old t name.now conditional (get old.pools name.now) reply new)
             old t result (state_of store.new.storage o (pools_of self.new store.new.storage)) }
+        ensures told { (o : Owners) (a : ℕ)
+            → let old = state_of store.old.storage o (pools_of self.old store.old.storage) in
+            told ≡ Some a → IfOk result (λ cell. IfSome cell (CellTakesTold old name.now a first)) }
         ensures agree { Agree self.new store.new.storage }
         ensures unchanged { OnErr result (store.new.storage ≡ store.old.storage) }
         ensures pools_unchanged { OnErr result (self.new ≡ self.old) }
@@ -443,21 +470,16 @@ impl Pools {
             return Err(Code::NO_SUCH_POOL);
         };
         if root.has_free() {
-            let spot = find_free(store, &root);
+            let spot = find_spot(store, &root, told);
             return Ok(Some(self.take_cell(store, name, &root, spot)));
         }
         if conditional {
             return Ok(None);
         }
-        let Some(extended) = self.extend(store, name, &root) else {
+        let Some(extended) = self.extend(store, name, &root, first) else {
             return Err(Code::SHORTAGE);
         };
-        let spot = Spot {
-            part: extended.last(),
-            cell: 0,
-            count: extended.secondary.get(),
-            taken: 0,
-        };
+        let spot = find_spot(store, &extended, told);
         Ok(Some(self.take_cell(store, name, &extended, spot)))
     }
 
@@ -465,7 +487,8 @@ impl Pools {
     fn take_cell(&mut self, store: &mut Store, name: &Name, root: &Root, spot: Spot) -> Place
         requires agree { Agree self.old store.old.storage }
         requires root { get self.old name.now ≡ Some root.now }
-        requires free { IsFreeAt store.old.storage root.now spot.part spot.cell spot.taken }
+        requires free { IsFreeAt store.old.storage root.now spot.part spot.cell spot.taken
+            spot.open_part }
         requires count { spot.count ≡ count_at (byte_of store.old.storage) spot.part }
         ensures place { result
             ≡ place_at
@@ -478,7 +501,7 @@ impl Pools {
         ensures agree { Agree self.new store.new.storage }
     {
         let place = take(store, root, spot);
-        self.replace(name, root.with_taken(Addr::new(spot.part)));
+        self.replace(name, root.with_taken(Addr::new(spot.open_part)));
         place
     }
 
@@ -551,6 +574,20 @@ impl Pools {
             secondary: root.secondary,
             side: root.side,
         })
+    }
+
+    /// How many parts the pool of this name has, and which was put to it last. None where no pool has the name.
+    pub fn newest(&self, store: &Store, name: &Name) -> Option<Newest>
+        requires { Agree self.now store.now.storage }
+        ensures { MatchOption result (get (pools_of self.now store.now.storage) name.now ≡ None)
+            (λ newest. (pool : Pool)
+            × (get (pools_of self.now store.now.storage) name.now ≡ Some pool)
+            × IsNewest pool newest) }
+    {
+        let Some(root) = self.find(name) else {
+            return None;
+        };
+        Some(newest_of(store, &root))
     }
 
     /// Whether a taken cell of the pool begins at the address. None where no pool has the name.

@@ -16,7 +16,8 @@ use subpool_store::Store;
 // Takes a free cell of the pool, and gives each of its bytes the fill byte.
 pub(crate) fn take(store: &mut Store, root: &Root, spot: Spot) -> Place
     requires chain { IsChain store.old.storage root.now }
-    requires free { IsFreeAt store.old.storage root.now spot.part spot.cell spot.taken }
+    requires free { IsFreeAt store.old.storage root.now spot.part spot.cell spot.taken
+        spot.open_part }
     requires count { spot.count ≡ count_at (byte_of store.old.storage) spot.part }
     ensures place { result
         ≡ place_at

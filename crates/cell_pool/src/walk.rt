@@ -4,11 +4,12 @@ ghost use Rattle.std.specs.Prelude.{◌≡◌, ◌<◌, ◌≤◌, ◌+◌, ◌*
 ghost use Rattle.std.specs.FinSet as set;
 ghost use Rattle.mvs_model.specs.Storage.{AllHeld, has_address};
 ghost use Rattle.mvs_model.specs.Place.{place_at};
-ghost use Rattle.mvs_model.specs.Pools.{IsCell, in_taken, part_length};
+ghost use Rattle.mvs_model.specs.Pools.{IsCell, IsFreeCell, in_taken, part_length};
 ghost use Rattle.mvs_model.specs.Reasons.{IsSpot};
-ghost use Rattle.cell_pool.specs.Layout.{byte_of, flag, head_length};
+ghost use Rattle.cell_pool.specs.Agree.{IsCounted};
+ghost use Rattle.cell_pool.specs.Layout.{byte_of, count_at, flag, head_length};
 ghost use Rattle.cell_pool.specs.Roots.{is_taken, part_addr, part_of, pool_of, taken_of};
-ghost use Rattle.cell_pool.specs.Walk.{IsChain, IsPartAt, IsTakenAt, Meets};
+ghost use Rattle.cell_pool.specs.Walk.{IsChain, IsFreeAt, IsPartAt, IsTakenAt, Meets};
 
 use crate::root::Root;
 use crate::words::{flag, read_header};
@@ -36,13 +37,25 @@ pub(crate) struct Taken {
     pub(crate) past: bool,
 }
 
-// A free cell: its part's address, its number, how many cells the part has, and how many of them are taken.
+// A free cell: its part's address, its number, how many cells the part has, and how many of them are taken; and the address of a
+// part before which all parts are full.
 #[derive(Clone, Copy)]
 pub(crate) struct Spot {
     pub(crate) part: u32,
     pub(crate) cell: u32,
     pub(crate) count: u32,
     pub(crate) taken: u32,
+    pub(crate) open_part: u32,
+}
+
+// A cell: its part, as above, and its number.
+#[derive(Clone, Copy)]
+struct Begun {
+    part: u32,
+    cell: u32,
+    count: u32,
+    taken: u32,
+    past: bool,
 }
 
 // How many bytes stand before the cells of a part.
@@ -124,12 +137,15 @@ fn cell_number(first: u32, size: u32, count: u32, addr: u32) -> Option<u32>
     Some(cell)
 }
 
-// The taken cell of the pool that begins at the address.
-pub(crate) fn find_taken(store: &Store, root: &Root, addr: u32) -> Option<Taken>
+// The cell of the pool that begins at the address, taken or not.
+fn find_begun(store: &Store, root: &Root, addr: u32) -> Option<Begun>
     requires { IsChain store.now.storage root.now }
     ensures { MatchOption result
-        (is_taken (byte_of store.now.storage) root.now addr ≡ false)
-        (λ s. IsTakenAt store.now.storage root.now s.part s.cell s.taken s.past addr) }
+        (IsCell (pool_of (byte_of store.now.storage) root.now) addr → ⊥)
+        (λ b. IsPartAt store.now.storage root.now b.part b.count b.taken b.past
+        × (has_address (place_at b.part (part_length root.now.cell_size b.count)) addr ≡ true)
+        × (b.cell < b.count)
+        × (addr ≡ b.part + head_length b.count + b.cell * root.now.cell_size)) }
 {
     let Some(found) = find_part(store, root, addr) else {
         return None;
@@ -138,14 +154,58 @@ pub(crate) fn find_taken(store: &Store, root: &Root, addr: u32) -> Option<Taken>
     let Some(cell) = cell_number(first, root.cell_size(), found.count, addr) else {
         return None;
     };
-    if !flag(store, found.part, cell) {
+    Some(Begun {
+        part: found.part,
+        cell,
+        count: found.count,
+        taken: found.taken,
+        past: found.past,
+    })
+}
+
+// The taken cell of the pool that begins at the address.
+pub(crate) fn find_taken(store: &Store, root: &Root, addr: u32) -> Option<Taken>
+    requires { IsChain store.now.storage root.now }
+    ensures { MatchOption result
+        (is_taken (byte_of store.now.storage) root.now addr ≡ false)
+        (λ s. IsTakenAt store.now.storage root.now s.part s.cell s.taken s.past addr) }
+{
+    let Some(begun) = find_begun(store, root, addr) else {
+        return None;
+    };
+    if !flag(store, begun.part, begun.cell) {
         return None;
     }
     Some(Taken {
-        part: found.part,
-        cell,
-        taken: found.taken,
-        past: found.past,
+        part: begun.part,
+        cell: begun.cell,
+        taken: begun.taken,
+        past: begun.past,
+    })
+}
+
+// The free cell of the pool that begins at the address.
+pub(crate) fn find_untaken(store: &Store, root: &Root, addr: u32) -> Option<Spot>
+    requires chain { IsChain store.now.storage root.now }
+    requires counted { IsCounted (byte_of store.now.storage) root.now }
+    ensures { MatchOption result
+        (IsFreeCell (pool_of (byte_of store.now.storage) root.now) addr → ⊥)
+        (λ s. IsFreeAt store.now.storage root.now s.part s.cell s.taken s.open_part
+        × (s.count ≡ count_at (byte_of store.now.storage) s.part)
+        × (addr ≡ s.part + head_length s.count + s.cell * root.now.cell_size)) }
+{
+    let Some(begun) = find_begun(store, root, addr) else {
+        return None;
+    };
+    if flag(store, begun.part, begun.cell) {
+        return None;
+    }
+    Some(Spot {
+        part: begun.part,
+        cell: begun.cell,
+        count: begun.count,
+        taken: begun.taken,
+        open_part: root.open_part(),
     })
 }
 

@@ -26,6 +26,7 @@ fn put_subpool(members: &mut Members, number: SubNo, owner: &Name) -> Result<(),
 // What room there is where no place is long enough.
 fn put_room(members: &mut Members, room: &Room) -> Result<(), AllocError> {
     members.number("longest", room.longest)?;
+    members.number("free_runs", room.runs)?;
     members.number("free_pages_below", room.below)?;
     members.number("free_pages_above", room.above)
 }
@@ -38,6 +39,7 @@ fn kind(reason: &Reason) -> &'static str {
         Reason::NotSet(_) => "not_set",
         Reason::Shortage(_) => "shortage",
         Reason::NoMember(..) => "no_member",
+        Reason::NoMemberBehind(..) => "no_member_behind",
         Reason::NoPart(..) => "no_part",
         Reason::OffDoubleword(_) => "off_doubleword",
         Reason::NoSubpool(_) => "no_subpool",
@@ -63,7 +65,7 @@ fn put_told(members: &mut Members, reason: &Reason) -> Result<(), AllocError> {
     match reason {
         Reason::NotSet(name) => members.name("name", name),
         Reason::Shortage(room) => put_room(members, room),
-        Reason::NoMember(member, bytes, room) => {
+        Reason::NoMember(member, bytes, room) | Reason::NoMemberBehind(member, bytes, room) => {
             members.number("member", *member)?;
             members.number("wanted", *bytes)?;
             put_room(members, room)

@@ -17,7 +17,7 @@ mod InRanges
 pub mod Appending
 pub mod PrintedDigits
 pub mod Showing
-mod Named
+pub mod Named
 mod Fitting
 mod Fronts
 mod Remarks

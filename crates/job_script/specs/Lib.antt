@@ -17,3 +17,4 @@ pub mod Resolving
 pub mod Writing
 pub mod ReasonTexts
 pub mod FactTexts
+pub mod NamingTexts

@@ -10,7 +10,7 @@ use Rattle.mvs_model.specs.declared.reason.CellSpot.{CellSpot}
 use Rattle.mvs_model.specs.declared.reason.CellSpot.TheVariants.{Untaken, Inside, Elsewhere}
 use Rattle.mvs_model.specs.declared.reason.Room.{Room}
 use Rattle.mvs_model.specs.declared.reason.Reason.{Reason}
-use Rattle.mvs_model.specs.declared.reason.Reason.TheVariants.{NotActive, InvalidNumber, NotSet, Shortage, NoMember, NoPart, OffDoubleword, NoSubpool, NotHeld, Overlap, WholeOfZero, PoolInUse, TooManyPools, NoPool, NoFreeCell, NoTakenCell, TaskInUse, TooManyTasks, NotOwned, ActiveSubtask, Asked, NoAccess}
+use Rattle.mvs_model.specs.declared.reason.Reason.TheVariants.{NotActive, InvalidNumber, NotSet, Shortage, NoMember, NoMemberBehind, NoPart, OffDoubleword, NoSubpool, NotHeld, Overlap, WholeOfZero, PoolInUse, TooManyPools, NoPool, NoFreeCell, NoTakenCell, TaskInUse, TooManyTasks, NotOwned, ActiveSubtask, Asked, NoAccess}
 use Rattle.mvs_model.specs.Name.{trimmed}
 use Rattle.mvs_model.specs.Place.{round8}
 use Rattle.mvs_model.specs.Texts.{hex}
@@ -55,23 +55,27 @@ holder_said (Subpool number owner) = codes " is held by SP " ++ decimal number +
 holder_said Unowned = codes " is held by a subpool of no task"
 holder_said (Part name) = codes " lies in pool " ++ trimmed name
 
+-- what else there is where no place is long enough, and the begin of the rule
+abbrev pub room_said : Room → List ℕ
+room_said room = codes "; free runs: " ++ decimal room.runs ++ codes "; free pages: " ++ decimal room.below ++ codes " below, " ++ decimal room.above ++ codes " above. (rule "
+
 -- of a length for which there is no place
 abbrev pub shortage_said : Request → Room → List ℕ
 shortage_said request room =
-    decimal (least_of request) ++ codes " bytes wanted in SP " ++ decimal (number_of request) ++ codes ", and at most " ++ decimal room.longest
-    ++ codes " have such a place; free pages: " ++ decimal room.below ++ codes " below, " ++ decimal room.above ++ codes " above. (rule 12)"
+    decimal (least_of request) ++ codes " bytes wanted in SP " ++ decimal (number_of request) ++ codes ", and at most " ++ decimal room.longest ++ codes " have such a place" ++ room_said room
+    ++ codes "12)"
 
--- of a member of a list for which there is no place
-abbrev pub no_member_said : ℕ → ℕ → Room → List ℕ
-no_member_said k bytes room =
-    codes "Member " ++ decimal k ++ codes " of the list wants " ++ decimal bytes ++ codes " bytes, and at most " ++ decimal room.longest
-    ++ codes " have such a place; free pages: " ++ decimal room.below ++ codes " below, " ++ decimal room.above ++ codes " above. (rule 22)"
+-- of a member of a list for which there is no place, by itself or where something is so
+abbrev pub no_member_said : ℕ → ℕ → List ℕ → Room → List ℕ
+no_member_said k bytes so room =
+    codes "Member " ++ decimal k ++ codes " of the list wants " ++ decimal bytes ++ codes " bytes, and " ++ so ++ codes "at most " ++ decimal room.longest ++ codes " have such a place" ++ room_said room
+    ++ codes "22)"
 
 -- of a part of a pool for which there is no place
 abbrev pub no_part_said : Request → ℕ → ℕ → Room → List ℕ
 no_part_said request cells size room =
-    codes "Pool " ++ named request ++ codes ": no place for " ++ decimal cells ++ codes " cells of " ++ decimal size ++ codes " bytes; the longest has " ++ decimal room.longest
-    ++ codes " bytes; free pages: " ++ decimal room.below ++ codes " below, " ++ decimal room.above ++ codes " above. (rule 59)"
+    codes "Pool " ++ named request ++ codes ": no place for " ++ decimal cells ++ codes " cells of " ++ decimal size ++ codes " bytes; the longest has " ++ decimal room.longest ++ codes " bytes"
+    ++ room_said room ++ codes "59)"
 
 -- of an address that is not on a doubleword
 abbrev pub off_said : ℕ → List ℕ
@@ -131,7 +135,8 @@ reason_said t request NotActive = trimmed t ++ codes " is not active: it has end
 reason_said t request InvalidNumber = codes "A program may name SP 0 to 127, 131 and 132, and not " ++ decimal (number_of request) ++ codes ". (rule 8)"
 reason_said t request (NotSet name) = trimmed name ++ codes " is not set: no request of this step was granted under it. (rule 74)"
 reason_said t request (Shortage room) = shortage_said request room
-reason_said t request (NoMember k bytes room) = no_member_said k bytes room
+reason_said t request (NoMember k bytes room) = no_member_said k bytes [] room
+reason_said t request (NoMemberBehind k bytes room) = no_member_said k bytes (codes "behind those before it ") room
 reason_said t request (OffDoubleword a) = off_said a
 reason_said t request (NoSubpool keeper) = no_subpool_said request keeper
 reason_said t request (NotHeld a holder) = not_held_said t (number_of request) a holder

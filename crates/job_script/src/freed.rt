@@ -1,7 +1,7 @@
-//! The line that says what goes with a task that ends.
+//! The lines that say what goes with a task that ends, and what stays.
 
 ghost use Rattle.std.specs.Prelude.{◌≡◌, ◌≤◌, ◌+◌, ◌++◌, length};
-ghost use Rattle.job_script.specs.FactTexts.{freed_line, freed_said, pages_said};
+ghost use Rattle.job_script.specs.FactTexts.{freed_line, freed_said, pages_said, stays_line, stays_said};
 ghost use Rattle.job_script.specs.Writing.{Prints};
 
 use crate::print::write_all;
@@ -13,7 +13,7 @@ use mvs_model::watched::{Failed, Watched};
 use std::io::Write;
 
 // Puts how many pages behind a text.
-fn push_pages(text: &mut Text, pages: u32)
+pub(crate) fn push_pages(text: &mut Text, pages: u32)
     requires { length text.old ≤ 100 }
     ensures text { text.new ≡ text.old ++ pages_said pages }
     ensures len { length text.new ≤ length text.old + 16 }
@@ -58,6 +58,38 @@ pub fn print_freed<W: Write>(
     let mut text = Text::new();
     text.push_all(b"* ");
     push_freed(&mut text, u32::from(number.get()), owner, bytes, pages);
+    end_line(&mut text);
+    write_all(writer, text.as_slice())
+}
+
+// Puts behind a text that a subpool stays which a task shared.
+fn push_stays(text: &mut Text, number: u32, owner: &Name, task: &Name)
+    requires { length text.old ≤ 2 }
+    ensures text { text.new ≡ text.old ++ stays_said number owner.now task.now }
+    ensures len { length text.new ≤ length text.old + 80 }
+{
+    text.push_all(b"SP ");
+    text.push_decimal(number);
+    text.push_all(b" of ");
+    text.push_name(owner);
+    text.push_all(b" stays: ");
+    text.push_name(task);
+    text.push_all(b" shared it. (rule 53)");
+}
+
+/// Prints the line that says that a subpool stays with its owner where a task ends that shared it.
+pub fn print_stays<W: Write>(
+    writer: &mut Watched<W>,
+    number: SubNo,
+    owner: &Name,
+    task: &Name,
+) -> Result<(), Failed>
+    ensures { Prints W.contents writer.old writer.new result
+        (stays_line number owner.now task.now) }
+{
+    let mut text = Text::new();
+    text.push_all(b"* ");
+    push_stays(&mut text, u32::from(number.get()), owner, task);
     end_line(&mut text);
     write_all(writer, text.as_slice())
 }

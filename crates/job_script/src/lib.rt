@@ -14,16 +14,18 @@ ghost use Rattle.job_script.specs.Stated.{is_in_place, byte_checks, field_of, St
 use crate::addresses::{is_name, name};
 pub use crate::answers::{print_abend, print_said};
 pub use crate::data_lines::print_data;
-pub use crate::freed::print_freed;
+pub use crate::fact_lines::print_fact;
+pub use crate::freed::{print_freed, print_stays};
 pub use crate::line_buffer::{LineBuffer, Pushed};
 pub use crate::names::Names;
+pub use crate::naming::print_naming;
 use crate::operations::{Operation, read_operation};
 use crate::parted::{behind_blanks, next_word, parted};
 use crate::plain::read_plain;
-pub use crate::print::{fault_digit, print_fault, print_region, print_step_end};
+pub use crate::print::{fault_digit, print_fault, print_region, print_step_end, write_all};
 pub use crate::reasons::print_reason;
 pub use crate::report_lines::{print_map_run, print_no_subpool, print_subpool_line};
-pub use crate::resolving::{resolve, set_names, unset};
+pub use crate::resolving::{names_set, resolve, set_names, unset};
 use crate::statement::read_operands;
 use mvs_model::line::{Fault, Line};
 
@@ -33,6 +35,7 @@ mod answers;
 mod checks;
 mod data_lines;
 pub mod digits;
+mod fact_lines;
 mod freed;
 pub mod given;
 mod in_front;
@@ -41,6 +44,7 @@ pub mod keys;
 pub mod kinds;
 mod line_buffer;
 mod names;
+mod naming;
 pub mod operations;
 pub mod parted;
 mod plain;
@@ -53,7 +57,7 @@ pub mod rows;
 mod statement;
 mod storage_requests;
 mod subtasks;
-mod text;
+pub mod text;
 mod values;
 
 /// The most bytes of a line, without its end. This project's choice.

@@ -3,7 +3,7 @@
 ghost use Rattle.std.specs.Prelude.{◌≡◌, ◌≤◌, ◌<◌, ◌+◌, ◌++◌, ◌==◌, length, decimal};
 ghost use Rattle.std.specs.List.{position_or_len};
 ghost use Rattle.mvs_model.specs.Name.{trimmed};
-ghost use Rattle.job_script.specs.ReasonTexts.{cell_of, holder_said, least_of, named, named_said, no_access_said, no_cell_said, no_member_said, no_part_said, no_subpool_said, not_held_said, not_owned_said, number_of, off_said, one_line, overlap_said, reason_line, reason_said, shortage_said, spot_said, subtask_said};
+ghost use Rattle.job_script.specs.ReasonTexts.{cell_of, holder_said, least_of, named, named_said, no_access_said, no_cell_said, no_member_said, no_part_said, no_subpool_said, not_held_said, not_owned_said, number_of, off_said, one_line, overlap_said, reason_line, reason_said, room_said, shortage_said, spot_said, subtask_said};
 ghost use Rattle.job_script.specs.Writing.{Prints};
 
 use crate::print::write_all;
@@ -90,48 +90,62 @@ fn push_holder(text: &mut Text, holder: &Holder)
     }
 }
 
+// Puts behind a text what else there is where no place is long enough, and the begin of the rule.
+fn push_room(text: &mut Text, room: &Room)
+    requires { length text.old ≤ 157 }
+    ensures text { text.new ≡ text.old ++ room_said room.now }
+    ensures len { length text.new ≤ length text.old + 80 }
+{
+    text.push_all(b"; free runs: ");
+    text.push_decimal(room.runs);
+    text.push_all(b"; free pages: ");
+    text.push_decimal(room.below);
+    text.push_all(b" below, ");
+    text.push_decimal(room.above);
+    text.push_all(b" above. (rule ");
+}
+
 // Puts behind a text that there is no place of a length.
 fn push_shortage(text: &mut Text, request: &Request, room: &Room)
     requires { length text.old ≤ 2 }
     ensures text { text.new ≡ text.old ++ shortage_said request.now room.now }
-    ensures len { length text.new ≤ length text.old + 157 }
+    ensures len { length text.new ≤ length text.old + 237 }
 {
     text.push_decimal(least(request));
     text.push_all(b" bytes wanted in SP ");
     text.push_decimal(number(request));
     text.push_all(b", and at most ");
     text.push_decimal(room.longest);
-    text.push_all(b" have such a place; free pages: ");
-    text.push_decimal(room.below);
-    text.push_all(b" below, ");
-    text.push_decimal(room.above);
-    text.push_all(b" above. (rule 12)");
+    text.push_all(b" have such a place");
+    push_room(text, room);
+    text.push_all(b"12)");
 }
 
-// Puts behind a text that there is no place for a member of a list.
-fn push_no_member(text: &mut Text, member: u32, bytes: u32, room: &Room)
-    requires { length text.old ≤ 2 }
-    ensures text { text.new ≡ text.old ++ no_member_said member bytes room.now }
-    ensures len { length text.new ≤ length text.old + 157 }
+// Puts behind a text that there is no place for a member of a list, by itself or where something is so.
+fn push_no_member(text: &mut Text, member: u32, bytes: u32, so: &[u8], room: &Room)
+    requires old { length text.old ≤ 2 }
+    requires so { length so.now ≤ 30 }
+    ensures text { text.new ≡ text.old ++ no_member_said member bytes so.now room.now }
+    ensures len { length text.new ≤ length text.old + 237 }
 {
     text.push_all(b"Member ");
     text.push_decimal(member);
     text.push_all(b" of the list wants ");
     text.push_decimal(bytes);
-    text.push_all(b" bytes, and at most ");
+    text.push_all(b" bytes, and ");
+    text.push_all(so);
+    text.push_all(b"at most ");
     text.push_decimal(room.longest);
-    text.push_all(b" have such a place; free pages: ");
-    text.push_decimal(room.below);
-    text.push_all(b" below, ");
-    text.push_decimal(room.above);
-    text.push_all(b" above. (rule 22)");
+    text.push_all(b" have such a place");
+    push_room(text, room);
+    text.push_all(b"22)");
 }
 
 // Puts behind a text that there is no place for a part of a pool.
 fn push_no_part(text: &mut Text, request: &Request, cells: u32, size: u32, room: &Room)
     requires { length text.old ≤ 2 }
     ensures text { text.new ≡ text.old ++ no_part_said request.now cells size room.now }
-    ensures len { length text.new ≤ length text.old + 157 }
+    ensures len { length text.new ≤ length text.old + 237 }
 {
     text.push_all(b"Pool ");
     push_named(text, request);
@@ -141,18 +155,16 @@ fn push_no_part(text: &mut Text, request: &Request, cells: u32, size: u32, room:
     text.push_decimal(size);
     text.push_all(b" bytes; the longest has ");
     text.push_decimal(room.longest);
-    text.push_all(b" bytes; free pages: ");
-    text.push_decimal(room.below);
-    text.push_all(b" below, ");
-    text.push_decimal(room.above);
-    text.push_all(b" above. (rule 59)");
+    text.push_all(b" bytes");
+    push_room(text, room);
+    text.push_all(b"59)");
 }
 
 // Puts behind a text that an address is not on a doubleword.
 fn push_off(text: &mut Text, addr: Addr)
     requires { length text.old ≤ 2 }
     ensures text { text.new ≡ text.old ++ off_said addr }
-    ensures len { length text.new ≤ length text.old + 157 }
+    ensures len { length text.new ≤ length text.old + 237 }
 {
     let addr = addr.get();
     text.push_word(addr);
@@ -167,7 +179,7 @@ fn push_off(text: &mut Text, addr: Addr)
 fn push_not_held(text: &mut Text, task: &Name, number: u32, addr: Addr, holder: &Holder)
     requires { length text.old ≤ 2 }
     ensures text { text.new ≡ text.old ++ not_held_said task.now number addr holder.now }
-    ensures len { length text.new ≤ length text.old + 157 }
+    ensures len { length text.new ≤ length text.old + 237 }
 {
     text.push_word(addr.get());
     push_holder(text, holder);
@@ -182,7 +194,7 @@ fn push_not_held(text: &mut Text, task: &Name, number: u32, addr: Addr, holder: 
 fn push_overlap(text: &mut Text, one: Addr, other: Addr, addr: Addr)
     requires { length text.old ≤ 2 }
     ensures text { text.new ≡ text.old ++ overlap_said one other addr }
-    ensures len { length text.new ≤ length text.old + 157 }
+    ensures len { length text.new ≤ length text.old + 237 }
 {
     text.push_all(b"The members at ");
     text.push_word(one.get());
@@ -199,7 +211,7 @@ fn push_of(text: &mut Text, before: &[u8], request: &Request, behind: &[u8])
     requires before { length before.now ≤ 40 }
     requires behind { length behind.now ≤ 60 }
     ensures text { text.new ≡ text.old ++ (before.now ++ named request.now ++ behind.now) }
-    ensures len { length text.new ≤ length text.old + 157 }
+    ensures len { length text.new ≤ length text.old + 237 }
 {
     text.push_all(before);
     push_named(text, request);
@@ -251,7 +263,7 @@ fn push_spot(text: &mut Text, spot: &CellSpot)
 fn push_no_cell(text: &mut Text, request: &Request, spot: &CellSpot)
     requires { length text.old ≤ 2 }
     ensures text { text.new ≡ text.old ++ no_cell_said request.now spot.now }
-    ensures len { length text.new ≤ length text.old + 157 }
+    ensures len { length text.new ≤ length text.old + 237 }
 {
     text.push_all(b"No taken cell of pool ");
     push_named(text, request);
@@ -266,7 +278,7 @@ fn push_no_cell(text: &mut Text, request: &Request, spot: &CellSpot)
 fn push_no_subpool(text: &mut Text, request: &Request, keeper: &Name)
     requires { length text.old ≤ 2 }
     ensures text { text.new ≡ text.old ++ no_subpool_said request.now keeper.now }
-    ensures len { length text.new ≤ length text.old + 157 }
+    ensures len { length text.new ≤ length text.old + 237 }
 {
     text.push_name(keeper);
     text.push_all(b" has no subpool ");
@@ -278,7 +290,7 @@ fn push_no_subpool(text: &mut Text, request: &Request, keeper: &Name)
 fn push_not_owned(text: &mut Text, task: &Name, number: SubNo, owner: &Name)
     requires { length text.old ≤ 2 }
     ensures text { text.new ≡ text.old ++ not_owned_said task.now number owner.now }
-    ensures len { length text.new ≤ length text.old + 157 }
+    ensures len { length text.new ≤ length text.old + 237 }
 {
     text.push_name(task);
     text.push_all(b" shares SP ");
@@ -292,7 +304,7 @@ fn push_not_owned(text: &mut Text, task: &Name, number: SubNo, owner: &Name)
 fn push_subtask(text: &mut Text, task: &Name, subtask: &Name)
     requires { length text.old ≤ 2 }
     ensures text { text.new ≡ text.old ++ subtask_said task.now subtask.now }
-    ensures len { length text.new ≤ length text.old + 157 }
+    ensures len { length text.new ≤ length text.old + 237 }
 {
     text.push_name(subtask);
     text.push_all(b", a subtask of ");
@@ -304,7 +316,7 @@ fn push_subtask(text: &mut Text, task: &Name, subtask: &Name)
 fn push_no_access(text: &mut Text, addr: Addr, holder: &Holder)
     requires { length text.old ≤ 2 }
     ensures text { text.new ≡ text.old ++ no_access_said addr holder.now }
-    ensures len { length text.new ≤ length text.old + 157 }
+    ensures len { length text.new ≤ length text.old + 237 }
 {
     text.push_word(addr.get());
     push_holder(text, holder);
@@ -317,7 +329,7 @@ fn push_no_access(text: &mut Text, addr: Addr, holder: &Holder)
 fn push_named_reason(text: &mut Text, request: &Request, reason: &Reason)
     requires { length text.old ≤ 2 }
     ensures text { text.new ≡ text.old ++ named_said request.now reason.now }
-    ensures len { length text.new ≤ length text.old + 157 }
+    ensures len { length text.new ≤ length text.old + 237 }
 {
     match reason {
         Reason::PoolInUse => push_of(text, b"A pool ", request, b" is there already. (rule 68)"),
@@ -346,7 +358,7 @@ fn push_named_reason(text: &mut Text, request: &Request, reason: &Reason)
 fn push_reason(text: &mut Text, task: &Name, request: &Request, reason: &Reason)
     requires { length text.old ≤ 2 }
     ensures text { text.new ≡ text.old ++ reason_said task.now request.now reason.now }
-    ensures len { length text.new ≤ length text.old + 157 }
+    ensures len { length text.new ≤ length text.old + 237 }
 {
     match reason {
         Reason::NotActive => push_task(
@@ -366,7 +378,12 @@ fn push_reason(text: &mut Text, task: &Name, request: &Request, reason: &Reason)
             b" is not set: no request of this step was granted under it. (rule 74)",
         ),
         Reason::Shortage(room) => push_shortage(text, request, room),
-        Reason::NoMember(member, bytes, room) => push_no_member(text, *member, *bytes, room),
+        Reason::NoMember(member, bytes, room) => {
+            push_no_member(text, *member, *bytes, b"", room);
+        }
+        Reason::NoMemberBehind(member, bytes, room) => {
+            push_no_member(text, *member, *bytes, b"behind those before it ", room);
+        }
         Reason::OffDoubleword(addr) => push_off(text, *addr),
         Reason::NoSubpool(keeper) => push_no_subpool(text, request, keeper),
         Reason::NotHeld(addr, holder) => {
@@ -396,7 +413,7 @@ fn line_len(bytes: &[u8]) -> usize
 
 /// Makes one line of a text.
 pub fn end_line(text: &mut Text)
-    requires { length text.old < 160 }
+    requires { length text.old < 240 }
     ensures { text.new ≡ one_line text.old }
 {
     let len = line_len(text.as_slice());

@@ -141,8 +141,8 @@ pub fn unset(names: &Names, written: &Written) -> Option<Name>
     }
 }
 
-// The names that a request sets.
-fn names_set(written: &Written) -> &[Name]
+/// The names that a request sets.
+pub fn names_set(written: &Written) -> &[Name]
     ensures { result.now ≡ names_set written.now }
 {
     match written {

@@ -9,12 +9,12 @@ use mvs_model::name::Name;
 use std::marker::Model;
 
 /// The most bytes that a printed line has.
-pub const ROOM: usize = 160;
+pub const ROOM: usize = 240;
 
 /// The glyphs of the digits below sixteen.
 const GLYPHS: [u8; 16] = *b"0123456789ABCDEF";
 
-/// Text of at most 160 bytes.
+/// Text of at most 240 bytes.
 #[derive(Drop)]
 pub struct Text {
     bytes: [u8; ROOM],
@@ -26,7 +26,7 @@ impl Model for Text {
 
     ghost view = { λ t. take t.len t.bytes };
 
-    ghost invariant = { λ t. t.len ≤ 160 };
+    ghost invariant = { λ t. t.len ≤ 240 };
 }
 
 impl Text {
@@ -61,7 +61,7 @@ impl Text {
     }
 
     pub fn push(&mut self, byte: u8)
-        requires { length self.old < 160 }
+        requires { length self.old < 240 }
         ensures text { self.new ≡ self.old ++ byte ∷ [] }
         ensures len { length self.new ≡ length self.old + 1 }
     {
@@ -70,7 +70,7 @@ impl Text {
     }
 
     pub fn push_all(&mut self, bytes: &[u8])
-        requires { length self.old + length bytes.now ≤ 160 }
+        requires { length self.old + length bytes.now ≤ 240 }
         ensures text { self.new ≡ self.old ++ bytes.now }
         ensures len { length self.new ≡ length self.old + length bytes.now }
     {
@@ -81,7 +81,7 @@ impl Text {
 
     /// A name without its padding, which may take eight bytes while it is put there.
     pub fn push_name(&mut self, name: &Name)
-        requires { length self.old + 8 ≤ 160 }
+        requires { length self.old + 8 ≤ 240 }
         ensures text { self.new ≡ self.old ++ trimmed name.now }
         ensures len { length self.new ≤ length self.old + 8 }
     {
@@ -92,7 +92,7 @@ impl Text {
 
     /// The two hexadecimal digits of a byte.
     pub fn push_byte(&mut self, byte: u8)
-        requires { length self.old + 2 ≤ 160 }
+        requires { length self.old + 2 ≤ 240 }
         ensures text { self.new ≡ self.old ++ hex 2 byte }
         ensures len { length self.new ≡ length self.old + 2 }
     {
@@ -104,7 +104,7 @@ impl Text {
 
     // The two digits of each byte, one byte after another.
     fn push_each(&mut self, bytes: &[u8])
-        requires { length self.old + 2 * length bytes.now ≤ 160 }
+        requires { length self.old + 2 * length bytes.now ≤ 240 }
         ensures text { self.new ≡ self.old ++ flat_map (hex 2) bytes.now }
         ensures len { length self.new ≡ length self.old + 2 * length bytes.now }
     {
@@ -115,7 +115,7 @@ impl Text {
 
     /// The two hexadecimal digits of each byte.
     pub fn push_bytes(&mut self, bytes: &[u8])
-        requires { length self.old + 2 * length bytes.now ≤ 160 }
+        requires { length self.old + 2 * length bytes.now ≤ 240 }
         ensures text { self.new ≡ self.old ++ flat_map (hex 2) bytes.now }
         ensures len { length self.new ≡ length self.old + 2 * length bytes.now }
     {
@@ -129,7 +129,7 @@ impl Text {
 
     /// The four hexadecimal digits of a number of sixteen bits.
     pub fn push_halfword(&mut self, number: u16)
-        requires { length self.old + 4 ≤ 160 }
+        requires { length self.old + 4 ≤ 240 }
         ensures text { self.new ≡ self.old ++ hex 4 number }
         ensures len { length self.new ≡ length self.old + 4 }
     {
@@ -139,7 +139,7 @@ impl Text {
 
     /// The eight hexadecimal digits of a number of 32 bits.
     pub fn push_word(&mut self, number: u32)
-        requires { length self.old + 8 ≤ 160 }
+        requires { length self.old + 8 ≤ 240 }
         ensures text { self.new ≡ self.old ++ hex 8 number }
         ensures len { length self.new ≡ length self.old + 8 }
     {
@@ -149,7 +149,7 @@ impl Text {
 
     /// A number in decimal, without leading zeros.
     pub fn push_decimal(&mut self, number: u32)
-        requires { length self.old + 10 ≤ 160 }
+        requires { length self.old + 10 ≤ 240 }
         ensures text { self.new ≡ self.old ++ decimal number }
         ensures len { length self.new ≤ length self.old + 10 }
     {
@@ -158,7 +158,7 @@ impl Text {
 
     // The digits of a number, the high ones first, three at a time.
     fn push_digits(&mut self, number: u32)
-        requires { length self.old + length (decimal number) ≤ 160 }
+        requires { length self.old + length (decimal number) ≤ 240 }
         ensures { self.new ≡ self.old ++ decimal number }
     {
         if number >= 1_000 {
@@ -175,7 +175,7 @@ impl Text {
 
     // The last three digits of a number.
     fn push_three(&mut self, number: u32)
-        requires { length self.old + 3 ≤ 160 }
+        requires { length self.old + 3 ≤ 240 }
         ensures { self.new
             ≡ self.old ++ (48 + number / 100 % 10) ∷ (48 + number / 10 % 10) ∷ (48 + number % 10)
             ∷ [] }
@@ -189,7 +189,7 @@ impl Text {
 
     // The last two digits of a number.
     fn push_two(&mut self, number: u32)
-        requires { length self.old + 2 ≤ 160 }
+        requires { length self.old + 2 ≤ 240 }
         ensures { self.new ≡ self.old ++ (48 + number / 10 % 10) ∷ (48 + number % 10) ∷ [] }
     {
         let at = self.len;
@@ -202,7 +202,7 @@ impl Text {
     pub fn push_last(&mut self, base: u32, digits: u32, number: u32)
         requires some { 2 ≤ base }
         requires most { base ≤ 16 }
-        requires room { length self.old + digits ≤ 160 }
+        requires room { length self.old + digits ≤ 240 }
         ensures text { self.new ≡ self.old ++ last_digits base digits number }
         ensures len { length self.new ≡ length self.old + digits }
     {

@@ -1,5 +1,5 @@
 -- A request for an area, and a question behind it where the area lies.
-use Rattle.std.proofs.Common.{◌≡◌, ℕ, ◌<◌, ◌⊎◌, inl, inr, Bool, true, false, cond, List, [], ◌∷◌, Some, arith, refl, sym, ap, ◌∙◌, subst}
+use Rattle.std.proofs.Common.{◌≡◌, ℕ, zero, suc, ◌+◌, ◌/◌, ◌%◌, ◌<◌, ◌⊎◌, inl, inr, Bool, true, false, cond, List, [], ◌∷◌, ◌++◌, length, codes, decimal, length-append, Some, arith, refl, sym, ap, ◌∙◌, subst}
 use Rattle.std.specs.Prelude.{not, ◌||◌, ◌^◌}
 use Rattle.std.specs.Bool.{MatchBool}
 use Rattle.std.specs.FinMap.{FinMap, get, insert, get-insert, contains_key}
@@ -13,7 +13,8 @@ use Rattle.mvs_model.specs.declared.request.Request.TheVariants as request
 use Rattle.mvs_model.specs.declared.request.Reply.TheVariants.{Obtained}
 use Rattle.mvs_model.specs.Place.{PlaceValue}
 use Rattle.mvs_model.specs.Want.{AskValue, WantValue, IsAsk, want_of}
-use Rattle.mvs_model.specs.Name.{name_cmp}
+use Rattle.mvs_model.specs.Name.{name_cmp, trimmed}
+use Rattle.mvs_model.specs.Texts.{answer_text, glyph, hex, last_digits, reply_line}
 use Rattle.mvs_model.specs.Owners.{is_active, keeper}
 use Rattle.mvs_model.specs.Storage.{Chosen, InRegion, Regions}
 use Rattle.mvs_model.specs.State.{State, holder}
@@ -33,6 +34,7 @@ use Rattle.mvs_model.proofs.OneOwners.{one_subpool}
 use Rattle.mvs_model.proofs.OneSteps.{by_two, no_grant, none_granted, one_grant, one_step, round8_some}
 use Rattle.mvs_model.proofs.Orders.{name_cmp_total, same_name_self}
 use Rattle.mvs_model.proofs.RegionsKept.{grant_inside}
+use Rattle.judge.specs.Deciding.{no_bytes}
 use Rattle.step_machine.specs.Lists.{first_of}
 use Rattle.step_machine.specs.Taking.{Takes}
 use Rattle.judge.proofs.Settled.{made_same}
@@ -46,12 +48,41 @@ same_length old s want p q x y =
     ]
 
 -- by whether a task is active
-by_active : {P Q S U R : Type 0} (active : Bool) → MatchBool (not active) P Q → MatchBool (not active) S U → (P → S → R) → (active ≡ true → Q → U → R) → R
+pub by_active : {P Q S U R : Type 0} (active : Bool) → MatchBool (not active) P Q → MatchBool (not active) S U → (P → S → R) → (active ≡ true → Q → U → R) → R
 by_active true x y f g = g refl x y
 by_active false x y f g = f x y
 
--- Both are granted an area, at places of their own.
-pub record Apart (told : List ℕ) (old a b : JobValue) (t area : Name) : Type 0 where
+-- ---- how long the answers are
+
+front_long : (front x y : List ℕ) → length x ≡ length y → length (front ++ x) ≡ length (front ++ y)
+front_long front x y e = length-append front x ∙ ap (λ n. length front + n) e ∙ sym (length-append front y)
+
+back_long : (x y back : List ℕ) → length x ≡ length y → length (x ++ back) ≡ length (y ++ back)
+back_long x y back e = length-append x back ∙ ap (λ n. n + length back) e ∙ sym (length-append y back)
+
+line_long : (number : ℕ) (t : Name) (x y : List ℕ) → length x ≡ length y → length (reply_line number t x) ≡ length (reply_line number t y)
+line_long number t x y e =
+    let front = decimal number ++ codes " " ++ trimmed t ++ codes " " in
+    back_long (front ++ x) (front ++ y) (codes "\n") (front_long front x y e)
+
+hex_long : (k n : ℕ) → length (hex k n) ≡ k
+unfolding last_digits
+hex_long zero n = refl
+hex_long (suc k) n = length-append (hex k (n / 16)) (glyph (n % 16) ∷ []) ∙ (let e = hex_long k (n / 16) in let f : length (hex k (n / 16)) + 1 ≡ suc k = omega (arith, e) in f)
+
+-- The answer is as long as that to a grant of no bytes.
+abbrev pub IsLong : Bool → Answer → Type 0
+IsLong v answer = (number : ℕ) (t : Name) → length (answer_text number t answer) ≡ length (answer_text number t (no_bytes v))
+
+grant_long : (form : Form) (number : ℕ) (ask : AskValue) (v : Bool) (area : Name) (p : PlaceValue) → IsLong v (grant_answer (written.Obtain form number ask v area) p)
+grant_long form n ask true area p number t = line_long number t (codes "RC 0 LENGTH " ++ hex 8 p.len) (codes "RC 0 LENGTH " ++ hex 8 0) (front_long (codes "RC 0 LENGTH ") (hex 8 p.len) (hex 8 0) (hex_long 8 p.len ∙ sym (hex_long 8 0)))
+grant_long form n ask false area p number t = refl
+
+-- ---- the grant
+
+-- Both are granted an area, at places of their own, and answered so.
+pub record Apart (told : List ℕ) (old a b : JobValue) (t area : Name) (v : Bool) (answer : Answer) : Type 0 where
+  pub long : IsLong v answer
   active : is_active old.state.owners t ≡ true
   keeps : Name
   number : ℕ
@@ -77,7 +108,7 @@ module _ (told : List ℕ) (old : JobValue) (t : Name) (answer other : Answer) (
   want = want_of ask (side_for old.state t form ask.loc)
 
   abbrev Alike : Type 0
-  Alike = (answer ≡ other) × ((a ≡ b) ⊎ Apart told old a b t area)
+  Alike = (answer ≡ other) × ((a ≡ b) ⊎ Apart told old a b t area v answer)
 
   same_answer : (v : Bool) (p q : PlaceValue) → p.len ≡ q.len → grant_answer (written.Obtain form number ask v area) p ≡ grant_answer (written.Obtain form number ask v area) q
   same_answer true p q e = ap tells.Granted e
@@ -98,6 +129,7 @@ module _ (told : List ℕ) (old : JobValue) (t : Name) (answer other : Answer) (
             let len = same_length old.state h.subpool want p q (subst (λ s. Chosen old.state.regions (holder old.state) s want p) s g.chosen) h.chosen in (
               x.told ∙ ap (answer_of old.state k (request.Obtain form number ask)) d ∙ same_answer v p q len ∙ sym (y.told ∙ ap (answer_of old.state k (request.Obtain form number ask)) e),
               inr (record {
+                long = subst (IsLong v) (sym (x.told ∙ ap (answer_of old.state k (request.Obtain form number ask)) d)) (grant_long form number ask v area p);
                 active = active;
                 keeps = keeps;
                 number = number;
@@ -124,14 +156,18 @@ module _ (told : List ℕ) (old : JobValue) (t : Name) (answer other : Answer) (
   pub asked : Does (Takes told) old t (says.Request k) answer a → Does Any old t (says.Request k) other b → Alike
   asked x y = by_two (not (is_active old.state.owners t)) x y (λ p q. (p.0 ∙ sym q.0, inl (p.1 ∙ sym q.1))) obtains
 
+-- a task is active behind a grant
+pub task_stays : (old new : State) (t holds : Name) (number : ℕ) (wanted : WantValue) (p : PlaceValue) → GrantTo old holds number wanted p new → is_active old.owners t ≡ true → is_active new.owners t ≡ true
+task_stays old new t holds number wanted p g e = ap (λ tasks. contains_key tasks t) (enters_tasks old.owners holds number g.subpool new.owners g.owners) ∙ e
+
 -- ---- the question
 
--- an address in a region has 32 bits
-small : (r : Regions) (p : PlaceValue) → IsBounded r → InRegion r p → p.addr < 2 ^ 32
+-- an address in a region has 31 bits
+pub small : (r : Regions) (p : PlaceValue) → IsBounded r → InRegion r p → p.addr < 2 ^ 31
 small r p bounded (inl i) = let b = bounded.below in omega (arith, i.0, i.1, b)
 small r p bounded (inr i) = let b = bounded.above in omega (arith, i.0, i.1, b)
 
-name_put : (names : FinMap name_cmp PlaceValue) (area : Name) (p : PlaceValue) → get (insert names area p) area ≡ Some p
+pub name_put : (names : FinMap name_cmp PlaceValue) (area : Name) (p : PlaceValue) → get (insert names area p) area ≡ Some p
 name_put names area p = get-insert name_cmp_total names area p area ∙ ap (λ b. cond b (Some p) (get names area)) (same_name_self area)
 
 -- What is told of where the two lie, and what follows where they lie at one address.
@@ -140,14 +176,14 @@ pub record Located (told : List ℕ) (a b : JobValue) (answer other : Answer) : 
   pub another : ℕ
   pub answer_is : answer ≡ At one
   pub other_is : other ≡ At another
-  pub small_one : one < 2 ^ 32
-  pub small_another : another < 2 ^ 32
+  pub small_one : one < 2 ^ 31
+  pub small_another : another < 2 ^ 31
   pub same : one ≡ another → a ≡ b
   pub takes : (k : ℕ) → told ≡ k ∷ [] → another ≡ k → one ≡ k
 
-module _ (told : List ℕ) (old a b : JobValue) (t area : Name) (h : Apart told old a b t area) where
+module _ (told : List ℕ) (old a b : JobValue) (t area : Name) (v : Bool) (first : Answer) (h : Apart told old a b t area v first) where
   active_then : (new : State) (holds : Name) (number : ℕ) (wanted : WantValue) (p : PlaceValue) → GrantTo old.state holds number wanted p new → is_active new.owners t ≡ true
-  active_then new holds number wanted p g = ap (λ tasks. contains_key tasks t) (enters_tasks old.state.owners holds number g.subpool new.owners g.owners) ∙ h.active
+  active_then new holds number wanted p g = task_stays old.state new t holds number wanted p g h.active
 
   when_active : (P Q : Type 0) (active : Bool) → active ≡ true → MatchBool (not active) P Q → Q
   when_active P Q true e x = x

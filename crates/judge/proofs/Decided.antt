@@ -1,10 +1,10 @@
 -- What lines decide of a text that a run may print.
-use Rattle.std.proofs.Common.{Decides as Tests, eqb, ◌≡◌, ℕ, ◌+◌, ◌<◌, ◌⊎◌, inl, inr, Bool, false, List, [], ◌∷◌, ◌++◌, length, drop, take, ◌≤◌, ◌-◌, codes, decimal, Option, Some, None, append_assoc, append-nil, length-append, arith, refl, sym, ap, ◌∙◌, subst}
-use Rattle.std.specs.Prelude.{◌^◌}
-use Rattle.std.proofs.Math.Seq.{take-append_seam}
+use Rattle.std.proofs.Common.{Decides as Tests, eqb, ◌≡◌, ℕ, ◌+◌, ◌<◌, ◌⊎◌, inl, inr, Bool, false, List, [], ◌∷◌, ◌++◌, length, drop, take, ◌≤◌, ◌-◌, ◌&&◌, true, codes, decimal, Option, Some, None, append_assoc, append-nil, length-append, length-drop, arith, refl, sym, ap, ◌∙◌, subst}
+use Rattle.std.specs.Prelude.{◌^◌, MatchOption, not}
+use Rattle.std.proofs.Math.Seq.{drop-append-add, drop-append_seam, take-add, take-append_seam}
 use Rattle.std.proofs.lemmas.Bool.Decides.{nat_tests}
 use Rattle.std.proofs.lemmas.Grind.{common_steps}
-use Rattle.std.proofs.lemmas.List.{append_cancel_left, drop_all, drop-drop}
+use Rattle.std.proofs.lemmas.List.{append_cancel_left, drop_all, drop-drop, take-append-drop}
 use Rattle.mvs_model.specs.declared.name.Name.{Name}
 use Rattle.mvs_model.specs.declared.code.Form.{Form}
 use Rattle.mvs_model.specs.declared.line.Fault.{Fault}
@@ -13,19 +13,23 @@ use Rattle.mvs_model.specs.declared.line.Line.TheVariants as line
 use Rattle.mvs_model.specs.declared.line.Statement.TheVariants as says
 use Rattle.mvs_model.specs.declared.line.Written.TheVariants as written
 use Rattle.mvs_model.specs.declared.outcome.Outcome.{Outcome}
-use Rattle.mvs_model.specs.Answers.{Event, Faulted, Told, At}
+use Rattle.mvs_model.specs.declared.outcome.Outcome.TheVariants.{ScriptFault}
+use Rattle.mvs_model.specs.Answers.{Answer, Event, Faulted, Told, At}
 use Rattle.mvs_model.specs.Name.{trimmed}
 use Rattle.mvs_model.specs.Job.{JobValue}
 use Rattle.mvs_model.specs.Card.{CardValue, IsCard}
 use Rattle.mvs_model.specs.Lines.{lines_of}
 use Rattle.mvs_model.specs.Start.{start}
-use Rattle.mvs_model.specs.Reading.{LineOf, FaultOf, hex_number}
-use Rattle.mvs_model.specs.Runs.{Condition, IsPrinting, machine, job_machine}
-use Rattle.mvs_model.specs.Texts.{printing, reply_line, said, hex}
+use Rattle.std.specs.List.{list_all}
+use Rattle.mvs_model.specs.Reading.{LineOf, FaultOf, hex_number, is_hex_digit, line_said}
+use Rattle.mvs_model.specs.Going.{Reaches}
+use Rattle.mvs_model.specs.Runs.{Any, Condition, IsPrinting, machine, job_machine}
+use Rattle.mvs_model.specs.Texts.{answer_text, printing, reply_line, said, hex}
 use Rattle.mvs_model.specs.View.{IsBounded}
-use Rattle.mvs_model.specs.Walk.{Closes, Serves, ServesLine, Faults, is_first}
+use Rattle.mvs_model.specs.Walk.{Arrives, Closes, Serves, ServesLine, Faults, is_first}
 use Rattle.mvs_model.specs.Want.{AskValue, IsAsk}
-use Rattle.mvs_model.proofs.Going.{line_keeps, printed_both}
+use Rattle.mvs_model.proofs.Going.{line_keeps, printed_both, reaches_then}
+use Rattle.mvs_model.proofs.Walking.{leads_then}
 use Rattle.mvs_model.proofs.Kept.{Closed}
 use Rattle.mvs_model.proofs.OneSteps.{head_of, tail_of}
 use Rattle.mvs_model.proofs.Reading.{one_reading}
@@ -34,10 +38,11 @@ use Rattle.mvs_model.proofs.ValueTexts.{hex_writes}
 use Rattle.step_machine.specs.Taking.{Takes}
 use Rattle.mvs_job.specs.declared.walk.LineTold.{LineTold}
 use Rattle.mvs_job.specs.declared.walk.LineTold.TheVariants as tells
-use Rattle.mvs_job.specs.Telling.{IsToldBy, WalkValue, closing, events_told}
-use Rattle.judge.specs.declared.deciding.Verdict.{Verdict}
-use Rattle.judge.specs.declared.deciding.Verdict.TheVariants.{On, Refused}
-use Rattle.judge.specs.Deciding.{Decides, DecidesFirst, IsNoPrinting, InBounds, IsClosed, IsGrant, IsQuestion, MayPrint, PrintsEnd, leaves_open}
+use Rattle.mvs_model.proofs.Tests.{false_true}
+use Rattle.mvs_job.specs.Telling.{IsToldBy, WalkValue, closing, events_told, new_walk}
+use Rattle.mvs_job.proofs.Serving.{told_by}
+use Rattle.judge.specs.Judging.{IsAskedBefore, IsAskedFor, IsNoPrinting, IsOpen, IsOpenAt, IsQuestion, leaves_open}
+use Rattle.judge.specs.Deciding.{Decides, DecidesBefore, DecidesFirst, InBounds, IsFoundFirst, LeavesFirst, IsClosed, IsFollowed, IsGrant, IsServed, MayPrint, PrintsEnd, Stands, end_at, no_bytes}
 use Rattle.judge.proofs.Settled.{serves_same}
 use Rattle.judge.proofs.Areas.{Apart, asked, located}
 
@@ -72,43 +77,59 @@ one_address number t n m x y small_n small_m e =
     (sym writes.value ∙ ap hex_number digits ∙ other.value, append_cancel_left (codes "\n") x y rest)
 
 -- such a line without its last nine bytes
-at_long : (number : ℕ) (t : Name) (n : ℕ) → n < 2 ^ 32 → length (reply_line number t (said (At n))) ≡ length (before_at number t) + 9
+pub at_long : (number : ℕ) (t : Name) (n : ℕ) → n < 2 ^ 32 → length (reply_line number t (said (At n))) ≡ length (before_at number t) + 9
 at_long number t n small =
     let writes = hex_writes 8 n (omega (arith, small)) in
     let parts = ap length (sym (append-nil (reply_line number t (said (At n)))) ∙ at_parts number t n []) ∙ length-append (before_at number t) (hex 8 n ++ (codes "\n" ++ [])) in
     let digits = length-append (hex 8 n) (codes "\n" ++ []) in
     omega (arith, parts, digits, writes.many)
 
-at_front : (number : ℕ) (t : Name) (n : ℕ) → n < 2 ^ 32 → take (length (reply_line number t (said (At n))) - 9) (reply_line number t (said (At n))) ≡ before_at number t
-at_front number t n small =
-    let line : reply_line number t (said (At n)) ≡ before_at number t ++ (hex 8 n ++ (codes "\n" ++ [])) = sym (append-nil (reply_line number t (said (At n)))) ∙ at_parts number t n [] in
-    let many : length (reply_line number t (said (At n))) - 9 ≡ length (before_at number t) = let l = at_long number t n small in omega (arith, l) in
-    ap (λ k. take k (reply_line number t (said (At n)))) many ∙ ap (take (length (before_at number t))) line ∙ take-append_seam (before_at number t) (hex 8 n ++ (codes "\n" ++ []))
+-- what stands behind the front of the second of two lines, where that tells an address
+pub digits_behind : (number : ℕ) (t : Name) (n : ℕ) (one text rest : List ℕ) (front : ℕ) → front ≡ length one + length (reply_line number t (said (At 0))) - 9 → text ≡ one ++ (reply_line number t (said (At n)) ++ rest) → drop front text ≡ hex 8 n ++ (codes "\n" ++ rest)
+digits_behind number t n one text rest front is e =
+    let many : front ≡ length one + length (before_at number t) = let l = at_long number t 0 (omega arith) in omega (arith, is, l) in
+    ap (λ k. drop k text) many ∙ ap (drop (length one + length (before_at number t))) (e ∙ ap (λ x. one ++ x) (at_parts number t n rest))
+    ∙ drop-append-add one (before_at number t ++ (hex 8 n ++ (codes "\n" ++ rest))) (length (before_at number t))
+    ∙ drop-append_seam (before_at number t) (hex 8 n ++ (codes "\n" ++ rest))
 
-pub at_begins : (number : ℕ) (t : Name) (k m : ℕ) (front text rest : List ℕ) → k < 2 ^ 32 → front ≡ take (length (reply_line number t (said (At k))) - 9) (reply_line number t (said (At k))) → text ≡ reply_line number t (said (At m)) ++ rest → (more : List ℕ) × (text ≡ front ++ more)
-at_begins number t k m front text rest small is e =
-    (hex 8 m ++ (codes "\n" ++ rest), e ∙ at_parts number t m rest ∙ ap (λ x. x ++ (hex 8 m ++ (codes "\n" ++ rest))) (sym (is ∙ at_front number t k small)))
+-- eight digits that are read back
+pub record ReadBack (text : List ℕ) (front addr : ℕ) : Type 0 where
+  pub long : front + 8 ≤ length text
+  pub digits : take 8 (drop front text) ≡ hex 8 addr
+  pub are_digits : list_all is_hex_digit (take 8 (drop front text)) ≡ true
+  pub number : hex_number (take 8 (drop front text)) ≡ addr
+
+pub read_back : (text : List ℕ) (front addr : ℕ) (rest : List ℕ) → addr < 2 ^ 31 → drop front text ≡ hex 8 addr ++ rest → ReadBack text front addr
+read_back text front addr rest small e =
+    let writes = hex_writes 8 addr (omega (arith, small)) in
+    let digits : take 8 (drop front text) ≡ hex 8 addr = ap (take 8) e ∙ ap (λ n. take n (hex 8 addr ++ rest)) (sym writes.many) ∙ take-append_seam (hex 8 addr) rest in
+    record {
+      long = (let a = sym (length-drop front text) ∙ ap length e ∙ length-append (hex 8 addr) rest in omega (arith, a, writes.many));
+      digits = digits;
+      are_digits = ap (list_all is_hex_digit) digits ∙ writes.digits;
+      number = ap hex_number digits ∙ writes.value;
+    }
 
 -- ---- a line that can be granted no place
 
 -- what a line that told something did
-abbrev HasTold : Condition → WalkValue → List ℕ → LineTold → WalkValue → Type 0
+abbrev pub HasTold : Condition → WalkValue → List ℕ → LineTold → WalkValue → Type 0
 HasTold P w l told new =
     ((fault : Fault) × (told ≡ tells.Faulted fault) × FaultOf (is_first w.step) l fault)
     ⊎ (((fault : Fault) → told ≡ tells.Faulted fault → ⊥) × ServesLine (job_machine P) w.number w.step l (events_told w.number new told) new.step)
 
-told_cases : (P : Condition) (w : WalkValue) (l : List ℕ) (told : LineTold) (new : WalkValue) → IsToldBy P w l told new → HasTold P w l told new
+pub told_cases : (P : Condition) (w : WalkValue) (l : List ℕ) (told : LineTold) (new : WalkValue) → IsToldBy P w l told new → HasTold P w l told new
 told_cases P w l (tells.Faulted fault) new x = inl (fault, refl, x.0)
 told_cases P w l tells.Nothing new x = inr ((λ fault e. cc), x)
 told_cases P w l (tells.Began ended card) new x = inr ((λ fault e. cc), x)
 told_cases P w l (tells.Answered t a) new x = inr ((λ fault e. cc), x)
 
 -- a run that prints a text from a line on serves it or tells its fault
-abbrev Serving : ℕ → Option JobValue → List ℕ → List (List ℕ) → List ℕ → Outcome → Type 0
+abbrev pub Serving : ℕ → Option JobValue → List ℕ → List (List ℕ) → List ℕ → Outcome → Type 0
 Serving number old l more text outcome =
     (mid : Option JobValue) × (first : List Event) × (rest : List ℕ) × ServesLine machine number old l first mid × (text ≡ printing first ++ rest) × MayPrint (number + 1) mid more rest outcome
 
-may_serve : (number : ℕ) (old : Option JobValue) (l : List ℕ) (more : List (List ℕ)) (text : List ℕ) (outcome : Outcome) → MayPrint number old (l ∷ more) text outcome
+pub may_serve : (number : ℕ) (old : Option JobValue) (l : List ℕ) (more : List (List ℕ)) (text : List ℕ) (outcome : Outcome) → MayPrint number old (l ∷ more) text outcome
     → ((events : List Event) × Faults number (is_first old) l events × (text ≡ printing events)) ⊎ Serving number old l more text outcome
 may_serve number old l more text outcome (events, inl x, e) = inl (events, x.0, e)
 may_serve number old l more text outcome (events, inr x, e) = inr (x.0, x.1, printing x.2, x.3, e ∙ ap printing x.4 ∙ printed_both x.1 x.2, (x.2, x.5, refl))
@@ -146,42 +167,74 @@ module _ (P : Condition) (w w' : WalkValue) (l : List ℕ) (t : LineTold) (text 
     at (inl x) = absurd (whole x.0 x.1)
     at (inr x) = (x.1.0, x.1.1 ∙ ap (λ p. p ++ x.1.0) (sym same), x.1.2)
 
-  pub line_on : (n : ℕ) → n ≡ length printed → ((fault : Fault) → t ≡ tells.Faulted fault → ⊥) → w'.number ≡ w.number + 1 → text ≡ printed ++ drop (length printed) text → Decides (l ∷ []) text w (On n) w'
-  line_on n many whole next front more outcome may =
-      let s = sound whole more outcome may in
-      let left : s.0 ≡ drop n text = append_cancel_left printed _ _ (sym s.1 ∙ front) ∙ ap (λ k. drop k text) (sym many) in
-      subst (λ number. MayPrint number w'.step more (drop n text) outcome) (sym next) (subst (λ rest. MayPrint (w.number + 1) w'.step more rest outcome) left s.2)
+  pub line_passes : ((fault : Fault) → t ≡ tells.Faulted fault → ⊥) → w'.number ≡ w.number + 1 → text ≡ printed ++ drop (length printed) text → Decides (l ∷ []) text w printed true true w'
+  line_passes whole next front = (front, on) where
+    on : (more : List (List ℕ)) (outcome : Outcome) → MayPrint w.number w.step (l ∷ more) text outcome → MayPrint w'.number w'.step more (drop (length printed) text) outcome
+    on more outcome may =
+        let s = sound whole more outcome may in
+        let left : s.0 ≡ drop (length printed) text = append_cancel_left printed _ _ (sym s.1 ∙ front) in
+        subst (λ number. MayPrint number w'.step more (drop (length printed) text) outcome) (sym next) (subst (λ rest. MayPrint (w.number + 1) w'.step more rest outcome) left s.2)
 
-  pub line_refused : ((fault : Fault) → t ≡ tells.Faulted fault → ⊥) → ((rest : List ℕ) → text ≡ printed ++ rest → ⊥) → Decides (l ∷ []) text w Refused w'
-  line_refused whole other more outcome may = let s = sound whole more outcome may in other s.0 s.1
+  line_differs : ((fault : Fault) → t ≡ tells.Faulted fault → ⊥) → ((rest : List ℕ) → text ≡ printed ++ rest → ⊥) → Decides (l ∷ []) text w printed true false w'
+  line_differs whole other more outcome may = let s = sound whole more outcome may in other s.0 s.1
 
-  pub fault_refused : (fault : Fault) → t ≡ tells.Faulted fault → (text ≡ printed → ⊥) → Decides (l ∷ []) text w Refused w'
-  fault_refused fault e other more outcome may = at (closed_line P w w' l t is more text outcome closed may) where
+  pub line_decides : ((fault : Fault) → t ≡ tells.Faulted fault → ⊥) → w'.number ≡ w.number + 1 → (passes : Bool) → (passes ≡ true → text ≡ printed ++ drop (length printed) text) → ((rest : List ℕ) → text ≡ printed ++ rest → passes ≡ true) → Decides (l ∷ []) text w printed true passes w'
+  line_decides whole next true begun never = line_passes whole next (begun refl)
+  line_decides whole next false begun never = line_differs whole (λ rest e. false_true (never rest e))
+
+  fault_differs : (fault : Fault) → t ≡ tells.Faulted fault → (text ≡ printed → ⊥) → Decides (l ∷ []) text w printed false false w'
+  fault_differs fault e other more outcome may = at (closed_line P w w' l t is more text outcome closed may) where
     at : ((fault : Fault) × (t ≡ tells.Faulted fault) × (text ≡ printing (events_told w.number w' t))) ⊎ (((fault : Fault) → t ≡ tells.Faulted fault → ⊥) × GoesOn P w w' l t is more text outcome) → ⊥
     at (inl x) = other (x.2 ∙ sym same)
     at (inr x) = x.0 fault e
+
+  pub fault_decides : (fault : Fault) → t ≡ tells.Faulted fault → (passes : Bool) → Tests passes (text ≡ printed) → Decides (l ∷ []) text w printed false passes w'
+  fault_decides fault e true test = test.0 refl
+  fault_decides fault e false test = fault_differs fault e (λ same. false_true (test.1 same))
+
+-- what is served by such a line, or by any
+module _ (P : Condition) (w w' : WalkValue) (l : List ℕ) (t : LineTold) (printed : List ℕ) (is : IsToldBy P w l t w') (same : printed ≡ printing (events_told w.number w' t)) where
+  pub one_leads : ((fault : Fault) → t ≡ tells.Faulted fault → ⊥) → ServesLine machine w.number w.step l (events_told w.number w' t) w'.step
+  one_leads whole = at (told_cases Any w l t w' (told_by P w w' l t is)) where
+    at : HasTold Any w l t w' → ServesLine machine w.number w.step l (events_told w.number w' t) w'.step
+    at (inl x) = absurd (whole x.0 x.1)
+    at (inr x) = x.1
+
+  pub line_served : ((fault : Fault) → t ≡ tells.Faulted fault → ⊥) → w'.number ≡ w.number + 1 → IsServed (l ∷ []) w printed true w'
+  line_served whole next = (events_told w.number w' t, inr (w'.step, events_told w.number w' t, [], one_leads whole, sym (append-nil (events_told w.number w' t)), (refl, refl)), next, same)
+
+  pub fault_served : (fault : Fault) → t ≡ tells.Faulted fault → IsServed (l ∷ []) w printed false w'
+  fault_served fault e = at (told_cases P w l t w' is) where
+    at : HasTold P w l t w' → IsServed (l ∷ []) w printed false w'
+    at (inl x) = (l, Faulted w.number x.0 ∷ [], refl, (x.0, x.2, refl), same ∙ ap (λ t. printing (events_told w.number w' t)) x.1)
+    at (inr x) = absurd (x.0 fault e)
 
 -- ---- a grant and a question behind it
 
 abbrev grant_line : Name → Form → ℕ → AskValue → Bool → Name → Line
 grant_line task form n ask v area = line.Statement task (says.Request (written.Obtain form n ask v area))
 
-abbrev Granting : List ℕ → Option JobValue → Name → Name → List Event → List Event → Option JobValue → Option JobValue → Type 0
-Granting told old task area events other a b =
+-- each is granted an area, and is told so
+abbrev Parted : List ℕ → ℕ → Option JobValue → Name → Name → Bool → List Event → Option JobValue → Option JobValue → Type 0
+Parted told number old task area v events a b =
+    (answer : Answer) × (job : JobValue) × (x : JobValue) × (y : JobValue) × (old ≡ Some job) × (a ≡ Some x) × (b ≡ Some y) × (events ≡ Told number task answer ∷ []) × Apart told job x y task area v answer
+
+abbrev Granting : List ℕ → ℕ → Option JobValue → Name → Name → Bool → List Event → List Event → Option JobValue → Option JobValue → Type 0
+Granting told number old task area v events other a b =
     ((later : JobValue) × (a ≡ Some later)) × (events ≡ other)
-    × ((a ≡ b) ⊎ ((job : JobValue) × (x : JobValue) × (y : JobValue) × (old ≡ Some job) × (a ≡ Some x) × (b ≡ Some y) × Apart told job x y task area))
+    × ((a ≡ b) ⊎ Parted told number old task area v events a b)
 
 grants : (told : List ℕ) (number : ℕ) (old : Option JobValue) (task : Name) (form : Form) (n : ℕ) (ask : AskValue) (v : Bool) (area : Name) (events other : List Event) (a b : Option JobValue) → IsAsk ask
-    → Serves (job_machine (Takes told)) number old (grant_line task form n ask v area) events a → Serves machine number old (grant_line task form n ask v area) other b → Granting told old task area events other a b
+    → Serves (job_machine (Takes told)) number old (grant_line task form n ask v area) events a → Serves machine number old (grant_line task form n ask v area) other b → Granting told number old task area v events other a b
 grants told number None task form n ask v area events other a b ranged x y = absurd x
 grants told number (Some job) task form n ask v area events other a b ranged x y =
     let d = asked told job task x.0 y.0 x.1 y.1 form n ask v area ranged x.2 y.2 in
     ((x.1, x.4), x.3 ∙ ap (λ answer. Told number task answer ∷ []) d.0 ∙ sym y.3, at d.1) where
-      at : ((x.1 ≡ y.1) ⊎ Apart told job x.1 y.1 task area) → (a ≡ b) ⊎ ((one : JobValue) × (x : JobValue) × (y : JobValue) × (Some job ≡ Some one) × (a ≡ Some x) × (b ≡ Some y) × Apart told one x y task area)
+      at : ((x.1 ≡ y.1) ⊎ Apart told job x.1 y.1 task area v x.0) → (a ≡ b) ⊎ Parted told number (Some job) task area v events a b
       at (inl same) = inl (x.4 ∙ ap Some same ∙ sym y.4)
-      at (inr apart) = inr (job, x.1, y.1, refl, x.4, y.4, apart)
+      at (inr apart) = inr (x.0, job, x.1, y.1, refl, x.4, y.4, x.3, apart)
 
-module _ (told : List ℕ) (w w1 w2 : WalkValue) (l q : List ℕ) (tl tq : LineTold) (task area : Name) (is_l : IsToldBy (Takes told) w l tl w1) (is_q : IsToldBy (Takes []) w1 q tq w2) (grant : IsGrant w.step l task area) (question : IsQuestion q task area)
+module _ (told : List ℕ) (w w1 w2 : WalkValue) (l q : List ℕ) (tl tq : LineTold) (task area : Name) (variable : Bool) (is_l : IsToldBy (Takes told) w l tl w1) (is_q : IsToldBy (Takes []) w1 q tq w2) (grant : IsGrant w.step l task area variable) (question : IsQuestion q task area)
     (bounds : InBounds w.step) (next : w1.number ≡ w.number + 1) where
   abbrev pub one_text : List ℕ
   one_text = printing (events_told w.number w1 tl)
@@ -200,8 +253,9 @@ module _ (told : List ℕ) (w w1 w2 : WalkValue) (l q : List ℕ) (tl tq : LineT
     pub rest : List ℕ
     pub one_is : other_text ≡ reply_line w1.number task (said (At one)) ++ []
     pub another_is : left ≡ reply_line w1.number task (said (At another)) ++ rest
-    pub small_one : one < 2 ^ 32
-    pub small_another : another < 2 ^ 32
+    pub small_one : one < 2 ^ 31
+    pub small_another : another < 2 ^ 31
+    pub long : length one_text ≡ length (answer_text w.number task (no_bytes variable))
     pub same : one ≡ another → MayPrint (w1.number + 1) w2.step more rest outcome
     pub takes : (k : ℕ) → told ≡ k ∷ [] → another ≡ k → one ≡ k
 
@@ -223,8 +277,8 @@ module _ (told : List ℕ) (w w1 w2 : WalkValue) (l q : List ℕ) (tl tq : LineT
       at (inr x) = x.1
 
     -- what the question is answered
-    apart : (left : List ℕ) (job x y : JobValue) → w.step ≡ Some job → w1.step ≡ Some x → Apart told job x y task area → MayPrint (w.number + 1) (Some y) (q ∷ more) left outcome → Asked more left outcome
-    apart left job x y of is_x a may = at (told_cases (Takes []) w1 q tq w2 is_q) (may_serve w1.number (Some y) q more left outcome (subst (λ n. MayPrint n (Some y) (q ∷ more) left outcome) (sym next) may)) where
+    apart : (left : List ℕ) (answer : Answer) (job x y : JobValue) → w.step ≡ Some job → w1.step ≡ Some x → events_told w.number w1 tl ≡ Told w.number task answer ∷ [] → Apart told job x y task area variable answer → MayPrint (w.number + 1) (Some y) (q ∷ more) left outcome → Asked more left outcome
+    apart left answer job x y of is_x tells_it a may = at (told_cases (Takes []) w1 q tq w2 is_q) (may_serve w1.number (Some y) q more left outcome (subst (λ n. MayPrint n (Some y) (q ∷ more) left outcome) (sym next) may)) where
       at : HasTold (Takes []) w1 q tq w2 → ((events : List Event) × Faults w1.number (is_first (Some y)) q events × (left ≡ printing events)) ⊎ Serving w1.number (Some y) q more left outcome → Asked more left outcome
       at (inl u) v = absurd (no_fault (Takes []) w1 w2 tq q _ (question_at w1.step x is_x) is_q u.0 u.1)
       at (inr u) (inl v) = absurd (one_reading.not_both false q _ v.1.0 question v.1.1)
@@ -235,7 +289,7 @@ module _ (told : List ℕ) (w w1 w2 : WalkValue) (l q : List ℕ) (tl tq : LineT
           let theirs : Serves machine w1.number (Some y) (line.Statement task (says.Where area)) v.1 v.0 =
           subst (λ said. Serves machine w1.number (Some y) said v.1 v.0) (one_reading.one_line false q v.3.0 (line.Statement task (says.Where area)) v.3.1 question) v.3.2 in
           let bounded : IsBounded job.state.regions = subst InBounds of bounds in
-          let f = located told job x y task area a (Takes []) mine.0 theirs.0 mine.1 theirs.1 bounded mine.2 theirs.2 in
+          let f = located told job x y task area variable answer a (Takes []) mine.0 theirs.0 mine.1 theirs.1 bounded mine.2 theirs.2 in
           record {
             one = f.one;
             another = f.another;
@@ -246,12 +300,13 @@ module _ (told : List ℕ) (w w1 w2 : WalkValue) (l q : List ℕ) (tl tq : LineT
             small_another = f.small_another;
             same = λ e. subst (λ step. MayPrint (w1.number + 1) step more v.2 outcome) (theirs.4 ∙ ap Some (sym (f.same e)) ∙ sym mine.4) v.5;
             takes = f.takes;
+            long = ap (λ events. length (printing events)) tells_it ∙ ap length (append-nil (answer_text w.number task answer)) ∙ a.long w.number task;
           }
 
     pub pair : (text : List ℕ) → MayPrint w.number w.step (l ∷ q ∷ more) text outcome → (left : List ℕ) × (text ≡ one_text ++ left) × (Behind more left outcome ⊎ Asked more left outcome)
     pair text may = at (told_cases (Takes told) w l tl w1 is_l) (may_serve w.number w.step l (q ∷ more) text outcome may) where
-      said : LineOf (is_first w.step) l (grant_line task grant.2.0 grant.2.1 grant.2.2 grant.2.3 area)
-      said = subst (λ said. LineOf (is_first w.step) l said) grant.2.4 grant.1
+      said : LineOf (is_first w.step) l (grant_line task grant.2.0 grant.2.1 grant.2.2 variable area)
+      said = subst (λ said. LineOf (is_first w.step) l said) grant.2.3 grant.1
 
       at : HasTold (Takes told) w l tl w1 → ((events : List Event) × Faults w.number (is_first w.step) l events × (text ≡ printing events)) ⊎ Serving w.number w.step l (q ∷ more) text outcome
           → (left : List ℕ) × (text ≡ one_text ++ left) × (Behind more left outcome ⊎ Asked more left outcome)
@@ -260,55 +315,103 @@ module _ (told : List ℕ) (w w1 w2 : WalkValue) (l q : List ℕ) (tl tq : LineT
       at (inr u) (inr v) =
           let mine = subst (λ said. Serves (job_machine (Takes told)) w.number w.step said (events_told w.number w1 tl) w1.step) (one_reading.one_line (is_first w.step) l u.1.0 _ u.1.1 said) u.1.2 in
           let theirs = subst (λ said. Serves machine w.number w.step said v.1 v.0) (one_reading.one_line (is_first w.step) l v.3.0 _ v.3.1 said) v.3.2 in
-          let g = grants told w.number w.step task grant.2.0 grant.2.1 grant.2.2 grant.2.3 area (events_told w.number w1 tl) v.1 w1.step v.0 (line_ranged (is_first w.step) l _ said).1 mine theirs in
+          let g = grants told w.number w.step task grant.2.0 grant.2.1 grant.2.2 variable area (events_told w.number w1 tl) v.1 w1.step v.0 (line_ranged (is_first w.step) l _ said).1 mine theirs in
           (v.2, v.4 ∙ ap (λ events. printing events ++ v.2) (sym g.1), go g.0.0 g.0.1 g.2) where
-            go : (later : JobValue) → w1.step ≡ Some later → ((w1.step ≡ v.0) ⊎ ((job : JobValue) × (x : JobValue) × (y : JobValue) × (w.step ≡ Some job) × (w1.step ≡ Some x) × (v.0 ≡ Some y) × Apart told job x y task area)) → Behind more v.2 outcome ⊎ Asked more v.2 outcome
+            go : (later : JobValue) → w1.step ≡ Some later → ((w1.step ≡ v.0) ⊎ Parted told w.number w.step task area variable (events_told w.number w1 tl) w1.step v.0) → Behind more v.2 outcome ⊎ Asked more v.2 outcome
             go later e (inl same) = inl (alike v.2 later e (subst (λ step. MayPrint (w.number + 1) step (q ∷ more) v.2 outcome) (sym same) v.5))
-            go later e (inr a) = inr (apart v.2 a.0 a.1 a.2 a.3 a.4 a.6 (subst (λ step. MayPrint (w.number + 1) step (q ∷ more) v.2 outcome) a.5 v.5))
+            go later e (inr a) = inr (apart v.2 a.0 a.1 a.2 a.3 a.4 a.5 a.7 a.8 (subst (λ step. MayPrint (w.number + 1) step (q ∷ more) v.2 outcome) a.6 v.5))
+
+  -- neither of the lines has a fault
+  pub grant_whole : (fault : Fault) → tl ≡ tells.Faulted fault → ⊥
+  grant_whole = no_fault (Takes told) w w1 tl l (grant_line task grant.2.0 grant.2.1 grant.2.2 variable area) (subst (λ said. LineOf (is_first w.step) l said) grant.2.3 grant.1) is_l
+
+  in_step : (number : ℕ) (old : Option JobValue) (events : List Event) (new : Option JobValue) → Serves (job_machine (Takes told)) number old (grant_line task grant.2.0 grant.2.1 grant.2.2 variable area) events new → (later : JobValue) × (new ≡ Some later)
+  in_step number None events new x = absurd x
+  in_step number (Some job) events new x = (x.1, x.4)
+
+  pub question_whole : (fault : Fault) → tq ≡ tells.Faulted fault → ⊥
+  question_whole = at (told_cases (Takes told) w l tl w1 is_l) where
+    at : HasTold (Takes told) w l tl w1 → (fault : Fault) → tq ≡ tells.Faulted fault → ⊥
+    at (inl u) = absurd (grant_whole u.0 u.1)
+    at (inr u) =
+        let said : LineOf (is_first w.step) l (grant_line task grant.2.0 grant.2.1 grant.2.2 variable area) = subst (λ said. LineOf (is_first w.step) l said) grant.2.3 grant.1 in
+        let mine = subst (λ said. Serves (job_machine (Takes told)) w.number w.step said (events_told w.number w1 tl) w1.step) (one_reading.one_line (is_first w.step) l u.1.0 _ u.1.1 said) u.1.2 in
+        let s = in_step w.number w.step (events_told w.number w1 tl) w1.step mine in
+        no_fault (Takes []) w1 w2 tq q (line.Statement task (says.Where area)) (question_at w1.step s.0 s.1) is_q
+
+  -- what is served of them
+  pub pair_served : (printed : List ℕ) → printed ≡ one_text ++ other_text → w2.number ≡ w1.number + 1 → IsServed (l ∷ q ∷ []) w printed true w2
+  pair_served printed same last =
+      let one = events_told w.number w1 tl in
+      let other = events_told w1.number w2 tq in
+      let first = one_leads (Takes told) w w1 l tl one_text is_l refl grant_whole in
+      let second = subst (λ n. ServesLine machine n w1.step q other w2.step) next (one_leads (Takes []) w1 w2 q tq other_text is_q refl question_whole) in
+      (one ++ other, inr (w1.step, one, other, first, refl, inr (w2.step, other, [], second, sym (append-nil other), (refl, refl))), (let e : w2.number ≡ w.number + 2 = omega (arith, last, next) in e), same ∙ sym (printed_both one other))
 
   -- what that decides, where this is printed of the two
-  module _ (text one_printed other_printed : List ℕ) (one_same : one_printed ≡ one_text) (other_same : other_printed ≡ other_text) where
-    pub grant_refused : ((rest : List ℕ) → text ≡ one_printed ++ rest → ⊥) → Decides (l ∷ q ∷ []) text w Refused w2
-    grant_refused other more outcome may = let p = pair more outcome text may in other p.0 (p.1 ∙ ap (λ x. x ++ p.0) (sym one_same))
+  module _ (text printed : List ℕ) (same : printed ≡ one_text ++ other_text) where
+    pub pair_passes : w2.number ≡ w1.number + 1 → text ≡ printed ++ drop (length printed) text → Decides (l ∷ q ∷ []) text w printed true true w2
+    pair_passes last front = (front, on) where
+      rest : List ℕ
+      rest = drop (length printed) text
 
-    -- what is left of the text
-    left_is : text ≡ one_printed ++ drop (length one_printed) text → (left : List ℕ) → text ≡ one_text ++ left → left ≡ drop (length one_printed) text
-    left_is front left e = append_cancel_left one_printed _ _ (ap (λ x. x ++ left) one_same ∙ sym e ∙ front)
+      split : text ≡ one_text ++ (other_text ++ rest)
+      split = front ∙ ap (λ x. x ++ rest) same ∙ append_assoc one_text other_text rest
 
-    pub pair_on : (left : List ℕ) (n : ℕ) → left ≡ drop (length one_printed) text → n ≡ length one_printed + length other_printed → w2.number ≡ w1.number + 1 → text ≡ one_printed ++ drop (length one_printed) text
-        → left ≡ other_printed ++ drop (length other_printed) left → Decides (l ∷ q ∷ []) text w (On n) w2
-    pair_on left n left_at many last front behind more outcome may = let p = pair more outcome text may in at p.0 (left_is front p.0 p.1 ∙ sym left_at) p.2 where
-      whole : drop (length other_printed) left ≡ drop n text
-      whole = ap (drop (length other_printed)) left_at ∙ drop-drop (length other_printed) (length one_printed) text ∙ ap (λ k. drop k text) (sym many)
+      done : (more : List (List ℕ)) (outcome : Outcome) (now : List ℕ) → now ≡ rest → MayPrint (w1.number + 1) w2.step more now outcome → MayPrint w2.number w2.step more rest outcome
+      done more outcome now e may = subst (λ k. MayPrint k w2.step more rest outcome) (sym last) (subst (λ x. MayPrint (w1.number + 1) w2.step more x outcome) e may)
 
-      done : (rest : List ℕ) → rest ≡ drop (length other_printed) left → MayPrint (w1.number + 1) w2.step more rest outcome → MayPrint w2.number w2.step more (drop n text) outcome
-      done rest e may = subst (λ k. MayPrint k w2.step more (drop n text) outcome) (sym last) (subst (λ x. MayPrint (w1.number + 1) w2.step more x outcome) (e ∙ whole) may)
+      at : (more : List (List ℕ)) (outcome : Outcome) (now : List ℕ) → now ≡ other_text ++ rest → (Behind more now outcome ⊎ Asked more now outcome) → MayPrint w2.number w2.step more rest outcome
+      at more outcome now e (inl b) = done more outcome b.0 (append_cancel_left other_text _ _ (sym b.1 ∙ e)) b.2
+      at more outcome now e (inr a) =
+          let mine : now ≡ reply_line w1.number task (said (At a.one)) ++ rest = e ∙ ap (λ x. x ++ rest) (a.one_is ∙ append-nil (reply_line w1.number task (said (At a.one)))) in
+          let one = one_address w1.number task a.one a.another rest a.rest (omega (arith, a.small_one)) (omega (arith, a.small_another)) (sym mine ∙ a.another_is) in
+          done more outcome a.rest (sym one.1) (a.same one.0)
 
-      at : (now : List ℕ) → now ≡ left → (Behind more now outcome ⊎ Asked more now outcome) → MayPrint w2.number w2.step more (drop n text) outcome
-      at now e (inl b) = done b.0 (append_cancel_left other_printed _ _ (ap (λ x. x ++ b.0) other_same ∙ sym b.1 ∙ e ∙ behind)) b.2
-      at now e (inr a) =
-          let mine : left ≡ reply_line w1.number task (said (At a.one)) ++ drop (length other_printed) left =
-          behind ∙ ap (λ x. x ++ drop (length other_printed) left) (other_same ∙ a.one_is ∙ append-nil (reply_line w1.number task (said (At a.one)))) in
-          let same = one_address w1.number task a.one a.another (drop (length other_printed) left) a.rest a.small_one a.small_another (sym mine ∙ sym e ∙ a.another_is) in
-          done a.rest (sym same.1) (a.same same.0)
+      on : (more : List (List ℕ)) (outcome : Outcome) → MayPrint w.number w.step (l ∷ q ∷ more) text outcome → MayPrint w2.number w2.step more rest outcome
+      on more outcome may = let p = pair more outcome text may in at more outcome p.0 (append_cancel_left one_text _ _ (sym p.1 ∙ split)) p.2
 
-    pub question_refused : (left : List ℕ) (k : ℕ) (behind : List ℕ) → left ≡ drop (length one_printed) text → told ≡ k ∷ [] → k < 2 ^ 32 → text ≡ one_printed ++ drop (length one_printed) text
-        → ((rest : List ℕ) → left ≡ other_printed ++ rest → ⊥) → left ≡ reply_line w1.number task (said (At k)) ++ behind → Decides (l ∷ q ∷ []) text w Refused w2
-    question_refused left k behind left_at is small front other tells more outcome may = let p = pair more outcome text may in at p.0 (left_is front p.0 p.1 ∙ sym left_at) p.2 where
-      at : (now : List ℕ) → now ≡ left → (Behind more now outcome ⊎ Asked more now outcome) → ⊥
-      at now e (inl b) = other b.0 (sym e ∙ b.1 ∙ ap (λ x. x ++ b.0) (sym other_same))
-      at now e (inr a) =
-          let same = one_address w1.number task a.another k a.rest behind a.small_another small (sym a.another_is ∙ e ∙ tells) in
-          let here : a.one ≡ k = a.takes k is same.0 in
-          other behind (tells ∙ ap (λ x. x ++ behind) (sym (other_same ∙ a.one_is ∙ append-nil (reply_line w1.number task (said (At a.one))) ∙ ap (λ n. reply_line w1.number task (said (At n))) here)))
+    pub pair_differs : (k front : ℕ) → told ≡ k ∷ [] → w1.number ≡ w.number + 1 → front ≡ length (answer_text w.number task (no_bytes variable)) + length (reply_line (w.number + 1) task (said (At 0))) - 9
+        → ((addr : ℕ) (rest : List ℕ) → addr < 2 ^ 31 → drop front text ≡ hex 8 addr ++ rest → k ≡ addr) → ((rest : List ℕ) → text ≡ printed ++ rest → ⊥) → Decides (l ∷ q ∷ []) text w printed true false w2
+    pair_differs k front is number front_is reads other more outcome may = let p = pair more outcome text may in at p.0 p.1 p.2 where
+      whole : (left rest : List ℕ) → text ≡ one_text ++ left → left ≡ other_text ++ rest → text ≡ printed ++ rest
+      whole left rest e f = e ∙ ap (λ x. one_text ++ x) f ∙ sym (append_assoc one_text other_text rest) ∙ ap (λ x. x ++ rest) (sym same)
 
-    -- no line tells an address
-    pub no_address_refused : (left : List ℕ) (k : ℕ) (front : List ℕ) → left ≡ drop (length one_printed) text → k < 2 ^ 32 → text ≡ one_printed ++ drop (length one_printed) text
-        → ((rest : List ℕ) → left ≡ other_printed ++ rest → ⊥) → front ≡ take (length (reply_line w1.number task (said (At k))) - 9) (reply_line w1.number task (said (At k))) → ((rest : List ℕ) → left ≡ front ++ rest → ⊥) → Decides (l ∷ q ∷ []) text w Refused w2
-    no_address_refused left k front left_at small begun other is none more outcome may = let p = pair more outcome text may in at p.0 (left_is begun p.0 p.1 ∙ sym left_at) p.2 where
-      at : (now : List ℕ) → now ≡ left → (Behind more now outcome ⊎ Asked more now outcome) → ⊥
-      at now e (inl b) = other b.0 (sym e ∙ b.1 ∙ ap (λ x. x ++ b.0) (sym other_same))
-      at now e (inr a) = let b = at_begins w1.number task k a.another front left a.rest small is (sym e ∙ a.another_is) in none b.0 b.1
+      at : (left : List ℕ) → text ≡ one_text ++ left → (Behind more left outcome ⊎ Asked more left outcome) → ⊥
+      at left e (inl b) = other b.0 (whole left b.0 e b.1)
+      at left e (inr a) =
+          let front_at : front ≡ length one_text + length (reply_line w1.number task (said (At 0))) - 9 = front_is ∙ (λ i. sym a.long i + length (reply_line (sym number i) task (said (At 0))) - 9) in
+          let digits = digits_behind w1.number task a.another one_text text a.rest front front_at (e ∙ ap (λ x. one_text ++ x) a.another_is) in
+          let k_is : k ≡ a.another = reads a.another (codes "\n" ++ a.rest) a.small_another digits in
+          let one_k : a.one ≡ k = a.takes k is (sym k_is) in
+          let mine : left ≡ other_text ++ a.rest =
+          a.another_is ∙ ap (λ n. reply_line w1.number task (said (At n)) ++ a.rest) (sym k_is ∙ sym one_k) ∙ ap (λ x. x ++ a.rest) (sym (a.one_is ∙ append-nil (reply_line w1.number task (said (At a.one))))) in
+          other a.rest (whole left a.rest e mine)
+
+    pub pair_decides : (k front : ℕ) → told ≡ k ∷ [] → w1.number ≡ w.number + 1 → w2.number ≡ w1.number + 1 → front ≡ length (answer_text w.number task (no_bytes variable)) + length (reply_line (w.number + 1) task (said (At 0))) - 9
+        → ((addr : ℕ) (rest : List ℕ) → addr < 2 ^ 31 → drop front text ≡ hex 8 addr ++ rest → k ≡ addr)
+        → (passes : Bool) → (passes ≡ true → text ≡ printed ++ drop (length printed) text) → ((rest : List ℕ) → text ≡ printed ++ rest → passes ≡ true) → Decides (l ∷ q ∷ []) text w printed true passes w2
+    pair_decides k front is number last front_is reads true begun never = pair_passes last (begun refl)
+    pair_decides k front is number last front_is reads false begun never = pair_differs k front is number front_is reads (λ rest e. false_true (never rest e))
+
+-- a grant and a question behind it, which asks for it
+pub area_asked : (step : Option JobValue) (l q : List ℕ) (task area : Name) (variable : Bool) (left : List (List ℕ)) → IsGrant step l task area variable → IsQuestion q task area → IsAskedBefore (l ∷ q ∷ []) left
+area_asked step l q task area variable left grant question = (first, (second, tt)) where
+  one_said : {a b : Line} → (x : Option Line) → x ≡ Some a → x ≡ Some b → a ≡ b
+  one_said x e f = let g = sym e ∙ f in cc
+
+  first : (said : Line) → LineOf false l said → leaves_open said ≡ true → IsAskedFor said (q ∷ left)
+  first said is opens = inl (task, area, variable, (grant.2.0, grant.2.1, grant.2.2, one_said (line_said l) is.says grant.1.says ∙ grant.2.3), question)
+
+  second : (said : Line) → LineOf false q said → leaves_open said ≡ true → IsAskedFor said left
+  second said is opens = absurd (let e : false ≡ true = ap leaves_open (one_said (line_said q) question.says is.says) ∙ opens in cc)
+
+-- what lines decide, they decide before any others
+pub decides_before : (served more : List (List ℕ)) (left : List ℕ) (old : WalkValue) (text : List ℕ) (goes_on passes : Bool) (new : WalkValue) → Decides served left old text goes_on passes new → DecidesBefore served more left old text goes_on passes new
+decides_before served more left old text true true new d = (d.0, d.1 more)
+decides_before served more left old text false true new d = d
+decides_before served more left old text true false new d = d more
+decides_before served more left old text false false new d = d more
 
 -- ---- the lines of a script
 
@@ -316,28 +419,145 @@ module _ (told : List ℕ) (w w1 w2 : WalkValue) (l q : List ℕ) (tl tq : LineT
 abbrev pub Comes : List ℕ → List ℕ → ℕ → ℕ → WalkValue → Type 0
 Comes script output at done w = (outcome : Outcome) → IsPrinting script output outcome → MayPrint w.number w.step (lines_of (drop at script)) (drop done output) outcome
 
-module _ (script output rest left : List ℕ) (at done taken : ℕ) (w w' : WalkValue) (rest_is : rest ≡ drop at script) (left_is : left ≡ drop done output) (c : Comes script output at done w) where
+-- With so much of it printed the job stands here, behind lines that are asked for.
+abbrev pub Follows : List ℕ → List ℕ → ℕ → ℕ → WalkValue → Type 0
+Follows script output at done w = Comes script output at done w × (s : Stands script (take done output) w (drop at script)) × IsAskedBefore s.1.served (lines_of (drop at script))
+
+-- what is asked for in some lines, and in more
+asked_more : (lines more left : List (List ℕ)) → IsAskedBefore lines (more ++ left) → IsAskedBefore more left → IsAskedBefore (lines ++ more) left
+asked_more [] more left a b = b
+asked_more (bytes ∷ lines) more left a b = ((λ l is opens. subst (IsAskedFor l) (sym (append_assoc lines more left)) (a.0 l is opens)), asked_more lines more left a.1 b)
+
+-- a line that can be granted no place need not be asked for
+pub closed_asked : (w w' : WalkValue) (l text : List ℕ) (left : List (List ℕ)) → IsClosed w.step l → IsServed (l ∷ []) w text true w' → IsAskedBefore (l ∷ []) left
+closed_asked w w' l text left closed (events, inl x, number, same) = absurd x
+closed_asked w w' l text left closed (events, inr x, number, same) =
+    ((λ said is opens. false_true (sym (closed said (record { no_fault = x.3.1.no_fault; says = is.says })) ∙ opens)), tt)
+
+-- more lines, which are served
+stands_on : (script text more left : List ℕ) (lines behind : List (List ℕ)) (w w' : WalkValue) (served : List (List ℕ)) → lines_of left ≡ served ++ behind → behind ≡ lines → (s : Stands script text w left) → IsServed served w more true w'
+    → (events : List Event) × (reached : Reaches (lines_of script) events w'.number w'.step lines) × (text ++ more ≡ printing events) × (IsAskedBefore s.1.served (lines_of left) → IsAskedBefore served behind → IsAskedBefore reached.served lines)
+stands_on script text more left lines behind w w' served cut is_behind (events, reached, is) (first, leads, number, same) =
+    let cut' : lines_of left ≡ served ++ lines = cut ∙ ap (λ x. served ++ x) is_behind in (
+      events ++ first,
+      record {
+        served = reached.served ++ served;
+        lines = reached.lines ∙ ap (λ x. reached.served ++ x) cut' ∙ sym (append_assoc reached.served served lines);
+        counted = (let e = length-append reached.served served in omega (arith, e, number, reached.counted));
+        leads = leads_then machine (Arrives w'.step) reached.served served 1 w.number None w.step events first reached.counted reached.leads leads;
+      },
+      (λ i. is i ++ same i) ∙ sym (printed_both events first),
+      λ a b. asked_more reached.served served lines (subst (IsAskedBefore reached.served) cut' a) (subst (IsAskedBefore served) is_behind b),
+    )
+
+stands_fault : (script text more rest : List ℕ) (taken : ℕ) (w w' : WalkValue) (served : List (List ℕ)) → lines_of rest ≡ served ++ lines_of (drop taken rest) → Stands script text w rest → IsServed served w more false w' → IsPrinting script (text ++ more) ScriptFault
+stands_fault script text more rest taken w w' served cut (events, reached, is) (l, first, one, faults, same) = (
+  events ++ first,
+  reaches_then (lines_of script) ScriptFault events first w.number w.step (l ∷ lines_of (drop taken rest)) (subst (λ lines. Reaches (lines_of script) events w.number w.step lines) (cut ∙ ap (λ served. served ++ lines_of (drop taken rest)) one) reached) (inl (faults, refl)),
+  (λ i. is i ++ same i) ∙ sym (printed_both events first),
+)
+
+stands_end : (script text last : List ℕ) (at : ℕ) (w : WalkValue) (outcome : Outcome) → length script ≤ at → Stands script text w (drop at script) → PrintsEnd w last outcome → IsPrinting script (text ++ last) outcome
+stands_end script text last at w outcome all (events, reached, is) (ended, closes, same) = (
+  events ++ closing w.number ended,
+  reaches_then (lines_of script) outcome events (closing w.number ended) w.number w.step [] (subst (λ lines. Reaches (lines_of script) events w.number w.step lines) (ap lines_of (drop_all at script all)) reached) closes,
+  (λ i. is i ++ same i) ∙ sym (printed_both events (closing w.number ended)),
+)
+
+pub follows_first : (script output : List ℕ) (w : WalkValue) → w ≡ new_walk → Follows script output 0 0 w
+follows_first script output w e = subst (λ w. Follows script output 0 0 w) (sym e) ((λ outcome may. may), ([], record { served = []; lines = refl; counted = refl; leads = (refl, refl) }, refl), tt)
+
+-- what is printed so far, and what the output has behind it
+taken_more : (output text left : List ℕ) (done : ℕ) → left ≡ drop done output → left ≡ text ++ drop (length text) left → take (done + length text) output ≡ take done output ++ text
+taken_more output text left done is front =
+    let cut : take (length text) (drop done output) ≡ text = ap (take (length text)) (sym is ∙ front) ∙ take-append_seam text (drop (length text) left) in
+    take-add done (length text) output ∙ ap (λ x. take done output ++ x) cut
+
+module _ (script output rest left text : List ℕ) (at done taken : ℕ) (w w' : WalkValue) (rest_is : rest ≡ drop at script) (left_is : left ≡ drop done output) (f : Follows script output at done w) where
   here : (served : List (List ℕ)) → lines_of rest ≡ served ++ lines_of (drop taken rest) → (outcome : Outcome) → IsPrinting script output outcome → MayPrint w.number w.step (served ++ lines_of (drop taken rest)) left outcome
-  here served cut outcome may = subst (λ lines. MayPrint w.number w.step lines left outcome) cut (subst (λ x. MayPrint w.number w.step (lines_of x) left outcome) (sym rest_is) (subst (λ x. MayPrint w.number w.step (lines_of (drop at script)) x outcome) (sym left_is) (c outcome may)))
+  here served cut outcome may = subst (λ lines. MayPrint w.number w.step lines left outcome) cut (subst (λ x. MayPrint w.number w.step (lines_of x) left outcome) (sym rest_is) (subst (λ x. MayPrint w.number w.step (lines_of (drop at script)) x outcome) (sym left_is) (f.0 outcome may)))
 
-  pub comes_on : (n : ℕ) (verdict : Verdict) → verdict ≡ On n → DecidesFirst rest left w taken verdict w' → Comes script output (at + taken) (done + n) w'
-  comes_on n verdict e decided = on (subst (λ v. DecidesFirst rest left w taken v w') e decided) where
-    on : DecidesFirst rest left w taken (On n) w' → Comes script output (at + taken) (done + n) w'
-    on d outcome may =
-        subst (λ x. MayPrint w'.number w'.step (lines_of x) (drop (done + n) output) outcome) (ap (drop taken) rest_is ∙ drop-drop taken at script)
-        (subst (λ x. MayPrint w'.number w'.step (lines_of (drop taken rest)) x outcome) (ap (drop n) left_is ∙ drop-drop n done output) (d.2 (lines_of (drop taken rest)) outcome (here d.0 d.1 outcome may)))
+  stood : Stands script (take done output) w rest
+  stood = (f.1.0, record { served = f.1.1.served; lines = f.1.1.lines ∙ ap (λ x. f.1.1.served ++ lines_of x) (sym rest_is); counted = f.1.1.counted; leads = f.1.1.leads }, f.1.2)
 
-  pub comes_refused : (verdict : Verdict) → verdict ≡ Refused → DecidesFirst rest left w taken verdict w' → IsNoPrinting script output
-  comes_refused verdict e decided outcome may = let d : DecidesFirst rest left w taken Refused w' = subst (λ v. DecidesFirst rest left w taken v w') e decided in d.2 (lines_of (drop taken rest)) outcome (here d.0 d.1 outcome may)
+  asked_here : IsAskedBefore f.1.1.served (lines_of rest)
+  asked_here = subst (λ x. IsAskedBefore f.1.1.served (lines_of x)) (sym rest_is) f.2
+
+  behind : drop taken rest ≡ drop (at + taken) script
+  behind = ap (drop taken) rest_is ∙ drop-drop taken at script
+
+  pub follows_on : DecidesFirst rest left w taken text true true w' → Follows script output (at + taken) (done + length text) w'
+  unfolding stood
+  follows_on d =
+      let s = stands_on script (take done output) text rest (lines_of (drop (at + taken) script)) (lines_of (drop taken rest)) w w' d.0 d.1 (ap lines_of behind) stood d.2 in
+      (on, (s.0, s.1, taken_more output text left done left_is d.3.0 ∙ s.2), s.3 asked_here (d.4 refl)) where
+        on : Comes script output (at + taken) (done + length text) w'
+        on outcome may =
+            subst (λ x. MayPrint w'.number w'.step (lines_of x) (drop (done + length text) output) outcome) behind
+            (subst (λ x. MayPrint w'.number w'.step (lines_of (drop taken rest)) x outcome) (ap (drop (length text)) left_is ∙ drop-drop (length text) done output) (d.3.1 outcome (here d.0 d.1 outcome may)))
+
+  pub follows_next : (goes_on passes open_here : Bool) → (passes && goes_on && not open_here) ≡ true → IsFoundFirst rest left w taken text goes_on passes open_here w' → Follows script output (at + taken) (done + length text) w' × (length text ≤ length left)
+  follows_next true true false both d = (follows_on d, (let e = ap length d.3.0 ∙ length-append text (drop (length text) left) in omega (arith, e)))
+  follows_next true true true both d = absurd (false_true both)
+  follows_next true false open_here both d = absurd (false_true both)
+  follows_next false true open_here both d = absurd (false_true both)
+  follows_next false false open_here both d = absurd (false_true both)
+
+  none : (goes_on : Bool) → DecidesFirst rest left w taken text goes_on false w' → IsNoPrinting script output
+  none goes_on d outcome may = d.3 outcome (here d.0 d.1 outcome may)
+
+  opens_here : IsOpen w.number w.step (lines_of rest) left → IsOpenAt script output w.number
+  unfolding stood
+  opens_here is =
+      (stood.0, w.step, lines_of rest, drop done output, stood.1, sym (take-append-drop done output) ∙ ap (λ x. x ++ drop done output) stood.2, asked_here, subst (IsOpen w.number w.step (lines_of rest)) left_is is)
+
+  module _ (last : ℕ) (last_is : drop last script ≡ drop (at + taken) script) (last_in : last ≤ length script) (number : w'.number ≤ last + 2) where
+    left_open : (goes_on passes : Bool) → goes_on ≡ true → passes ≡ true → LeavesFirst rest left w taken text goes_on passes w' → IsFollowed script output w' last (take done output ++ text) passes (end_at goes_on) w.number
+    left_open false passes e f d = absurd (false_true e)
+    left_open true false e f d = absurd (false_true f)
+    left_open true true e f d =
+        let s = stands_on script (take done output) text rest (lines_of (drop last script)) (lines_of (drop taken rest)) w w' (d.0 ∷ []) d.1 (ap lines_of (behind ∙ sym last_is)) stood d.2 in (opens_here d.3, (s.0, s.1, s.2), last_in, number)
+
+    pub follows_no_more : (goes_on passes open_here : Bool) → (passes && goes_on && not open_here) ≡ false → IsFoundFirst rest left w taken text goes_on passes open_here w' → IsFollowed script output w' last (take done output ++ text) passes (end_at goes_on) w.number
+    follows_no_more goes_on passes true ends d = left_open goes_on passes d.4 d.5 d
+    follows_no_more true true false ends d = absurd (let e : true ≡ false = ends in cc)
+    follows_no_more true false false ends d =
+        (let s = stands_on script (take done output) text rest (lines_of (drop last script)) (lines_of (drop taken rest)) w w' d.0 d.1 (ap lines_of (behind ∙ sym last_is)) stood d.2 in (none true d, (s.0, s.1, s.2), last_in, number))
+    follows_no_more false true false ends d =
+        (stands_fault script (take done output) text rest taken w w' d.0 d.1 stood d.2, ap (λ x. take done output ++ x) (sym d.3 ∙ left_is) ∙ take-append-drop done output)
+    follows_no_more false false false ends d =
+        (stands_fault script (take done output) text rest taken w w' d.0 d.1 stood d.2, none false d)
+
+  pub follows_open : w' ≡ w → IsOpen w.number w.step (lines_of rest) left → at ≤ length script → w.number ≤ at + 2 → IsFollowed script output w' at (take done output ++ []) true None w.number
+  follows_open same is within number =
+      subst (λ w'. IsFollowed script output w' at (take done output ++ []) true None w.number) (sym same)
+      (opens_here is, (f.1.0, f.1.1, append-nil (take done output) ∙ f.1.2), within, number)
 
 -- behind the last line
-pub comes_last : (script output : List ℕ) (at done : ℕ) (w : WalkValue) (text : List ℕ) → length script ≤ at → Comes script output at done w → PrintsEnd w text → (drop done output ≡ text → ⊥) → IsNoPrinting script output
-comes_last script output at done w text all c (ended, o, closes, is) other outcome may =
-    let m : MayPrint w.number w.step [] (drop done output) outcome = subst (λ lines. MayPrint w.number w.step lines (drop done output) outcome) (ap lines_of (drop_all at script all)) (c outcome may) in
-    other (m.2 ∙ ap printing (one_close w.number w.step m.0 (closing w.number ended) outcome o m.1 closes) ∙ sym is) where
-      one_close : (number : ℕ) (step : Option JobValue) (a b : List Event) (o p : Outcome) → Closes machine number step a o → Closes machine number step b p → a ≡ b
-      one_close number None a b o p x y = x.0 ∙ sym y.0
-      one_close number (Some job) a b o p x y = x.0 ∙ sym y.0
+pub follows_to_end : (script output : List ℕ) (at done : ℕ) (w : WalkValue) (last : List ℕ) (outcome : Outcome) (passes : Bool) → length script ≤ at → Follows script output at done w → PrintsEnd w last outcome → Tests passes (drop done output ≡ last)
+    → (left line_open : ℕ) → IsFollowed script output w left (take done output ++ last) passes (Some outcome) line_open
+follows_to_end script output at done w last outcome true all f ends same left line_open =
+    (stands_end script (take done output) last at w outcome all f.1 ends, ap (λ x. take done output ++ x) (sym (same.0 refl)) ∙ take-append-drop done output)
+follows_to_end script output at done w last outcome false all f ends same left line_open = (stands_end script (take done output) last at w outcome all f.1 ends, other) where
+  one_close : (number : ℕ) (step : Option JobValue) (a b : List Event) (o p : Outcome) → Closes machine number step a o → Closes machine number step b p → a ≡ b
+  one_close number None a b o p x y = x.0 ∙ sym y.0
+  one_close number (Some job) a b o p x y = x.0 ∙ sym y.0
+
+  other : IsNoPrinting script output
+  other o may =
+      let m : MayPrint w.number w.step [] (drop done output) o = subst (λ lines. MayPrint w.number w.step lines (drop done output) o) (ap lines_of (drop_all at script all)) (f.0 o may) in
+      false_true (same.1 (m.2 ∙ ap printing (one_close w.number w.step m.0 (closing w.number ends.0) o outcome m.1 ends.1) ∙ sym ends.2))
+
+-- what was followed, in other words
+pub followed_same : (script output : List ℕ) (w : WalkValue) (at at' : ℕ) (text text' : List ℕ) (passes passes' : Bool) (ended ended' : Option Outcome) (number number' : ℕ) → at' ≡ at → text' ≡ text → passes' ≡ passes → ended' ≡ ended → number' ≡ number → IsFollowed script output w at text passes ended number → IsFollowed script output w at' text' passes' ended' number'
+followed_same script output w at at' text text' passes passes' ended ended' number number' a b c d e is =
+    subst (λ at. IsFollowed script output w at text' passes' ended' number') (sym a) (subst (λ text. IsFollowed script output w at text passes' ended' number') (sym b) (subst (λ passes. IsFollowed script output w at text passes ended' number') (sym c) (subst (λ ended. IsFollowed script output w at text passes ended number') (sym d) (subst (λ number. IsFollowed script output w at text passes ended number) (sym e) is))))
+
+pub none_decided : {A : Type 0} (o : Option A) (P : Type 0) (Q : A → Type 0) → o ≡ None → MatchOption o P Q → P
+none_decided o P Q e x = subst (λ o. MatchOption o P Q) e x
+
+pub some_decided : {A : Type 0} (o : Option A) (P : Type 0) (Q : A → Type 0) (a : A) → o ≡ Some a → MatchOption o P Q → Q a
+some_decided o P Q a e x = subst (λ o. MatchOption o P Q) e x
 
 -- ---- the pages of a step
 

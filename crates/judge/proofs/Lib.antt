@@ -1,3 +1,8 @@
 mod Settled
 mod Areas
+mod Lists
 mod Decided
+mod ListLines
+mod Asked
+mod Rest
+mod Found

@@ -37,7 +37,7 @@ use Rattle.mvs_model.specs.Walk.{Serves}
 use Rattle.mvs_model.specs.Determined.{granted_at, picked}
 use Rattle.mvs_model.proofs.OneSteps.{by_two, none_granted, one_step}
 use Rattle.mvs_model.proofs.Tests.{none_some}
-use Rattle.judge.specs.Deciding.{may_grant, leaves_open}
+use Rattle.judge.specs.Judging.{may_grant, leaves_open}
 
 -- ---- a request that can be granted no place picks none
 

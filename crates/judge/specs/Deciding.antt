@@ -1,93 +1,160 @@
--- What is decided of an output: that no run of a script prints it.
-use Rattle.std.specs.Prelude.{◌≡◌, ℕ, Bool, true, false, List, ◌++◌, drop, Option}
-use Rattle.mvs_model.specs.declared.code.Form.{Form}
+-- What the first lines of a script decide of a text that a run may print from there on.
+use Rattle.std.specs.Prelude.{◌≡◌, ◌≤◌, ◌<◌, ◌^◌, ℕ, ◌+◌, Bool, true, false, List, [], ◌∷◌, ◌++◌, drop, length, Option, Some, None}
 use Rattle.mvs_model.specs.declared.line.Line.{Line}
-use Rattle.mvs_model.specs.declared.line.Line.TheVariants as line
-use Rattle.mvs_model.specs.declared.line.Statement.TheVariants as says
-use Rattle.mvs_model.specs.declared.line.Written.{Written}
-use Rattle.mvs_model.specs.declared.line.Written.TheVariants as written
 use Rattle.mvs_model.specs.declared.name.Name.{Name}
 use Rattle.mvs_model.specs.declared.outcome.Outcome.{Outcome}
-use Rattle.mvs_model.specs.Answers.{Event}
-use Rattle.mvs_model.specs.Going.{Holds}
+use Rattle.mvs_model.specs.declared.outcome.Outcome.TheVariants.{ScriptFault}
+use Rattle.std.specs.List.{AllByRecursion}
+use Rattle.mvs_model.specs.Answers.{Answer, At, Event, Granted, Rc0}
+use Rattle.mvs_model.specs.Going.{Holds, Reaches}
 use Rattle.mvs_model.specs.Job.{JobValue}
 use Rattle.mvs_model.specs.Lines.{lines_of}
 use Rattle.mvs_model.specs.Reading.{LineOf}
 use Rattle.mvs_model.specs.Runs.{machine, IsPrinting}
-use Rattle.mvs_model.specs.Texts.{printing}
+use Rattle.mvs_model.specs.Texts.{printing, reply_line, said}
 use Rattle.mvs_model.specs.View.{IsBounded}
-use Rattle.mvs_model.specs.Want.{AskValue}
-use Rattle.mvs_model.specs.Walk.{Closes, JobEnds, Walks, is_first}
+use Rattle.mvs_model.specs.Walk.{Closes, Faults, JobEnds, Leads, Walks, is_first}
 use Rattle.mvs_job.specs.Telling.{WalkValue, closing}
-use Rattle.judge.specs.declared.deciding.Kind.{Kind}
-use Rattle.judge.specs.declared.deciding.Kind.TheVariants.{Area, Closed, Several}
-use Rattle.judge.specs.declared.deciding.Verdict.{Verdict}
-use Rattle.judge.specs.declared.deciding.Verdict.TheVariants.{On, Refused, Open}
-
--- The text is the printing of no run of the script, however it may end.
-abbrev pub IsNoPrinting : List ℕ → List ℕ → Type 0
-IsNoPrinting script text = (outcome : Outcome) → IsPrinting script text outcome → ⊥
+use Rattle.judge.specs.declared.kinds.Kind.{Kind}
+use Rattle.judge.specs.declared.kinds.Kind.TheVariants.{Area, Areas, Closed, Several}
+use Rattle.judge.specs.declared.Finding.{Finding}
+use Rattle.judge.specs.declared.Finding.TheVariants as finding
+use Rattle.judge.specs.Judging.{AsksArea, AsksList, IsAskedBefore, IsNoPrinting, IsOpen, IsOpenAt, IsQuestion, leaves_open}
 
 -- From the line of this number on a run may print this text, and end so.
 abbrev pub MayPrint : ℕ → Option JobValue → List (List ℕ) → List ℕ → Outcome → Type 0
 MayPrint number old lines text outcome = (events : List Event) × Walks machine (JobEnds machine outcome) number old lines events × (text ≡ printing events)
 
--- whether a request may be granted places: areas, the parts of a pool, or a cell
-abbrev pub may_grant : Written → Bool
-may_grant (written.Obtain form number ask variable area) = true
-may_grant (written.ObtainList form number lengths start areas) = true
-may_grant (written.Build pool number size primary secondary loc) = true
-may_grant (written.Get pool conditional cell) = true
-may_grant _ = false
-
--- the same of what a line says
-abbrev pub leaves_open : Line → Bool
-leaves_open (line.Statement t (says.Request a)) = may_grant a
-leaves_open _ = false
-
 -- The line, read before the first statement or behind it, can be granted no place.
 abbrev pub IsClosed : Option JobValue → List ℕ → Type 0
 IsClosed step bytes = (l : Line) → LineOf (is_first step) bytes l → leaves_open l ≡ false
 
--- A line asks for an area, which sets a name.
-abbrev pub AsksArea : Line → Name → Name → Type 0
-AsksArea l task area = (form : Form) × (number : ℕ) × (ask : AskValue) × (variable : Bool) × (l ≡ line.Statement task (says.Request (written.Obtain form number ask variable area)))
+-- The line asks for an area.
+abbrev pub IsGrant : Option JobValue → List ℕ → Name → Name → Bool → Type 0
+IsGrant step bytes task area variable = (l : Line) × LineOf (is_first step) bytes l × AsksArea l task area variable
 
--- The line does so.
-abbrev pub IsGrant : Option JobValue → List ℕ → Name → Name → Type 0
-IsGrant step bytes task area = (l : Line) × LineOf (is_first step) bytes l × AsksArea l task area
+-- The line asks for a list of areas.
+abbrev pub IsList : Option JobValue → List ℕ → Name → List Name → Type 0
+IsList step bytes task areas = (l : Line) × LineOf (is_first step) bytes l × AsksList l task areas
 
--- The line asks where the name lies.
-abbrev pub IsQuestion : List ℕ → Name → Name → Type 0
-IsQuestion bytes task area = LineOf false bytes (line.Statement task (says.Where area))
+-- What a line says may be granted places, and asks for no single area and no list with a name for each of its areas.
+abbrev pub AsksOther : Line → Type 0
+AsksOther l =
+    (leaves_open l ≡ true) × ((task : Name) (area : Name) (variable : Bool) → AsksArea l task area variable → ⊥)
+    × ((task : Name) (areas : List Name) → AsksList l task areas → ⊥)
+
+-- the same of a line as it is written
+abbrev pub IsOther : Option JobValue → List ℕ → Type 0
+IsOther step bytes = (l : Line) × LineOf (is_first step) bytes l × AsksOther l
 
 -- what kind a line is of that says this
 abbrev pub IsKindOf : Line → Kind → Type 0
 IsKindOf l Closed = leaves_open l ≡ false
-IsKindOf l (Area task area) = AsksArea l task area
-IsKindOf l Several = Unit {0}
+IsKindOf l (Area task area variable) = AsksArea l task area variable
+IsKindOf l (Areas task areas) = AsksList l task areas
+IsKindOf l Several = AsksOther l
 
 -- the same of a line as it is written
 abbrev pub IsKind : Option JobValue → List ℕ → Kind → Type 0
 IsKind step bytes Closed = IsClosed step bytes
-IsKind step bytes (Area task area) = IsGrant step bytes task area
-IsKind step bytes Several = Unit {0}
+IsKind step bytes (Area task area variable) = IsGrant step bytes task area variable
+IsKind step bytes (Areas task areas) = IsList step bytes task areas
+IsKind step bytes Several = IsOther step bytes
+
+-- The first of the lines, if there is one, does not ask where the name lies.
+abbrev pub HasNoQuestion : List (List ℕ) → Name → Name → Type 0
+HasNoQuestion [] task area = Unit {0}
+HasNoQuestion (bytes ∷ lines) task area = IsQuestion bytes task area → ⊥
 
 -- The pages of the step are at most those of a card.
 abbrev pub InBounds : Option JobValue → Type 0
 InBounds step = Holds (λ st. IsBounded st.regions) step
 
--- What is decided at some lines: each run that prints the text comes behind them and so many bytes of it, with the job that stands
--- there; no run prints it; or nothing.
-abbrev pub Decides : List (List ℕ) → List ℕ → WalkValue → Verdict → WalkValue → Type 0
-Decides served text old (On n) new = (more : List (List ℕ)) (outcome : Outcome) → MayPrint old.number old.step (served ++ more) text outcome → MayPrint new.number new.step more (drop n text) outcome
-Decides served text old Refused new = (more : List (List ℕ)) (outcome : Outcome) → MayPrint old.number old.step (served ++ more) text outcome → ⊥
-Decides served text old Open new = Unit {0}
+-- the answer to a granted request for an area of no bytes, which is as long as that for any other
+abbrev pub no_bytes : Bool → Answer
+no_bytes true = Granted 0
+no_bytes false = Rc0
 
--- The same at the first lines of a script, so many bytes of it.
-abbrev pub DecidesFirst : List ℕ → List ℕ → WalkValue → ℕ → Verdict → WalkValue → Type 0
-DecidesFirst script text old taken verdict new = (served : List (List ℕ)) × (lines_of script ≡ served ++ lines_of (drop taken script)) × Decides served text old verdict new
+-- what is printed, from the line of this number on, of questions of a task that are told these addresses
+abbrev pub at_text : ℕ → Name → List ℕ → List ℕ
+at_text number task [] = []
+at_text number task (addr ∷ addrs) = reply_line number task (said (At addr)) ++ at_text (number + 1) task addrs
+
+-- The addresses are those that a text tells from the line of this number on, where it tells one for each of some names.
+abbrev pub ReadsEach : List ℕ → ℕ → Name → List Name → List ℕ → Type 0
+ReadsEach text number task areas told =
+    (addrs : List ℕ) (rest : List ℕ) → length addrs ≡ length areas → AllByRecursion (λ addr. addr < 2 ^ 31) addrs → text ≡ at_text number task addrs ++ rest → told ≡ addrs
+
+-- Some lines are served, and this is printed of them: all of them, or one with a fault, which ends the job.
+abbrev pub IsServed : List (List ℕ) → WalkValue → List ℕ → Bool → WalkValue → Type 0
+IsServed served old text true new = (events : List Event) × Leads machine old.number old.step served events new.step × (new.number ≡ old.number + length served) × (text ≡ printing events)
+IsServed served old text false new = (l : List ℕ) × (events : List Event) × (served ≡ l ∷ []) × Faults old.number (is_first old.step) l events × (text ≡ printing events)
+
+-- What is decided at lines of which this is printed, and behind which the job goes on or not. Where a run may still print what is left of an
+-- output, that begins with this, and each run that prints it comes behind the lines with the job that stands there.
+abbrev pub Decides : List (List ℕ) → List ℕ → WalkValue → List ℕ → Bool → Bool → WalkValue → Type 0
+Decides served left old text goes_on false new = (more : List (List ℕ)) (outcome : Outcome) → MayPrint old.number old.step (served ++ more) left outcome → ⊥
+Decides served left old text false true new = left ≡ text
+Decides served left old text true true new =
+    (left ≡ text ++ drop (length text) left)
+    × ((more : List (List ℕ)) (outcome : Outcome) → MayPrint old.number old.step (served ++ more) left outcome → MayPrint new.number new.step more (drop (length text) left) outcome)
+
+-- The same where some lines lie behind them.
+abbrev pub DecidesBefore : List (List ℕ) → List (List ℕ) → List ℕ → WalkValue → List ℕ → Bool → Bool → WalkValue → Type 0
+DecidesBefore served more left old text goes_on false new = (outcome : Outcome) → MayPrint old.number old.step (served ++ more) left outcome → ⊥
+DecidesBefore served more left old text false true new = left ≡ text
+DecidesBefore served more left old text true true new =
+    (left ≡ text ++ drop (length text) left)
+    × ((outcome : Outcome) → MayPrint old.number old.step (served ++ more) left outcome → MayPrint new.number new.step more (drop (length text) left) outcome)
+
+-- Both at the first lines of a script, so many bytes of it.
+abbrev pub DecidesFirst : List ℕ → List ℕ → WalkValue → ℕ → List ℕ → Bool → Bool → WalkValue → Type 0
+DecidesFirst script left old taken text goes_on passes new =
+    (served : List (List ℕ)) × (lines_of script ≡ served ++ lines_of (drop taken script)) × IsServed served old text goes_on new
+    × DecidesBefore served (lines_of (drop taken script)) left old text goes_on passes new × (goes_on ≡ true → IsAskedBefore served (lines_of (drop taken script)))
+
+-- The first line of a script, so many bytes of it, is served, and leaves open how it is answered.
+abbrev pub LeavesFirst : List ℕ → List ℕ → WalkValue → ℕ → List ℕ → Bool → Bool → WalkValue → Type 0
+LeavesFirst script left old taken text goes_on passes new =
+    (bytes : List ℕ) × (lines_of script ≡ bytes ∷ lines_of (drop taken script)) × IsServed (bytes ∷ []) old text true new × IsOpen old.number old.step (lines_of script) left
+    × (goes_on ≡ true) × (passes ≡ true)
+
+-- what is found at the first lines: they are open, or they decide
+abbrev pub IsFoundFirst : List ℕ → List ℕ → WalkValue → ℕ → List ℕ → Bool → Bool → Bool → WalkValue → Type 0
+IsFoundFirst script left old taken text goes_on passes true new = LeavesFirst script left old taken text goes_on passes new
+IsFoundFirst script left old taken text goes_on passes false new = DecidesFirst script left old taken text goes_on passes new
+
+-- A job that has printed this of a script stands so, with these bytes left.
+abbrev pub Stands : List ℕ → List ℕ → WalkValue → List ℕ → Type 0
+Stands script text w left = (events : List Event) × Reaches (lines_of script) events w.number w.step (lines_of left) × (text ≡ printing events)
 
 -- The text is what is printed of the end of a job that stands so and has no more lines.
-abbrev pub PrintsEnd : WalkValue → List ℕ → Type 0
-PrintsEnd w text = (ended : Option Bool) × (outcome : Outcome) × Closes machine w.number w.step (closing w.number ended) outcome × (text ≡ printing (closing w.number ended))
+abbrev pub PrintsEnd : WalkValue → List ℕ → Outcome → Type 0
+PrintsEnd w text outcome = (ended : Option Bool) × Closes machine w.number w.step (closing w.number ended) outcome × (text ≡ printing (closing w.number ended))
+
+-- A job has ended so, and has printed this, which is the output, or no run prints that.
+abbrev pub HasEnded : List ℕ → List ℕ → Outcome → List ℕ → Bool → Type 0
+HasEnded script output outcome text true = IsPrinting script text outcome × (text ≡ output)
+HasEnded script output outcome text false = IsPrinting script text outcome × IsNoPrinting script output
+
+-- An output and the runs of a script part: no run prints the output, or the line of this number is open.
+abbrev pub HasParted : List ℕ → List ℕ → ℕ → Bool → Type 0
+HasParted script output number false = IsNoPrinting script output
+HasParted script output number true = IsOpenAt script output number
+
+-- how a job has ended behind lines, if it does not go on: at a fault
+abbrev pub end_at : Bool → Option Outcome
+end_at true = None
+end_at false = Some ScriptFault
+
+-- How far an output was followed along a script, when this much is served and printed, up to a line of this number that may be open.
+abbrev pub IsFollowed : List ℕ → List ℕ → WalkValue → ℕ → List ℕ → Bool → Option Outcome → ℕ → Type 0
+IsFollowed script output w at text passes (Some outcome) number = HasEnded script output outcome text passes
+IsFollowed script output w at text passes None number =
+    HasParted script output number passes × Stands script text w (drop at script) × (at ≤ length script) × (w.number ≤ at + 2)
+
+-- what is found of an output from which the runs of a script part where the next line has this number
+abbrev pub finding_of : Bool → Bool → ℕ → Finding
+finding_of true agrees number = finding.Refused
+finding_of false true number = finding.Accepted
+finding_of false false number = finding.Undecided number

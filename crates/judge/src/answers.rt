@@ -7,7 +7,7 @@ use std::collections::HashMap;
 /// What the output says of the statement of a line.
 #[derive(Clone, Copy, Debug, PartialEq, Eq)]
 pub enum Said {
-    /// It was answered 0.
+    /// It was answered 0, or with a cell.
     Granted,
     /// An area or a cell lies at this address.
     At(u32),
@@ -26,7 +26,7 @@ fn read_said(line: &str) -> Option<(u32, Said)> {
     let Ok(number) = digits.parse::<u32>() else {
         return None;
     };
-    if text == "RC 0" || text.starts_with("RC 0 LENGTH ") {
+    if text == "RC 0" || text == "CELL" || text.starts_with("RC 0 LENGTH ") {
         return Some((number, Said::Granted));
     }
     match u32::from_str_radix(text.strip_prefix("AT ")?, 16) {
@@ -36,12 +36,12 @@ fn read_said(line: &str) -> Option<(u32, Said)> {
 }
 
 impl Answers {
-    /// Those of an output.
-    pub fn read(alloc: Global, output: &str) -> Result<Answers, OutOfMemory> {
+    /// Those of an output, to the line of this number and those behind it.
+    pub fn read(alloc: Global, first_number: u32, output: &str) -> Result<Answers, OutOfMemory> {
         let mut lines = HashMap::new(alloc);
         for line in output.lines() {
             if let Some((number, said)) = read_said(line) {
-                if lines.insert(number, said).is_err() {
+                if number >= first_number && lines.insert(number, said).is_err() {
                     return Err(OutOfMemory);
                 }
             }

@@ -1,4 +1,4 @@
-//! A script that asks where each of its areas lies.
+//! A script that asks where each of its areas and cells lies.
 
 use job_script::read_line;
 use mvs_model::line::{Line, Statement, Written};
@@ -24,11 +24,12 @@ fn write_behind<W: Write>(writer: &mut W, line: &Line) -> io::Result<()> {
     match written {
         Written::Obtain { area, .. } => write_questions(writer, task, &[*area]),
         Written::ObtainList { areas, .. } => write_questions(writer, task, areas.as_slice()),
+        Written::Get { cell, .. } => write_questions(writer, task, &[*cell]),
         _ => Ok(()),
     }
 }
 
-/// Writes a script with a WHERE behind each request for areas.
+/// Writes a script with a WHERE behind each request for areas or a cell.
 pub fn write_asking<W: Write>(writer: &mut W, script: &str) -> io::Result<()> {
     let mut read = Line::Nothing;
     let mut first = true;

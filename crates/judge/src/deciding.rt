@@ -1,87 +1,93 @@
-//! Decides whether no run of a script prints an output, by the places that the output tells right behind the grants.
+//! Decides what lines of a script do of a text that a run may print, by the places that the text tells right behind the grants.
 
-ghost use Rattle.std.specs.Prelude.{◌≡◌, ◌<◌, ◌≤◌, ◌+◌, ◌-◌, ◌^◌, ◌++◌, ◌∷◌, [], List, ℕ, true, false, IfOk, length, drop, take};
-ghost use Rattle.mvs_model.specs.Texts.{printing, reply_line, said};
+ghost use Rattle.std.specs.Prelude.{◌≡◌, ◌<◌, ◌≤◌, ◌+◌, ◌^◌, ◌++◌, ◌∷◌, ◌&&◌, not, [], List, ℕ, true, false, IfOk, IfSome, MatchOption, length, drop, take};
+ghost use Rattle.std.specs.List.{AllByRecursion};
+ghost use Rattle.mvs_model.specs.Texts.{answer_text, hex, printing, reply_line, said};
 ghost use Rattle.mvs_model.specs.Answers.{At};
 ghost use Rattle.mvs_job.specs.Telling.{IsToldBy, events_told};
 ghost use Rattle.step_machine.specs.Taking.{Takes};
+ghost use Rattle.mvs_model.specs.Lent.{lends, lent};
 ghost use Rattle.mvs_model.specs.Lines.{lines_of};
-ghost use Rattle.judge.specs.Deciding.{Decides, DecidesFirst, InBounds, IsClosed, IsGrant, IsKind, IsKindOf, IsNoPrinting, IsQuestion, PrintsEnd, may_grant};
+ghost use Rattle.mvs_model.specs.State.{State};
+ghost use Rattle.mvs_model.specs.declared.name.Name.{Name as TaskName};
+ghost use Rattle.judge.specs.Deciding.{Decides, DecidesBefore, InBounds, IsClosed, IsFoundFirst, IsGrant, IsList, IsServed, ReadsEach, at_text, no_bytes};
+ghost use Rattle.judge.specs.Judging.{AskEach, IsOpen, IsQuestion};
 
-use job_script::{print_said, read_line};
-use mvs_job::{LineTold, Walk, line_end, print_closing, print_line};
+use crate::kinds::{Asked, Kind, asks_each, next_kind, question_end};
+use job_script::digits::{are_hex_digits, hex_number};
+use job_script::print_said;
+use mvs_job::{LineTold, Walk, line_end, print_line};
 use mvs_model::answer::Answer;
 use mvs_model::error::OutOfMemory;
-use mvs_model::line::{Line, Statement, Written};
+use mvs_model::line::Names;
 use mvs_model::name::Name;
-use mvs_model::numbers::MOST_SCRIPT_BYTES;
 use mvs_model::place::Addr;
-use mvs_model::want::Placement;
 use mvs_model::watched::Watched;
 use std::alloc::Global;
 
-/// What is decided at the next lines of a script.
-#[derive(Clone, Copy, Debug, PartialEq, Eq)]
-pub enum Verdict {
-    /// Each run that prints the output goes on behind so many bytes of it.
-    On(usize),
-    /// No run prints the output.
-    Refused,
-    /// That is not decided.
-    Open,
+/// What was served of a script, and how an output goes on with it.
+#[derive(Drop)]
+pub struct Served {
+    /// What is printed of it.
+    pub text: Vec<u8>,
+    /// Whether the job goes on: no line has a fault.
+    pub goes_on: bool,
+    /// Whether a run may still print the output. Where the job does not go on, it is then just this text.
+    pub passes: bool,
 }
 
-/// What a line can be granted.
-#[derive(Clone, Copy, Debug, PartialEq, Eq)]
-pub enum Kind {
-    /// No place.
-    Closed,
-    /// An area of a task, which sets a name.
-    Area(Name, Name),
-    /// Several areas, a cell, or the parts of a pool.
-    Several,
+/// The same of the first lines of a script, so many bytes of it.
+#[derive(Drop)]
+pub struct Decided {
+    pub taken: usize,
+    pub served: Served,
+    /// Whether they leave it open: a list is granted that the output refuses, or the other way round.
+    pub is_open: bool,
 }
 
-/// A task asks for an area, which sets a name.
-#[derive(Clone, Copy, Debug, PartialEq, Eq)]
-pub struct Asked {
-    pub task: Name,
-    pub area: Name,
+impl Decided {
+    /// Whether it is decided that the job goes on, and that a run may still print the output.
+    pub fn follows(&self) -> bool
+        ensures { result ≡ (self.now.served.passes && self.now.served.goes_on && not self.now.is_open) }
+    {
+        self.served.passes && self.served.goes_on && !self.is_open
+    }
 }
 
-// What was decided at the first lines of a script, which are so many bytes of it.
-#[derive(Clone, Copy, Debug, PartialEq, Eq)]
-struct Decided {
-    taken: usize,
-    verdict: Verdict,
+// A task asks for areas, of which each sets a name.
+#[derive(Drop)]
+struct Listed {
+    task: Name,
+    areas: Names,
 }
 
-// What a line told, and what is printed of it.
+// What a line told, and what is printed up to behind it.
 #[derive(Drop)]
 struct Printed {
     told: LineTold,
     text: Vec<u8>,
 }
 
-// Serves a line, and prints what it tells.
+// Serves a line, and prints what it tells behind a text.
 fn print_next(
-    alloc: Global,
     walk: &mut Walk,
     line: &[u8],
     told: &[Addr],
+    text: Vec<u8>,
 ) -> Result<Printed, OutOfMemory>
     requires { walk.old.number + 1 < 2 ^ 32 }
     ensures served { IfOk result
         (λ p. IsToldBy (Takes told.now) walk.old line.now p.told walk.new) }
     ensures printed { IfOk result
-        (λ p. p.text.items ≡ printing (events_told walk.old.number walk.new p.told)) }
+        (λ p. p.text.items
+        ≡ text.items ++ printing (events_told walk.old.number walk.new p.told)) }
     ensures number { walk.new.number ≡ walk.old.number + 1 }
 {
     let line_number = walk.number();
     let Ok(line_told) = walk.line(line, told) else {
         return Err(OutOfMemory);
     };
-    let mut writer = Watched::new(Vec::new(alloc));
+    let mut writer = Watched::new(text);
     match print_line(&mut writer, line_number, walk, &line_told) {
         Ok(()) => Ok(Printed {
             told: line_told,
@@ -105,75 +111,99 @@ fn decide_line(
     alloc: Global,
     walk: &mut Walk,
     line: &[u8],
-    text: &[u8],
-) -> Result<Verdict, OutOfMemory>
+    left: &[u8],
+) -> Result<Served, OutOfMemory>
     requires number { walk.old.number + 1 < 2 ^ 32 }
     requires closed { IsClosed walk.old.step line.now }
+    ensures served { IfOk result
+        (λ s. IsServed (line.now ∷ []) walk.old s.text.items s.goes_on walk.new) }
     ensures decided { IfOk result
-        (λ verdict. Decides (line.now ∷ []) text.now walk.old verdict walk.new) }
+        (λ s. Decides (line.now ∷ []) left.now walk.old s.text.items s.goes_on s.passes
+        walk.new) }
     ensures number { walk.new.number ≡ walk.old.number + 1 }
-    ensures bounds { IfOk result (λ verdict. InBounds walk.old.step → InBounds walk.new.step) }
-    ensures within { IfOk result
-        (λ verdict. (n : ℕ) → verdict ≡ Verdict.On n → n ≤ length text.now) }
+    ensures bounds { IfOk result (λ s. InBounds walk.old.step → InBounds walk.new.step) }
 {
-    let printed = print_next(alloc, walk, line, &[])?;
+    let printed = print_next(walk, line, &[], Vec::new(alloc))?;
+    let text = printed.text;
     if let LineTold::Faulted(_) = printed.told {
-        if text == printed.text.as_slice() {
-            return Ok(Verdict::Open);
-        }
-        return Ok(Verdict::Refused);
+        let passes = left == text.as_slice();
+        return Ok(Served {
+            text,
+            goes_on: false,
+            passes,
+        });
     }
-    if !begins(text, printed.text.as_slice()) {
-        return Ok(Verdict::Refused);
-    }
-    Ok(Verdict::On(printed.text.len()))
+    let passes = begins(left, text.as_slice());
+    Ok(Served {
+        text,
+        goes_on: true,
+        passes,
+    })
 }
 
-// What is printed of a question that is answered with an address.
-fn print_address(
-    alloc: Global,
+// Prints an answer of one line behind a text.
+fn print_answer(
+    text: Vec<u8>,
     line_number: u32,
     task: &Name,
-    addr: Addr,
+    answer: &Answer,
 ) -> Result<Vec<u8>, OutOfMemory>
-    ensures { IfOk result (λ text. text.items ≡ reply_line line_number task.now (said (At addr))) }
+    requires { lends answer.now ≡ false }
+    ensures { (st : State) → IfOk result
+        (λ all. all.items
+        ≡ text.items ++ answer_text line_number task.now (lent st [] task.now answer.now)) }
 {
-    let mut writer = Watched::new(Vec::new(alloc));
-    match print_said(&mut writer, line_number, task, &Answer::At(addr)) {
+    let mut writer = Watched::new(text);
+    match print_said(&mut writer, line_number, task, answer) {
         Ok(()) => Ok(writer.into_inner()),
         Err(_) => Err(OutOfMemory),
     }
 }
 
-// A line that tells an address, up to its digits.
-fn without_address(line: &[u8]) -> &[u8]
-    ensures { result.now ≡ take (length line.now - 9) line.now }
+// The answer to a granted request for an area of no bytes.
+fn no_bytes(variable: bool) -> Answer
+    ensures lends { lends result ≡ false }
+    ensures answer { (st : State) (task : TaskName) → lent st [] task result ≡ no_bytes variable }
 {
-    &line[..line.len().saturating_sub(9)]
+    if variable {
+        Answer::Granted(0)
+    } else {
+        Answer::Rc0
+    }
 }
 
-// The number that hexadecimal digits write, of as many bits as an address has.
-fn read_digits(digits: &[u8]) -> u32
-    ensures { result < 2 ^ 31 }
+// How many bytes are printed of a granted request for an area, whose line has this number, and of a question for it, up to the end.
+fn answered_len(alloc: Global, line_number: u32, asked: &Asked) -> Result<usize, OutOfMemory>
+    requires { line_number + 1 < 2 ^ 32 }
+    ensures { IfOk result (λ n. n
+        ≡ length (answer_text line_number asked.now.task (no_bytes asked.now.variable))
+        + length (reply_line (line_number + 1) asked.now.task (said (At 0)))) }
 {
-    let mut number = 0u32;
-    for digit in digits {
-        let value = char::from(*digit).to_digit(16).unwrap_or(0);
-        number = number.wrapping_mul(16).wrapping_add(value);
-    }
-    number % 0x8000_0000
+    let granted = no_bytes(asked.variable);
+    let text = print_answer(Vec::new(alloc), line_number, &asked.task, &granted)?;
+    let at = Answer::At(Addr::new(0));
+    let both = print_answer(text, line_number + 1, &asked.task, &at)?;
+    Ok(both.as_slice().len())
 }
 
-// The address at the end of the second line of a text, as a number; 0 if no eight digits stand there.
-fn told_behind(text: &[u8]) -> u32
-    ensures { result < 2 ^ 31 }
+// The address that eight digits behind a front write; 0 where none stand there.
+fn address_behind(text: &[u8], front: usize) -> Addr
+    ensures { (addr : ℕ) (rest : List ℕ) → addr < 2 ^ 31
+        → drop front text.now ≡ hex 8 addr ++ rest → result ≡ addr }
 {
-    let mut lines = text.splitn(3, |byte| *byte == b'\n');
-    let _ = lines.next();
-    match lines.next() {
-        Some(question) if question.len() >= 8 => read_digits(&question[question.len() - 8..]),
-        _ => 0,
+    let nowhere = Addr::new(0);
+    if text.len() < 8 || text.len() - 8 < front {
+        return nowhere;
     }
+    let digits = &text[front..front + 8];
+    if !are_hex_digits(digits) {
+        return nowhere;
+    }
+    let number = hex_number(digits);
+    if number >= 0x8000_0000 {
+        return nowhere;
+    }
+    Addr::new(number as u32)
 }
 
 // Decides at a grant with a question behind it. The area lies at the address that the text tells of the question, where the machine
@@ -183,216 +213,287 @@ fn decide_pair(
     walk: &mut Walk,
     line: &[u8],
     question: &[u8],
-    text: &[u8],
+    left: &[u8],
     asked: &Asked,
-) -> Result<Verdict, OutOfMemory>
+) -> Result<Served, OutOfMemory>
     requires number { walk.old.number + 2 < 2 ^ 32 }
     requires bounds { InBounds walk.old.step }
-    requires grant { IsGrant walk.old.step line.now asked.now.task asked.now.area }
+    requires grant { IsGrant walk.old.step line.now asked.now.task asked.now.area
+        asked.now.variable }
     requires question { IsQuestion question.now asked.now.task asked.now.area }
+    ensures served { IfOk result
+        (λ s. IsServed (line.now ∷ question.now ∷ []) walk.old s.text.items s.goes_on
+        walk.new) }
     ensures decided { IfOk result
-        (λ verdict. Decides (line.now ∷ question.now ∷ []) text.now walk.old verdict walk.new) }
-    ensures number { IfOk result (λ verdict. walk.new.number ≡ walk.old.number + 2) }
-    ensures bounds { IfOk result (λ verdict. InBounds walk.new.step) }
-    ensures within { IfOk result
-        (λ verdict. (n : ℕ) → verdict ≡ Verdict.On n → n ≤ length text.now) }
+        (λ s. Decides (line.now ∷ question.now ∷ []) left.now walk.old s.text.items s.goes_on
+        s.passes walk.new) }
+    ensures number { IfOk result (λ s. walk.new.number ≡ walk.old.number + 2) }
+    ensures bounds { IfOk result (λ s. InBounds walk.new.step) }
 {
-    let told = told_behind(text);
-    let addr = Addr::new(told);
-    let granted = print_next(alloc, walk, line, &[addr])?;
-    let number = walk.number();
-    let answered = print_next(alloc, walk, question, &[])?;
-    if !begins(text, granted.text.as_slice()) {
-        return Ok(Verdict::Refused);
-    }
-    let left = &text[granted.text.len()..];
-    if begins(left, answered.text.as_slice()) {
-        return Ok(Verdict::On(granted.text.len() + answered.text.len()));
-    }
-    let expected = print_address(alloc, number, &asked.task, addr)?;
-    if begins(left, expected.as_slice()) {
-        return Ok(Verdict::Refused);
-    }
-    if begins(left, without_address(expected.as_slice())) {
-        return Ok(Verdict::Open);
-    }
-    Ok(Verdict::Refused)
+    let len = answered_len(alloc, walk.number(), asked)?;
+    let addr = address_behind(left, len - 9);
+    let granted = print_next(walk, line, &[addr], Vec::new(alloc))?;
+    let answered = print_next(walk, question, &[], granted.text)?;
+    let passes = begins(left, answered.text.as_slice());
+    Ok(Served {
+        text: answered.text,
+        goes_on: true,
+        passes,
+    })
 }
 
-// Whether a request may be granted places.
-fn may_grant(written: &Written) -> bool
-    ensures { result ≡ may_grant written.now }
-{
-    matches!(
-        written,
-        Written::Obtain { .. }
-            | Written::ObtainList { .. }
-            | Written::Build { .. }
-            | Written::Get { .. }
-    )
-}
-
-// Of what kind a line is that says this.
-fn kind_of(read: &Line) -> Kind
-    ensures { IsKindOf read.now result }
-{
-    match read {
-        Line::Statement(task, Statement::Request(Written::Obtain { area, .. })) => {
-            Kind::Area(*task, *area)
-        }
-        Line::Statement(_, Statement::Request(written)) => {
-            if may_grant(written) {
-                Kind::Several
-            } else {
-                Kind::Closed
-            }
-        }
-        _ => Kind::Closed,
-    }
-}
-
-// Of what kind the next line of a job is.
-fn next_kind(walk: &Walk, line: &[u8]) -> Kind
-    ensures { IsKind walk.now.step line.now result }
-{
-    let mut read = Line::Nothing;
-    match read_line(line, walk.job().is_none(), &mut read) {
-        Ok(()) => kind_of(&read),
-        Err(_) => Kind::Closed,
-    }
-}
-
-// Whether a line asks where a name lies.
-fn asks_where(line: &[u8], asked: &Asked) -> bool
-    ensures { result ≡ true → IsQuestion line.now asked.now.task asked.now.area }
-{
-    let mut read = Line::Nothing;
-    if read_line(line, false, &mut read).is_err() {
-        return false;
-    }
-    match &read {
-        Line::Statement(task, Statement::Where(name)) => *task == asked.task && *name == asked.area,
-        _ => false,
-    }
-}
-
-// Decides at the first two lines of a script, where the first, which ends there, is a grant. Where the second is no question for it, the
-// place is open.
+// Decides at the first two lines of a script, where the first, which ends there, is a grant; nothing where the second is no question
+// for it.
 fn decide_asked(
     alloc: Global,
     walk: &mut Walk,
     script: &[u8],
     end: usize,
-    text: &[u8],
+    left: &[u8],
     asked: &Asked,
-) -> Result<Decided, OutOfMemory>
+) -> Result<Option<Decided>, OutOfMemory>
     requires number { walk.old.number + 2 < 2 ^ 32 }
     requires bounds { InBounds walk.old.step }
     requires within { end ≤ length script.now }
     requires lines { lines_of script.now
         ≡ take end script.now ∷ lines_of (drop (end + 1) script.now) }
-    requires grant { IsGrant walk.old.step (take end script.now) asked.now.task asked.now.area }
+    requires grant { IsGrant walk.old.step (take end script.now) asked.now.task asked.now.area
+        asked.now.variable }
     ensures decided { IfOk result
-        (λ d. DecidesFirst script.now text.now walk.old d.taken d.verdict walk.new) }
-    ensures taken { IfOk result (λ d. (0 < d.taken) × (d.taken ≤ length script.now + 1)) }
-    ensures number { IfOk result (λ d. walk.new.number ≤ walk.old.number + d.taken) }
-    ensures bounds { IfOk result (λ d. InBounds walk.new.step) }
-    ensures within { IfOk result
-        (λ d. (n : ℕ) → d.verdict ≡ Verdict.On n → n ≤ length text.now) }
+        (λ o. MatchOption o ((walk.new ≡ walk.old)
+        × IsOpen walk.old.number walk.old.step (lines_of script.now) left.now)
+        (λ d. IsFoundFirst script.now left.now walk.old d.taken d.served.text.items
+        d.served.goes_on d.served.passes d.is_open walk.new)) }
+    ensures taken { IfOk result (λ o. IfSome o
+        (λ d. (0 < d.taken) × (d.taken ≤ length script.now + 1)
+        × (walk.new.number ≤ walk.old.number + d.taken))) }
+    ensures bounds { IfOk result (λ o. InBounds walk.new.step) }
 {
-    let open = Decided {
-        taken: end + 1,
-        verdict: Verdict::Open,
+    let behind = text_behind(script, end + 1);
+    let Some(second) = question_end(behind, asked) else {
+        return Ok(None);
     };
-    if end + 1 >= script.len() {
-        return Ok(open);
-    }
-    let behind = &script[end + 1..];
-    let second = line_end(behind);
-    let question = &behind[..second];
-    if !asks_where(question, asked) {
-        return Ok(open);
-    }
-    let verdict = decide_pair(alloc, walk, &script[..end], question, text, asked)?;
-    Ok(Decided {
+    let served = decide_pair(alloc, walk, &script[..end], &behind[..second], left, asked)?;
+    Ok(Some(Decided {
         taken: end + 1 + (second + 1),
-        verdict,
-    })
+        served,
+        is_open: false,
+    }))
 }
 
-// Decides at the first line of a script, or at the first two.
-fn decide(
-    alloc: Global,
-    walk: &mut Walk,
-    script: &[u8],
-    text: &[u8],
-) -> Result<Decided, OutOfMemory>
-    requires some { 0 < length script.now }
-    requires number { walk.old.number + 2 < 2 ^ 32 }
-    requires bounds { InBounds walk.old.step }
-    ensures decided { IfOk result
-        (λ d. DecidesFirst script.now text.now walk.old d.taken d.verdict walk.new) }
-    ensures taken { IfOk result (λ d. (0 < d.taken) × (d.taken ≤ length script.now + 1)) }
-    ensures number { IfOk result (λ d. walk.new.number ≤ walk.old.number + d.taken) }
-    ensures bounds { IfOk result (λ d. InBounds walk.new.step) }
-    ensures within { IfOk result
-        (λ d. (n : ℕ) → d.verdict ≡ Verdict.On n → n ≤ length text.now) }
+// How many bytes are printed of a list that is granted, whose line has this number.
+fn granted_len(alloc: Global, line_number: u32, task: &Name) -> Result<usize, OutOfMemory>
+    ensures { IfOk result (λ n. n ≡ length (answer_text line_number task.now (no_bytes false))) }
 {
-    let end = line_end(script);
-    let line = &script[..end];
-    match next_kind(walk, line) {
-        Kind::Area(task, area) => {
-            decide_asked(alloc, walk, script, end, text, &Asked { task, area })
-        }
-        Kind::Closed => {
-            let verdict = decide_line(alloc, walk, line, text)?;
-            Ok(Decided {
-                taken: end + 1,
-                verdict,
-            })
-        }
-        Kind::Several => Ok(Decided {
-            taken: end + 1,
-            verdict: Verdict::Open,
-        }),
+    let granted = no_bytes(false);
+    let text = print_answer(Vec::new(alloc), line_number, task, &granted)?;
+    Ok(text.as_slice().len())
+}
+
+// How many bytes are printed of a question that is told an address, whose line has this number.
+fn located_len(alloc: Global, line_number: u32, task: &Name) -> Result<usize, OutOfMemory>
+    ensures { IfOk result (λ n. n ≡ length (reply_line line_number task.now (said (At 0)))) }
+{
+    let at = Answer::At(Addr::new(0));
+    let text = print_answer(Vec::new(alloc), line_number, task, &at)?;
+    Ok(text.as_slice().len())
+}
+
+// What stands behind so many bytes of a text.
+fn text_behind(text: &[u8], front: usize) -> &[u8]
+    ensures { result.now ≡ drop front text.now }
+{
+    if front < text.len() {
+        &text[front..]
+    } else {
+        &[]
     }
 }
 
-// What is printed of the end of a job that has no more lines.
-fn print_end(alloc: Global, walk: &Walk) -> Result<Vec<u8>, OutOfMemory>
-    ensures { IfOk result (λ text. PrintsEnd walk.now text.items) }
+// Some addresses, and another one behind them.
+fn pushed(mut told: Vec<Addr>, addr: Addr) -> Result<Vec<Addr>, OutOfMemory>
+    ensures { IfOk result (λ all. all.items ≡ told.items ++ addr ∷ []) }
 {
-    let closing = walk.close();
-    let mut writer = Watched::new(Vec::new(alloc));
-    match print_closing(&mut writer, walk.number(), closing.ended) {
-        Ok(()) => Ok(writer.into_inner()),
+    match told.push(addr) {
+        Ok(()) => Ok(told),
         Err(_) => Err(OutOfMemory),
     }
 }
 
-/// Whether it is certain that no run of a script prints an output. That is decided as far as the script can be granted no places but
-/// single areas, each with a question behind it where it lies.
-pub fn is_refused(alloc: Global, script: &[u8], output: &[u8]) -> Result<bool, OutOfMemory>
-    ensures { IfOk result (λ refused. refused ≡ true → IsNoPrinting script.now output.now) }
+// Puts the addresses that a text tells of some names, from the line of this number on, behind others.
+fn read_each(
+    alloc: Global,
+    line_number: u32,
+    task: &Name,
+    areas: &[Name],
+    text: &[u8],
+    told: Vec<Addr>,
+) -> Result<Vec<Addr>, OutOfMemory>
+    requires { line_number + length areas.now < 2 ^ 32 }
+    ensures { (addrs : List ℕ) (rest : List ℕ) → length addrs ≡ length areas.now
+        → AllByRecursion (λ addr. addr < 2 ^ 31) addrs
+        → text.now ≡ at_text line_number task.now addrs ++ rest
+        → IfOk result (λ all. all.items ≡ told.items ++ addrs) }
 {
-    if script.len() > MOST_SCRIPT_BYTES {
-        return Ok(false);
+    let Some((_, areas)) = areas.split_first() else {
+        return Ok(told);
+    };
+    let len = located_len(alloc, line_number, task)?;
+    let addr = address_behind(text, len - 9);
+    let all = pushed(told, addr)?;
+    read_each(
+        alloc,
+        line_number + 1,
+        task,
+        areas,
+        text_behind(text, len),
+        all,
+    )
+}
+
+// The addresses that a text tells of the areas of a list, whose line has this number.
+fn read_areas(
+    alloc: Global,
+    line_number: u32,
+    left: &[u8],
+    listed: &Listed,
+) -> Result<Vec<Addr>, OutOfMemory>
+    requires { line_number + 17 < 2 ^ 32 }
+    ensures { IfOk result (λ told. ReadsEach
+        (drop (length (answer_text line_number listed.now.task (no_bytes false))) left.now)
+        (line_number + 1) listed.now.task listed.now.areas told.items) }
+{
+    let front = granted_len(alloc, line_number, &listed.task)?;
+    let text = text_behind(left, front);
+    let areas = listed.areas.as_slice();
+    read_each(
+        alloc,
+        line_number + 1,
+        &listed.task,
+        areas,
+        text,
+        Vec::new(alloc),
+    )
+}
+
+// Decides at a list with questions behind it. Its areas lie at the addresses that the text tells of the questions, where the machine
+// allows that. It is open where it is answered otherwise than the text says.
+fn decide_list(
+    alloc: Global,
+    walk: &mut Walk,
+    line: &[u8],
+    behind: &[u8],
+    left: &[u8],
+    listed: &Listed,
+) -> Result<Served, OutOfMemory>
+    requires number { walk.old.number + 18 < 2 ^ 32 }
+    requires bounds { InBounds walk.old.step }
+    requires list { IsList walk.old.step line.now listed.now.task listed.now.areas }
+    requires questions { AskEach (lines_of behind.now) listed.now.task listed.now.areas }
+    ensures served { IfOk result
+        (λ s. IsServed (line.now ∷ []) walk.old s.text.items true walk.new) }
+    ensures goes_on { IfOk result (λ s. s.goes_on ≡ true) }
+    ensures opens { IfOk result
+        (λ s. s.passes ≡ false → IsOpen walk.old.number walk.old.step
+        (line.now ∷ lines_of behind.now) left.now) }
+    ensures decided { IfOk result
+        (λ s. s.passes ≡ true → DecidesBefore (line.now ∷ []) (lines_of behind.now) left.now
+        walk.old s.text.items true true walk.new) }
+    ensures number { IfOk result (λ s. walk.new.number ≡ walk.old.number + 1) }
+    ensures bounds { IfOk result (λ s. InBounds walk.new.step) }
+{
+    let told = read_areas(alloc, walk.number(), left, listed)?;
+    let printed = print_next(walk, line, told.as_slice(), Vec::new(alloc))?;
+    let passes = begins(left, printed.text.as_slice());
+    Ok(Served {
+        text: printed.text,
+        goes_on: true,
+        passes,
+    })
+}
+
+// Decides at the first line of a script, which ends there and asks for a list; nothing where the lines behind do not ask for its areas.
+fn decide_areas(
+    alloc: Global,
+    walk: &mut Walk,
+    script: &[u8],
+    end: usize,
+    left: &[u8],
+    listed: &Listed,
+) -> Result<Option<Decided>, OutOfMemory>
+    requires number { walk.old.number + 18 < 2 ^ 32 }
+    requires bounds { InBounds walk.old.step }
+    requires within { end ≤ length script.now }
+    requires lines { lines_of script.now
+        ≡ take end script.now ∷ lines_of (drop (end + 1) script.now) }
+    requires list { IsList walk.old.step (take end script.now) listed.now.task listed.now.areas }
+    ensures decided { IfOk result
+        (λ o. MatchOption o ((walk.new ≡ walk.old)
+        × IsOpen walk.old.number walk.old.step (lines_of script.now) left.now)
+        (λ d. IsFoundFirst script.now left.now walk.old d.taken d.served.text.items
+        d.served.goes_on d.served.passes d.is_open walk.new)) }
+    ensures taken { IfOk result (λ o. IfSome o
+        (λ d. (0 < d.taken) × (d.taken ≤ length script.now + 1)
+        × (walk.new.number ≤ walk.old.number + d.taken))) }
+    ensures bounds { IfOk result (λ o. InBounds walk.new.step) }
+{
+    let behind = text_behind(script, end + 1);
+    if !asks_each(behind, &listed.task, listed.areas.as_slice()) {
+        return Ok(None);
     }
-    let mut walk = Walk::new(alloc, Placement::Low);
-    let mut at = 0;
-    let mut done = 0;
-    'lines: while at < script.len() {
-        let decided = decide(alloc, &mut walk, &script[at..], &output[done..])?;
-        match decided.verdict {
-            Verdict::On(printed) => {
-                at += decided.taken;
-                done += printed;
-            }
-            Verdict::Refused => return Ok(true),
-            Verdict::Open => return Ok(false),
+    let mut served = decide_list(alloc, walk, &script[..end], behind, left, listed)?;
+    let is_open = !served.passes;
+    served.passes = true;
+    Ok(Some(Decided {
+        taken: end + 1,
+        served,
+        is_open,
+    }))
+}
+
+/// Decides at the first line of a script, or at the first two; nothing where the first is open.
+pub fn decide(
+    alloc: Global,
+    walk: &mut Walk,
+    script: &[u8],
+    left: &[u8],
+) -> Result<Option<Decided>, OutOfMemory>
+    requires some { 0 < length script.now }
+    requires number { walk.old.number + 18 < 2 ^ 32 }
+    requires bounds { InBounds walk.old.step }
+    ensures decided { IfOk result
+        (λ o. MatchOption o ((walk.new ≡ walk.old)
+        × IsOpen walk.old.number walk.old.step (lines_of script.now) left.now)
+        (λ d. IsFoundFirst script.now left.now walk.old d.taken d.served.text.items
+        d.served.goes_on d.served.passes d.is_open walk.new)) }
+    ensures taken { IfOk result (λ o. IfSome o
+        (λ d. (0 < d.taken) × (d.taken ≤ length script.now + 1)
+        × (walk.new.number ≤ walk.old.number + d.taken))) }
+    ensures bounds { IfOk result (λ o. InBounds walk.new.step) }
+{
+    let end = line_end(script);
+    let line = &script[..end];
+    match next_kind(walk, line) {
+        Kind::Area(task, area, variable) => {
+            let asked = Asked {
+                task,
+                area,
+                variable,
+            };
+            decide_asked(alloc, walk, script, end, left, &asked)
         }
+        Kind::Closed => {
+            let served = decide_line(alloc, walk, line, left)?;
+            Ok(Some(Decided {
+                taken: end + 1,
+                served,
+                is_open: false,
+            }))
+        }
+        Kind::Areas(task, areas) => {
+            let listed = Listed { task, areas };
+            decide_areas(alloc, walk, script, end, left, &listed)
+        }
+        Kind::Several => Ok(None),
     }
-    let last = print_end(alloc, &walk)?;
-    let same = &output[done..] == last.as_slice();
-    Ok(!same)
 }

@@ -1,7 +1,8 @@
-//! Matches the addresses that an output tells with the grants of the script: WHERE tells where that grant lies which set the name
-//! last.
+//! Matches the addresses that an output tells with the grants of the script, areas and cells: WHERE tells where that grant lies which
+//! set the name last.
 
 use crate::answers::{Answers, Said};
+use crate::parts::Parts;
 use job_script::read_line;
 use mvs_job::Told;
 use mvs_model::error::OutOfMemory;
@@ -12,14 +13,7 @@ use std::alloc::Global;
 use std::collections::HashMap;
 use std::str;
 
-/// What is told of the places of a script, and the first line that grants an area of which it is not told where it lies.
-#[derive(Drop)]
-pub struct Heard {
-    pub told: Told,
-    pub untold: Option<u32>,
-}
-
-// A member of a grant: the line that asks for it, and its place in the list of that.
+// A member of a grant: the line that asks for it, and its place in the list of that; an area or a cell alone has place 0.
 #[derive(Clone, Copy, Debug, PartialEq, Eq, PartialOrd, Ord)]
 struct Member {
     line: u32,
@@ -33,29 +27,30 @@ struct Spot {
     addr: u32,
 }
 
-// What is known of the lines so far: the grants that set the names, and of which members it was told where they lie.
+// What is known of the lines so far: the grants that set the names, of which members it was told where they lie, and the parts of
+// the pools.
 #[derive(Drop)]
 struct Hearing {
     names: HashMap<Name, Member>,
-    granted: Vec<Member>,
     told: Vec<Spot>,
+    parts: Parts,
 }
 
 impl Hearing {
     fn new(alloc: Global) -> Hearing {
         Hearing {
             names: HashMap::new(alloc),
-            granted: Vec::new(alloc),
             told: Vec::new(alloc),
+            parts: Parts::new(alloc),
         }
     }
 
     // A grant sets a name.
     fn set(&mut self, area: Name, member: Member) -> Result<(), OutOfMemory> {
-        if self.names.insert(area, member).is_err() || self.granted.push(member).is_err() {
-            return Err(OutOfMemory);
+        match self.names.insert(area, member) {
+            Ok(_) => Ok(()),
+            Err(_) => Err(OutOfMemory),
         }
-        Ok(())
     }
 
     // The same of the names of a list.
@@ -68,17 +63,12 @@ impl Hearing {
 
     // Takes a request that was answered 0, or with a cell.
     fn take_request(&mut self, written: &Written, line: u32) -> Result<(), OutOfMemory> {
+        self.parts.take(written, line)?;
         match written {
             Written::Obtain { area, .. } => self.set(*area, Member { line, place: 0 }),
             Written::ObtainList { areas, .. } => self.set_each(areas.as_slice(), line),
+            Written::Get { cell, .. } => self.set(*cell, Member { line, place: 0 }),
             _ => Ok(()),
-        }
-    }
-
-    // A name that a cell may have now is none of an area.
-    fn forget(&mut self, written: &Written) {
-        if let Written::Get { cell, .. } = written {
-            self.names.remove(cell);
         }
     }
 
@@ -101,9 +91,11 @@ impl Hearing {
         said: Option<Said>,
     ) -> Result<(), OutOfMemory> {
         match statement {
-            Statement::Region { .. } => self.names.clear(),
+            Statement::Region { .. } => {
+                self.names.clear();
+                self.parts.clear();
+            }
             Statement::Request(written) => {
-                self.forget(written);
                 if said == Some(Said::Granted) {
                     return self.take_request(written, line);
                 }
@@ -119,7 +111,7 @@ impl Hearing {
     }
 }
 
-// The addresses of each line, in the order of its areas, up to the first that is not told.
+// The addresses of each line, of its cell or in the order of its areas, up to the first that is not told.
 fn by_lines(alloc: Global, spots: &[Spot]) -> Result<Told, OutOfMemory> {
     let mut told = Told::nothing(alloc);
     for spot in spots {
@@ -131,52 +123,64 @@ fn by_lines(alloc: Global, spots: &[Spot]) -> Result<Told, OutOfMemory> {
     Ok(told)
 }
 
-// The line of the first member that is not told.
-fn first_untold(told: &Told, granted: &[Member]) -> Option<u32> {
-    for member in granted {
-        if told.of(member.line).len() <= member.place {
-            return Some(member.line);
-        }
-    }
-    None
-}
-
-// What is known behind the last line.
-fn hear_lines(alloc: Global, script: &str, answers: &Answers) -> Result<Hearing, OutOfMemory> {
+// What is known behind the last line, where the first has this number.
+fn hear_lines(
+    alloc: Global,
+    first_number: u32,
+    script: &str,
+    answers: &Answers,
+) -> Result<Hearing, OutOfMemory> {
     let mut hearing = Hearing::new(alloc);
     let mut read = Line::Nothing;
-    let (mut number, mut first) = (0u32, true);
+    let mut number = first_number;
     for line in script.lines() {
-        number = number.saturating_add(1);
-        if read_line(line.as_bytes(), first, &mut read).is_ok() {
+        if read_line(line.as_bytes(), false, &mut read).is_ok() {
             if let Line::Statement(_, statement) = &read {
-                first = false;
                 hearing.take(statement, number, answers.of(number))?;
             }
         }
+        number = number.saturating_add(1);
     }
     Ok(hearing)
 }
 
 // The same of texts.
-fn hear_text(alloc: Global, script: &str, output: &str) -> Result<Heard, OutOfMemory> {
-    let answers = Answers::read(alloc, output)?;
-    let mut hearing = hear_lines(alloc, script, &answers)?;
+fn hear_text(
+    alloc: Global,
+    first_number: u32,
+    script: &str,
+    output: &str,
+    by_cells: bool,
+) -> Result<Told, OutOfMemory> {
+    if !output.contains(" AT ") {
+        return Ok(Told::nothing(alloc));
+    }
+    let answers = Answers::read(alloc, first_number, output)?;
+    let mut hearing = hear_lines(alloc, first_number, script, &answers)?;
     if hearing.told.sort().is_err() {
         return Err(OutOfMemory);
     }
-    let told = by_lines(alloc, &hearing.told)?;
-    let untold = first_untold(&told, &hearing.granted);
-    Ok(Heard { told, untold })
+    let mut told = by_lines(alloc, &hearing.told)?;
+    if by_cells {
+        hearing.parts.tell(alloc, &mut told)?;
+    } else {
+        hearing.parts.leave(alloc, &mut told)?;
+    }
+    Ok(told)
 }
 
-/// What an output tells of the places of a script: nothing where one of them is no text.
-pub fn hear(alloc: Global, script: &[u8], output: &[u8]) -> Result<Heard, OutOfMemory> {
+/// What an output tells of the places of the rest of a script, which begins with the line of this number, behind its first statement:
+/// nothing where one of them is no text. Where the parts of pools begin is told by their cells, if that is wanted, and else left to the
+/// placement.
+pub fn hear(
+    alloc: Global,
+    first_number: u32,
+    script: &[u8],
+    output: &[u8],
+    by_cells: bool,
+) -> Result<Told, OutOfMemory> {
     match (str::from_utf8(script), str::from_utf8(output)) {
-        (Ok(script), Ok(output)) => hear_text(alloc, script, output),
-        _ => Ok(Heard {
-            told: Told::nothing(alloc),
-            untold: None,
-        }),
+        (Ok(script), Ok(output)) => hear_text(alloc, first_number, script, output, by_cells),
+        _ => Ok(Told::nothing(alloc)),
     }
 }

@@ -1,93 +1,161 @@
 //! Judges an output: whether it is the printing of a run of a script.
 #![tactic(auto)]
 
-ghost use Rattle.std.specs.Prelude.{◌≡◌, ◌↔◌, IfOk, true};
+ghost use Rattle.std.specs.Prelude.{◌≡◌, ◌≤◌, ◌↔◌, ℕ, IfOk, length};
+ghost use Rattle.mvs_model.specs.Numbers.{most_script_bytes};
+ghost use Rattle.mvs_model.specs.Lines.{lines_of};
 ghost use Rattle.mvs_model.specs.Runs.{IsPrinting};
-ghost use Rattle.judge.specs.Deciding.{IsNoPrinting};
+ghost use Rattle.judge.specs.Deciding.{finding_of};
+ghost use Rattle.judge.specs.Judging.{IsAsked, IsFound, IsListAt};
 
 mod answers;
 mod ask;
 mod deciding;
 mod difference;
+mod following;
 mod hearing;
+mod kinds;
+mod parts;
+mod resting;
 
-use crate::deciding::is_refused;
-use crate::hearing::{Heard, hear};
+use crate::following::follow;
+use crate::hearing::hear;
+use crate::resting::run_rest;
 pub use ask::write_asking;
 pub use difference::write_difference;
-use mvs_job::{RunFault, Told, run_job};
+use mvs_job::{RunFault, Told, Walk};
 use mvs_model::error::OutOfMemory;
+use mvs_model::numbers::MOST_SCRIPT_BYTES;
 use mvs_model::outcome::Outcome;
 use mvs_model::want::Placement;
-use mvs_model::watched::Watched;
 use std::alloc::Global;
 
-/// What an output was compared with: the printing of a run of the script that takes the addresses that the output tells, wherever
-/// the machine allows that.
+/// What is found of an output.
+#[derive(Clone, Copy, Debug, PartialEq, Eq)]
+pub enum Finding {
+    /// It is the printing of a run.
+    Accepted,
+    /// No run prints it.
+    Refused,
+    /// A run prints what it begins with, up to the line of this number: the first that may be granted places for which the lines behind
+    /// do not ask, or a request for a list that a run may be granted and another one refused.
+    Undecided(u32),
+}
+
+/// What an output was compared with, and what was found: the printing of a run of the script that takes the addresses that the output
+/// tells, wherever the machine allows that.
 #[derive(Drop)]
 pub struct Judgement {
     pub outcome: Outcome,
     pub text: Vec<u8>,
-    /// Whether the output is this printing. Where it is not, another run may still print it.
-    pub agrees: bool,
-    /// Whether it is certain that no run prints the output. That is decided up to the first line that can be granted other places
-    /// than those of one area, or an area without a question right behind it where it lies.
-    pub refused: bool,
-    /// The first line of the script that grants an area of which the output does not tell where it lies.
-    pub untold: Option<u32>,
+    pub finding: Finding,
 }
 
-// Runs a script with what is told of its places, and keeps what it prints.
-fn printing_of(alloc: Global, script: &[u8], told: Told) -> (Result<Outcome, RunFault>, Vec<u8>)
-    ensures { IfOk result.0 (λ outcome. IsPrinting script.now result.1.items outcome) }
+// What is told of the places of the lines that are left, where that may matter; and of the parts of pools by their cells, if that is
+// wanted.
+fn told_if(
+    matters: bool,
+    alloc: Global,
+    first_number: u32,
+    script: &[u8],
+    output: &[u8],
+    by_cells: bool,
+) -> Result<Told, OutOfMemory> {
+    if matters {
+        hear(alloc, first_number, script, output, by_cells)
+    } else {
+        Ok(Told::nothing(alloc))
+    }
+}
+
+// What is found of an output from which the runs of a script part where the next line has this number.
+fn finding_of(refused: bool, agrees: bool, line_number: u32) -> Finding
+    ensures { result ≡ finding_of refused agrees line_number }
 {
-    let mut reader = Watched::new(script);
-    let mut writer = Watched::new(Vec::new(alloc));
-    let ran = run_job(alloc, &mut reader, &mut writer, Placement::Low, told);
-    (ran, writer.into_inner())
+    if refused {
+        Finding::Refused
+    } else if agrees {
+        Finding::Accepted
+    } else {
+        Finding::Undecided(line_number)
+    }
 }
 
-// Whether it is certain that no run prints an output, unless one does.
-fn is_refused_unless(
-    agrees: bool,
+// Judges an output by one run of the script, which takes the addresses that the output tells, and places the parts of pools by their
+// cells or as the placement does.
+fn judge_run(
     alloc: Global,
     script: &[u8],
     output: &[u8],
-) -> Result<bool, OutOfMemory>
-    ensures { IfOk result (λ refused. refused ≡ true → IsNoPrinting script.now output.now) }
-{
-    if agrees {
-        return Ok(false);
-    }
-    is_refused(alloc, script, output)
-}
-
-/// Judges an output by the run that takes the addresses that it tells. Where it agrees, it is the printing of a run that ends so.
-pub fn judge(alloc: Global, script: &[u8], output: &[u8]) -> Result<Judgement, RunFault>
-    ensures accepted { IfOk result
-        (λ j. j.agrees ≡ true → IsPrinting script.now output.now j.outcome) }
-    ensures refused { IfOk result (λ j. j.refused ≡ true → IsNoPrinting script.now output.now) }
+    by_cells: bool,
+) -> Result<Judgement, RunFault>
+    requires { length script.now ≤ most_script_bytes }
+    ensures found { IfOk result (λ j. IsFound script.now output.now j.outcome j.finding) }
+    // Where the script asks for each area, and for each of a list, it is accepted or refused, or left open at a list.
+    ensures decided { IfOk result
+        (λ j. IsAsked (lines_of script.now)
+        → (n : ℕ) → j.finding ≡ Finding.Undecided n → IsListAt (lines_of script.now) n) }
     ensures run { IfOk result (λ j. IsPrinting script.now j.text.items j.outcome) }
-    ensures agrees { IfOk result (λ j. j.agrees ≡ true ↔ j.text.items ≡ output.now) }
+    ensures agrees { IfOk result
+        (λ j. j.finding ≡ Finding.Accepted ↔ j.text.items ≡ output.now) }
 {
-    let Ok(Heard { told, untold }) = hear(alloc, script, output) else {
+    let mut walk = Walk::new(alloc, Placement::Low);
+    let Ok(followed) = follow(alloc, &mut walk, script, output) else {
         return Err(RunFault::Memory);
     };
-    let (ran, text) = printing_of(alloc, script, told);
-    match ran {
-        Ok(outcome) => {
-            let agrees = text.as_slice() == output;
-            let Ok(refused) = is_refused_unless(agrees, alloc, script, output) else {
-                return Err(RunFault::Memory);
-            };
-            Ok(Judgement {
-                outcome,
-                text,
-                agrees,
-                refused,
-                untold,
-            })
-        }
-        Err(fault) => Err(fault),
+    if let Some(outcome) = followed.ended {
+        return Ok(Judgement {
+            outcome,
+            text: followed.text,
+            finding: finding_of(!followed.passes, followed.passes, 0),
+        });
     }
+    let line_number = followed.open_line;
+    let left = &script[followed.at..];
+    let Ok(told) = told_if(
+        followed.passes,
+        alloc,
+        walk.number(),
+        left,
+        output,
+        by_cells,
+    ) else {
+        return Err(RunFault::Memory);
+    };
+    let Ok(ran) = run_rest(walk, left, &told, followed.text) else {
+        return Err(RunFault::Memory);
+    };
+    let agrees = ran.text.as_slice() == output;
+    Ok(Judgement {
+        outcome: ran.outcome,
+        text: ran.text,
+        finding: finding_of(!followed.passes, agrees, line_number),
+    })
+}
+
+/// Judges an output by one run of the script, which takes the addresses that the output tells; or by another one, where that alone prints
+/// the output. No answer tells where the parts of a pool lie: the first run places them by their cells, the other one as the placement
+/// does.
+pub fn judge(alloc: Global, script: &[u8], output: &[u8]) -> Result<Judgement, RunFault>
+    ensures found { IfOk result (λ j. IsFound script.now output.now j.outcome j.finding) }
+    // Where the script asks for each area, and for each of a list, it is accepted or refused, or left open at a list.
+    ensures decided { IfOk result
+        (λ j. IsAsked (lines_of script.now)
+        → (n : ℕ) → j.finding ≡ Finding.Undecided n → IsListAt (lines_of script.now) n) }
+    ensures run { IfOk result (λ j. IsPrinting script.now j.text.items j.outcome) }
+    ensures agrees { IfOk result
+        (λ j. j.finding ≡ Finding.Accepted ↔ j.text.items ≡ output.now) }
+{
+    if script.len() > MOST_SCRIPT_BYTES {
+        return Err(RunFault::ReadTooLong);
+    }
+    let judgement = judge_run(alloc, script, output, true)?;
+    let Finding::Undecided(_) = judgement.finding else {
+        return Ok(judgement);
+    };
+    let other = judge_run(alloc, script, output, false)?;
+    if other.finding == Finding::Accepted {
+        return Ok(other);
+    }
+    Ok(judgement)
 }

@@ -1,3 +1,4 @@
+pub mod Parting
 pub mod Explained
 pub mod Feeding
 pub mod FirstLine
@@ -10,5 +11,8 @@ pub mod Serving
 pub mod Starred
 pub mod Steady
 pub mod Strictly
+pub mod Turning
 pub mod Valuing
 pub mod Whys
+pub mod Latest
+pub mod Kept

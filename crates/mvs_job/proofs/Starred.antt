@@ -22,13 +22,18 @@ use Rattle.mvs_model.specs.Runs.{machine}
 use Rattle.mvs_model.specs.Texts.{answer_text, code_text, data_lines, fault_number, map_text, printing, reply_line, said, subpool_text, text_of}
 use Rattle.mvs_model.specs.Walk.{JobEnds, Walks}
 use Rattle.mvs_model.proofs.Going.{printed_both}
-use Rattle.job_script.specs.ReasonTexts.{reason_line, reason_said}
+use Rattle.job_script.specs.ReasonTexts.{one_line, reason_line, reason_said}
 use Rattle.mvs_model.specs.Owners.{goes}
-use Rattle.step_machine.specs.Facts.{owned_subpools}
 use Rattle.step_machine.specs.declared.facts.OwnedSubpool.{OwnedSubpool}
-use Rattle.job_script.specs.FactTexts.{freed_line, freed_said}
-use Rattle.mvs_job.specs.Facts.{IsFreeing, ended_by, freed_by, freed_lines, may_end, subpool_line}
-use Rattle.mvs_job.specs.Explaining.{Annotates, Explains, IsBehind, IsExplained, IsExplanation, reason_text, spoken, WritesExplained, without_starred}
+use Rattle.job_script.specs.FactTexts.{fact_line, fact_said, freed_line, freed_said, stays_line, stays_said}
+use Rattle.mvs_job.specs.Facts.{IsFreeing, ended_by, freed_by, freed_lines, may_end, subpool_line, surveyed}
+use Rattle.mvs_job.specs.declared.granting.Before.{Before}
+use Rattle.mvs_job.specs.Granting.{IsGranting, before_line, done_text, facts_of, granted_text, tells_grant}
+use Rattle.job_script.specs.NamingTexts.{naming_said}
+use Rattle.mvs_job.specs.declared.naming.Naming.{Naming}
+use Rattle.mvs_job.specs.Naming.{IsNamed, SetLines, naming_text, no_lines}
+use Rattle.mvs_job.specs.Why.{spoken}
+use Rattle.mvs_job.specs.Explaining.{Annotates, Explains, IsBehind, IsExplained, IsExplanation, IsTurnTold, WritesExplained, reason_text, unless_granted, without_starred}
 use Rattle.mvs_job.proofs.Feeding.{all_before, lines_cut, lines_ended}
 
 -- ---- texts that end in a line feed
@@ -146,9 +151,11 @@ begins_so text =
     let more : 1 + position_or_len (λ b. b == 10) text ≡ suc (position_or_len (λ b. b == 10) text) = omega arith in
     ap (λ n. slice_index (take n (42 ∷ text)) 0) more
 
+line_out : (said : List ℕ) → IsLeftOut (one_line (codes "* " ++ said))
+line_out said = starred_out (before_first (λ b. b == 10) (codes "* " ++ said)) (unended (codes "* " ++ said)) (begins_so (codes " " ++ said))
+
 reason_out : (t : Name) (request : Request) (reason : Reason) → IsLeftOut (reason_line t request reason)
-reason_out t request reason =
-    starred_out (before_first (λ b. b == 10) (codes "* " ++ reason_said t request reason)) (unended (codes "* " ++ reason_said t request reason)) (begins_so (codes " " ++ reason_said t request reason))
+reason_out t request reason = line_out (reason_said t request reason)
 
 text_out : (job : JobValue) (l : Line) (r : Option Reason) → IsLeftOut (reason_text job l r)
 text_out job l None = none_left_out [] refl
@@ -168,20 +175,19 @@ out_both : (one other : List ℕ) → IsLeftOut one → IsLeftOut other → IsLe
 out_both one other a b more = ap without_starred (append_assoc one other more) ∙ a (other ++ more) ∙ b more
 
 subpool_out : (e : Name × List Name) (s : OwnedSubpool) → IsLeftOut (subpool_line e s)
-subpool_out e s = at (goes e.0 e.1 s.owner) where
-  at : (b : Bool) → IsLeftOut (cond b (freed_line s.number s.owner s.bytes s.pages) [])
-  at true =
-      let text = freed_said s.number s.owner s.bytes s.pages in
-      starred_out (before_first (λ b. b == 10) (codes "* " ++ text)) (unended (codes "* " ++ text)) (begins_so (codes " " ++ text))
-  at false = none_left_out [] refl
+subpool_out e s = at (goes e.0 e.1 s.owner) s.had where
+  at : (b had : Bool) → IsLeftOut (cond b (freed_line s.number s.owner s.bytes s.pages) (cond had (stays_line s.number s.owner e.0) []))
+  at true had = line_out (freed_said s.number s.owner s.bytes s.pages)
+  at false true = line_out (stays_said s.number s.owner e.0)
+  at false false = none_left_out [] refl
 
-each_out : (e : Name × List Name) (subpools : List OwnedSubpool) → IsLeftOut (flat_map (subpool_line e) subpools)
-each_out e [] = none_left_out [] refl
-each_out e (s ∷ subpools) = out_both (subpool_line e s) (flat_map (subpool_line e) subpools) (subpool_out e s) (each_out e subpools)
+each_out : {X : Type 0} (f : X → List ℕ) → ((x : X) → IsLeftOut (f x)) → (xs : List X) → IsLeftOut (flat_map f xs)
+each_out f each [] = none_left_out [] refl
+each_out f each (x ∷ xs) = out_both (f x) (flat_map f xs) (each x) (each_out f each xs)
 
 lines_out : (subpools : List OwnedSubpool) (ended : Option (Name × List Name)) → IsLeftOut (freed_lines subpools ended)
 lines_out subpools None = none_left_out [] refl
-lines_out subpools (Some e) = each_out e subpools
+lines_out subpools (Some e) = each_out (subpool_line e) (subpool_out e) subpools
 
 freed_out : (asked : Bool) (subpools : List OwnedSubpool) (events : List Event) → IsLeftOut (freed_by asked subpools events)
 freed_out true subpools events = lines_out subpools (ended_by events)
@@ -189,35 +195,78 @@ freed_out false subpools events = none_left_out [] refl
 
 freeing_out : (old : Option JobValue) (l : List ℕ) (events : List Event) (freed : List ℕ) → IsFreeing old l events freed → IsLeftOut freed
 freeing_out None l events freed e = none_left_out freed e
-freeing_out (Some job) l events freed (inl (said, is, (r, of, e))) = subst IsLeftOut (sym e) (freed_out (may_end said r) (owned_subpools job.state) events)
+freeing_out (Some job) l events freed (inl (said, is, (r, of, e))) = subst IsLeftOut (sym e) (freed_out (may_end said r) (surveyed job.state said) events)
 freeing_out (Some job) l events freed (inr (fault, is, e)) = none_left_out freed e
 
-behind_out : (old : Option JobValue) (l : List ℕ) (events : List Event) (text : List ℕ) → IsBehind old l events text → IsLeftOut text
-behind_out old l events text (why, freed, is, frees, e) = subst IsLeftOut (sym e) (out_both why freed (explanation_out old l why is) (freeing_out old l events freed frees))
+done_out : (b : Option Before) (l : Line) (new : Option JobValue) → IsLeftOut (done_text b l new)
+done_out None l new = none_left_out [] refl
+done_out (Some b) l None = none_left_out [] refl
+done_out (Some b) line.Nothing (Some new) = none_left_out [] refl
+done_out (Some b) (line.Statement t (says.Request a)) (Some new) = each_out fact_line (λ f. line_out (fact_said f)) (facts_of b t a new)
+done_out (Some b) (line.Statement t (says.Region below above fill residence)) (Some new) = none_left_out [] refl
+done_out (Some b) (line.Statement t (says.Where name)) (Some new) = none_left_out [] refl
+done_out (Some b) (line.Statement t says.ReportSubpools) (Some new) = none_left_out [] refl
+done_out (Some b) (line.Statement t says.ReportMap) (Some new) = none_left_out [] refl
+
+granted_out : (b : Option Before) (l : Line) (events : List Event) (new : Option JobValue) → IsLeftOut (granted_text b l events new)
+granted_out b l events new = at (tells_grant events) where
+  at : (yes : Bool) → IsLeftOut (cond yes (done_text b l new) [])
+  at true = done_out b l new
+  at false = none_left_out [] refl
+
+granting_out : (old : Option JobValue) (l : List ℕ) (events : List Event) (new : Option JobValue) (done : List ℕ) → IsGranting old l events new done → IsLeftOut done
+granting_out old l events new done (inl (said, is, e)) = subst IsLeftOut (sym e) (granted_out (before_line old said) said events new)
+granting_out old l events new done (inr (inl (none, e))) = none_left_out done e
+granting_out old l events new done (inr (inr (fault, is, e))) = none_left_out done e
+
+naming_out : (n : Option Naming) → IsLeftOut (naming_text n)
+naming_out None = none_left_out [] refl
+naming_out (Some n) = line_out (naming_said n.addr n.name n.place n.number)
+
+named_out : (old : Option JobValue) (set : SetLines) (l named : List ℕ) → IsNamed old set l named → IsLeftOut named
+named_out None set l named e = none_left_out named e
+named_out (Some job) set l named (a, tells, (n, is, e)) = subst IsLeftOut (sym e) (naming_out n)
+
+unless_out : (events : List Event) (text : List ℕ) → IsLeftOut text → IsLeftOut (unless_granted events text)
+unless_out events text out = at (tells_grant events) where
+  at : (granted : Bool) → IsLeftOut (cond granted [] text)
+  at true = none_left_out [] refl
+  at false = out
+
+turn_out : (old : Option JobValue) (l : List ℕ) (events : List Event) (turn : List ℕ) → IsTurnTold old l events turn → IsLeftOut turn
+turn_out None l events turn e = none_left_out turn e
+turn_out (Some job) l events turn (inl (said, is, (r, t, of, behind, e))) = subst IsLeftOut (sym e) (unless_out events (reason_text job said t) (text_out job said t))
+turn_out (Some job) l events turn (inr (fault, is, e)) = none_left_out turn e
+
+behind_out : (old : Option JobValue) (set : SetLines) (l : List ℕ) (events : List Event) (new : Option JobValue) (text : List ℕ) → IsBehind old set l events new text → IsLeftOut text
+behind_out old set l events new text (why, named, turn, freed, done, is, names, turns, frees, grants, e) =
+    let end = out_both freed done (freeing_out old l events freed frees) (granting_out old l events new done grants) in
+    let last = out_both turn (freed ++ done) (turn_out old l events turn turns) end in
+    subst IsLeftOut (sym e) (out_both why (named ++ (turn ++ (freed ++ done))) (explanation_out old l why is) (out_both named (turn ++ (freed ++ done)) (named_out old set l named names) last))
 
 -- ---- a run
 
 abbrev Left : Outcome → ℕ → Option JobValue → List (List ℕ) → List ℕ → Type 0
 Left outcome number old lines text = (events : List Event) × Walks machine (JobEnds machine outcome) number old lines events × (without_starred text ≡ without_starred (printing events))
 
-left : (outcome : Outcome) (lines : List (List ℕ)) (number : ℕ) (old : Option JobValue) (text : List ℕ) → Explains (Ok outcome) number old lines text → Left outcome number old lines text
-left outcome [] number old text h = (h.0, h.1, ap without_starred h.2)
-left outcome (l ∷ lines) number old text (inl h) = (h.0, inl (h.1, h.2), ap without_starred h.3)
-left outcome (l ∷ lines) number old text (inr (mid, events, why, rest, serves, is, e, more)) =
-    let s = left outcome lines (number + 1) mid rest more in
+left : (outcome : Outcome) (lines : List (List ℕ)) (number : ℕ) (old : Option JobValue) (set : SetLines) (text : List ℕ) → Explains (Ok outcome) number old set lines text → Left outcome number old lines text
+left outcome [] number old set text h = (h.0, h.1, ap without_starred h.2)
+left outcome (l ∷ lines) number old set text (inl h) = (h.0, inl (h.1, h.2), ap without_starred h.3)
+left outcome (l ∷ lines) number old set text (inr (mid, later, events, why, rest, serves, sets, is, e, more)) =
+    let s = left outcome lines (number + 1) mid later rest more in
     let told = printing events in (
       events ++ s.0,
       inr (mid, events, s.0, serves, refl, s.1),
       ap without_starred (e ∙ append_assoc told why rest)
           ∙ left_both told (why ++ rest) (printing_ended events)
-          ∙ ap (λ x. without_starred told ++ x) (behind_out old l events why is rest ∙ s.2)
+          ∙ ap (λ x. without_starred told ++ x) (behind_out old set l events mid why is rest ∙ s.2)
           ∙ sym (left_both told (printing s.0) (printing_ended events))
           ∙ ap without_starred (sym (printed_both events s.0)),
     )
 
 annotated : (script text : List ℕ) (outcome : Outcome) → IsExplained script text (Ok outcome) → Annotates script text outcome
 annotated script text outcome h =
-    let s = left outcome (lines_of script) 1 None text h in
+    let s = left outcome (lines_of script) 1 None no_lines text h in
     record { events = s.0; run = s.1; printed = s.2 }
 
 -- Without its reasons the text of a run with reasons is the printing of a run.

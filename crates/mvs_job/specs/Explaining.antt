@@ -1,5 +1,5 @@
 -- A run of a script with reasons: behind what a line tells stands why its request is refused, if it is, and what goes where it ends a task.
-use Rattle.std.specs.Prelude.{◌≡◌, ◌⊎◌, ℕ, ◌+◌, ◌==◌, List, [], ◌∷◌, ◌++◌, slice_index, Option, Some, None, Result, Ok, Err, Bool, true, false, not}
+use Rattle.std.specs.Prelude.{◌≡◌, ◌⊎◌, ℕ, ◌+◌, ◌==◌, List, [], ◌∷◌, ◌++◌, slice_index, Option, Some, None, Result, Ok, Err, Bool, true, false, not, if◌then◌else◌}
 use Rattle.std.specs.List.{filter}
 use Rattle.std.specs.Io.KnownBytes.{Appends, Keeps}
 use Rattle.mvs_model.specs.declared.name.Name.{Name}
@@ -15,7 +15,6 @@ use Rattle.mvs_model.specs.declared.reason.Reason.{Reason}
 use Rattle.mvs_model.specs.declared.reason.Reason.TheVariants.{NotActive, NotSet}
 use Rattle.mvs_model.specs.declared.request.Request.{Request}
 use Rattle.mvs_model.specs.declared.request.Request.TheVariants.{Return}
-use Rattle.mvs_model.specs.declared.request.Reply.TheVariants as reply
 use Rattle.mvs_model.specs.Answers.{Event}
 use Rattle.mvs_model.specs.Job.{JobValue}
 use Rattle.mvs_model.specs.Lines.{ended_text, lines_of}
@@ -29,17 +28,14 @@ use Rattle.job_script.specs.ReasonTexts.{reason_line}
 use Rattle.job_script.specs.Writing.{AppendsFront}
 use Rattle.mvs_job.specs.declared.printing.Stop.{Stop}
 use Rattle.mvs_job.specs.declared.printing.Stop.TheVariants as stop
-use Rattle.mvs_job.specs.Facts.{IsFreeing}
-use Rattle.mvs_job.specs.Serving.{LineTells}
+use Rattle.mvs_job.specs.Facts.{IsFreeing, freed_by}
+use Rattle.mvs_job.specs.declared.asking.Asking.{Asking}
+use Rattle.mvs_job.specs.Granting.{IsGranting, granted_text, tells_grant}
+use Rattle.mvs_job.specs.Naming.{IsNamed, IsSetBehind, SetLines, naming_text, no_lines}
 use Rattle.mvs_job.specs.Telling.{WalkValue}
-use Rattle.mvs_job.specs.Why.{OfLine}
+use Rattle.mvs_job.specs.Why.{OfLine, TurnBehind, spoken}
 
 -- ---- a line
-
--- the request of which a reason speaks; where no request is made, none speaks of one
-abbrev pub spoken : Option Request → Request
-spoken None = Return
-spoken (Some request) = request
 
 -- what is printed of the reason of a line
 abbrev pub reason_text : JobValue → Line → Option Reason → List ℕ
@@ -56,6 +52,19 @@ IsExplanation (Some job) bytes text =
     ((l : Line) × LineOf false bytes l × ((r : Option Reason) × OfLine job l r × (text ≡ reason_text job l r)))
     ⊎ ((fault : Fault) × FaultOf false bytes fault × (text ≡ []))
 
+-- a text that stands behind these events, where they do not say that a request was granted
+abbrev pub unless_granted : List Event → List ℕ → List ℕ
+unless_granted events text = if tells_grant events then [] else text
+
+-- The text says at which member the list of the next line, which tells these events, is refused once those in front are granted: by
+-- the step before it, of a line that has no other reason.
+abbrev pub IsTurnTold : Option JobValue → List ℕ → List Event → List ℕ → Type 0
+IsTurnTold None bytes events text = text ≡ []
+IsTurnTold (Some job) bytes events text =
+    ((l : Line) × LineOf false bytes l
+    × ((r : Option Reason) × (turn : Option Reason) × OfLine job l r × TurnBehind job l r turn × (text ≡ unless_granted events (reason_text job l turn))))
+    ⊎ ((fault : Fault) × FaultOf false bytes fault × (text ≡ []))
+
 -- A reason of a statement speaks of this request, but that the task is not active, or a name is not set.
 abbrev pub SpeaksOf : JobValue → Statement → Request → Reason → Type 0
 SpeaksOf job s request reason = (reason ≡ NotActive) ⊎ ((name : Name) × (reason ≡ NotSet name)) ⊎ ((a : Written) × (s ≡ says.Request a) × (resolved job.names a ≡ Some request))
@@ -68,36 +77,45 @@ said_of (line.Statement t s) request (Some reason) = reason_line t request reaso
 
 -- ---- a run
 
--- The text stands behind these events of the next line: why it is refused, and which subpools go where it ends a task.
-abbrev pub IsBehind : Option JobValue → List ℕ → List Event → List ℕ → Type 0
-IsBehind old bytes events text = (why : List ℕ) × (freed : List ℕ) × IsExplanation old bytes why × IsFreeing old bytes events freed × (text ≡ why ++ freed)
+-- The text stands behind these events of the next line, which leads to this step: why it is refused, which name has the address of
+-- that in its place, at which member its list is refused, which subpools go where it ends a task, and what it did where it was granted.
+abbrev pub IsBehind : Option JobValue → SetLines → List ℕ → List Event → Option JobValue → List ℕ → Type 0
+IsBehind old set bytes events new text =
+    (why : List ℕ) × (named : List ℕ) × (turn : List ℕ) × (freed : List ℕ) × (done : List ℕ)
+    × IsExplanation old bytes why × IsNamed old set bytes named × IsTurnTold old bytes events turn × IsFreeing old bytes events freed × IsGranting old bytes events new done
+    × (text ≡ why ++ (named ++ (turn ++ (freed ++ done))))
 
--- How a run with reasons may stop, at the number of the next line, in this step or before the first, with these lines left, when
--- this text is written last: it ends so, at a line with a fault or behind the last line; a write fails, when nothing or a front
+-- A line may tell these events and lead to this step; one with a fault leads nowhere.
+abbrev pub LeadsTo : ℕ → Option JobValue → List ℕ → List Event → Option JobValue → Type 0
+LeadsTo number old bytes events new = ServesLine machine number old bytes events new ⊎ Faults number (is_first old) bytes events
+
+-- How a run with reasons may stop, at the number of the next line, in this step or before the first, behind lines that set these
+-- names, with these lines left, when this text is written last: it ends so, at a line with a fault or behind the last line; a write fails, when nothing or a front
 -- of what a line tells and of what stands behind it is written; or memory is wanting for the answer to a line.
-abbrev pub StopsSo : Result Outcome Stop → ℕ → Option JobValue → List (List ℕ) → List ℕ → Type 0
-StopsSo (Ok outcome) number old [] text = (events : List Event) × Closes machine number old events outcome × (text ≡ printing events)
-StopsSo (Ok outcome) number old (l ∷ lines) text = (events : List Event) × Faults number (is_first old) l events × (outcome ≡ ScriptFault) × (text ≡ printing events)
-StopsSo (Err stop.Write) number old [] text = (events : List Event) × (outcome : Outcome) × (rest : List ℕ) × Closes machine number old events outcome × (printing events ≡ text ++ rest)
-StopsSo (Err stop.Write) number old (l ∷ lines) text =
+abbrev pub StopsSo : Result Outcome Stop → ℕ → Option JobValue → SetLines → List (List ℕ) → List ℕ → Type 0
+StopsSo (Ok outcome) number old set [] text = (events : List Event) × Closes machine number old events outcome × (text ≡ printing events)
+StopsSo (Ok outcome) number old set (l ∷ lines) text = (events : List Event) × Faults number (is_first old) l events × (outcome ≡ ScriptFault) × (text ≡ printing events)
+StopsSo (Err stop.Write) number old set [] text = (events : List Event) × (outcome : Outcome) × (rest : List ℕ) × Closes machine number old events outcome × (printing events ≡ text ++ rest)
+StopsSo (Err stop.Write) number old set (l ∷ lines) text =
     (text ≡ [])
-    ⊎ ((events : List Event) × (why : List ℕ) × (rest : List ℕ) × LineTells (record { step = old; number = number; reply = reply.NotRun }) l events
-    × IsBehind old l events why × (printing events ++ why ≡ text ++ rest))
-StopsSo (Err stop.Memory) number old [] text = ⊥
-StopsSo (Err stop.Memory) number old (l ∷ lines) text = (events : List Event) × StopsForMemory number old (l ∷ lines) events × (text ≡ printing events)
+    ⊎ ((events : List Event) × (why : List ℕ) × (rest : List ℕ) × (new : Option JobValue) × LeadsTo number old l events new × IsBehind old set l events new why
+    × (printing events ++ why ≡ text ++ rest))
+StopsSo (Err stop.Memory) number old set [] text = ⊥
+StopsSo (Err stop.Memory) number old set (l ∷ lines) text = (events : List Event) × StopsForMemory number old (l ∷ lines) events × (text ≡ printing events)
 
 -- From the line of this number on this text may be written, until the run stops: it stops before the first of the lines, or that
 -- line is served, what it tells is printed, why it is refused and what goes stands behind that, and the run goes on.
-abbrev pub Explains : Result Outcome Stop → ℕ → Option JobValue → List (List ℕ) → List ℕ → Type 0
-Explains how number old [] text = StopsSo how number old [] text
-Explains how number old (l ∷ lines) text =
-    StopsSo how number old (l ∷ lines) text
-    ⊎ ((mid : Option JobValue) × (events : List Event) × (why : List ℕ) × (rest : List ℕ)
-    × ServesLine machine number old l events mid × IsBehind old l events why × (text ≡ (printing events ++ why) ++ rest) × Explains how (number + 1) mid lines rest)
+abbrev pub Explains : Result Outcome Stop → ℕ → Option JobValue → SetLines → List (List ℕ) → List ℕ → Type 0
+Explains how number old set [] text = StopsSo how number old set [] text
+Explains how number old set (l ∷ lines) text =
+    StopsSo how number old set (l ∷ lines) text
+    ⊎ ((mid : Option JobValue) × (later : SetLines) × (events : List Event) × (why : List ℕ) × (rest : List ℕ)
+    × ServesLine machine number old l events mid × IsSetBehind number old set l events later × IsBehind old set l events mid why
+    × (text ≡ (printing events ++ why) ++ rest) × Explains how (number + 1) mid later lines rest)
 
 -- The text is that of a run of the script with reasons, which stops so.
 abbrev pub IsExplained : List ℕ → List ℕ → Result Outcome Stop → Type 0
-IsExplained script text how = Explains how 1 None (lines_of script) text
+IsExplained script text how = Explains how 1 None no_lines (lines_of script) text
 
 -- what stands between two moments of a writer is such a text
 abbrev pub WritesExplained : Option (List ℕ) → Option (List ℕ) → List ℕ → Result Outcome Stop → Type 0
@@ -117,17 +135,24 @@ pub record Annotates (script text : List ℕ) (outcome : Outcome) : Type 0 where
 
 -- ---- what calls do
 
--- What the call for one line does, between two moments of a writer.
-abbrev pub ExplainsLine : Option (List ℕ) → Option (List ℕ) → WalkValue → List ℕ → WalkValue → Result Bool Stop → Type 0
-ExplainsLine before after w line new (Ok true) =
-    (events : List Event) × (why : List ℕ) × Appends before after (printing events ++ why) × ServesLine machine w.number w.step line events new.step × IsBehind w.step line events why
-ExplainsLine before after w line new (Ok false) = (events : List Event) × Appends before after (printing events) × Faults w.number (is_first w.step) line events
-ExplainsLine before after w line new (Err stop.Write) =
-    Keeps before after ⊎ ((events : List Event) × (why : List ℕ) × LineTells w line events × IsBehind w.step line events why × AppendsFront before after (printing events ++ why))
-ExplainsLine before after w line new (Err stop.Memory) = (events : List Event) × Appends before after (printing events) × StopsForMemory w.number w.step (line ∷ []) events
+-- the text that is printed behind a line that was asked about, which tells these events and leads to this step
+abbrev pub behind_said : Asking → List Event → Option JobValue → List ℕ
+behind_said x events new =
+    said_of x.why.read x.why.request x.asked.reason
+    ++ (naming_text x.naming ++ (unless_granted events (said_of x.why.read x.why.request x.turn) ++ (freed_by x.asked.ends x.subpools events ++ granted_text x.asked.before x.why.read events new)))
+
+-- What the call for one line does, between two moments of a writer; where the line was served, which lines have set names behind it.
+abbrev pub ExplainsLine : Option (List ℕ) → Option (List ℕ) → WalkValue → SetLines → List ℕ → WalkValue → SetLines → Result Bool Stop → Type 0
+ExplainsLine before after w set line new later (Ok true) =
+    (events : List Event) × (why : List ℕ) × Appends before after (printing events ++ why)
+    × ServesLine machine w.number w.step line events new.step × IsSetBehind w.number w.step set line events later × IsBehind w.step set line events new.step why
+ExplainsLine before after w set line new later (Ok false) = (events : List Event) × Appends before after (printing events) × Faults w.number (is_first w.step) line events
+ExplainsLine before after w set line new later (Err stop.Write) =
+    Keeps before after ⊎ ((events : List Event) × (why : List ℕ) × (end : Option JobValue) × LeadsTo w.number w.step line events end × IsBehind w.step set line events end why × AppendsFront before after (printing events ++ why))
+ExplainsLine before after w set line new later (Err stop.Memory) = (events : List Event) × Appends before after (printing events) × StopsForMemory w.number w.step (line ∷ []) events
 
 -- What stands between two moments of a writer is written behind the lines before, in whatever way the run stops behind it.
-abbrev pub SoFar : Option (List ℕ) → Option (List ℕ) → List ℕ → ℕ → Option JobValue → List ℕ → Type 0
-SoFar before after script number step left =
+abbrev pub SoFar : Option (List ℕ) → Option (List ℕ) → List ℕ → ℕ → Option JobValue → SetLines → List ℕ → Type 0
+SoFar before after script number step set left =
     (written : List ℕ) × Appends before after written
-    × ((how : Result Outcome Stop) (text : List ℕ) → Explains how number step (lines_of left) text → Explains how 1 None (lines_of script) (written ++ text))
+    × ((how : Result Outcome Stop) (text : List ℕ) → Explains how number step set (lines_of left) text → Explains how 1 None no_lines (lines_of script) (written ++ text))

@@ -1,4 +1,4 @@
--- What is told of the subpools that go with a task that ends.
+-- What is told of the subpools that go with a task that ends, and of those that stay.
 use Rattle.std.specs.Prelude.{◌≡◌, ◌⊎◌, ℕ, Bool, true, false, not, List, [], ◌∷◌, Option, Some, None, if◌then◌else◌}
 use Rattle.std.specs.List.{flat_map}
 use Rattle.mvs_model.specs.declared.name.Name.{Name}
@@ -9,15 +9,16 @@ use Rattle.mvs_model.specs.declared.line.Statement.{Statement}
 use Rattle.mvs_model.specs.declared.line.Statement.TheVariants as says
 use Rattle.mvs_model.specs.declared.line.Written.TheVariants.{Obtain, ObtainList, Release, ReleaseArea, ReleaseList, Return}
 use Rattle.mvs_model.specs.declared.reason.Reason.{Reason}
-use Rattle.mvs_model.specs.declared.reason.Reason.TheVariants.{NotActive, NotSet, Shortage, NoMember, NoSubpool, NotHeld, Overlap, NoFreeCell}
+use Rattle.mvs_model.specs.declared.reason.Reason.TheVariants.{NotActive, NotSet, Shortage, NoMember, NoMemberBehind, NoSubpool, NotHeld, Overlap, NoFreeCell}
 use Rattle.mvs_model.specs.Codes.{is_conditional}
 use Rattle.mvs_model.specs.Answers.{Answer, Ended, Abended, Event, Told}
 use Rattle.mvs_model.specs.Job.{JobValue}
 use Rattle.mvs_model.specs.Owners.{goes}
 use Rattle.mvs_model.specs.Reading.{LineOf, FaultOf}
+use Rattle.mvs_model.specs.State.{State}
 use Rattle.step_machine.specs.Facts.{owned_subpools}
 use Rattle.step_machine.specs.declared.facts.OwnedSubpool.{OwnedSubpool}
-use Rattle.job_script.specs.FactTexts.{freed_line}
+use Rattle.job_script.specs.FactTexts.{freed_line, stays_line}
 use Rattle.mvs_job.specs.Why.{OfLine}
 use Rattle.mvs_job.specs.declared.ends.Asked.{Asked}
 
@@ -32,9 +33,9 @@ abbrev pub ended_by : List Event → Option (Name × List Name)
 ended_by (Told number t answer ∷ []) = end_of t answer
 ended_by _ = None
 
--- what is printed of a subpool at an end: nothing where its owner stays
+-- what is printed of a subpool at an end: that it goes, or that it stays where the task that ends shared it
 abbrev pub subpool_line : Name × List Name → OwnedSubpool → List ℕ
-subpool_line e s = if goes e.0 e.1 s.owner then freed_line s.number s.owner s.bytes s.pages else []
+subpool_line e s = if goes e.0 e.1 s.owner then freed_line s.number s.owner s.bytes s.pages else if s.had then stays_line s.number s.owner e.0 else []
 
 -- what is printed of the subpools at an end, if there is one
 abbrev pub freed_lines : List OwnedSubpool → Option (Name × List Name) → List ℕ
@@ -67,6 +68,7 @@ ends_told s (NotSet name) = false
 ends_told s NoFreeCell = false
 ends_told s (Shortage room) = not (asks_for_code s)
 ends_told s (NoMember k bytes room) = not (asks_for_code s)
+ends_told s (NoMemberBehind k bytes room) = not (asks_for_code s)
 ends_told s (NoSubpool keeper) = not (asks_for_code s)
 ends_told s (NotHeld a holder) = not (asks_for_code s)
 ends_told s (Overlap one other a) = not (asks_for_code s)
@@ -82,20 +84,26 @@ abbrev pub may_end : Line → Option Reason → Bool
 may_end line.Nothing r = false
 may_end (line.Statement t s) r = statement_ends s r
 
--- The text says which subpools go, with which tasks, where the next line tells these events: by the step before it.
+-- the subpools that are looked at before a line
+abbrev pub surveyed : State → Line → List OwnedSubpool
+surveyed st line.Nothing = []
+surveyed st (line.Statement t s) = owned_subpools st t
+
+-- The text says which subpools go, with which tasks, and which stay, where the next line tells these events: by the step before it.
 abbrev pub IsFreeing : Option JobValue → List ℕ → List Event → List ℕ → Type 0
 IsFreeing None bytes events text = text ≡ []
 IsFreeing (Some job) bytes events text =
-    ((l : Line) × LineOf false bytes l × ((r : Option Reason) × OfLine job l r × (text ≡ freed_by (may_end l r) (owned_subpools job.state) events)))
+    ((l : Line) × LineOf false bytes l × ((r : Option Reason) × OfLine job l r × (text ≡ freed_by (may_end l r) (surveyed job.state l) events)))
     ⊎ ((fault : Fault) × FaultOf false bytes fault × (text ≡ []))
 
--- What the next line is asked for: its reason, and whether it may end its task.
-abbrev pub IsAsked : Option JobValue → List ℕ → Asked → Type 0
-IsAsked None bytes asked = asked.ends ≡ false
-IsAsked (Some job) bytes asked =
-    ((l : Line) × LineOf false bytes l × OfLine job l asked.reason × (asked.ends ≡ may_end l asked.reason))
+-- What the next line, which was read as this, is asked for: its reason, and whether it may end its task.
+abbrev pub IsAsked : Option JobValue → List ℕ → Line → Asked → Type 0
+IsAsked None bytes read asked = asked.ends ≡ false
+IsAsked (Some job) bytes read asked =
+    (LineOf false bytes read × OfLine job read asked.reason × (asked.ends ≡ may_end read asked.reason))
     ⊎ ((fault : Fault) × FaultOf false bytes fault × (asked.ends ≡ false))
 
--- The subpools are those that the tasks of the step own, if they were asked for.
-abbrev pub IsSurvey : Bool → Option JobValue → List OwnedSubpool → Type 0
-IsSurvey asked step subpools = asked ≡ true → (job : JobValue) → step ≡ Some job → subpools ≡ owned_subpools job.state
+-- The subpools are those that the tasks of the step own, if they were asked for before a statement.
+abbrev pub IsSurvey : Bool → Option JobValue → Line → List OwnedSubpool → Type 0
+IsSurvey asked step read subpools =
+    asked ≡ true → (job : JobValue) → step ≡ Some job → (t : Name) (s : Statement) → read ≡ line.Statement t s → subpools ≡ owned_subpools job.state t

@@ -1,7 +1,10 @@
+pub mod Apart
 pub mod Exchanging
 pub mod Facts
+pub mod Granting
 pub mod Explaining
 pub mod Giving
+pub mod Naming
 pub mod Serving
 pub mod Sessions
 pub mod Steady

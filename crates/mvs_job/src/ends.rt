@@ -11,9 +11,10 @@ ghost use Rattle.job_script.specs.Writing.{Prints};
 ghost use Rattle.mvs_job.specs.Telling.{IsLent, events_told};
 ghost use Rattle.mvs_job.specs.Facts.{IsSurvey, asks_for_code, end_of, ends_told, ends_untold, freed_by, freed_lines, statement_ends, subpool_line};
 
+use crate::granting::Before;
 use crate::job::Job;
 use crate::walk::{LineTold, Walk};
-use job_script::print_freed;
+use job_script::{print_freed, print_stays};
 use mvs_model::answer::Answer;
 use mvs_model::code::Form;
 use mvs_model::line::{Statement, Written};
@@ -21,7 +22,7 @@ use mvs_model::name::Name;
 use mvs_model::numbers::MOST_SUBPOOLS;
 use mvs_model::reason::Reason;
 use mvs_model::short_list::ShortList;
-use mvs_model::subpool::{SubNo, SubpoolId};
+use mvs_model::subpool::SubNo;
 use mvs_model::watched::{Failed, Watched};
 use std::io::Write;
 use step_machine::OwnedSubpool;
@@ -33,6 +34,8 @@ pub(crate) struct Asked {
     pub(crate) reason: Option<Reason>,
     /// Whether it may end its task.
     pub(crate) ends: bool,
+    /// What is looked at before its request, where it is told what that did.
+    pub(crate) before: Option<Before>,
 }
 
 impl Asked {
@@ -40,10 +43,12 @@ impl Asked {
     pub(crate) fn nothing() -> Asked
         ensures reason { result.reason ≡ None }
         ensures ends { result.ends ≡ false }
+        ensures before { result.before ≡ None }
     {
         Asked {
             reason: None,
             ends: false,
+            before: None,
         }
     }
 }
@@ -93,6 +98,7 @@ fn ends_told(statement: &Statement, reason: &Reason) -> bool
         Reason::NotActive | Reason::NotSet(_) | Reason::NoFreeCell => false,
         Reason::Shortage(_)
         | Reason::NoMember(..)
+        | Reason::NoMemberBehind(..)
         | Reason::NoSubpool(_)
         | Reason::NotHeld(..)
         | Reason::Overlap(..) => !asks_for_code(statement),
@@ -122,36 +128,26 @@ pub(crate) fn no_subpools() -> OwnedSubpools
         owner: Name::of(b"NONE"),
         bytes: 0,
         pages: 0,
+        had: false,
     })
 }
 
-// All subpools that tasks own.
-fn owned_subpools(job: &Job) -> OwnedSubpools
-    ensures { result ≡ owned_subpools job.now.state }
+/// Puts all subpools that tasks own in the place of others, and whether a task has them.
+pub(crate) fn put_owned(job: &Job, task: &Name, subpools: &mut OwnedSubpools)
+    ensures { subpools.new ≡ owned_subpools job.now.state task.now }
 {
-    let mut subpools = no_subpools();
-    for s in 0..MOST_SUBPOOLS {
-        if let Some(subpool) = job.owned(SubpoolId::new(s as u16)) {
+    subpools.clear();
+    let mut from = 0;
+    while let Some(next) = job.next_owned(from) {
+        if let Some(subpool) = job.owned(next, task) {
             subpools.push(subpool);
         }
-    }
-    subpools
-}
-
-/// Takes the subpools that the tasks of the step own, if they are asked for.
-pub(crate) fn survey(walk: &Walk, asked: bool, subpools: &mut OwnedSubpools)
-    ensures { IsSurvey asked walk.now.step subpools.new }
-{
-    if !asked {
-        return;
-    }
-    if let Some(job) = walk.job() {
-        *subpools = owned_subpools(job);
+        from = next.get() + 1;
     }
 }
 
-// Whether two names are the same.
-fn is_same(one: &Name, other: &Name) -> bool
+/// Whether two names are the same.
+pub(crate) fn is_same(one: &Name, other: &Name) -> bool
     ensures { result ≡ same_name one.now other.now }
 {
     *one == *other
@@ -178,16 +174,19 @@ fn print_subpool<W: Write>(
     ensures { Prints W.contents writer.old writer.new result
         (subpool_line (task.now, fallen.now) subpool.now) }
 {
-    if !goes(task, fallen, &subpool.owner) {
-        return Ok(());
+    if goes(task, fallen, &subpool.owner) {
+        return print_freed(
+            writer,
+            subpool.number,
+            &subpool.owner,
+            subpool.bytes,
+            subpool.pages,
+        );
     }
-    print_freed(
-        writer,
-        subpool.number,
-        &subpool.owner,
-        subpool.bytes,
-        subpool.pages,
-    )
+    if subpool.had {
+        return print_stays(writer, subpool.number, &subpool.owner, task);
+    }
+    Ok(())
 }
 
 // Prints which subpools go with a task and those that fall with it.

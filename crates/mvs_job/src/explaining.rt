@@ -1,71 +1,44 @@
 //! Runs a script with reasons: behind what a line tells stands why its request is refused, and what goes where it ends a task.
 
-ghost use Rattle.std.specs.Prelude.{◌≡◌, ◌≢◌, ◌<◌, ◌≤◌, ◌+◌, ◌^◌, ◌∷◌, ◌++◌, ℕ, List, length, take, drop, slice_index, true, OnOk, IfOk, IsErrOf, MatchOption};
+ghost use Rattle.std.specs.Prelude.{◌≡◌, ◌≢◌, ◌<◌, ◌≤◌, ◌+◌, ◌^◌, ◌∷◌, ℕ, List, length, take, drop, slice_index, true, OnOk, IfOk, IsErrOf, MatchOption};
 ghost use Rattle.mvs_model.specs.Lines.{lines_of};
 ghost use Rattle.mvs_model.specs.Numbers.{most_script_bytes};
-ghost use Rattle.job_script.specs.Writing.{Prints};
-ghost use Rattle.mvs_job.specs.Explaining.{Annotates, ExplainsLine, WritesExplained, said_of};
-ghost use Rattle.mvs_job.specs.Facts.{freed_by};
-ghost use Rattle.mvs_job.specs.Telling.{IsLent, events_told};
+ghost use Rattle.mvs_job.specs.Explaining.{Annotates, ExplainsLine, WritesExplained};
 ghost use Rattle.std.specs.Io.KnownBytes.{Appends};
 
-use crate::ends::{Asked, OwnedSubpools, no_subpools, print_frees, survey};
-use crate::printing::{Stop, print_closing, tell_line};
+use crate::asking::Asking;
+use crate::printing::{Stop, print_closing};
 use crate::walk::{LineTold, Walk};
-use crate::why::Why;
 use memchr::memchr;
 use mvs_model::outcome::Outcome;
 use mvs_model::want::Placement;
-use mvs_model::watched::{Failed, Watched};
+use mvs_model::watched::Watched;
 use std::alloc::Global;
 use std::io::Write;
-use step_machine::OwnedSubpool;
 
-// Prints why a line is refused that told this, and which subpools go where it ended a task.
-fn print_behind<W: Write>(
-    writer: &mut Watched<W>,
-    why: &Why,
-    asked: &Asked,
-    subpools: &[OwnedSubpool],
-    walk: &Walk,
-    told: &LineTold,
-) -> Result<(), Failed>
-    requires { IsLent walk.now told.now }
-    ensures { (number : ℕ)
-        → Prints W.contents writer.old writer.new result
-        (said_of why.now.read why.now.request asked.now.reason
-        ++ freed_by asked.now.ends subpools.now (events_told number walk.now told.now)) }
-{
-    why.print(writer, &asked.reason)?;
-    print_frees(writer, asked.ends, walk, told, subpools)
-}
-
-// Serves one line, and prints what it tells, why it is refused, and which subpools go where it ends a task. Answers whether the
-// job goes on.
+// Serves one line, and prints what it tells, why it is refused, which subpools go where it ends a task, and what it did where it
+// was granted. Answers whether the job goes on.
 fn explain_line<W: Write>(
-    why: &mut Why,
-    subpools: &mut OwnedSubpools,
+    asking: &mut Asking,
     walk: &mut Walk,
     line: &[u8],
     writer: &mut Watched<W>,
 ) -> Result<bool, Stop>
     requires { walk.old.number + 1 < 2 ^ 32 }
     ensures ran { ExplainsLine (W.contents writer.old.inner) (W.contents writer.new.inner) walk.old
-        line.now walk.new result }
+        asking.old.lines line.now walk.new asking.new.lines result }
     ensures number { walk.new.number ≡ walk.old.number + 1 }
     ensures ok { OnOk result (writer.new.failed ≡ writer.old.failed) }
     ensures write { IsErrOf result Stop.Write → writer.new.failed ≡ true }
 {
-    let asked = why.ask(walk, line);
-    survey(walk, asked.ends, subpools);
-    let told = match tell_line(walk, line, &[], writer) {
+    let told = match asking.tell(walk, line, writer) {
         Ok(told) => told,
         Err(stop) => return Err(stop),
     };
     if let LineTold::Faulted(_) = told {
         return Ok(false);
     }
-    match print_behind(writer, why, &asked, subpools.as_slice(), walk, &told) {
+    match asking.print_behind(walk, &told, writer) {
         Ok(()) => Ok(true),
         Err(_) => Err(Stop::Write),
     }
@@ -95,7 +68,8 @@ pub fn line_end(script: &[u8]) -> usize
 }
 
 /// Runs a script, and prints behind what a line tells lines that begin with `*`: one that says why its request is refused, if it
-/// is and there is a reason, and one for each subpool that goes with a task that it ends. It takes 16,777,215 bytes at most.
+/// is and there is a reason, one that says which name has the address of that in its place, if one has, and one for each subpool
+/// that goes with a task that it ends. It takes 16,777,215 bytes at most.
 pub fn explain_script<W: Write>(
     alloc: Global,
     script: &[u8],
@@ -103,7 +77,8 @@ pub fn explain_script<W: Write>(
     placement: Placement,
 ) -> Result<Outcome, Stop>
     requires { length script.now ≤ most_script_bytes }
-    // Each reason stands behind what its line tells, and is that of the step before the line; so are the subpools that go.
+    // Each reason stands behind what its line tells, and is that of the step before the line; so are the names and the subpools
+    // that go.
     ensures explained { WritesExplained (W.contents writer.old.inner)
         (W.contents writer.new.inner) script.now result }
     // Without the lines that begin with an asterisk it is the printing of a run without these.
@@ -114,13 +89,12 @@ pub fn explain_script<W: Write>(
     ensures write { IsErrOf result Stop.Write → writer.new.failed ≡ true }
 {
     let mut walk = Walk::new(alloc, placement);
-    let mut why = Why::new();
-    let mut subpools = no_subpools();
+    let mut asking = Asking::new(alloc);
     let mut at = 0;
     'lines: while at < script.len() {
         let rest = &script[at..];
         let end = line_end(rest);
-        match explain_line(&mut why, &mut subpools, &mut walk, &rest[..end], writer) {
+        match explain_line(&mut asking, &mut walk, &rest[..end], writer) {
             Ok(true) => at += end + 1,
             Ok(false) => return Ok(Outcome::ScriptFault),
             Err(stop) => return Err(stop),

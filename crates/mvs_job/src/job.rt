@@ -11,22 +11,26 @@ ghost use Rattle.mvs_model.specs.Job.{JobValue, job_at};
 ghost use Rattle.mvs_model.specs.Lent.{fallen_in, lent};
 ghost use Rattle.mvs_model.specs.Lines.{IsStatement, IsWritten};
 ghost use Rattle.mvs_model.specs.Memory.{SetsName, TakesMemory};
-ghost use Rattle.mvs_model.specs.Numbers.{most_shown, subpool_numbers};
+ghost use Rattle.mvs_model.specs.Numbers.{most_shown, most_subpools, subpool_numbers};
 ghost use Rattle.mvs_model.specs.Owners.{is_active};
 ghost use Rattle.mvs_model.specs.Place.{PlaceValue};
+ghost use Rattle.mvs_model.specs.Newest.{IsNewest};
+ghost use Rattle.mvs_model.specs.Pools.{Pool};
+ghost use Rattle.step_machine.specs.Standing.{free_above, free_below, label_had, label_meant};
 ghost use Rattle.mvs_model.specs.Replies as replies;
 ghost use Rattle.mvs_model.specs.declared.reason.Reason.TheVariants.{NotSet};
 ghost use Rattle.mvs_model.specs.Resolving.{first_unset, looked_up, resolved};
 ghost use Rattle.mvs_model.specs.Runs.{Asks, Does};
 ghost use Rattle.mvs_model.specs.State.{State};
 ghost use Rattle.mvs_model.specs.View.{IsBounded};
+ghost use Rattle.mvs_model.specs.NextOwned.{IsNextOwned};
 ghost use Rattle.step_machine.specs.Facts.{owned_at};
 ghost use Rattle.step_machine.specs.Taking.{Takes};
 ghost use Rattle.step_machine.specs.Reports.{HasNone, IsMapEnd, IsMapRun, IsSubpoolLine};
 ghost use Rattle.mvs_job.specs.Telling.{IsLentBy, card_said};
 ghost use Rattle.mvs_job.specs.Explaining.{SpeaksOf};
 ghost use Rattle.mvs_job.specs.Valued.{BuildsInRange, MayWrite, Requests};
-ghost use Rattle.mvs_job.specs.Why.{OfStatement};
+ghost use Rattle.mvs_job.specs.Why.{OfStatement, TurnWritten};
 
 use job_script::{Names, resolve, set_names, unset};
 use mvs_model::answer::Answer;
@@ -36,13 +40,13 @@ use mvs_model::line::{Statement, Written};
 use mvs_model::name::Name;
 use mvs_model::place::{Addr, Place};
 use mvs_model::reason::Reason;
-use mvs_model::report::{MapRun, SubpoolLine};
+use mvs_model::report::{MapRun, Newest, SubpoolLine};
 use mvs_model::request::{Reply, Request};
-use mvs_model::subpool::SubpoolId;
+use mvs_model::subpool::{SubNo, SubpoolId};
 use mvs_model::want::Placement;
 use std::alloc::Global;
 use std::marker::Model;
-use step_machine::{OwnedSubpool, Step};
+use step_machine::{FreePages, OwnedSubpool, Step};
 
 /// A step with the names that it has set, and what became of the former steps.
 #[derive(Drop)]
@@ -237,11 +241,59 @@ impl Job {
         self.step.map_run(from)
     }
 
-    /// A subpool, where a task owns it.
-    pub fn owned(&self, subpool: SubpoolId) -> Option<OwnedSubpool>
-        ensures { result ≡ owned_at self.now.state subpool }
+    /// The first subpool from a number on that a task owns.
+    pub fn next_owned(&self, from: u16) -> Option<SubpoolId>
+        requires { from ≤ most_subpools }
+        ensures { IsNextOwned self.now.state.owners from result }
     {
-        self.step.owned(subpool)
+        self.step.next_owned(from)
+    }
+
+    /// A subpool, where a task owns it, and whether another task has it.
+    pub fn owned(&self, subpool: SubpoolId, task: &Name) -> Option<OwnedSubpool>
+        ensures { result ≡ owned_at self.now.state task.now subpool }
+    {
+        self.step.owned(subpool, task)
+    }
+
+    /// How many pages of each region hold nothing.
+    pub fn free_pages(&self) -> FreePages
+        ensures below { result.below ≡ free_below self.now.state }
+        ensures above { result.above ≡ free_above self.now.state }
+    {
+        self.step.free_pages()
+    }
+
+    /// The subpool that an active task means by a number that a program may name: the number under which its owner has it, and
+    /// the owner.
+    pub fn label_meant(&self, task: &Name, number: u8) -> Option<(SubNo, Name)>
+        ensures { result ≡ label_meant self.now.state.owners task.now number }
+    {
+        self.step.label_meant(task, number)
+    }
+
+    /// The subpool that an active task has under a number, said in the same way.
+    pub fn label_had(&self, task: &Name, number: SubNo) -> Option<(SubNo, Name)>
+        ensures { result ≡ label_had self.now.state.owners task.now number }
+    {
+        self.step.label_had(task, number)
+    }
+
+    /// How many parts the pool of this name has, and which was put to it last. None where no pool has the name.
+    pub fn newest(&self, pool: &Name) -> Option<Newest>
+        ensures { MatchOption result (get self.now.state.pools pool.now ≡ None)
+            (λ newest. (kept : Pool) × (get self.now.state.pools pool.now ≡ Some kept)
+            × IsNewest kept newest) }
+    {
+        self.step.newest(pool)
+    }
+
+    /// Whether each name that a request looks up is set: then `request` is what is asked for, written over another.
+    pub fn request_of(&self, written: &Written, request: &mut Request) -> Option<()>
+        ensures { MatchOption result (resolved self.now.names written.now ≡ None)
+            (λ _. resolved self.now.names written.now ≡ Some request.new) }
+    {
+        resolve(&self.names, written, request)
     }
 
     /// Why a statement of the step is refused, if it is, asked before it is served. The request that it asks for is written
@@ -268,6 +320,20 @@ impl Job {
             return unset_reason(&self.names, written);
         };
         self.step.reason(task, request)
+    }
+
+    /// Why a task's request for a list is refused, if its members in front are granted, asked before it is served. They are granted
+    /// and taken back.
+    pub fn turn(&mut self, task: &Name, written: &Written, request: &mut Request) -> Option<Reason>
+        ensures turn { TurnWritten self.old task.now written.now result }
+        ensures unchanged { self.new ≡ self.old }
+    {
+        let active = self.step.is_active(task);
+        if !active {
+            return None;
+        }
+        resolve(&self.names, written, request)?;
+        self.step.turn(task, request)
     }
 
     /// Serves a request that is given by values, and writes the reply to it over another one. It sets no name.
@@ -320,7 +386,8 @@ impl Job {
 
     /// Serves a statement of the step, which is not REGION. The request that it asks for and the reply to that are written over
     /// `request` and `reply`, which are long; the reply has the names of the tasks that ended with one that abended. An area that
-    /// is granted lies at the address that is told, where the machine allows that; those of a list lie each at its own.
+    /// is granted lies at the address that is told, where the machine allows that; those of a list lie each at its own, and so does a
+    /// cell.
     pub fn serve(
         &mut self,
         task: &Name,

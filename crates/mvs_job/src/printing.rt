@@ -5,7 +5,7 @@ ghost use Rattle.mvs_model.specs.declared.name.Name.{Name as TaskName};
 ghost use Rattle.mvs_model.specs.Lent.{lent};
 ghost use Rattle.mvs_model.specs.Texts.{answer_text, printing};
 ghost use Rattle.job_script.specs.Writing.{Prints};
-ghost use Rattle.mvs_job.specs.Serving.{RunsLine, TellsLine};
+ghost use Rattle.mvs_job.specs.Serving.{RunsLine, ServesOrStops, TellsLine};
 ghost use Rattle.mvs_job.specs.Telling.{IsLent, IsLentBy, closing, ended, events_told};
 
 use crate::job::Job;
@@ -103,6 +103,31 @@ pub fn print_line<W: Write>(
     }
 }
 
+/// Serves one line. Where memory is wanting it prints what is told before the answer.
+#[inline(always)]
+pub(crate) fn serve_line<W: Write>(
+    walk: &mut Walk,
+    line: &[u8],
+    told: &[Addr],
+    writer: &mut Watched<W>,
+) -> Result<LineTold, Stop>
+    requires { walk.old.number + 1 < 2 ^ 32 }
+    ensures ran { ServesOrStops (W.contents writer.old.inner) (W.contents writer.new.inner) walk.old
+        line.now walk.new result }
+    ensures lent { IfOk result (IsLent walk.new) }
+    ensures number { walk.new.number ≡ walk.old.number + 1 }
+    ensures ok { OnOk result (writer.new ≡ writer.old) }
+    ensures write { IsErrOf result Stop.Write → writer.new.failed ≡ true }
+{
+    match walk.line(line, told) {
+        Ok(told) => Ok(told),
+        Err(stopped) => match print_ended(writer, stopped.ended) {
+            Ok(()) => Err(Stop::Memory),
+            Err(_) => Err(Stop::Write),
+        },
+    }
+}
+
 /// Serves one line, prints what it tells, and answers that.
 #[inline(always)]
 pub fn tell_line<W: Write>(
@@ -120,15 +145,13 @@ pub fn tell_line<W: Write>(
     ensures write { IsErrOf result Stop.Write → writer.new.failed ≡ true }
 {
     let line_number = walk.number();
-    match walk.line(line, told) {
-        Ok(told) => match print_line(writer, line_number, walk, &told) {
-            Ok(()) => Ok(told),
-            Err(_) => Err(Stop::Write),
-        },
-        Err(stopped) => match print_ended(writer, stopped.ended) {
-            Ok(()) => Err(Stop::Memory),
-            Err(_) => Err(Stop::Write),
-        },
+    let told = match serve_line(walk, line, told, writer) {
+        Ok(told) => told,
+        Err(stop) => return Err(stop),
+    };
+    match print_line(writer, line_number, walk, &told) {
+        Ok(()) => Ok(told),
+        Err(_) => Err(Stop::Write),
     }
 }
 

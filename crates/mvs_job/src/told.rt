@@ -5,8 +5,9 @@ use mvs_model::place::Addr;
 use std::alloc::Global;
 use std::collections::HashMap;
 
-/// Addresses for the areas that lines are granted: of a line that asks for one area its address, of one that asks for a list those
-/// of its areas in their order. No other line heeds what is told of it.
+/// Addresses for the areas and cells that lines are granted: of a line that asks for one area its address, of one that asks for a list
+/// those of its areas in their order, of CPOOL BUILD that of the pool's first cell, of CPOOL GET that of the cell and, behind it, that
+/// of the first cell of a part that is put for it. No other line heeds what is told of it.
 #[derive(Drop)]
 pub struct Told {
     lines: HashMap<u32, Vec<Addr>>,

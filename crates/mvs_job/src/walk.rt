@@ -12,16 +12,18 @@ ghost use Rattle.mvs_model.specs.Walk.{Closes, has_abended, is_first};
 ghost use Rattle.step_machine.specs.Taking.{Takes};
 ghost use Rattle.mvs_job.specs.Telling.{IsLent, IsLentBy, IsToldBy, card_said, closing, end_told, ended, new_walk};
 ghost use Rattle.mvs_job.specs.Valued.{RequestsOf, WritesOf};
+ghost use Rattle.mvs_job.specs.Why.{TurnWritten};
 
 use crate::job::Job;
 use job_script::read_line;
 use mvs_model::answer::Answer;
 use mvs_model::card::Card;
 use mvs_model::error::OutOfMemory;
-use mvs_model::line::{Fault, Line, Statement};
+use mvs_model::line::{Fault, Line, Statement, Written};
 use mvs_model::name::Name;
 use mvs_model::outcome::Outcome;
 use mvs_model::place::{Addr, Place};
+use mvs_model::reason::Reason;
 use mvs_model::request::{Reply, Request};
 use mvs_model::want::Placement;
 use std::alloc::Global;
@@ -225,6 +227,19 @@ impl Walk {
         }
     }
 
+    /// Why a task's request for a list is refused, if its members in front are granted; None where no step runs. The job stands as
+    /// before.
+    pub fn turn(&mut self, task: &Name, written: &Written, request: &mut Request) -> Option<Reason>
+        ensures turn { MatchOption self.old.step (result ≡ None)
+            (λ job. TurnWritten job task.now written.now result) }
+        ensures unchanged { self.new ≡ self.old }
+    {
+        match &mut self.job {
+            Some(job) => job.turn(task, written, request),
+            None => None,
+        }
+    }
+
     /// Writes bytes over those of a place, and answers whether it did: not where no step runs, nor where one of them may not be
     /// written, and then all stay.
     pub fn write(&mut self, place: Place, bytes: &[u8]) -> bool
@@ -237,8 +252,8 @@ impl Walk {
         }
     }
 
-    /// Serves one line, which is given without its end. The areas that it is granted lie at the addresses that are told, where the
-    /// machine allows that.
+    /// Serves one line, which is given without its end. The areas and cells that it is granted lie at the addresses that are told,
+    /// where the machine allows that.
     pub fn line(&mut self, line: &[u8], told: &[Addr]) -> Result<LineTold, Stopped>
         requires { self.old.number + 1 < 2 ^ 32 }
         ensures told { MatchResult result (λ answered. IsToldBy (Takes told.now) self.old line.now answered self.new)

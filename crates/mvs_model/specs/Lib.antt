@@ -1,6 +1,8 @@
 -- The machine: its numbers, its types' values, storage, owners, pools, steps.
 pub mod Numbers
 pub mod Name
+pub mod Newest
+pub mod NextOwned
 pub mod Place
 pub mod Subpool
 pub mod Want
@@ -8,6 +10,7 @@ pub mod Card
 pub mod Gifts
 pub mod Codes
 pub mod Storage
+pub mod FreeRuns
 pub mod Owners
 pub mod Pools
 pub mod State

@@ -19,19 +19,20 @@ use Rattle.mvs_model.specs.declared.reason.CellSpot.{CellSpot}
 use Rattle.mvs_model.specs.declared.reason.CellSpot.TheVariants.{Untaken, Inside, Elsewhere}
 use Rattle.mvs_model.specs.declared.reason.Room.{Room}
 use Rattle.mvs_model.specs.declared.reason.Reason.{Reason}
-use Rattle.mvs_model.specs.declared.reason.Reason.TheVariants.{NotActive, InvalidNumber, NotSet, Shortage, NoMember, NoPart, OffDoubleword, NoSubpool, NotHeld, Overlap, WholeOfZero, PoolInUse, TooManyPools, NoPool, NoFreeCell, NoTakenCell, TaskInUse, TooManyTasks, NotOwned, ActiveSubtask, Asked, NoAccess}
+use Rattle.mvs_model.specs.declared.reason.Reason.TheVariants.{NotActive, InvalidNumber, NotSet, Shortage, NoMember, NoMemberBehind, NoPart, OffDoubleword, NoSubpool, NotHeld, Overlap, WholeOfZero, PoolInUse, TooManyPools, NoPool, NoFreeCell, NoTakenCell, TaskInUse, TooManyTasks, NotOwned, ActiveSubtask, Asked, NoAccess}
 use Rattle.mvs_model.specs.Place.{PlaceValue, place_at}
 use Rattle.mvs_model.specs.Gifts.{GiftsValue, gives}
 use Rattle.mvs_model.specs.declared.want.Side.TheVariants.{Below}
 use Rattle.mvs_model.specs.Want.{WantValue, want_of, fixed_want, side_of}
 use Rattle.mvs_model.specs.Storage.{Regions, Covers, Places, Chosen, NoPlace}
 use Rattle.mvs_model.specs.Finite.{count_below}
+use Rattle.mvs_model.specs.FreeRuns.{free_runs}
 use Rattle.mvs_model.specs.Reports.{page_subpool}
 use Rattle.mvs_model.specs.Owners.{Owners, is_active, entry, owns, IsMother, has_subtask, gives_shared, keeper, subpool_meant, SubpoolOf}
 use Rattle.mvs_model.specs.Pools.{Pool, in_parts, part_want, IsCell, IsFreeCell}
 use Rattle.mvs_model.specs.State.{State, holder, plain, granted}
 use Rattle.mvs_model.specs.Codes.{family, is_conditional, short, bad_subpool, bad_address, not_held, whole_of_zero, pool_in_use, too_many_pools, no_such_pool, no_such_cell, active_subtask, no_access, task_in_use, too_many_tasks, not_owned}
-use Rattle.mvs_model.specs.Changes.{HeldPlain, Misses, Releasable, Granted}
+use Rattle.mvs_model.specs.Changes.{HeldPlain, Misses, Releasable, Granted, GrantTo}
 use Rattle.mvs_model.specs.Steps.{Step, IsRequest, Plan, is_invalid, on_doubleword, whole, residence_of, side_for}
 use Rattle.mvs_model.specs.Numbers.{most_tasks, most_pools, first_page_below, first_page_above}
 
@@ -132,6 +133,7 @@ free_pages st first count = count_below count (λ p. not (is_some (page_subpool 
 -- What room s has for what is wanted.
 pub record IsRoom (st : State) (s : ℕ) (want : WantValue) (room : Room) : Type 0 where
   pub longest : IsLongest st.regions (holder st) s want room.longest
+  pub runs : room.runs ≡ free_runs st.regions (holder st) s want.side
   pub below : room.below ≡ free_pages st first_page_below st.regions.below
   pub above : room.above ≡ free_pages st first_page_above st.regions.above
 
@@ -156,6 +158,21 @@ OfMembers st s [] k r = r ≡ None
 OfMembers st s (want ∷ wants) k r =
     (NoPlace st.regions (holder st) s want × ((room : Room) × IsRoom st s want room × (r ≡ Some (NoMember k want.least room))))
     ⊎ (((p : PlaceValue) × Chosen st.regions (holder st) s want p) × OfMembers st s wants (k + 1) r)
+
+-- Why a task is not granted places under a number for some things wanted, one after another, the first of which has this number in
+-- a list: there are grants for those in front of one behind which it has no place, and this room is left; or none, where there
+-- are grants for all.
+abbrev pub InTurn : State → Name → ℕ → List WantValue → ℕ → Option Reason → Type 0
+InTurn st t number [] k r = r ≡ None
+InTurn st t number (want ∷ wants) k r =
+    ((s : ℕ) × SubpoolOf st.owners t number s × NoPlace st.regions (holder st) s want × ((room : Room) × IsRoom st s want room × (r ≡ Some (NoMemberBehind k want.least room))))
+    ⊎ ((p : PlaceValue) × (mid : State) × GrantTo st t number want p mid × InTurn mid t number wants (k + 1) r)
+
+-- The same of a task's request for a list, where it is one and its number may be named; the others have none.
+abbrev pub IsTurn : State → Name → Request → Option Reason → Type 0
+IsTurn st t (ObtainList form number lengths start) r =
+    MatchBool (is_invalid number) (r ≡ None) (InTurn st (keeper st.owners t number) number (map (λ n. fixed_want n start Below) lengths) 1 r)
+IsTurn st t request r = r ≡ None
 
 -- Why a list is not obtained, but for want of a place for all of it where each member has one by itself.
 abbrev pub OfList : State → Name → ℕ → List WantValue → Option Reason → Type 0
@@ -286,6 +303,7 @@ IsRefusal request NotActive reply = reply ≡ NotRun
 IsRefusal request (NotSet name) reply = ⊥
 IsRefusal request (Shortage room) reply = IsFailure (form_of request) (short (family (form_of request))) reply
 IsRefusal request (NoMember k n room) reply = IsFailure (form_of request) (short (family (form_of request))) reply
+IsRefusal request (NoMemberBehind k n room) reply = IsFailure (form_of request) (short (family (form_of request))) reply
 IsRefusal request (NoPart cells size room) reply = IsFailure (form_of request) (short (family (form_of request))) reply
 IsRefusal request InvalidNumber reply = IsAbend (bad_subpool (family (form_of request)) (obtains request)) reply
 IsRefusal request (OffDoubleword a) reply = IsAbend (bad_address (family (form_of request))) reply

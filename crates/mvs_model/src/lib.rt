@@ -7,6 +7,7 @@ pub mod card;
 pub mod code;
 pub mod error;
 pub mod examples;
+pub mod fact;
 pub mod gifts;
 pub mod laws;
 pub mod line;

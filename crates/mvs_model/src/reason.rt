@@ -33,6 +33,8 @@ pub enum CellSpot {
 pub struct Room {
     /// The greatest length that has a place on the same boundaries and side, 0 where none has.
     pub longest: u32,
+    /// How many free runs the pages have that the subpool has on that side, each inside one page.
+    pub runs: u32,
     /// How many pages of the region below hold nothing.
     pub below: u32,
     /// How many pages of the region above hold nothing.
@@ -52,6 +54,9 @@ pub enum Reason {
     Shortage(Room),
     /// There is no place for a member of a list, by itself: its number in the list, from 1 on, and the length that it wants.
     NoMember(u32, u32, Room),
+    /// There is no place for a member of a list once those in front of it are granted: its number in the list, from 1 on, the length
+    /// that it wants, and the room that is left.
+    NoMemberBehind(u32, u32, Room),
     /// There is no place for a part of so many cells of so many bytes, the first one of a pool or a further one.
     NoPart(u32, u32, Room),
     /// A place begins at this address, which is not on a doubleword.

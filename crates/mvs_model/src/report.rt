@@ -1,7 +1,7 @@
 //! What the reports say.
 
 use crate::name::Name;
-use crate::place::Addr;
+use crate::place::{Addr, Place};
 use crate::subpool::SubNo;
 
 /// A line of REPORT SP: a number that a task has, whether it owns the subpool, and the bytes that the subpool
@@ -22,4 +22,14 @@ pub struct MapRun {
     pub addr: Addr,
     pub len: u32,
     pub holder: Option<(SubNo, Name)>,
+}
+
+/// How many parts a cell pool has, the place of the one that was put to it last and how many cells that has, and the bytes of a
+/// cell.
+#[derive(Clone, Copy, Debug, PartialEq, Eq)]
+pub struct Newest {
+    pub parts: u32,
+    pub place: Place,
+    pub cells: u32,
+    pub cell_size: u32,
 }

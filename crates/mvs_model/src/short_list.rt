@@ -60,6 +60,14 @@ impl<T: Copy, const LEAST: usize, const MOST: usize> ShortList<T, LEAST, MOST> {
         self.len == MOST
     }
 
+    /// Removes all items.
+    pub fn clear(&mut self)
+        requires { LEAST ≡ 0 }
+        ensures { self.new ≡ [] }
+    {
+        self.len = 0;
+    }
+
     /// Puts an item at the end of a list that is not full.
     pub fn push(&mut self, item: T)
         requires { length self.old < MOST }

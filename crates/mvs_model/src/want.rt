@@ -1,6 +1,6 @@
 //! What an obtaining request wants.
 
-ghost use Rattle.std.specs.Prelude.{◌≡◌, ◌≤◌, ◌<◌};
+ghost use Rattle.std.specs.Prelude.{◌≡◌, ◌≤◌, ◌<◌, ◌^◌};
 ghost use Rattle.mvs_model.specs.Want.{WantValue, IsWant, AskValue, IsAsk, want_of, fixed_want};
 
 use crate::bounded::{Exponent, Length};
@@ -179,6 +179,21 @@ impl Ask {
             within: Some(within),
             ..self
         }
+    }
+
+    /// The least length in bytes, as written.
+    pub fn least(&self) -> u32
+        ensures { result ≡ self.now.least }
+    {
+        self.least
+    }
+
+    /// The greatest length in bytes, as written.
+    pub fn most(&self) -> u32
+        ensures most { result ≡ self.now.most }
+        ensures short { result < 2 ^ 31 }
+    {
+        self.most
     }
 
     pub fn loc(&self) -> Loc

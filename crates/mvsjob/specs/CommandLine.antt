@@ -9,7 +9,7 @@ use Rattle.clap.specs.declared.builder.value_parser.ValueParser.TheVariants.{Nam
 use Rattle.mvsjob.specs.declared.choices.Color.{Color}
 use Rattle.mvsjob.specs.declared.choices.Color.TheVariants.{Auto, Always, Never}
 use Rattle.mvsjob.specs.declared.choices.Mode.{Mode}
-use Rattle.mvsjob.specs.declared.choices.Mode.TheVariants.{Run, Check, Judge, Blank, Ask, Random}
+use Rattle.mvsjob.specs.declared.choices.Mode.TheVariants.{Run, Check, Judge, Blank, Ask, Assemble, Random}
 
 -- A value has to be one of these.
 abbrev pub IsOneOf : List Text → ValueParser → Type 0
@@ -51,9 +51,9 @@ value_rule name parser = record (new_rule name) { long = Some name; parser = Som
 abbrev pub versioned : App → App
 versioned a = on_top (λ s. record s { has_version = true }) a
 
--- the command with what is done with the answers that a script says
+-- the command with what is done with a script and the answers that it says
 abbrev pub answers_app : App → App
-answers_app a = with_rule (with_rule a (flag_rule (codes "check"))) (flag_rule (codes "blank"))
+answers_app a = with_rule (with_rule (with_rule a (flag_rule (codes "check"))) (flag_rule (codes "blank"))) (flag_rule (codes "assemble"))
 
 -- with what is asked of the output of another program
 abbrev pub judging_app : App → App
@@ -65,9 +65,11 @@ random_app a = with_rule (with_rule a (value_rule (codes "random") (Unsigned 0 1
 
 -- and with what else a run tells, and how
 abbrev pub telling_app : App → App
-telling_app a = with_rule (with_rule (with_rule (with_rule a (flag_rule (codes "explain"))) (flag_rule (codes "json"))) (flag_rule (codes "strict"))) (flag_rule (codes "interactive"))
+telling_app a =
+    with_rule (with_rule (with_rule (with_rule (with_rule a (flag_rule (codes "explain"))) (flag_rule (codes "json"))) (flag_rule (codes "page")))
+    (flag_rule (codes "strict"))) (flag_rule (codes "interactive"))
 
--- the program's command: a word and thirteen options, which may all be left out, and a version
+-- the program's command: a word and fifteen options, which may all be left out, and a version
 abbrev pub command : Parsers → App
 command ps =
     with_rule (telling_app (with_rule (random_app (judging_app (answers_app
@@ -79,14 +81,16 @@ abbrev pub assigned : Parsers → List Text → Text → Option Text
 assigned ps words name = first_of name (matches_of (command ps) words)
 
 -- A script is made where `--random` has a seed; else an output is judged where `--judge` names one; else the answers of the script
--- are compared where `--check` is said, or left out where `--blank` is, or questions are put in where `--ask` is; else it is run.
-pub record IsMode (random judge check blank ask : Option Text) (mode : Mode) : Type 0 where
+-- are compared where `--check` is said, or left out where `--blank` is, or questions are put in where `--ask` is, or
+-- it is written as a program where `--assemble` is; else it is run.
+pub record IsMode (random judge check blank ask assemble : Option Text) (mode : Mode) : Type 0 where
   pub makes : (seed : Text) → random ≡ Some seed → (recipe : _) × (mode ≡ Random recipe)
   pub judges : (output : Text) → random ≡ None → judge ≡ Some output → mode ≡ Judge
   pub checks : random ≡ None → judge ≡ None → check ≡ Some (codes "true") → mode ≡ Check
   pub blanks : random ≡ None → judge ≡ None → check ≢ Some (codes "true") → blank ≡ Some (codes "true") → mode ≡ Blank
   pub asks : random ≡ None → judge ≡ None → check ≢ Some (codes "true") → blank ≢ Some (codes "true") → ask ≡ Some (codes "true") → mode ≡ Ask
-  pub runs : random ≡ None → judge ≡ None → check ≢ Some (codes "true") → blank ≢ Some (codes "true") → ask ≢ Some (codes "true") → mode ≡ Run
+  pub assembles : random ≡ None → judge ≡ None → check ≢ Some (codes "true") → blank ≢ Some (codes "true") → ask ≢ Some (codes "true") → assemble ≡ Some (codes "true") → mode ≡ Assemble
+  pub runs : random ≡ None → judge ≡ None → check ≢ Some (codes "true") → blank ≢ Some (codes "true") → ask ≢ Some (codes "true") → assemble ≢ Some (codes "true") → mode ≡ Run
 
 -- Answers are coloured where `--color` says `always`, not where it says `never`, and else as it is found out.
 pub record IsColor (said : Option Text) (color : Color) : Type 0 where

@@ -33,6 +33,8 @@ pub enum Mode {
     Blank,
     /// The script is written with questions where its areas lie.
     Ask,
+    /// The script is written as a program for the assembler.
+    Assemble,
     /// A random script is written.
     Random(Recipe),
 }
@@ -51,6 +53,8 @@ pub struct Settings<'a> {
     pub explains: bool,
     /// Whether a run tells its events as lines of JSON.
     pub json: bool,
+    /// Whether a run is written as a page of HTML.
+    pub page: bool,
     /// Whether a run tells each line that was not served.
     pub strict: bool,
     /// Whether a run asks for its lines, and goes on without those that have a fault.

@@ -28,7 +28,9 @@ const LONG: &str = "Examples:
   mvsjob --strict leak.job           and says which lines were not served
   mvsjob                             runs the lines that are typed, until the end of input (Ctrl-D)
   mvsjob --explain leak.job          and says why requests are refused
+  mvsjob --page a.job > a.html       shows storage and tasks behind each statement
   mvsjob --check homework.job        compares the answers behind => with those of the run
+  mvsjob --assemble leak.job         prints a job that asks MVS the same
   mvsjob --random 7 --lines 50 | mvsjob --place high
                                      runs a random script, its areas at the highest places
 
@@ -133,7 +135,7 @@ fn with_place<'a>(command: Command<'a>, alloc: Global) -> Result<Command<'a>, Al
     )
 }
 
-// The command with what is done with the answers that the script says.
+// The command with what is done with the script and the answers that it says.
 fn with_answers<'a>(command: Command<'a>, alloc: Global) -> Result<Command<'a>, AllocError>
     ensures { IfOk result (λ c. app_of c ≡ answers_app (app_of command.entry)) }
 {
@@ -143,11 +145,17 @@ fn with_answers<'a>(command: Command<'a>, alloc: Global) -> Result<Command<'a>, 
         "check",
         "Compares the answers behind => in the script with those of its run, and prints each that differs",
     )?;
-    with_flag(
+    let blanking = with_flag(
         checking,
         alloc,
         "blank",
         "Prints the script with ? for the answers behind =>, and runs nothing",
+    )?;
+    with_flag(
+        blanking,
+        alloc,
+        "assemble",
+        "Prints the script as an HLASM program with its JCL that issues the same macros in the same tasks, and runs nothing",
     )
 }
 
@@ -166,7 +174,7 @@ fn with_judging<'a>(command: Command<'a>, alloc: Global) -> Result<Command<'a>, 
         judging,
         alloc,
         "ask",
-        "Prints the script with a WHERE behind each request for areas, and runs nothing",
+        "Prints the script with a WHERE behind each request for areas or a cell, and runs nothing",
     )
 }
 
@@ -213,7 +221,7 @@ fn with_telling<'a>(command: Command<'a>, alloc: Global) -> Result<Command<'a>, 
         command,
         alloc,
         "explain",
-        "Says behind the answer to a request why it is refused, in a line that begins with *",
+        "Says behind an answer why a request is refused, what a granted one did and what goes at an end, in lines that begin with *",
     )?;
     let printing = with_flag(
         explaining,
@@ -221,8 +229,14 @@ fn with_telling<'a>(command: Command<'a>, alloc: Global) -> Result<Command<'a>, 
         "json",
         "Prints each event of the run as a line of JSON; with --explain also why a request is refused",
     )?;
-    let strict = with_flag(
+    let paging = with_flag(
         printing,
+        alloc,
+        "page",
+        "Prints the run as a page of HTML that shows storage and tasks behind each statement",
+    )?;
+    let strict = with_flag(
+        paging,
         alloc,
         "strict",
         "Says on standard error of each line whose task is not active, or in which a name is not set, what may be meant",
@@ -250,7 +264,7 @@ fn with_color<'a>(command: Command<'a>, alloc: Global) -> Result<Command<'a>, Al
     )
 }
 
-// The command: a word and thirteen options, all of which may be left out.
+// The command: a word and fifteen options, all of which may be left out.
 fn command<'a>(alloc: Global) -> Result<Command<'a>, AllocError>
     ensures { IfOk result (λ c. (ps : Parsers) × AreParsers ps × (app_of c ≡ command ps)) }
 {
@@ -352,7 +366,8 @@ fn mode(matches: &ArgMatches<'_>) -> Mode
         (first_value (found_of matches.now) (codes "judge"))
         (first_value (found_of matches.now) (codes "check"))
         (first_value (found_of matches.now) (codes "blank"))
-        (first_value (found_of matches.now) (codes "ask")) result }
+        (first_value (found_of matches.now) (codes "ask"))
+        (first_value (found_of matches.now) (codes "assemble")) result }
 {
     match matches.get_str("random") {
         Some(_) => Mode::Random(recipe(matches)),
@@ -360,6 +375,7 @@ fn mode(matches: &ArgMatches<'_>) -> Mode
         None if is_set(matches, "check") => Mode::Check,
         None if is_set(matches, "blank") => Mode::Blank,
         None if is_set(matches, "ask") => Mode::Ask,
+        None if is_set(matches, "assemble") => Mode::Assemble,
         None => Mode::Run,
     }
 }
@@ -394,11 +410,14 @@ pub fn settings<'a>(alloc: Global, words: &'a [String]) -> Result<Settings<'a>, 
         (assigned ps (map string_bytes words.entry.now) (codes "judge"))
         (assigned ps (map string_bytes words.entry.now) (codes "check"))
         (assigned ps (map string_bytes words.entry.now) (codes "blank"))
-        (assigned ps (map string_bytes words.entry.now) (codes "ask")) s.mode
+        (assigned ps (map string_bytes words.entry.now) (codes "ask"))
+        (assigned ps (map string_bytes words.entry.now) (codes "assemble")) s.mode
         × (IsTrue s.explains
         ↔ assigned ps (map string_bytes words.entry.now) (codes "explain") ≡ Some (codes "true"))
         × (IsTrue s.json
         ↔ assigned ps (map string_bytes words.entry.now) (codes "json") ≡ Some (codes "true"))
+        × (IsTrue s.page
+        ↔ assigned ps (map string_bytes words.entry.now) (codes "page") ≡ Some (codes "true"))
         × (IsTrue s.strict
         ↔ assigned ps (map string_bytes words.entry.now) (codes "strict") ≡ Some (codes "true"))
         × (IsTrue s.interactive
@@ -423,6 +442,7 @@ pub fn settings<'a>(alloc: Global, words: &'a [String]) -> Result<Settings<'a>, 
         mode: mode(&matches),
         explains: is_set(&matches, "explain"),
         json: is_set(&matches, "json"),
+        page: is_set(&matches, "page"),
         strict: is_set(&matches, "strict"),
         interactive: is_set(&matches, "interactive"),
         color: color(&matches),

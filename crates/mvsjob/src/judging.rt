@@ -3,7 +3,7 @@
 use crate::answers::script;
 use crate::choices::Settings;
 use crate::ending::{Ending, GiveUp};
-use judge::{Judgement, judge, write_difference};
+use judge::{Finding, Judgement, judge, write_difference};
 use mvs_job::RunFault;
 use std::io::{self, ErrorKind, Write};
 use std::{fs, str};
@@ -17,28 +17,32 @@ fn output(rt: &HostRuntime, settings: &Settings<'_>) -> Result<String, GiveUp> {
     }
 }
 
+// The word for what was found.
+fn word_for(finding: Finding) -> &'static str {
+    match finding {
+        Finding::Accepted => "ACCEPTED",
+        Finding::Refused => "REFUSED",
+        Finding::Undecided(_) => "UNDECIDED",
+    }
+}
+
 // Writes what was found, and where the output differs.
 fn write_judgement<W: Write>(
     writer: &mut W,
     judgement: &Judgement,
     output: &str,
 ) -> io::Result<()> {
-    if judgement.agrees {
-        return writeln!(writer, "ACCEPTED");
+    writeln!(writer, "{}", word_for(judgement.finding))?;
+    if judgement.finding == Finding::Accepted {
+        return Ok(());
     }
-    let finding = if judgement.refused {
-        "REFUSED"
-    } else {
-        "UNDECIDED"
-    };
-    writeln!(writer, "{finding}")?;
     if let Ok(text) = str::from_utf8(&judgement.text) {
         write_difference(writer, output, text)?;
     }
-    match judgement.untold {
-        Some(line) if !judgement.refused => writeln!(
+    match judgement.finding {
+        Finding::Undecided(line) => writeln!(
             writer,
-            "where the areas of line {line} of the script lie is not told: ask WHERE behind it"
+            "line {line} of the script may be granted places that no WHERE right behind it asks for, or is a list that may be refused"
         ),
         _ => Ok(()),
     }
@@ -51,8 +55,8 @@ pub fn judge_output(rt: &HostRuntime, settings: &Settings<'_>) -> Result<Ending,
     let judgement = judge(rt.alloc(), script.as_bytes(), output.as_bytes())?;
     match write_judgement(&mut io::writer(rt), &judgement, &output) {
         Ok(()) => Ok(Ending::Judged {
-            accepted: judgement.agrees,
-            refused: judgement.refused,
+            accepted: judgement.finding == Finding::Accepted,
+            refused: judgement.finding == Finding::Refused,
         }),
         Err(_) => Err(GiveUp::Job(RunFault::Write)),
     }

@@ -6,6 +6,7 @@ ghost use Rattle.std.specs.Process.{exit_status};
 ghost use Rattle.mvsjob.specs.Endings.{status_of};
 
 mod answers;
+mod assembled;
 mod choices;
 mod clues;
 mod coloured;
@@ -17,11 +18,13 @@ mod faulty;
 mod json;
 mod judging;
 mod kept;
+mod paged;
 mod piped;
 mod strict;
 mod terminal;
 
 use answers::{check_answers, write_made};
+use assembled::write_assembled;
 use choices::{Mode, Settings};
 use coloured::{Coloured, is_coloured};
 use command_line::{names_files, settings};
@@ -35,6 +38,7 @@ use kept::Kept;
 use mvs_job::{RunFault, Told, run_job};
 use mvs_model::outcome::Outcome;
 use mvs_model::watched::Watched;
+use paged::run_paged;
 use piped::Piped;
 use std::env;
 use std::fs::File;
@@ -151,11 +155,13 @@ fn words(rt: &HostRuntime) -> Result<Vec<String>, GiveUp> {
 fn serve(rt: &HostRuntime, settings: &Settings<'_>) -> Result<Ending, GiveUp> {
     match settings.mode {
         Mode::Run if settings.json => Ok(Ending::Ran(run_json(rt, settings)?)),
+        Mode::Run if settings.page => Ok(Ending::Ran(run_paged(rt, settings)?)),
         Mode::Run if settings.explains => Ok(Ending::Ran(run_explained(rt, settings)?)),
         Mode::Run if settings.strict => run_strict(rt, settings),
         Mode::Run => Ok(Ending::Ran(run_named(rt, settings)?)),
         Mode::Check => check_answers(rt, settings),
         Mode::Judge => judge_output(rt, settings),
+        Mode::Assemble => write_assembled(rt, settings),
         Mode::Blank | Mode::Ask | Mode::Random(_) => write_made(rt, settings),
     }
 }

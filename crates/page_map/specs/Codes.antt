@@ -1,5 +1,6 @@
 -- How a page's subpool is kept: its number, or a number that no subpool has.
-use Rattle.std.specs.Prelude.{◌≡◌, ℕ, ◌<◌, ◌≤◌, ◌⊎◌, Option, Some, None, List, length, map, nat_lt, if◌then◌else◌, slice_index_or}
+use Rattle.std.specs.Prelude.{◌≡◌, ◌==◌, ℕ, ◌<◌, ◌≤◌, ◌⊎◌, Option, Some, None, List, length, map, nat_lt, if◌then◌else◌, slice_index_or}
+use Rattle.std.specs.List.{count_by}
 use Rattle.mvs_model.specs.Numbers.{most_pages_above, most_subpools}
 
 -- the number that stands where a page has no subpool
@@ -13,6 +14,10 @@ decoded code = if nat_lt code most_subpools then Some code else None
 -- the subpools of the pages
 abbrev pub page_owners : List ℕ → List (Option ℕ)
 page_owners codes = map decoded codes
+
+-- how many pages have no subpool
+abbrev pub free_codes : List ℕ → ℕ
+free_codes codes = count_by (λ code. code == free_code) codes
 
 -- Each number is that of a subpool, or the one of none.
 pub record AreCodes (codes : List ℕ) : Type 0 where

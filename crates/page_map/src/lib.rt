@@ -1,9 +1,9 @@
 //! Which subpool each page of a region is assigned to.
 #![tactic(auto)]
 
-ghost use Rattle.std.specs.Prelude.{◌≡◌, ◌<◌, ◌≤◌, ◌↔◌, IsTrue, Some, None, IfOk, IsOk, length, is_some, slice_set, count_by, replicate};
+ghost use Rattle.std.specs.Prelude.{◌≡◌, ◌<◌, ◌≤◌, ◌↔◌, IsTrue, Some, None, IfOk, IsOk, length, is_some, not, slice_set, replicate};
 ghost use Rattle.mvs_model.specs.Numbers.{most_pages_above};
-ghost use Rattle.mvs_model.specs.Finite.{has};
+ghost use Rattle.mvs_model.specs.Finite.{count_below, has};
 ghost use Rattle.mvs_model.specs.Storage.{is_one_of};
 ghost use Rattle.page_map.specs.Owners.{owner_of, is_of, is_usable, IsFirst};
 
@@ -20,17 +20,19 @@ mod codes;
 #[derive(Drop)]
 pub struct PageMap {
     owners: Vec<u16>,
+    // How many of the pages have no subpool.
+    free: usize,
 }
 
 impl Model for PageMap {
-    ghost use Rattle.page_map.specs.Codes.{AreCodes, page_owners};
-    ghost use Rattle.std.specs.Prelude.{ℕ, List, Option};
+    ghost use Rattle.page_map.specs.Codes.{AreCodes, free_codes, page_owners};
+    ghost use Rattle.std.specs.Prelude.{◌≡◌, ℕ, List, Option};
 
     ghost Value = { List (Option ℕ) };
 
     ghost view = { λ m. page_owners m.owners.items };
 
-    ghost invariant = { λ m. AreCodes m.owners.items };
+    ghost invariant = { λ m. AreCodes m.owners.items × (m.free ≡ free_codes m.owners.items) };
 }
 
 impl PageMap {
@@ -43,10 +45,14 @@ impl PageMap {
         if pages == 0 {
             return Ok(PageMap {
                 owners: Vec::new(alloc),
+                free: 0,
             });
         }
         match vec![in alloc; FREE; pages] {
-            Ok(owners) => Ok(PageMap { owners }),
+            Ok(owners) => Ok(PageMap {
+                owners,
+                free: pages,
+            }),
             Err(_) => Err(OutOfMemory),
         }
     }
@@ -57,6 +63,15 @@ impl PageMap {
         ensures most { result ≤ most_pages_above }
     {
         self.owners.len()
+    }
+
+    /// How many pages are not assigned.
+    pub fn free_pages(&self) -> usize
+        ensures free { result
+            ≡ count_below (length self.now) (λ p. not (is_some (owner_of self.now p))) }
+        ensures most { result ≤ most_pages_above }
+    {
+        self.free
     }
 
     /// The subpool that a page is assigned to.
@@ -82,6 +97,7 @@ impl PageMap {
         ensures { self.new ≡ slice_set self.old page (Some subpool) }
     {
         self.owners[page] = subpool.get();
+        self.free -= 1;
     }
 
     /// Gives a page up: it is not assigned then.
@@ -89,7 +105,9 @@ impl PageMap {
         requires { page < length self.old }
         ensures { self.new ≡ slice_set self.old page None }
     {
+        let freed = usize::from(self.owners[page] != FREE);
         self.owners[page] = FREE;
+        self.free += freed;
     }
 
     /// The first page from one on that the subpool may use, or the number of pages; and the subpool that the page is

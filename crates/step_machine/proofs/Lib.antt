@@ -17,3 +17,4 @@ mod Releasing
 mod Reporting
 mod Split
 mod Telling
+mod Turning

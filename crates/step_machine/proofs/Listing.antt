@@ -51,7 +51,7 @@ first_taken_back st mid new s start n rest lengths p e is after g h r =
     (subst (λ l. ShortEach st s (list_wants l start)) (sym e) (inr (p, mid, after, g, h)), taken_back st mid new s _ p is g r)
 
 -- the subpool that a task would have
-bound_some : (o : Owners) (t : Name) (number s : ℕ) → entry o t number ≡ None → (after : Owners) × Binds o t number s after
+pub bound_some : (o : Owners) (t : Name) (number s : ℕ) → entry o t number ≡ None → (after : Owners) × Binds o t number s after
 bound_some o t number s e = let h = enters_some o t number s in (h.0, subst (λ v. MatchOption v (Binds o t number s h.0) (λ _. h.0 ≡ o)) e h.1)
 
 -- as many things are wanted as lengths

@@ -23,6 +23,7 @@ use Rattle.cell_pool.specs.Agree.{Agree}
 use Rattle.cell_pool.specs.Laying.{StandsFor}
 use Rattle.cell_pool.specs.Roots.{Root, pools_of}
 use Rattle.mvs_model.proofs.Seen.{same_holder}
+use Rattle.subpool_store.specs.FreePages.{free_pages as free_in}
 use Rattle.step_machine.specs.Machine.{machine_state}
 use Rattle.step_machine.specs.Reports.{page_holder}
 use Rattle.step_machine.proofs.Reporting.{pages_seen}
@@ -60,15 +61,6 @@ module _ (r : Regions) (held : ℕ → Option ℕ) (s : ℕ) (want : WantValue) 
   longest_told eight None e h = none_is (subst (NoPlace r held s) e h)
   longest_told eight (Some p) e h = longest_is p (subst (λ w. Chosen r held s w p) e h)
 
--- what was looked for
-pub some_chosen : (r : Regions) (held : ℕ → Option ℕ) (s : ℕ) (want : WantValue) (v : Option PlaceValue) → is_some v ≡ true → MatchOption v (NoPlace r held s want) (Chosen r held s want) → (p : PlaceValue) × Chosen r held s want p
-some_chosen r held s want None e h = absurd (let f : false ≡ true = e in cc)
-some_chosen r held s want (Some p) e h = (p, h)
-
-pub none_chosen : (r : Regions) (held : ℕ → Option ℕ) (s : ℕ) (want : WantValue) (v : Option PlaceValue) → is_some v ≡ false → MatchOption v (NoPlace r held s want) (Chosen r held s want) → NoPlace r held s want
-none_chosen r held s want None e h = h
-none_chosen r held s want (Some p) e h = absurd (let f : true ≡ false = e in cc)
-
 -- no page
 pub no_pages : (test : ℕ → Bool) → 0 ≡ count_below 0 test
 unfolding count_below
@@ -91,22 +83,14 @@ module _ (roots : FinMap name_cmp Root) (st : Storage) (o : Owners) (agree : Agr
   pub found_place : (p : PlaceValue) → Chosen st.regions (holder st) s want p → (p : PlaceValue) × Chosen st.regions (state_holder (machine_state roots st o)) s want p
   found_place p c = (p, subst (λ h. Chosen st.regions h s want p) holder_is c)
 
-  pub no_place : (n below above b a : ℕ) → NoPlace st.regions (holder st) s want → IsLongest st.regions (holder st) s want n
-      → b ≡ st.regions.below → a ≡ st.regions.above
-      → below ≡ count_below b (λ p. not (is_some (page_holder st (6 + p)))) → above ≡ count_below a (λ p. not (is_some (page_holder st (4096 + p))))
-      → NoPlace st.regions (state_holder (machine_state roots st o)) s want × IsRoom (machine_state roots st o) s want (record { longest = n; below = below; above = above })
-  no_place n below above b a none longest eb ea fb fa = (
-    subst (λ h. NoPlace st.regions h s want) holder_is none,
-    record { longest = subst (λ h. IsLongest st.regions h s want n) holder_is longest; below = below_is; above = above_is },
-  ) where
-    seen : page_holder st ≡ page_subpool (machine_state roots st o)
-    seen = pages_seen roots st o agree.parts.storage
+  pub longest_seen : (n : ℕ) → IsLongest st.regions (holder st) s want n → IsLongest st.regions (state_holder (machine_state roots st o)) s want n
+  longest_seen n = subst (λ h. IsLongest st.regions h s want n) holder_is
 
-    below_is : below ≡ free_pages (machine_state roots st o) 6 st.regions.below
-    below_is = fb ∙ (λ i. count_below (eb i) (λ p. not (is_some (seen i (6 + p)))))
-
-    above_is : above ≡ free_pages (machine_state roots st o) 4096 st.regions.above
-    above_is = fa ∙ (λ i. count_below (ea i) (λ p. not (is_some (seen i (4096 + p)))))
+-- what is counted of the pages that hold nothing, of so many from one on
+pub pages_free : (roots : FinMap name_cmp Root) (st : Storage) (o : Owners) → Agree roots st → (first n free : ℕ) → free ≡ free_in st first n → free ≡ free_pages (machine_state roots st o) first n
+pages_free roots st o agree first n free counted =
+    let seen : page_holder st ≡ page_subpool (machine_state roots st o) = pages_seen roots st o agree.parts.storage in
+    counted ∙ (λ i. count_below n (λ p. not (is_some (seen i (first + p)))))
 
 -- what is found for a thing is found for another one for which it stands
 module _ (r : Regions) (bounded : IsBounded r) (held : ℕ → Option ℕ) (s : ℕ) (real want : WantValue) (stands : StandsFor real want) where

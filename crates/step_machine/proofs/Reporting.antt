@@ -1,8 +1,5 @@
 -- What the reports say of the store and the tasks.
-use Rattle.std.proofs.Common.{◌≡◌, refl, ℕ, zero, suc, List, [], ◌∷◌, take, drop, get_or, not, true, false, ◌+◌, ◌-◌, ◌*◌, ◌/◌, ◌<◌, ◌≤◌, Option, Some, None, sym, ap, subst, inl, inr, ◌⊎◌, ◌∙◌, arith, MatchOption}
-use Rattle.std.specs.Prelude.{is_some}
-use Rattle.std.specs.List.{list_all}
-use Rattle.std.proofs.lemmas.Grind.{common_steps}
+use Rattle.std.proofs.Common.{◌≡◌, ℕ, true, ◌+◌, ◌-◌, ◌*◌, ◌/◌, ◌<◌, ◌≤◌, Option, Some, None, sym, ap, subst, inl, inr, ◌⊎◌, ◌∙◌, arith, MatchOption}
 use Rattle.std.specs.Option.{option_and_then}
 use Rattle.std.specs.FinMap.{FinMap, get}
 use Rattle.mvs_model.specs.declared.name.Name.{Name}
@@ -10,7 +7,7 @@ use Rattle.mvs_model.specs.declared.report.SubpoolLine.{SubpoolLine}
 use Rattle.mvs_model.specs.declared.report.MapRun.{MapRun}
 use Rattle.mvs_model.specs.Finite.{has}
 use Rattle.mvs_model.specs.Kept.{OwnersKept}
-use Rattle.mvs_model.specs.Storage.{Storage, holder, IsStorage, IsPageOwner, held_bytes}
+use Rattle.mvs_model.specs.Storage.{Storage, holder, IsStorage, held_bytes}
 use Rattle.mvs_model.specs.Owners.{Owners, entry, owns}
 use Rattle.mvs_model.specs.Name.{name_cmp}
 use Rattle.cell_pool.specs.Agree.{Agree}
@@ -18,15 +15,9 @@ use Rattle.cell_pool.specs.Roots.{Root, pools_of}
 use Rattle.cell_pool.proofs.Tallied.{splits_bytes}
 use Rattle.mvs_model.specs.Reports.{bytes_held, first_from, page_subpool}
 use Rattle.mvs_model.proofs.Seen.{same_holder}
-use Rattle.mvs_model.proofs.SeenReports.{first_none, first_only, number_kept}
+use Rattle.mvs_model.proofs.SeenReports.{number_kept}
 use Rattle.step_machine.specs.Machine.{IsStepStorage, machine_state}
 use Rattle.step_machine.specs.Reports.{HasNone, IsHolder, IsMapEnd, IsMapRun, IsPages, IsSubpoolLine, NoneBegins, page_holder}
-
--- a page's owner is the subpool of its held doublewords
-pub page_owned : (st : Storage) (a page : ℕ) (owner : Option ℕ) → IsStorage st → a / 4096 ≡ page → IsPageOwner st a owner → owner ≡ page_holder st page
-page_owned st a page None is at h = sym (first_none (512 * page) 512 (holder st) (λ d low high. h d (omega arith)))
-page_owned st a page (Some s) is at (d, same, held) =
-    sym (first_only (512 * page) 512 d (holder st) s (omega arith) (omega arith) held (λ e y low high f. is.pages e d y s (omega arith) f held))
 
 -- the owners of the pages, in the state
 pub pages_seen : (roots : FinMap name_cmp Root) (st : Storage) (o : Owners) → IsStorage st → page_holder st ≡ page_subpool (machine_state roots st o)
@@ -100,18 +91,3 @@ module _ (roots : FinMap name_cmp Root) (st : Storage) (o : Owners) (is : IsStep
         subst (λ b. NoneBegins (page_holder st) 6 from (6 + b)) below_is (none_from (page_holder st) 6 at from (6 + below) first_page lower),
         subst (λ b. NoneBegins (page_holder st) 4096 from (4096 + b)) above_is (none_from (page_holder st) 4096 at from (4096 + above) first_page upper),
       )
-
--- numbers of which none has a subpool
-none_in : (os : List (Option ℕ)) → list_all (λ s. not (is_some s)) os ≡ true → (k : ℕ) → get_or os k None ≡ None
-none_in [] e k = refl
-none_in (None ∷ os) e zero = refl
-none_in (None ∷ os) e (suc k) = none_in os e k
-none_in (Some s ∷ os) e k = absurd (let f : false ≡ true = e in cc)
-
-pub none_within : (os : List (Option ℕ)) (at n m : ℕ) → list_all (λ s. not (is_some s)) (take m (drop at os)) ≡ true → at ≤ n → n < at + m → get_or os n None ≡ None
-none_within os at n m e low high =
-    let k : ℕ = n - at in
-    let place : at + k ≡ n = omega arith in
-    let inside : k < m = omega arith in
-    let there : get_or (take m (drop at os)) k None ≡ get_or os (at + k) None = grind (arith, common_steps) in
-    ap (λ n. get_or os n None) (sym place) ∙ sym there ∙ none_in (take m (drop at os)) e k

@@ -3,6 +3,8 @@ pub mod Facts
 pub mod Lists
 pub mod Machine
 pub mod Reports
+pub mod Standing
 pub mod Step
 pub mod Taking
 pub mod Told
+pub mod Turns

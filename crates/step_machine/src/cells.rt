@@ -1,7 +1,7 @@
 //! Requests for cells of cell pools (Assembler Services Reference, CPOOL). They have the codes of STORAGE (this project's
 //! choice).
 
-ghost use Rattle.std.specs.Prelude.{◌≡◌, true};
+ghost use Rattle.std.specs.Prelude.{◌≡◌, true, IfOk, IfSome, OnOk};
 ghost use Rattle.std.specs.FinMap.{get};
 ghost use Rattle.mvs_model.specs.declared.name.Name.{Name as TheName};
 ghost use Rattle.mvs_model.specs.declared.request.Reply.TheVariants.{Rc0};
@@ -10,9 +10,11 @@ ghost use Rattle.mvs_model.specs.Subpool.{IsSubpoolNumber};
 ghost use Rattle.mvs_model.specs.Steps.{BuildStep, DeleteStep, FreeStep, GetStep, residence_of};
 ghost use Rattle.mvs_model.specs.Want.{side_of};
 ghost use Rattle.mvs_model.specs.Answered.{Answered, cell_reply};
+ghost use Rattle.step_machine.specs.Taking.{TakesCell, TakesPool, further_of};
 
 use crate::codes::bad_subpool;
 use crate::machine::Machine;
+use crate::obtain_list::first_told;
 use boundary_loc::side;
 use cell_pool::Plan;
 use mvs_model::bounded::{CellCount, CellSize};
@@ -21,6 +23,17 @@ use mvs_model::name::Name;
 use mvs_model::place::{Addr, Place};
 use mvs_model::subpool::SubNo;
 use mvs_model::want::Loc;
+
+// The address that is told of the first cell of a further part.
+fn further_told(told: &[Addr]) -> Option<Addr>
+    ensures { result ≡ further_of told.now }
+{
+    match told {
+        [_, first, ..] => Some(*first),
+        [cell] => Some(*cell),
+        [] => None,
+    }
+}
 
 impl Machine {
     /// What a BUILD of the task plans: a first part of `primary` cells of `size` bytes, and `secondary` cells for each
@@ -53,18 +66,21 @@ impl Machine {
         number: SubNo,
         pool: &Name,
         plan: &Plan,
+        told: Option<Addr>,
     ) -> Result<(), Code>
         requires active { is_active self.old.owners name ≡ true }
         requires valid { IsSubpoolNumber number }
-        ensures { Answered (λ _. Rc0) (BuildStep self.old name pool.now number plan.now)
+        ensures answer { Answered (λ _. Rc0) (BuildStep self.old name pool.now number plan.now)
             self.old name result self.new }
+        ensures told { OnOk result
+            (TakesPool self.old name number pool.now plan.now told self.new) }
     {
         let t = self.tasks.task_of(name);
         match self.tasks.subpool(t, number) {
-            Some(subpool) => self.pools.build(&mut self.store, pool, subpool, plan),
+            Some(subpool) => self.pools.build(&mut self.store, pool, subpool, plan, told),
             None => {
                 let subpool = self.tasks.spare(t, number);
-                let built = self.pools.build(&mut self.store, pool, subpool, plan);
+                let built = self.pools.build(&mut self.store, pool, subpool, plan, told);
                 if built.is_ok() {
                     self.tasks.bind(t, number, subpool);
                 }
@@ -73,26 +89,46 @@ impl Machine {
         }
     }
 
-    /// CPOOL BUILD: a pool with its first part.
-    pub fn build(&mut self, name: Name, number: u8, pool: &Name, plan: &Plan) -> Result<(), Code>
+    /// CPOOL BUILD: a pool with its first part, whose first cell is at the address that is told, where the machine allows that.
+    pub fn build(
+        &mut self,
+        name: Name,
+        number: u8,
+        pool: &Name,
+        plan: &Plan,
+        told: Option<Addr>,
+    ) -> Result<(), Code>
         requires { is_active self.old.owners name ≡ true }
-        ensures { Answered (λ _. Rc0) (BuildStep self.old name pool.now number plan.now)
+        ensures answer { Answered (λ _. Rc0) (BuildStep self.old name pool.now number plan.now)
             self.old name result self.new }
+        ensures told { OnOk result
+            (TakesPool self.old name number pool.now plan.now told self.new) }
     {
         let Some(number) = SubNo::new(number) else {
             return Err(bad_subpool(Form::Storage, true));
         };
-        self.build_pool(name, number, pool, plan)
+        self.build_pool(name, number, pool, plan, told)
     }
 
     /// CPOOL GET: a free cell of the pool. Where none is free a conditional request gets none, and another one a cell of a
-    /// further part.
-    pub fn get(&mut self, pool: &Name, conditional: bool) -> Result<Option<Place>, Code>
-        ensures { (t : TheName)
+    /// further part. The cell is at the first address that is told, and the first cell of a further part at the second or, if there
+    /// is one alone, at that, where the machine allows it.
+    pub fn get(
+        &mut self,
+        pool: &Name,
+        conditional: bool,
+        told: &[Addr],
+    ) -> Result<Option<Place>, Code>
+        ensures answer { (t : TheName)
             → let step = GetStep self.old t pool.now conditional (get self.old.pools pool.now) in
             Answered cell_reply step self.old t result self.new }
+        ensures told { IfOk result
+            (λ cell. IfSome cell (TakesCell self.old pool.now told.now)) }
     {
-        self.pools.get(&mut self.store, pool, conditional)
+        let cell = first_told(told);
+        let first = further_told(told);
+        self.pools
+            .get(&mut self.store, pool, conditional, cell, first)
     }
 
     /// CPOOL FREE: a taken cell of the pool is given back.

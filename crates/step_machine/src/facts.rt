@@ -1,10 +1,11 @@
 //! What goes with a task that ends, asked before it does: the subpools that tasks own.
 
-ghost use Rattle.std.specs.Prelude.{◌≡◌, ◌+◌, ◌≤◌, ◌==◌};
-ghost use Rattle.mvs_model.specs.Finite.{count_below, has};
-ghost use Rattle.mvs_model.specs.Numbers.{first_page_above, most_pages_above};
+ghost use Rattle.std.specs.Prelude.{◌≡◌, ◌+◌, ◌≤◌, ◌==◌, None, length, slice_index_or};
+ghost use Rattle.mvs_model.specs.Finite.{any_below, count_below, has};
+ghost use Rattle.mvs_model.specs.Numbers.{first_page_above, most_pages_above, most_subpools};
 ghost use Rattle.mvs_model.specs.Storage.{IsStorage};
-ghost use Rattle.step_machine.specs.Facts.{owned_at};
+ghost use Rattle.mvs_model.specs.NextOwned.{IsNextOwned};
+ghost use Rattle.step_machine.specs.Facts.{has_subpool, owned_at};
 ghost use Rattle.step_machine.specs.Reports.{page_holder};
 
 use crate::machine::Machine;
@@ -24,6 +25,8 @@ pub struct OwnedSubpool {
     pub bytes: u32,
     /// How many pages are assigned to it.
     pub pages: u32,
+    /// Whether the task has it that was asked for.
+    pub had: bool,
 }
 
 // Whether a page is assigned to a subpool.
@@ -55,10 +58,52 @@ fn count_pages(store: &Store, subpool: SubpoolId, first: u32, count: u32) -> u32
     pages
 }
 
+// Whether what stands under a number is a subpool.
+fn is_subpool(entry: Option<SubpoolId>, subpool: SubpoolId) -> bool
+    ensures { result ≡ has (λ r. r == subpool) entry }
+{
+    match entry {
+        Some(other) => other == subpool,
+        None => false,
+    }
+}
+
+// Whether a subpool stands under one of some numbers.
+fn has_entry(entries: &[Option<SubpoolId>], subpool: SubpoolId) -> bool
+    ensures { result
+        ≡ any_below (λ n. has (λ r. r == subpool) (slice_index_or entries.now n None))
+        (length entries.now) }
+{
+    for n in 0..entries.len() {
+        if is_subpool(entries[n], subpool) {
+            return true;
+        }
+    }
+    false
+}
+
 impl Machine {
-    /// A subpool, where a task owns it.
-    pub fn owned(&self, subpool: SubpoolId) -> Option<OwnedSubpool>
-        ensures { result ≡ owned_at self.now subpool }
+    /// The first subpool from a number on that a task owns.
+    pub fn next_owned(&self, from: u16) -> Option<SubpoolId>
+        requires { from ≤ most_subpools }
+        ensures { IsNextOwned self.now.owners from result }
+    {
+        self.tasks.next_owned(from)
+    }
+
+    // Whether an active task has a subpool under some number.
+    fn has_subpool(&self, task: &Name, subpool: SubpoolId) -> bool
+        ensures { result ≡ has_subpool self.now.owners task.now subpool }
+    {
+        match self.tasks.find(task) {
+            Some(t) => has_entry(self.tasks.entries(t), subpool),
+            None => false,
+        }
+    }
+
+    /// A subpool, where a task owns it, and whether another task has it.
+    pub fn owned(&self, subpool: SubpoolId, task: &Name) -> Option<OwnedSubpool>
+        ensures { result ≡ owned_at self.now task.now subpool }
     {
         let Some((number, owner)) = self.tasks.label(subpool) else {
             return None;
@@ -80,6 +125,7 @@ impl Machine {
             owner,
             bytes: self.store.held_bytes(subpool),
             pages: below + above,
+            had: self.has_subpool(task, subpool),
         })
     }
 }

@@ -13,10 +13,13 @@ mod reason;
 mod release;
 mod report;
 mod shortage;
+mod standing;
 mod step;
 mod subtasking;
 mod tell;
+mod turns;
 mod unreleased;
 
 pub use facts::OwnedSubpool;
+pub use standing::FreePages;
 pub use step::Step;

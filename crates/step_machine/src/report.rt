@@ -1,7 +1,6 @@
 //! The reports on subpools and pages, which are this project's own.
 
 ghost use Rattle.std.specs.Prelude.{◌≡◌, ◌≢◌, ◌<◌, ◌≤◌, ◌+◌, ◌*◌, ℕ, Some, None, not, is_some, length, slice_index_or, MatchBool, MatchOption};
-ghost use Rattle.std.specs.List.{list_all};
 ghost use Rattle.mvs_model.specs.Numbers.{first_page_above, most_pages_above, page_bytes, subpool_numbers};
 ghost use Rattle.mvs_model.specs.Kept.{OwnersKept};
 ghost use Rattle.mvs_model.specs.Owners.{entry};
@@ -16,32 +15,7 @@ use mvs_model::place::Addr;
 use mvs_model::report::{MapRun, SubpoolLine};
 use mvs_model::subpool::{SubNo, SubpoolId};
 use subpool_store::Store;
-use task_owner::{TaskId, Tasks};
-
-// Whether none of some numbers has a subpool.
-fn are_none(entries: &[Option<SubpoolId>]) -> bool
-    ensures { result ≡ list_all (λ s. not (is_some s)) entries.now }
-{
-    let mut none = true;
-    for entry in entries {
-        none &= entry.is_none();
-    }
-    none
-}
-
-// Passes numbers from one on that have no subpool, sixteen at a time, and answers behind which ones it stands.
-fn pass_none(entries: &[Option<SubpoolId>], from: usize) -> usize
-    requires { from ≤ length entries.now }
-    ensures ordered { from ≤ result }
-    ensures within { result ≤ length entries.now }
-    ensures none { (n : ℕ) → from ≤ n → n < result → slice_index_or entries.now n None ≡ None }
-{
-    let mut at = from;
-    while entries.len() - at >= 16 && are_none(&entries[at..at + 16]) {
-        at += 16;
-    }
-    at
-}
+use task_owner::{TaskId, Tasks, pass_none};
 
 // The first number at or after one that the task has, with its subpool.
 fn first_entry(tasks: &Tasks, t: TaskId, from: u8) -> Option<(SubNo, SubpoolId)>

@@ -14,17 +14,15 @@ ghost use Rattle.mvs_model.specs.Storage.{Chosen, IsStorage, NoPlace, holder};
 ghost use Rattle.mvs_model.specs.View.{IsBounded};
 ghost use Rattle.mvs_model.specs.Want.{want_of};
 ghost use Rattle.step_machine.specs.Lists.{list_wants};
-ghost use Rattle.step_machine.specs.Reports.{page_holder};
+ghost use Rattle.step_machine.specs.Turns.{LacksPlace};
 
 use crate::codes::form_side;
 use crate::machine::Machine;
-use crate::report::page_owner;
 use boundary_loc::side;
 use cell_pool::part_want;
 use mvs_model::bounded::{CellCount, CellSize, Exponent, Length};
 use mvs_model::code::Form;
 use mvs_model::name::Name;
-use mvs_model::numbers::{FIRST_PAGE_ABOVE, FIRST_PAGE_BELOW};
 use mvs_model::reason::{Reason, Room};
 use mvs_model::request::Lengths;
 use mvs_model::subpool::{SubNo, SubpoolId};
@@ -43,25 +41,24 @@ fn longest(store: &Store, subpool: SubpoolId, want: &Want) -> u32
     }
 }
 
-// How many pages hold nothing, of so many from one on.
-fn free_pages(store: &Store, first: u32, count: u32) -> u32
-    requires storage { IsStorage store.now.storage }
-    requires low { first + count ≤ first_page_above + most_pages_above }
-    ensures free { result
-        ≡ count_below count (λ p. not (is_some (page_holder store.now.storage (first + p)))) }
-    ensures few { result ≤ count }
+// What room a subpool has for what is wanted, where there is no place.
+pub(crate) fn room_in(store: &Store, subpool: SubpoolId, want: &Want) -> Option<Room>
+    ensures { MatchOption result
+        ((p : PlaceValue)
+        × Chosen store.now.storage.regions (holder store.now.storage) subpool want.now p)
+        (LacksPlace store.now.storage subpool want.now) }
 {
-    let mut free = 0;
-    for page in 0..count {
-        if page_owner(store, first + page).is_none() {
-            free += 1;
-        }
-    }
-    free
+    let runs = store.runs_without_place(subpool, want)?;
+    Some(Room {
+        longest: longest(store, subpool, want),
+        runs,
+        below: store.free_below(),
+        above: store.free_above(),
+    })
 }
 
 impl Machine {
-    // What room a subpool has for what is wanted, where there is no place.
+    // The same of the storage of the machine.
     fn room(&self, subpool: SubpoolId, want: &Want) -> Option<Room>
         ensures room { MatchOption result
             ((p : PlaceValue) × Chosen self.now.regions (state.holder self.now) subpool want.now p)
@@ -69,17 +66,7 @@ impl Machine {
             × IsRoom self.now subpool want.now room) }
         ensures bounded { IsBounded self.now.regions }
     {
-        if self.store.find(subpool, want).is_some() {
-            return None;
-        }
-        let longest = longest(&self.store, subpool, want);
-        let below = free_pages(&self.store, FIRST_PAGE_BELOW, self.store.pages_below());
-        let above = free_pages(&self.store, FIRST_PAGE_ABOVE, self.store.pages_above());
-        Some(Room {
-            longest,
-            below,
-            above,
-        })
+        room_in(&self.store, subpool, want)
     }
 
     // Why no place is granted to a subpool for an area.

@@ -1,25 +1,30 @@
 //! Serves the requests of a step's tasks: each call answers in its own words, which are written as a reply here, and a code
 //! ends the task.
 
-ghost use Rattle.std.specs.Prelude.{◌≡◌, ◌<◌, ◌+◌, ◌||◌, ◌↔◌, ℕ, true, false, IfOk, IfSome, OnOk, IsSome, MatchBool, MatchOption, length, slice_get};
+ghost use Rattle.std.specs.Prelude.{◌≡◌, ◌<◌, ◌≤◌, ◌+◌, ◌||◌, ◌↔◌, ℕ, true, false, IfOk, IfSome, OnOk, IsSome, MatchBool, MatchOption, length, slice_get, None, Some};
 ghost use Rattle.std.specs.FinMap.{get};
-ghost use Rattle.mvs_model.specs.Numbers.{subpool_numbers};
+ghost use Rattle.mvs_model.specs.Numbers.{most_subpools, subpool_numbers};
 ghost use Rattle.mvs_model.specs.Owners.{is_active};
 ghost use Rattle.mvs_model.specs.Start.{start};
 ghost use Rattle.mvs_model.specs.Changes.{Granted, Writes};
 ghost use Rattle.mvs_model.specs.Steps.{Abends, Acts, IsRequest, Step as MachineStep, bytes_from};
 ghost use Rattle.mvs_model.specs.declared.request.Reply.{Reply as TheReply};
-ghost use Rattle.mvs_model.specs.Reasons.{IsReason, IsReplyFor};
+ghost use Rattle.mvs_model.specs.Reasons.{IsReason, IsReplyFor, IsTurn};
 ghost use Rattle.mvs_model.specs.State.{State};
+ghost use Rattle.mvs_model.specs.Newest.{IsNewest};
+ghost use Rattle.mvs_model.specs.Pools.{Pool};
 ghost use Rattle.mvs_model.specs.Replies.{is_abend};
 ghost use Rattle.mvs_model.specs.Answered.{Answered};
+ghost use Rattle.mvs_model.specs.NextOwned.{IsNextOwned};
 ghost use Rattle.step_machine.specs.Facts.{owned_at};
+ghost use Rattle.step_machine.specs.Standing.{free_above, free_below, label_had, label_meant};
 ghost use Rattle.step_machine.specs.Taking.{Takes};
 ghost use Rattle.step_machine.specs.Reports.{HasNone, IsMapEnd, IsMapRun, IsSubpoolLine};
 
 use crate::facts::OwnedSubpool;
 use crate::machine::Machine;
 use crate::obtain_list::first_told;
+use crate::standing::FreePages;
 use crate::tell::{
     tell_area, tell_areas, tell_attached, tell_cell, tell_done, tell_ended, tell_release, tell_zero,
 };
@@ -29,9 +34,9 @@ use mvs_model::error::OutOfMemory;
 use mvs_model::name::Name;
 use mvs_model::place::{Addr, Place};
 use mvs_model::reason::Reason;
-use mvs_model::report::{MapRun, SubpoolLine};
+use mvs_model::report::{MapRun, Newest, SubpoolLine};
 use mvs_model::request::{Reply, Request};
-use mvs_model::subpool::SubpoolId;
+use mvs_model::subpool::{SubNo, SubpoolId};
 use mvs_model::want::Placement;
 use std::alloc::Global;
 use std::marker::Model;
@@ -103,9 +108,14 @@ fn act(
             loc,
         } => {
             let plan = machine.plan(name, *size, *primary, *secondary, *loc);
-            tell_zero(machine.build(name, *number, pool, &plan), reply)
+            tell_zero(
+                machine.build(name, *number, pool, &plan, first_told(told)),
+                reply,
+            )
         }
-        Request::Get { pool, conditional } => tell_cell(machine.get(pool, *conditional), reply),
+        Request::Get { pool, conditional } => {
+            tell_cell(machine.get(pool, *conditional, told), reply)
+        }
         Request::Free { pool, cell } => tell_zero(machine.free(pool, *cell), reply),
         Request::Delete { pool } => tell_zero(machine.delete(pool), reply),
         Request::Attach {
@@ -188,11 +198,51 @@ impl Step {
         self.machine.map_run(from)
     }
 
-    /// A subpool, where a task owns it.
-    pub fn owned(&self, subpool: SubpoolId) -> Option<OwnedSubpool>
-        ensures { result ≡ owned_at self.now.state subpool }
+    /// The first subpool from a number on that a task owns.
+    pub fn next_owned(&self, from: u16) -> Option<SubpoolId>
+        requires { from ≤ most_subpools }
+        ensures { IsNextOwned self.now.state.owners from result }
     {
-        self.machine.owned(subpool)
+        self.machine.next_owned(from)
+    }
+
+    /// A subpool, where a task owns it, and whether another task has it.
+    pub fn owned(&self, subpool: SubpoolId, task: &Name) -> Option<OwnedSubpool>
+        ensures { result ≡ owned_at self.now.state task.now subpool }
+    {
+        self.machine.owned(subpool, task)
+    }
+
+    /// How many pages of each region hold nothing.
+    pub fn free_pages(&self) -> FreePages
+        ensures below { result.below ≡ free_below self.now.state }
+        ensures above { result.above ≡ free_above self.now.state }
+    {
+        self.machine.free_pages()
+    }
+
+    /// The subpool that an active task means by a number that a program may name: the number under which its owner has it, and
+    /// the owner.
+    pub fn label_meant(&self, name: &Name, number: u8) -> Option<(SubNo, Name)>
+        ensures { result ≡ label_meant self.now.state.owners name.now number }
+    {
+        self.machine.label_meant(name, number)
+    }
+
+    /// How many parts the pool of this name has, and which was put to it last. None where no pool has the name.
+    pub fn newest(&self, pool: &Name) -> Option<Newest>
+        ensures { MatchOption result (get self.now.state.pools pool.now ≡ None)
+            (λ newest. (kept : Pool) × (get self.now.state.pools pool.now ≡ Some kept)
+            × IsNewest kept newest) }
+    {
+        self.machine.newest(pool)
+    }
+
+    /// The subpool that an active task has under a number, said in the same way.
+    pub fn label_had(&self, name: &Name, number: SubNo) -> Option<(SubNo, Name)>
+        ensures { result ≡ label_had self.now.state.owners name.now number }
+    {
+        self.machine.label_had(name, number)
     }
 
     /// Why a request of the task is refused, if it is, asked before it is made. None also where a place is wanting for a list
@@ -209,6 +259,16 @@ impl Step {
         self.machine.reason(*name, request)
     }
 
+    /// Why a request of an active task for a list is refused, if its members in front are granted, asked before it is made. They are
+    /// granted and taken back.
+    pub fn turn(&mut self, name: &Name, request: &Request) -> Option<Reason>
+        requires { is_active self.old.state.owners name.now ≡ true }
+        ensures turn { IsTurn self.old.state name.now request.now result }
+        ensures unchanged { self.new ≡ self.old }
+    {
+        self.machine.turn(*name, request)
+    }
+
     // Ends a task that abends, and writes the reply. It stands alone, since the compiler clears the place of the names in the
     // function that asks for them.
     #[inline(never)]
@@ -223,7 +283,9 @@ impl Step {
     }
 
     /// Serves a request of an active task, and writes what it is answered over another reply. An area that is granted lies at
-    /// the address that is told, where the machine allows that; those of a list lie each at its own.
+    /// the address that is told, where the machine allows that; those of a list lie each at its own. So does a cell that is
+    /// granted; the first cell of a pool that is made is at the address that is told, and that of a further part at the one behind
+    /// that of the cell.
     pub fn request(&mut self, name: &Name, request: &Request, told: &[Addr], reply: &mut Reply)
         requires { is_active self.old.state.owners name.now ≡ true }
         ensures step { MachineStep self.old.state name.now request.now reply.new self.new.state }

@@ -5,7 +5,8 @@ use Rattle.mvs_model.specs.Finite.{count_below}
 use Rattle.mvs_model.specs.Storage.{Storage, end_of, holder}
 use Rattle.mvs_model.specs.declared.want.Side.{Side}
 use Rattle.mvs_model.specs.declared.want.Side.TheVariants.{Below, Either}
-use Rattle.subpool_store.specs.Bound.{begins_free_run, free_runs, holds_in_page, own_pages}
+use Rattle.mvs_model.specs.FreeRuns.{begins_free_run, free_runs, holds_in_page}
+use Rattle.subpool_store.specs.Bound.{own_pages}
 use Rattle.subpool_store.proofs.Counts.{count_split}
 use Rattle.mvs_model.proofs.Below.{count_more, count_none}
 
@@ -71,7 +72,7 @@ module _ (holder : ℕ → Option ℕ) (s : ℕ) where
       (count_split (512 * suc n) (512 * n) 512 (begins_free_run holder s) (omega arith)) (in_pages n) (in_page n (holds_in_page holder s n) refl))
 
 -- the free runs of the pages of s
-pub runs_few : (st : Storage) (s : ℕ) (side : Side) → free_runs st s side ≤ 256 * own_pages st s side
+pub runs_few : (st : Storage) (s : ℕ) (side : Side) → free_runs st.regions (holder st) s side ≤ 256 * own_pages st s side
 runs_few st s Below = in_pages (holder st) s 4096
 runs_few st s Either =
     let n = 4096 + st.regions.above in

@@ -30,3 +30,4 @@ pub mod Counts
 pub mod PagesDropped
 pub mod FewRuns
 pub mod ToldPlace
+pub mod FreePages

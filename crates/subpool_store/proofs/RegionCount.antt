@@ -4,7 +4,7 @@ use Rattle.std.proofs.lemmas.Bool.{cases_Bool, cases_eq, eq-eqb, le-ltb, lt-ltb,
 use Rattle.std.specs.FinMap.{get}
 use Rattle.mvs_model.specs.Finite.{count_below, has}
 use Rattle.page_map.specs.Owners.{is_of, owner_of}
-use Rattle.subpool_store.specs.Bound.{begins_free_run, holds_in_page}
+use Rattle.mvs_model.specs.FreeRuns.{begins_free_run, holds_in_page}
 use Rattle.subpool_store.specs.Region.{RegionState, IsRegion, cell, region_of, held_of}
 use Rattle.subpool_store.specs.Memory.{MemoryState}
 use Rattle.subpool_store.specs.Walk.{begins_run, entries_to, looked_at}

@@ -9,7 +9,8 @@ use Rattle.mvs_model.specs.Place.{PlaceValue}
 use Rattle.mvs_model.specs.Storage.{IsLength, end_of, holder}
 use Rattle.mvs_model.specs.Want.{IsWant, WantValue}
 use Rattle.mvs_model.specs.declared.want.Side.TheVariants.{Below, Either}
-use Rattle.subpool_store.specs.Bound.{IsBound, begins_free_run, free_runs, holds_in_page, page_entries, most_steps}
+use Rattle.mvs_model.specs.FreeRuns.{begins_free_run, free_runs, holds_in_page}
+use Rattle.subpool_store.specs.Bound.{IsBound, page_entries, most_steps}
 use Rattle.subpool_store.specs.Region.{BestIn, RegionState}
 use Rattle.subpool_store.specs.Joined.{BestAbove, CountedAbove, IsStore, regions_of, store_of}
 use Rattle.subpool_store.specs.Search.{Beats, IsCounted}
@@ -73,10 +74,10 @@ module _ (b a : RegionState) (fill : ℕ) (both : IsStore b a) (s : ℕ) where
       begins_same (holder (store_of b a fill)) (get a.held) s (2097152 + i) (λ e page. high_holder b a fill e (omega (arith, page)) (omega (arith, page, low, m)))
       ∙ ap (λ x. begins_free_run (get a.held) s (x + i)) (sym f))
 
-  all_below : page_entries (regions_of b a fill) Below + free_runs (store_of b a fill) s Below ≡ most_steps b s
+  all_below : page_entries (regions_of b a fill) Below + free_runs (regions_of b a fill) (holder (store_of b a fill)) s Below ≡ most_steps b s
   all_below = ap (λ n. b.pages + n) runs_below
 
-  all_either : page_entries (regions_of b a fill) Either + free_runs (store_of b a fill) s Either ≡ most_steps a s + most_steps b s
+  all_either : page_entries (regions_of b a fill) Either + free_runs (regions_of b a fill) (holder (store_of b a fill)) s Either ≡ most_steps a s + most_steps b s
   all_either =
       let split : count_below (end_of (regions_of b a fill)) (begins_free_run (holder (store_of b a fill)) s) ≡ count_below 2097152 (begins_free_run (holder (store_of b a fill)) s) + count_below (512 * a.pages) (λ i. begins_free_run (holder (store_of b a fill)) s (2097152 + i)) =
       count_split (end_of (regions_of b a fill)) 2097152 (512 * a.pages) (begins_free_run (holder (store_of b a fill)) s) refl in
@@ -101,7 +102,7 @@ module _ (b a : RegionState) (fill : ℕ) (both : IsStore b a) (s : ℕ) where
           | inr gone ↦ absurd (none-some p (sym gone.1))
           | inl found ↦
               let pages = place_pages a want p ok found in
-              let most : page_entries (regions_of b a fill) want.side + free_runs (store_of b a fill) s want.side ≡ most_steps a s + most_steps b s = ap (λ x. page_entries (regions_of b a fill) x + free_runs (store_of b a fill) s x) real.0 ∙ all_either in record {
+              let most : page_entries (regions_of b a fill) want.side + free_runs (regions_of b a fill) (holder (store_of b a fill)) s want.side ≡ most_steps a s + most_steps b s = ap (λ x. page_entries (regions_of b a fill) x + free_runs (regions_of b a fill) (holder (store_of b a fill)) s x) real.0 ∙ all_either in record {
                 some = real.1.some (omega (arith, pages));
                 at_most = let few = real.1.at_most in omega (arith, few, most);
                 few = let few = real.1.at_most in let runs = runs_few (store_of b a fill) s want.side in omega (arith, few, most, runs);
@@ -114,14 +115,14 @@ module _ (b a : RegionState) (fill : ℕ) (both : IsStore b a) (s : ℕ) where
     pub bound_both : (r : Option PlaceValue) (more : ℕ) (result : Option PlaceValue) → IsCounted (most_steps b s) r more → (result ≡ None → (place ≡ None) × (r ≡ None)) → IsBound (store_of b a fill) s want.side result (steps + more)
     bound_both r more result other none = elim counted [
       | inl real ↦
-          let most : page_entries (regions_of b a fill) want.side + free_runs (store_of b a fill) s want.side ≡ most_steps a s + most_steps b s = ap (λ x. page_entries (regions_of b a fill) x + free_runs (store_of b a fill) s x) real.0 ∙ all_either in record {
+          let most : page_entries (regions_of b a fill) want.side + free_runs (regions_of b a fill) (holder (store_of b a fill)) s want.side ≡ most_steps a s + most_steps b s = ap (λ x. page_entries (regions_of b a fill) x + free_runs (regions_of b a fill) (holder (store_of b a fill)) s x) real.0 ∙ all_either in record {
             some = let one = other.some (let some = both.some_below in omega (arith, some)) in omega (arith, one);
             at_most = let few = real.1.at_most in let less = other.at_most in omega (arith, few, less, most);
             few = let few = real.1.at_most in let less = other.at_most in let runs = runs_few (store_of b a fill) s want.side in omega (arith, few, less, most, runs);
             all = λ gone. let no_place = none gone in let x = real.1.all no_place.0 in let y = other.all no_place.1 in omega (arith, x, y, most);
           }
       | inr below ↦
-          let most : page_entries (regions_of b a fill) want.side + free_runs (store_of b a fill) s want.side ≡ most_steps b s = ap (λ x. page_entries (regions_of b a fill) x + free_runs (store_of b a fill) s x) below.0 ∙ all_below in
+          let most : page_entries (regions_of b a fill) want.side + free_runs (regions_of b a fill) (holder (store_of b a fill)) s want.side ≡ most_steps b s = ap (λ x. page_entries (regions_of b a fill) x + free_runs (regions_of b a fill) (holder (store_of b a fill)) s x) below.0 ∙ all_below in
           let zero = below.2 in record {
             some = let one = other.some (let some = both.some_below in omega (arith, some)) in omega (arith, one);
             at_most = let less = other.at_most in omega (arith, less, most, zero);

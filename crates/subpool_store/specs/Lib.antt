@@ -6,6 +6,7 @@ pub mod Memory
 pub mod LendsMemory
 pub mod Bound
 pub mod Joined
+pub mod FreePages
 pub mod Value
 pub mod Search
 pub mod Walk

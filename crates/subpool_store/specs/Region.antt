@@ -3,7 +3,7 @@ use Rattle.std.specs.Prelude.{◌≡◌, ℕ, ◌+◌, ◌-◌, ◌*◌, ◌/◌
 use Rattle.std.specs.Ordering.{nat_cmp}
 use Rattle.std.specs.FinMap.{FinMap, get, code}
 use Rattle.std.specs.Coded.{Coded, code_by, coded×, coded_ℕ}
-use Rattle.mvs_model.specs.Finite.{Changes, Keeps, has}
+use Rattle.mvs_model.specs.Finite.{Changes, Keeps, count_below, has}
 use Rattle.mvs_model.specs.Numbers.{first_doubleword_above, page_bytes, page_doublewords}
 use Rattle.mvs_model.specs.Place.{PlaceValue}
 use Rattle.mvs_model.specs.Storage.{Covers, IsLength, LiesIn, MayTake, Meets, PageRule, covers, has_address}
@@ -89,6 +89,11 @@ abbrev pub OwnsPage : RegionState → ℕ → Option ℕ → Type 0
 OwnsPage h p owner = MatchOption owner
     ((d : ℕ) → d / page_doublewords ≡ p → get h.held d ≡ None)
     (λ s. (d : ℕ) × (d / page_doublewords ≡ p) × (get h.held d ≡ Some s))
+
+-- So many pages of the region hold nothing.
+abbrev pub AreFree : RegionState → ℕ → Type 0
+AreFree h free =
+    (owner : ℕ → Option ℕ) × ((p : ℕ) → p < h.pages → OwnsPage h (h.first / page_doublewords + p) (owner p)) × (free ≡ count_below h.pages (λ p. not (is_some (owner p))))
 
 -- A place of a length that is wanted is open in the region and meets what is wanted; none of them is longer.
 pub record IsBest (h : RegionState) (s : ℕ) (want : WantValue) (p : PlaceValue) : Type 0 where

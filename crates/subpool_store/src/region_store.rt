@@ -11,6 +11,7 @@ ghost use Rattle.page_map.specs.Owners.{owner_of, is_usable};
 ghost use Rattle.subpool_store.specs.Bound.{most_steps};
 ghost use Rattle.subpool_store.specs.Edits.{HasNoBit, IsAssigned, IsGivenUp, IsMarked};
 ghost use Rattle.subpool_store.specs.Region.{
+  AreFree,
   AllHeldIn,
   BestIn,
   ChangedIn,
@@ -423,6 +424,14 @@ impl RegionStore {
         ensures { result ≡ self.now.pages }
     {
         self.pages.pages() as u32
+    }
+
+    // How many pages hold nothing.
+    pub fn free_pages(&self) -> u32
+        ensures free { AreFree self.now result }
+        ensures most { result ≤ most_pages_above }
+    {
+        self.pages.free_pages() as u32
     }
 
     // The subpool that the page of an address is assigned to.

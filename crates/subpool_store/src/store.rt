@@ -3,7 +3,8 @@
 ghost use Rattle.std.specs.Prelude.{◌≡◌, ◌<◌, ◌≤◌, ◌+◌, ◌*◌, ◌/◌, ◌%◌, ◌^◌, ◌↔◌, ◌⊎◌, Some, None, MatchBool, MatchOption, MatchResult, IfOk, IsTrue, List, ℕ, length, slice_get};
 ghost use Rattle.std.specs.Borrow.{sem};
 ghost use Rattle.std.specs.FinMap.{get, empty};
-ghost use Rattle.mvs_model.specs.Numbers.{above_begins, most_pages_above, most_pages_below};
+ghost use Rattle.mvs_model.specs.FreeRuns.{free_runs};
+ghost use Rattle.mvs_model.specs.Numbers.{above_begins, first_page_above, first_page_below, most_pages_above, most_pages_below};
 ghost use Rattle.mvs_model.specs.Storage.{
   AllHeld,
   Chosen,
@@ -25,7 +26,8 @@ ghost use Rattle.mvs_model.specs.Storage.{
 };
 ghost use Rattle.mvs_model.specs.Place.{PlaceValue};
 ghost use Rattle.mvs_model.specs.Want.{IsWant};
-ghost use Rattle.subpool_store.specs.Bound.{IsBound};
+ghost use Rattle.subpool_store.specs.Bound.{IsBound, page_entries};
+ghost use Rattle.subpool_store.specs.FreePages.{free_pages};
 ghost use Rattle.subpool_store.specs.Joined.{BestAbove, CountedAbove, Taken};
 ghost use Rattle.subpool_store.specs.LendsBytes.{LendsBytes};
 ghost use Rattle.subpool_store.specs.Written.{Puts, written};
@@ -171,6 +173,33 @@ impl Store {
             (Chosen self.now.storage.regions (holder self.now.storage) subpool want.now) }
     {
         self.search(subpool, want).place
+    }
+
+    // How many pages the regions have that a side allows.
+    fn page_entries(&self, side: Side) -> u32
+        ensures { result ≡ page_entries self.now.storage.regions side }
+    {
+        let below = self.below.page_count();
+        match side {
+            Side::Below => below,
+            Side::Either => below + self.above.page_count(),
+        }
+    }
+
+    /// How many free runs there are in the pages of the subpool, on the side that is wanted, where there is no place; None where
+    /// there is one.
+    pub fn runs_without_place(&self, subpool: SubpoolId, want: &Want) -> Option<u32>
+        ensures { MatchOption result
+            ((p : PlaceValue)
+            × Chosen self.now.storage.regions (holder self.now.storage) subpool want.now p)
+            (λ n. NoPlace self.now.storage.regions (holder self.now.storage) subpool want.now
+            × (n ≡ free_runs self.now.storage.regions (holder self.now.storage) subpool want.now.side)) }
+    {
+        let found = self.search(subpool, want);
+        match found.place {
+            Some(_) => None,
+            None => Some(found.steps - self.page_entries(want.side())),
+        }
     }
 
     // Whether the place is open to the subpool.
@@ -396,6 +425,24 @@ impl Store {
         ensures { result ≡ self.now.storage.regions.above }
     {
         self.above.page_count()
+    }
+
+    /// How many pages of the region below hold nothing.
+    pub fn free_below(&self) -> u32
+        ensures free { result
+            ≡ free_pages self.now.storage first_page_below self.now.storage.regions.below }
+        ensures most { result ≤ most_pages_above }
+    {
+        self.below.free_pages()
+    }
+
+    /// How many pages of the region above hold nothing.
+    pub fn free_above(&self) -> u32
+        ensures free { result
+            ≡ free_pages self.now.storage first_page_above self.now.storage.regions.above }
+        ensures most { result ≤ most_pages_above }
+    {
+        self.above.free_pages()
     }
 
     /// How many bytes the subpool holds.

@@ -1,6 +1,6 @@
 -- Owners of subpools: what is read off, and the lowest subpool without one.
-use Rattle.std.proofs.Common.{◌≡◌, ℕ, ◌<◌, false, List, Option, Some, None, is_some, IsSome, eqb, sym, ap, subst, refl, ◌∙◌}
-use Rattle.std.proofs.lemmas.Bool.{eq-eqb, eqb-true}
+use Rattle.std.proofs.Common.{◌≡◌, ℕ, ◌<◌, ◌≤◌, false, inl, inr, List, length, Option, Some, None, is_some, IsSome, eqb, sym, ap, subst, refl, ◌∙◌}
+use Rattle.std.proofs.lemmas.Bool.{eq-eqb, cases_lt, eqb-true, false≢true}
 use Rattle.std.specs.Option.{option_map}
 use Rattle.std.specs.FinMap.{get}
 use Rattle.mvs_model.specs.Name.{same_name}
@@ -11,7 +11,7 @@ use Rattle.task_owner.specs.Tasks.{TasksValue, IsTask, name_of}
 use Rattle.task_owner.specs.Seats.{item_at, number_of, entry_of, owner_name, directory, IsSound}
 use Rattle.task_owner.specs.declared.seat.Seat.{Seat}
 use Rattle.task_owner.specs.declared.seat.Owned.{Owned}
-use Rattle.task_owner.proofs.Places.{of_some}
+use Rattle.task_owner.proofs.Places.{of_some, past_end}
 use Rattle.task_owner.proofs.Reading.{found, view-entry, view-owner, the_seat, name_is}
 use Rattle.mvs_model.proofs.Tests.{same_test}
 
@@ -35,6 +35,13 @@ module _ (seats : List (Option Seat)) (owned : List (Option Owned)) (d : TasksVa
 
         same : x ≡ r.0
         same = let f : Some x ≡ Some r.0 = sym at ∙ r.1 in cc
+
+    -- a subpool that has an owner
+    pub has_label : IsSome (item_at owned s) → IsSome (get d.owners.owner s)
+    has_label = by (item_at owned s) refl where
+      by : (o : Option Owned) → item_at owned s ≡ o → IsSome o → IsSome (get d.owners.owner s)
+      by None f some = absurd (false≢true some)
+      by (Some o) f some = let x = sound.owners s o f in ap is_some (labelled o x.0 f x.1).0
 
     -- a subpool that no task owns
     pub unowned : get d.owners.owner s ≡ None → item_at owned s ≡ None
@@ -72,3 +79,13 @@ module _ (seats : List (Option Seat)) (owned : List (Option Owned)) (d : TasksVa
         let o = of_some (item_at owned r) (below r p) in
         let x = sound.owners r o.0 o.1 in
         ap is_some (ap (λ (v : TasksValue). get v.owners.owner r) (sym e) ∙ view-owner seats owned r ∙ ap (owner_name seats) o.1 ∙ ap (option_map (λ y. y.name)) x.1)
+
+-- what stands at the places from one on, and where each of them has nothing
+pub none_owned : (seats : List (Option Seat)) (owned : List (Option Owned)) (d : TasksValue) (from to : ℕ) → directory seats owned ≡ d → ((s : ℕ) → from ≤ s → s < to → item_at owned s ≡ None) → (s : ℕ) → from ≤ s → s < to → get d.owners.owner s ≡ None
+none_owned seats owned d from to e none s low high = unlabelled seats owned d s e (none s low high)
+
+pub none_past : (seats : List (Option Seat)) (owned : List (Option Owned)) (d : TasksValue) (from : ℕ) → directory seats owned ≡ d → ((s : ℕ) → from ≤ s → s < length owned → item_at owned s ≡ None) → (s : ℕ) → from ≤ s → get d.owners.owner s ≡ None
+none_past seats owned d from e none s low = elim (cases_lt s (length owned)) [
+  | inl inside ↦ unlabelled seats owned d s e (none s low inside)
+  | inr past ↦ unlabelled seats owned d s e (past_end owned s past)
+]

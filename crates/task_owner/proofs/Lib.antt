@@ -5,6 +5,7 @@ pub mod Reading
 pub mod Labels
 pub mod Subtasks
 pub mod Room
+pub mod Nones
 pub mod Starting
 pub mod Binding
 pub mod Bound

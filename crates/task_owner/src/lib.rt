@@ -5,6 +5,8 @@ mod family;
 mod freed;
 mod handing;
 mod seat;
+mod skipping;
 mod tasks;
 
+pub use skipping::pass_none;
 pub use tasks::{Gone, TaskId, Tasks};

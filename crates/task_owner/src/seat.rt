@@ -1,12 +1,13 @@
 //! A task with its subpools, and who owns a subpool.
 
-ghost use Rattle.std.specs.Prelude.{◌≡◌, ◌≢◌, ◌<◌, ◌↔◌, ℕ, length, replicate, IsTrue, IsSome, IfOk, MatchOption, Some, None, slice_set};
+ghost use Rattle.std.specs.Prelude.{◌≡◌, ◌≢◌, ◌<◌, ◌≤◌, ◌↔◌, ℕ, length, replicate, IsTrue, IsSome, IfOk, MatchOption, Some, None, slice_set};
 ghost use Rattle.slab.specs.Slab.{get, slab_len};
 ghost use Rattle.mvs_model.specs.Numbers.{most_subpools, subpool_numbers};
 ghost use Rattle.task_owner.specs.Seats.{item_at};
 ghost use Rattle.task_owner.specs.declared.seat.Seat.{Seat};
 ghost use Rattle.task_owner.specs.declared.seat.Owned.{Owned};
 
+use crate::skipping::pass_none;
 use mvs_model::name::Name;
 use mvs_model::numbers::{MOST_SUBPOOLS, SUBPOOL_NUMBERS};
 use mvs_model::subpool::SubpoolId;
@@ -119,6 +120,23 @@ pub(crate) fn first_spare(owned: &[Option<Owned>]) -> usize
         }
     }
     unreachable!()
+}
+
+// The first subpool from a number on that has an owner.
+pub(crate) fn first_owned(owned: &[Option<Owned>], from: usize) -> Option<usize>
+    requires { from ≤ length owned.now }
+    ensures { MatchOption result
+        ((s : ℕ) → from ≤ s → s < length owned.now → item_at owned.now s ≡ None)
+        (λ next. (from ≤ next) × (next < length owned.now) × IsSome (item_at owned.now next)
+        × ((s : ℕ) → from ≤ s → s < next → item_at owned.now s ≡ None)) }
+{
+    let passed = pass_none(owned, from);
+    for s in passed..owned.len() {
+        if owned[s].is_some() {
+            return Some(s);
+        }
+    }
+    None
 }
 
 // Subpools without an owner.

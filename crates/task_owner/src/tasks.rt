@@ -13,13 +13,15 @@ ghost use Rattle.mvs_model.specs.Owners.{entry, keeper, subpool_meant, is_active
 ghost use Rattle.mvs_model.specs.declared.name.Name.{Name as TheName};
 ghost use Rattle.mvs_model.specs.Start.{first_owners};
 ghost use Rattle.task_owner.specs.Handing.{GetsEntry, SharesBelow, Admits};
+ghost use Rattle.mvs_model.specs.NextOwned.{IsNextOwned};
 ghost use Rattle.task_owner.specs.Tasks.{name_at, IsTask, name_of, residence_of};
 
 use crate::family::{remove_alone, remove_family};
 use crate::freed::free_subpools;
 use crate::handing::{hand_over, pass_on};
 use crate::seat::{
-    Owned, SLOTS, Seat, enter, find_child, find_first, find_key, first_spare, no_owners, seat_at,
+    Owned, SLOTS, Seat, enter, find_child, find_first, find_key, first_owned, first_spare,
+    no_owners, seat_at,
 };
 use mvs_model::code::Code;
 use mvs_model::error::OutOfMemory;
@@ -469,6 +471,17 @@ impl Tasks {
                 SubNo::of(owned.number),
                 seat_at(&self.active, owned.owner).name,
             )),
+            None => None,
+        }
+    }
+
+    /// The first subpool from a number on that a task owns.
+    pub fn next_owned(&self, from: u16) -> Option<SubpoolId>
+        requires { from ≤ most_subpools }
+        ensures { IsNextOwned self.now.owners from result }
+    {
+        match first_owned(&self.owned, usize::from(from)) {
+            Some(s) => Some(SubpoolId::new(s as u16)),
             None => None,
         }
     }

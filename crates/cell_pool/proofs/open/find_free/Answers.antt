@@ -52,6 +52,9 @@ returns-then-header-clause-free c =
       is_cell = subst (λ n. c.first_free.result < n) c.read_header-header.ensures.count c.first_free.ensures.within;
       clear = c.first_free.ensures.clear;
       of_taken = c.read_header-header.ensures.taken;
+      open_number = w.number;
+      is_open = is_met c.args.store.now.storage c.args.root.now c.requires.counted c.requires.free c.walk.step c.walk.part w;
+      open_addr = w.addr;
       full = w.full;
     }
 

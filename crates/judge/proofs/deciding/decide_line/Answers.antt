@@ -1,22 +1,24 @@
-use Rattle.std.proofs.Common.{◌≡◌, arith, sym, ◌∙◌}
-use Rattle.mvs_model.proofs.Tests.{false_true}
-use Rattle.judge.proofs.Decided.{in_bounds, line_on, line_refused}
+use Rattle.std.proofs.Common.{◌++◌, ◌∙◌, ap, drop, length, subst, sym, Decides as Tests, ◌≡◌}
+use Rattle.std.proofs.lemmas.Slice.Eq.{slice_eq-Decides}
+use Rattle.mvs_model.specs.Texts.{printing}
+use Rattle.judge.proofs.Decided.{fault_decides, in_bounds, line_decides, line_served, same_test}
+use Rattle.mvs_job.specs.Telling.{events_told}
 use Rattle.judge.proofs.deciding.decide_line.Goals as goal
 
-pub returns : goal.returns
-returns c = record {
-  decided = line_on _ c.args.walk.now c.print_next.new.walk c.args.line.now c.in_ok-printed.printed.told c.args.text.now c.as_slice-2.result.now c.in_ok-printed.ensures.served c.requires.closed (c.as_slice-2.ensures.value ∙ c.in_ok-printed.ensures.printed)
-      c.len.result (let a = c.as_slice-2.ensures.len in let b = c.len.ensures in omega (arith, a, b)) c.in_default.not-Faulted c.print_next.ensures.number (c.begins.ensures.yes c.if-not-begins.false);
-  number = c.print_next.ensures.number;
-  bounds = in_bounds _ c.args.walk.now c.print_next.new.walk c.args.line.now c.in_ok-printed.printed.told c.in_ok-printed.ensures.served;
-  within = λ n e. let w = c.begins.ensures.within c.if-not-begins.false in let a = c.as_slice-2.ensures.len in let b = c.len.ensures in let same : c.len.result ≡ n = cc in omega (arith, w, a, b, same);
-}
+pub returns-in-Faulted-clause-decided : goal.returns-in-Faulted-clause-decided
+returns-in-Faulted-clause-decided c =
+    let same = c.in_ok-printed.ensures.printed ∙ ap (λ x. x ++ printing (events_told c.args.walk.now.number c.print_next.new.walk c.in_ok-printed.printed.told)) c.new.ensures.items in
+    fault_decides _ c.args.walk.now c.print_next.new.walk c.args.line.now c.in_ok-printed.printed.told c.args.left.now c.in_ok-printed.printed.text.items c.in_ok-printed.ensures.served c.requires.closed same _ c.in-Faulted.is c.eq-passes.result
+    (subst (λ x. Tests c.eq-passes.result (c.args.left.now ≡ x)) c.as_slice.ensures.value (slice_eq-Decides same_test _ _ c.eq-passes.result c.eq-passes.ensures))
 
-pub returns-then-not-begins : goal.returns-then-not-begins
-returns-then-not-begins c = record {
-  decided = line_refused _ c.args.walk.now c.print_next.new.walk c.args.line.now c.in_ok-printed.printed.told c.args.text.now c.as_slice-2.result.now c.in_ok-printed.ensures.served c.requires.closed (c.as_slice-2.ensures.value ∙ c.in_ok-printed.ensures.printed)
-      c.in_default.not-Faulted (λ rest e. false_true (sym c.if-not-begins.true ∙ c.begins.ensures.no rest e));
-  number = c.print_next.ensures.number;
-  bounds = in_bounds _ c.args.walk.now c.print_next.new.walk c.args.line.now c.in_ok-printed.printed.told c.in_ok-printed.ensures.served;
-  within = λ n e. cc;
-}
+pub returns : goal.returns
+returns c =
+    let same = c.in_ok-printed.ensures.printed ∙ ap (λ x. x ++ printing (events_told c.args.walk.now.number c.print_next.new.walk c.in_ok-printed.printed.told)) c.new.ensures.items in
+    record {
+      served = line_served _ c.args.walk.now c.print_next.new.walk c.args.line.now c.in_ok-printed.printed.told c.in_ok-printed.printed.text.items c.in_ok-printed.ensures.served same c.in_default.not-Faulted c.print_next.ensures.number;
+      decided = line_decides _ c.args.walk.now c.print_next.new.walk c.args.line.now c.in_ok-printed.printed.told c.args.left.now c.in_ok-printed.printed.text.items c.in_ok-printed.ensures.served c.requires.closed same c.in_default.not-Faulted c.print_next.ensures.number c.begins-passes.result
+          (λ e. subst (λ x. c.args.left.now ≡ x ++ drop (length x) c.args.left.now) c.as_slice-2.ensures.value (c.begins-passes.ensures.yes e))
+          (λ rest e. c.begins-passes.ensures.no rest (e ∙ ap (λ x. x ++ rest) (sym c.as_slice-2.ensures.value)));
+      number = c.print_next.ensures.number;
+      bounds = in_bounds _ c.args.walk.now c.print_next.new.walk c.args.line.now c.in_ok-printed.printed.told c.in_ok-printed.ensures.served;
+    }

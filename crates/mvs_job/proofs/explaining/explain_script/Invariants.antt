@@ -4,7 +4,7 @@ use Rattle.mvs_job.proofs.explaining.explain_script.Given as goal
 
 abbrev pub invariant-lines : goal.invariant-lines
 invariant-lines g l = record {
-  so_far : SoFar (g.W.Write.contents l.initial.writer.inner) (g.W.Write.contents l.writer.inner) l.script l.walk.number l.walk.step (drop l.at l.script);
+  so_far : SoFar (g.W.Write.contents l.initial.writer.inner) (g.W.Write.contents l.writer.inner) l.script l.walk.number l.walk.step l.asking.lines (drop l.at l.script);
   within : l.at ≤ length l.script + 1;
   number : l.walk.number ≤ l.at + 1;
   same : l.writer.failed ≡ l.initial.writer.failed;

@@ -1,16 +1,12 @@
 use Rattle.std.proofs.Common.{inr}
-use Rattle.step_machine.specs.Taking.{Takes}
-use Rattle.mvs_job.specs.Telling.{ended, events_told}
-use Rattle.mvs_job.proofs.Serving.{line_tells, stopped_front, told_by}
+use Rattle.mvs_job.specs.Telling.{events_told}
+use Rattle.mvs_job.proofs.Serving.{line_tells}
 use Rattle.mvs_job.proofs.printing.tell_line.Goals as goal
 
 pub returns-in-Err-print_line-clause-ran : goal.returns-in-Err-print_line-clause-ran
 returns-in-Err-print_line-clause-ran g c =
-    inr (events_told c.args.walk.now.number c.line.new.self c.in-Ok.told, line_tells c.args.walk.now c.line.new.self c.args.line.now c.in-Ok.told (told_by (Takes c.args.told.now) c.args.walk.now c.line.new.self c.args.line.now c.in-Ok.told c.in-Ok.ensures.told), rw (c.number-line_number.ensures) at c.in-Err-print_line.ensures.bytes)
-
-pub returns-in-Err-print_ended-clause-ran : goal.returns-in-Err-print_ended-clause-ran
-returns-in-Err-print_ended-clause-ran g c = stopped_front c.args.walk.now c.args.line.now (ended c.in-Err.stopped.ended) _ _ c.in-Err.ensures.told c.in-Err-print_ended.ensures.bytes
+    inr (events_told c.args.walk.now.number c.serve_line.new.walk c.in-Ok.told, line_tells c.args.walk.now c.serve_line.new.walk c.args.line.now c.in-Ok.told c.in-Ok.ensures.ran, rw (c.number-line_number.ensures, c.in-Ok.ensures.ok) at c.in-Err-print_line.ensures.bytes)
 
 pub returns-in-Ok-print_line-clause-ran : goal.returns-in-Ok-print_line-clause-ran
 returns-in-Ok-print_line-clause-ran g c =
-    (told_by (Takes c.args.told.now) c.args.walk.now c.line.new.self c.args.line.now c.in-Ok.told c.in-Ok.ensures.told, rw (c.number-line_number.ensures) at c.in-Ok-print_line.ensures.bytes)
+    (c.in-Ok.ensures.ran, rw (c.number-line_number.ensures, c.in-Ok.ensures.ok) at c.in-Ok-print_line.ensures.bytes)

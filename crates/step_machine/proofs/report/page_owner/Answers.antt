@@ -1,5 +1,5 @@
 use Rattle.std.proofs.Common.{arith}
-use Rattle.step_machine.proofs.Reporting.{page_owned}
+use Rattle.subpool_store.proofs.FreePages.{page_owned}
 use Rattle.step_machine.proofs.report.page_owner.Goals as goal
 
 pub returns : goal.returns

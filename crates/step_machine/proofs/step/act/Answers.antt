@@ -3,7 +3,7 @@ use Rattle.std.specs.Prelude.{IfOk, IfSome}
 use Rattle.step_machine.specs.Taking.{TakesArea}
 use Rattle.mvs_model.specs.Answered.{cell_reply, list_reply, obtain_reply, release_reply}
 use Rattle.mvs_model.specs.declared.request.Reply.TheVariants.{Attached, Done, Ended, Rc0}
-use Rattle.step_machine.proofs.Telling.{area_told, areas_told, told}
+use Rattle.step_machine.proofs.Telling.{area_told, areas_told, cell_told, pool_told, told}
 use Rattle.step_machine.proofs.step.act.Goals as goal
 
 pub returns-in-Obtain-clause-answer : goal.returns-in-Obtain-clause-answer
@@ -22,10 +22,10 @@ pub returns-in-ReleaseWhole-clause-answer : goal.returns-in-ReleaseWhole-clause-
 returns-in-ReleaseWhole-clause-answer c = told (λ _. Rc0) c.args.machine.now c.args.name c.args.request.now c.release_whole.result c.release_whole.new.self c.tell_zero.new.reply c.tell_zero.result (rw c.in-ReleaseWhole.is c.release_whole.ensures) c.tell_zero.ensures.told
 
 pub returns-in-Build-clause-answer : goal.returns-in-Build-clause-answer
-returns-in-Build-clause-answer c = told (λ _. Rc0) c.args.machine.now c.args.name c.args.request.now c.build.result c.build.new.self c.tell_zero-in-Build.new.reply c.tell_zero-in-Build.result (rw c.in-Build.is (rw c.plan-plan.ensures at c.build.ensures)) c.tell_zero-in-Build.ensures.told
+returns-in-Build-clause-answer c = told (λ _. Rc0) c.args.machine.now c.args.name c.args.request.now c.build.result c.build.new.self c.tell_zero-in-Build.new.reply c.tell_zero-in-Build.result (rw c.in-Build.is (rw c.plan-plan.ensures at c.build.ensures.answer)) c.tell_zero-in-Build.ensures.told
 
 pub returns-in-Get-clause-answer : goal.returns-in-Get-clause-answer
-returns-in-Get-clause-answer c = told cell_reply c.args.machine.now c.args.name c.args.request.now c.get.result c.get.new.self c.tell_cell.new.reply c.tell_cell.result (rw c.in-Get.is (c.get.ensures c.args.name)) c.tell_cell.ensures.told
+returns-in-Get-clause-answer c = told cell_reply c.args.machine.now c.args.name c.args.request.now c.get.result c.get.new.self c.tell_cell.new.reply c.tell_cell.result (rw c.in-Get.is (c.get.ensures.answer c.args.name)) c.tell_cell.ensures.told
 
 pub returns-in-Free-clause-answer : goal.returns-in-Free-clause-answer
 returns-in-Free-clause-answer c = told (λ _. Rc0) c.args.machine.now c.args.name c.args.request.now c.free.result c.free.new.self c.tell_zero-in-Free.new.reply c.tell_zero-in-Free.result (rw c.in-Free.is (c.free.ensures c.args.name)) c.tell_zero-in-Free.ensures.told
@@ -56,3 +56,12 @@ returns-in-Obtain-clause-told c = rw c.in-Obtain.is (area_told c.args.told.now c
 
 pub returns-in-ObtainList-clause-told : goal.returns-in-ObtainList-clause-told
 returns-in-ObtainList-clause-told c = rw c.in-ObtainList.is (areas_told c.args.told.now c.args.machine.now c.args.name c.in-ObtainList.form c.in-ObtainList.number c.in-ObtainList.lengths c.in-ObtainList.start c.obtain_list.result c.tell_areas.new.reply c.tell_areas.result c.obtain_list.new.self c.tell_areas.ensures.told c.obtain_list.ensures.told)
+
+pub returns-in-Build-clause-told : goal.returns-in-Build-clause-told
+returns-in-Build-clause-told c = rw c.in-Build.is
+    (pool_told c.args.told.now c.args.machine.now c.args.name c.in-Build.pool c.in-Build.number c.in-Build.size c.in-Build.primary c.in-Build.secondary c.in-Build.loc c.build.result c.tell_zero-in-Build.new.reply c.tell_zero-in-Build.result c.build.new.self c.tell_zero-in-Build.ensures.told
+    (rw (c.plan-plan.ensures, c.first_told-in-Build.ensures) at c.build.ensures.told))
+
+pub returns-in-Get-clause-told : goal.returns-in-Get-clause-told
+returns-in-Get-clause-told c = rw c.in-Get.is
+    (cell_told c.args.told.now c.args.machine.now c.args.name c.in-Get.pool c.in-Get.conditional c.get.result c.tell_cell.new.reply c.tell_cell.result c.get.new.self c.tell_cell.ensures.told c.get.ensures.told)

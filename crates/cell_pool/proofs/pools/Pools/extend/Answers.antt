@@ -1,12 +1,13 @@
-use Rattle.std.proofs.Common.{◌≡◌, ℕ, ◌≤◌, ◌+◌, ◌-◌, Some, cond, sym, ap, subst, ◌∙◌, arith}
+use Rattle.std.proofs.Common.{◌≡◌, ℕ, ◌≤◌, ◌+◌, ◌-◌, Some, None, cond, sym, ap, subst, ◌∙◌, arith}
 use Rattle.std.specs.Prelude.{is_some}
 use Rattle.std.specs.FinMap.{get}
 use Rattle.mvs_model.specs.declared.name.Name.{Name}
 use Rattle.mvs_model.specs.Name.{same_name}
-use Rattle.mvs_model.specs.Place.{place_at}
+use Rattle.mvs_model.specs.Place.{PlaceValue, place_at}
 use Rattle.mvs_model.specs.Storage.{AllHeld, Grant}
 use Rattle.mvs_model.specs.Pools.{part_want}
-use Rattle.cell_pool.specs.Layout.{byte_of}
+use Rattle.cell_pool.specs.Layout.{byte_of, head_length}
+use Rattle.cell_pool.specs.Extended.{MayAdd}
 use Rattle.cell_pool.specs.Roots.{Root, extended}
 use Rattle.cell_pool.specs.Laying.{PutsWord}
 use Rattle.cell_pool.proofs.Bound.{count_bound}
@@ -68,3 +69,15 @@ returns-clause-agree c =
       parts = extended_agrees c.args.self.now c.args.store.now.storage c.obtain_part.new.store.storage c.lay_out.new.store.storage c.put_word.new.store.storage c.requires.agree.parts g.1 c.args.name.now c.args.root.now c.requires.root c.in-Some.place grant lays k more w c.replace.new.self now (subst (λ n. 1 ≤ n) second c.get-2.ensures.low) (subst (λ n. n ≤ 65536) second c.get-2.ensures.high) (full_of_none (byte_of c.args.store.now.storage) c.args.root.now.first c.args.root.now.count (sym counted.free ∙ c.requires.full));
       counted = extended_counted c.args.self.now c.args.store.now.storage c.obtain_part.new.store.storage c.lay_out.new.store.storage c.put_word.new.store.storage c.requires.agree.parts g.1 c.args.name.now c.args.root.now c.requires.root c.in-Some.place grant lays k more w c.replace.new.self now (subst (λ n. 1 ≤ n) second c.get-2.ensures.low) (subst (λ n. n ≤ 65536) second c.get-2.ensures.high) (full_of_none (byte_of c.args.store.now.storage) c.args.root.now.first c.args.root.now.count (sym counted.free ∙ c.requires.full)) c.requires.agree.counted;
     }
+
+pub returns-in_default-clause-told : goal.returns-in_default-clause-told
+returns-in_default-clause-told c q e chosen =
+    let told = subst (λ (r : Root). (q : PlaceValue) → c.args.told ≡ Some (q.addr + head_length r.secondary) → MayAdd c.args.store.now.storage r q → None ≡ Some q) c.root.view_is c.in_default.ensures.told in
+    absurd (let never : None ≡ Some q = told q e chosen in cc)
+
+pub returns-clause-told : goal.returns-clause-told
+returns-clause-told c q e chosen =
+    let told = subst (λ (r : Root). (q : PlaceValue) → c.args.told ≡ Some (q.addr + head_length r.secondary) → MayAdd c.args.store.now.storage r q → Some c.in-Some.place ≡ Some q) c.root.view_is c.in-Some.ensures.told in
+    let here : Some c.in-Some.place ≡ Some q = told q e chosen in
+    let same : c.in-Some.place ≡ q = cc in
+    ap Some (c.with_part-extended.ensures ∙ ap (extended c.args.root.now) (c.addr-part.ensures ∙ ap (λ (p : PlaceValue). p.addr) same))

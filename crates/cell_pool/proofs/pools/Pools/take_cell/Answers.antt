@@ -11,12 +11,12 @@ pub take-place-requires-clause-chain : goal.take-place-requires-clause-chain
 take-place-requires-clause-chain c = chain_of c.args.self.now c.args.store.now.storage c.args.name.now c.args.root.now c.requires.agree.parts c.requires.root
 
 pub new-requires : goal.new-requires
-new-requires c = low_at c.args.store.now.storage c.args.root.now (chain_of c.args.self.now c.args.store.now.storage c.args.name.now c.args.root.now c.requires.agree.parts c.requires.root) c.requires.free.number c.requires.free.is_part _ c.requires.free.addr
+new-requires c = low_at c.args.store.now.storage c.args.root.now (chain_of c.args.self.now c.args.store.now.storage c.args.name.now c.args.root.now c.requires.agree.parts c.requires.root) c.requires.free.open_number c.requires.free.is_open _ c.requires.free.open_addr
 
 pub with_taken-requires : goal.with_taken-requires
 with_taken-requires c =
     let s = c.args.spot in
-    got_some c.args.self.now c.args.store.now.storage c.requires.agree.parts c.args.name.now c.args.root.now c.requires.root s.part s.cell s.taken c.take-place.new.store.storage c.take-place.result c.requires.free c.take-place.ensures.taken c.take-place.ensures.place c.requires.agree.counted
+    got_some c.args.self.now c.args.store.now.storage c.requires.agree.parts c.args.name.now c.args.root.now c.requires.root s.part s.cell s.taken s.open_part c.take-place.new.store.storage c.take-place.result c.requires.free c.take-place.ensures.taken c.take-place.ensures.place c.requires.agree.counted
 
 pub replace-requires : goal.replace-requires
 replace-requires c = ap is_some c.requires.root
@@ -24,11 +24,11 @@ replace-requires c = ap is_some c.requires.root
 pub returns-clause-pools : goal.returns-clause-pools
 returns-clause-pools c =
     let s = c.args.spot in
-    got_pools c.args.self.now c.args.store.now.storage c.requires.agree.parts c.args.name.now c.args.root.now c.requires.root s.part s.cell s.taken c.take-place.new.store.storage c.take-place.result c.requires.free c.take-place.ensures.taken c.take-place.ensures.place c.requires.agree.counted c.replace.new.self
+    got_pools c.args.self.now c.args.store.now.storage c.requires.agree.parts c.args.name.now c.args.root.now c.requires.root s.part s.cell s.taken s.open_part c.take-place.new.store.storage c.take-place.result c.requires.free c.take-place.ensures.taken c.take-place.ensures.place c.requires.agree.counted c.replace.new.self
     (λ n. c.replace.ensures n ∙ ap (λ (q : Root). cond (same_name n c.args.name.now) (Some q) (get c.args.self.now n)) (c.with_taken.ensures ∙ ap (λ b. record c.args.root.now { free = c.args.root.now.free - 1; open_part = b }) c.new.ensures))
 
 pub returns-clause-agree : goal.returns-clause-agree
 returns-clause-agree c =
     let s = c.args.spot in
-    got_all c.args.self.now c.args.store.now.storage c.requires.agree.parts c.args.name.now c.args.root.now c.requires.root s.part s.cell s.taken c.take-place.new.store.storage c.take-place.result c.requires.free c.take-place.ensures.taken c.take-place.ensures.place c.requires.agree.counted c.replace.new.self
+    got_all c.args.self.now c.args.store.now.storage c.requires.agree.parts c.args.name.now c.args.root.now c.requires.root s.part s.cell s.taken s.open_part c.take-place.new.store.storage c.take-place.result c.requires.free c.take-place.ensures.taken c.take-place.ensures.place c.requires.agree.counted c.replace.new.self
     (λ n. c.replace.ensures n ∙ ap (λ (q : Root). cond (same_name n c.args.name.now) (Some q) (get c.args.self.now n)) (c.with_taken.ensures ∙ ap (λ b. record c.args.root.now { free = c.args.root.now.free - 1; open_part = b }) c.new.ensures))

@@ -1,4 +1,5 @@
-use Rattle.std.proofs.Common.{Some, inl, inr, refl}
+use Rattle.std.proofs.Common.{Some, inl, inr, refl, ap, ◌∙◌}
+use Rattle.mvs_model.specs.FreeRuns.{free_runs}
 use Rattle.mvs_model.specs.declared.reason.Reason.TheVariants.{NoPart}
 use Rattle.mvs_model.specs.Pools.{part_want}
 use Rattle.mvs_model.specs.State.{holder}
@@ -15,7 +16,7 @@ returns-in-Some c =
       stands_none st.regions c.room.ensures.bounded (holder st) c.args.subpool real want c.part_want.ensures h.0,
       (
         c.in-Some.room,
-        record { longest = stands_longest st.regions c.room.ensures.bounded (holder st) c.args.subpool real want c.part_want.ensures _ h.1.longest; below = h.1.below; above = h.1.above },
+        record { longest = stands_longest st.regions c.room.ensures.bounded (holder st) c.args.subpool real want c.part_want.ensures _ h.1.longest; runs = h.1.runs ∙ ap (free_runs st.regions (holder st) c.args.subpool) c.part_want.ensures.side; below = h.1.below; above = h.1.above },
         (λ i. Some (NoPart (c.get.ensures.value i) (c.get-in-Some.ensures.value i) c.in-Some.room)),
       ),
     )

@@ -1,0 +1,84 @@
+//! Requests that touch bytes, and WHERE.
+
+use crate::cards::ProgramFault;
+use crate::step::{Entry, Writing};
+use mvs_model::line::{Location, Written};
+use mvs_model::name::Name;
+use std::alloc::{AllocError, Global};
+use std::io::Write;
+
+/// How many bytes a card of a constant has.
+const OF_A_CARD: usize = 16;
+
+// A constant of some bytes.
+fn hexadecimal(alloc: Global, bytes: &[u8]) -> Result<String, AllocError> {
+    let mut text = String::from_str(alloc, "X'")?;
+    for byte in bytes {
+        text.push_str(&format!(in alloc; "{byte:02X}")?)?;
+    }
+    text.push('\'')?;
+    Ok(text)
+}
+
+impl<W: Write> Writing<W> {
+    fn put(&mut self, entry: &Entry, to: &Location, bytes: &[u8]) -> Result<(), ProgramFault> {
+        let alloc = self.cards.alloc();
+        let label = format!(in alloc; "X{}", entry.number)?;
+        self.locate(2, to)?;
+        let count = bytes.len();
+        self.cards
+            .code("MVC", &format!(in alloc; "0({count},2),{label}")?)?;
+        self.cards.go("OKAY")?;
+        self.cards
+            .statement(&label, "DS", &format!(in alloc; "0XL{count}")?)?;
+        for chunk in bytes.chunks(OF_A_CARD) {
+            self.cards.statement("", "DC", &hexadecimal(alloc, chunk)?)?;
+        }
+        self.cards.statement("", "DS", "0H")
+    }
+
+    fn show(&mut self, from: &Location, length: u32) -> Result<(), ProgramFault> {
+        self.locate(2, from)?;
+        self.load(3, length)?;
+        self.point(4, "BUFFER")?;
+        self.cards.code("LR", "5,3")?;
+        self.cards.code("MVCL", "4,2")?;
+        self.load(0, length)?;
+        self.cards.go("SHOWN")
+    }
+
+    fn copy(&mut self, to: &Location, from: &Location, length: u32) -> Result<(), ProgramFault> {
+        self.locate(6, to)?;
+        self.locate(2, from)?;
+        self.load(3, length)?;
+        self.point(4, "BUFFER")?;
+        self.cards.code("LR", "5,3")?;
+        self.cards.code("MVCL", "4,2")?;
+        self.point(2, "BUFFER")?;
+        self.load(3, length)?;
+        self.cards.code("LR", "4,6")?;
+        self.cards.code("LR", "5,3")?;
+        self.cards.code("MVCL", "4,2")?;
+        self.cards.go("OKAY")
+    }
+
+    /// A request that touches bytes.
+    pub fn of_bytes(&mut self, entry: &Entry, written: &Written) -> Result<(), ProgramFault> {
+        match written {
+            Written::Put { to, bytes } => self.put(entry, to, bytes.as_slice()),
+            Written::Show { from, len } => self.show(from, len.get()),
+            Written::Move { to, from, len } => self.copy(to, from, len.get()),
+            _ => Ok(()),
+        }
+    }
+
+    /// Where an area lies.
+    pub fn of_where(&mut self, name: &Name) -> Result<(), ProgramFault> {
+        let location = self.area(name)?;
+        self.point(2, &location)?;
+        self.cards.code("CLI", "8(2),1")?;
+        self.cards.branch("7", "NONAME")?;
+        self.cards.code("L", "0,0(,2)")?;
+        self.cards.go("AT")
+    }
+}

@@ -1,0 +1,120 @@
+//! Requests that begin and end tasks.
+
+use crate::cards::ProgramFault;
+use crate::step::{Entry, Writing};
+use mvs_model::gifts::Gifts;
+use mvs_model::line::Written;
+use mvs_model::name::Name;
+use mvs_model::want::Residence;
+use std::alloc::{AllocError, Global};
+use std::io::Write;
+
+/// The numbers that a task may have under subpools of its own.
+const NUMBERS: u8 = 128;
+
+// The numbers that are given, or shared, from 1 on.
+fn numbers(alloc: Global, gifts: &Gifts, is_given: bool) -> Result<Vec<u8>, AllocError> {
+    let mut numbers = Vec::new(alloc);
+    for number in 1..NUMBERS {
+        let has = if is_given {
+            gifts.gives(number)
+        } else {
+            gifts.shares(number)
+        };
+        if has {
+            numbers.push(number)?;
+        }
+    }
+    Ok(numbers)
+}
+
+// A constant that is a list of numbers, its length in front.
+fn number_list(alloc: Global, numbers: &[u8]) -> Result<String, AllocError> {
+    let mut text = format!(in alloc; "AL1({})", numbers.len())?;
+    for number in numbers {
+        text.push_str(&format!(in alloc; ",AL1({number})")?)?;
+    }
+    Ok(text)
+}
+
+impl<W: Write> Writing<W> {
+    // The operand of ATTACH for some numbers: one as it is, several by a list.
+    fn presents(
+        &self,
+        entry: &Entry,
+        numbers: &[u8],
+        letter: &str,
+        key: &str,
+    ) -> Result<String, AllocError> {
+        let alloc = self.cards.alloc();
+        match numbers {
+            [] => Ok(String::new(alloc)),
+            [number] => format!(in alloc; ",{key}V={number}"),
+            _ => format!(in alloc; ",{key}L={letter}{}", entry.number),
+        }
+    }
+
+    // The list of some numbers, if they are several.
+    fn put_list(
+        &mut self,
+        entry: &Entry,
+        numbers: &[u8],
+        letter: &str,
+    ) -> Result<(), ProgramFault> {
+        if numbers.len() < 2 {
+            return Ok(());
+        }
+        let alloc = self.cards.alloc();
+        let label = format!(in alloc; "{letter}{}", entry.number)?;
+        self.cards
+            .statement(&label, "DC", &number_list(alloc, numbers)?)?;
+        self.cards.statement("", "DS", "0H")
+    }
+
+    fn attach(&mut self, entry: &Entry, name: &Name, gifts: &Gifts) -> Result<(), ProgramFault> {
+        let alloc = self.cards.alloc();
+        let task = self.task(name)?;
+        let given = numbers(alloc, gifts, true)?;
+        let shared = numbers(alloc, gifts, false)?;
+        self.point(2, &task)?;
+        self.cards.code("TM", "SLFLAGS-SLOT(2),SLACTIVE")?;
+        self.cards.branch("1", "TASKUSED")?;
+        self.cards.code("BRASL", "14,NEWSLOT")?;
+        let gives = self.presents(entry, &given, "G", "GSP")?;
+        let shares = self.presents(entry, &shared, "H", "SHSP")?;
+        let zero = if gifts.shares(0) { "YES" } else { "NO" };
+        let operands = format!(in alloc;
+            "EP=MVSTASK,PARAM=({task}),VL=1,ECB={task}+8{gives}{shares},SZERO={zero}"
+        )?;
+        self.cards.code("ATTACHX", &operands)?;
+        self.point(2, &task)?;
+        self.cards.go("ATTD")?;
+        self.put_list(entry, &given, "G")?;
+        self.put_list(entry, &shared, "H")
+    }
+
+    /// A request that begins or ends a task.
+    pub fn of_task(&mut self, entry: &Entry, written: &Written) -> Result<(), ProgramFault> {
+        match written {
+            Written::Attach {
+                name,
+                gifts,
+                residence,
+            } => {
+                self.attach(entry, name, gifts)?;
+                Ok(self.names.reside(name, *residence)?)
+            }
+            Written::Return => self.cards.go("TASKRETN"),
+            Written::Abend(code) => {
+                let operands = format!(in self.cards.alloc(); "{}", code.get())?;
+                self.cards.code("ABEND", &operands)
+            }
+            _ => Ok(()),
+        }
+    }
+
+    /// The task of a step begins.
+    pub fn begin(&mut self, task: &Name, residence: Residence) -> Result<(), ProgramFault> {
+        Ok(self.names.reside(task, residence)?)
+    }
+}

@@ -1,0 +1,32 @@
+-- What is printed of an address that a name has in its place, with the rule of RULES.md that says so. (this project's own notation)
+use Rattle.std.specs.Prelude.{ℕ, ◌-◌, ◌==◌, List, ◌++◌, codes, decimal, if◌then◌else◌}
+use Rattle.mvs_model.specs.declared.name.Name.{Name}
+use Rattle.mvs_model.specs.Name.{trimmed}
+use Rattle.mvs_model.specs.Place.{PlaceValue}
+use Rattle.mvs_model.specs.Texts.{hex}
+use Rattle.job_script.specs.FactTexts.{place_said}
+use Rattle.job_script.specs.ReasonTexts.{one_line}
+
+-- the line that obtained a place
+abbrev pub by_line_said : ℕ → List ℕ
+by_line_said number = codes " that line " ++ decimal number ++ codes " obtained. (rule 37)"
+
+-- of an address at which the place of a name begins
+abbrev pub first_said : Name → PlaceValue → ℕ → List ℕ
+first_said name p number = hex 8 p.addr ++ codes " is " ++ trimmed name ++ codes ", " ++ decimal p.len ++ codes " bytes" ++ by_line_said number
+
+-- how far an address lies into a place
+abbrev pub into_said : ℕ → List ℕ
+into_said n = decimal n ++ (if n == 1 then codes " byte into " else codes " bytes into ")
+
+-- of an address that lies in it
+abbrev pub inside_said : ℕ → Name → PlaceValue → ℕ → List ℕ
+inside_said a name p number = hex 8 a ++ codes " lies " ++ into_said (a - p.addr) ++ trimmed name ++ codes ", " ++ place_said p ++ by_line_said number
+
+-- of an address that a name has in its place, which the line of a number obtained
+abbrev pub naming_said : ℕ → Name → PlaceValue → ℕ → List ℕ
+naming_said a name p number = if a == p.addr then first_said name p number else inside_said a name p number
+
+-- the line of it, which is a comment in the language of scripts
+abbrev pub naming_line : ℕ → Name → PlaceValue → ℕ → List ℕ
+naming_line a name p number = one_line (codes "* " ++ naming_said a name p number)

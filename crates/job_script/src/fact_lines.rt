@@ -1,0 +1,302 @@
+//! The line that says what a request did.
+
+ghost use Rattle.std.specs.Prelude.{◌≡◌, ◌≤◌, ◌+◌, ◌++◌, decimal, length};
+ghost use Rattle.job_script.specs.FactTexts.{added_said, asked_said, between_said, cell_said, cells_said, fact_line, fact_said, given_said, no_greater_said, obtained_said, pages_do, part_said, place_said, rounded_said, shared_said, subpool_said, taken_said};
+ghost use Rattle.job_script.specs.Writing.{Prints};
+
+use crate::freed::push_pages;
+use crate::print::write_all;
+use crate::reasons::end_line;
+use crate::text::Text;
+use mvs_model::fact::Fact;
+use mvs_model::name::Name;
+use mvs_model::place::Place;
+use mvs_model::subpool::SubNo;
+use mvs_model::watched::{Failed, Watched};
+use std::io::Write;
+
+// Puts the number of a subpool behind a text.
+fn push_number(text: &mut Text, number: SubNo)
+    requires { length text.old ≤ 140 }
+    ensures text { text.new ≡ text.old ++ decimal number }
+    ensures len { length text.new ≤ length text.old + 10 }
+{
+    text.push_decimal(u32::from(number.get()));
+}
+
+// Puts a subpool behind a text: the number under which its owner has it, and the owner.
+fn push_subpool(text: &mut Text, number: SubNo, owner: &Name)
+    requires { length text.old ≤ 100 }
+    ensures text { text.new ≡ text.old ++ subpool_said number owner.now }
+    ensures len { length text.new ≤ length text.old + 26 }
+{
+    text.push_all(b"SP ");
+    push_number(text, number);
+    text.push_all(b" of ");
+    text.push_name(owner);
+}
+
+// Puts a place behind a text.
+pub(crate) fn push_place(text: &mut Text, place: Place)
+    requires { length text.old ≤ 100 }
+    ensures text { text.new ≡ text.old ++ place_said place }
+    ensures len { length text.new ≤ length text.old + 28 }
+{
+    text.push_decimal(place.len());
+    text.push_all(b" bytes at ");
+    text.push_word(place.addr().get());
+}
+
+// Puts behind a text that so many bytes were added.
+fn push_added(text: &mut Text, added: u32)
+    requires { length text.old ≤ 80 }
+    ensures text { text.new ≡ text.old ++ added_said added }
+    ensures len { length text.new ≤ length text.old + 50 }
+{
+    text.push_all(b", ");
+    text.push_decimal(added);
+    text.push_all(b" of them by rounding. (rule 3)");
+}
+
+// Puts behind a text how much of a length was added by rounding.
+fn push_rounded(text: &mut Text, len: u32, asked: u32)
+    requires { length text.old ≤ 80 }
+    ensures text { text.new ≡ text.old ++ rounded_said len asked }
+    ensures len { length text.new ≤ length text.old + 50 }
+{
+    if len == asked {
+        text.push_all(b". (rule 24)");
+    } else {
+        push_added(text, len.saturating_sub(asked));
+    }
+}
+
+// Puts behind a text between which lengths one was asked for.
+fn push_between(text: &mut Text, least: u32, most: u32)
+    requires { length text.old ≤ 80 }
+    ensures text { text.new ≡ text.old ++ between_said least most }
+    ensures len { length text.new ≤ length text.old + 50 }
+{
+    text.push_all(b", of ");
+    text.push_decimal(least);
+    text.push_all(b" to ");
+    text.push_decimal(most);
+    text.push_all(b" wanted. (rule 20)");
+}
+
+// Puts behind a text how much of a length was asked for.
+fn push_asked(text: &mut Text, len: u32, least: u32, most: u32)
+    requires { length text.old ≤ 80 }
+    ensures text { text.new ≡ text.old ++ asked_said len least most }
+    ensures len { length text.new ≤ length text.old + 50 }
+{
+    if least == most {
+        push_rounded(text, len, most);
+    } else {
+        push_between(text, least, most);
+    }
+}
+
+// Puts behind a text what so many pages do, in the words for one of them or for more.
+fn push_pages_do(text: &mut Text, pages: u32, one: &[u8], more: &[u8])
+    requires old { length text.old ≤ 2 }
+    requires one { length one.now ≤ 40 }
+    requires more { length more.now ≤ 40 }
+    ensures text { text.new ≡ text.old ++ pages_do pages one.now more.now }
+    ensures len { length text.new ≤ length text.old + 56 }
+{
+    push_pages(text, pages);
+    text.push_all(if pages == 1 { one } else { more });
+}
+
+// Puts behind a text that so many pages are taken.
+fn push_taken(text: &mut Text, pages: u32)
+    requires { length text.old ≤ 2 }
+    ensures text { text.new ≡ text.old ++ taken_said pages }
+    ensures len { length text.new ≤ length text.old + 56 }
+{
+    if pages == 0 {
+        text.push_all(b"It lies in pages that the subpool has. (rule 4)");
+    } else {
+        push_pages_do(
+            text,
+            pages,
+            b" is taken that held nothing. (rule 5)",
+            b" are taken that held nothing. (rule 5)",
+        );
+    }
+}
+
+// Puts how many cells behind a text.
+fn push_cells(text: &mut Text, cells: u32)
+    requires { length text.old ≤ 100 }
+    ensures text { text.new ≡ text.old ++ cells_said cells }
+    ensures len { length text.new ≤ length text.old + 16 }
+{
+    text.push_decimal(cells);
+    if cells == 1 {
+        text.push_all(b" cell");
+    } else {
+        text.push_all(b" cells");
+    }
+}
+
+// Puts an area behind a text that was obtained.
+fn push_obtained(text: &mut Text, area: &Name, place: Place, number: SubNo, owner: &Name)
+    requires { length text.old ≤ 2 }
+    ensures text { text.new ≡ text.old ++ obtained_said area.now place number owner.now }
+    ensures len { length text.new ≤ length text.old + 70 }
+{
+    text.push_name(area);
+    text.push_all(b" is ");
+    push_place(text, place);
+    text.push_all(b" in ");
+    push_subpool(text, number, owner);
+}
+
+// Puts a cell behind a text that was taken.
+fn push_cell(text: &mut Text, cell: &Name, pool: &Name, place: Place)
+    requires { length text.old ≤ 2 }
+    ensures text { text.new ≡ text.old ++ cell_said cell.now pool.now place }
+    ensures len { length text.new ≤ length text.old + 100 }
+{
+    text.push_name(cell);
+    text.push_all(b" is a cell of pool ");
+    text.push_name(pool);
+    text.push_all(b": ");
+    push_place(text, place);
+    text.push_all(b". (rule 60)");
+}
+
+// Puts a part behind a text that a pool gets.
+fn push_part(text: &mut Text, pool: &Name, cells: u32, size: u32, place: Place)
+    requires { length text.old ≤ 2 }
+    ensures text { text.new ≡ text.old ++ part_said pool.now cells size place }
+    ensures len { length text.new ≤ length text.old + 120 }
+{
+    text.push_all(b"Pool ");
+    text.push_name(pool);
+    text.push_all(b" gets a part for ");
+    push_cells(text, cells);
+    text.push_all(b" of ");
+    text.push_decimal(size);
+    text.push_all(b" bytes: ");
+    push_place(text, place);
+    text.push_all(b". (rule 57)");
+}
+
+// Puts behind a text that a subtask owns what its mother gave.
+fn push_given(text: &mut Text, subtask: &Name, number: SubNo, mother: &Name)
+    requires { length text.old ≤ 2 }
+    ensures text { text.new ≡ text.old ++ given_said subtask.now number mother.now }
+    ensures len { length text.new ≤ length text.old + 80 }
+{
+    text.push_name(subtask);
+    text.push_all(b" owns SP ");
+    push_number(text, number);
+    text.push_all(b", which ");
+    text.push_name(mother);
+    text.push_all(b" gave. (rule 43)");
+}
+
+// Puts behind a text which lengths had no place.
+fn push_no_greater(text: &mut Text, below: u32, above: u32)
+    requires { length text.old ≤ 2 }
+    ensures text { text.new ≡ text.old ++ no_greater_said below above }
+    ensures len { length text.new ≤ length text.old + 120 }
+{
+    text.push_all(b"No greater length had a place; free pages before: ");
+    text.push_decimal(below);
+    text.push_all(b" below, ");
+    text.push_decimal(above);
+    text.push_all(b" above. (rule 20)");
+}
+
+// Puts a subpool behind a text, and what is said of it.
+fn push_subpool_is(text: &mut Text, number: SubNo, owner: &Name, is: &[u8])
+    requires old { length text.old ≤ 20 }
+    requires is { length is.now ≤ 60 }
+    ensures text { text.new ≡ text.old ++ (subpool_said number owner.now ++ is.now) }
+    ensures len { length text.new ≤ length text.old + 86 }
+{
+    push_subpool(text, number, owner);
+    text.push_all(is);
+}
+
+// Puts behind a text that a subtask shares a subpool.
+fn push_shared(text: &mut Text, subtask: &Name, number: SubNo, owner: &Name)
+    requires { length text.old ≤ 2 }
+    ensures text { text.new ≡ text.old ++ shared_said subtask.now number owner.now }
+    ensures len { length text.new ≤ length text.old + 120 }
+{
+    text.push_name(subtask);
+    text.push_all(b" shares ");
+    push_subpool(text, number, owner);
+    text.push_all(b". (rule 44)");
+}
+
+// Puts a fact behind a text.
+fn push_fact(text: &mut Text, fact: &Fact)
+    requires { length text.old ≤ 2 }
+    ensures text { text.new ≡ text.old ++ fact_said fact.now }
+    ensures len { length text.new ≤ length text.old + 157 }
+{
+    match fact {
+        Fact::Obtained {
+            area,
+            place,
+            least,
+            most,
+            number,
+            owner,
+        } => {
+            push_obtained(text, area, *place, *number, owner);
+            push_asked(text, place.len(), *least, *most);
+        }
+        Fact::NoGreater { below, above } => push_no_greater(text, *below, *above),
+        Fact::NewSubpool { number, owner } => {
+            push_subpool_is(text, *number, owner, b" is new. (rule 42)");
+        }
+        Fact::PagesTaken(pages) => push_taken(text, *pages),
+        Fact::PagesFreed(pages) => push_pages_do(
+            text,
+            *pages,
+            b" holds nothing any more. (rule 5)",
+            b" hold nothing any more. (rule 5)",
+        ),
+        Fact::Emptied { number, owner } => push_subpool_is(
+            text,
+            *number,
+            owner,
+            b" holds nothing any more, and stays. (rule 34)",
+        ),
+        Fact::CellTaken { cell, pool, place } => push_cell(text, cell, pool, *place),
+        Fact::PartAdded {
+            pool,
+            cells,
+            size,
+            place,
+        } => push_part(text, pool, *cells, *size, *place),
+        Fact::Given {
+            subtask,
+            number,
+            mother,
+        } => push_given(text, subtask, *number, mother),
+        Fact::Shared {
+            subtask,
+            number,
+            owner,
+        } => push_shared(text, subtask, *number, owner),
+    }
+}
+
+/// Prints the line that says what a request did.
+pub fn print_fact<W: Write>(writer: &mut Watched<W>, fact: &Fact) -> Result<(), Failed>
+    ensures { Prints W.contents writer.old writer.new result (fact_line fact.now) }
+{
+    let mut text = Text::new();
+    text.push_all(b"* ");
+    push_fact(&mut text, fact);
+    end_line(&mut text);
+    write_all(writer, text.as_slice())
+}

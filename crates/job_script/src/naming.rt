@@ -1,0 +1,107 @@
+//! The line that says which name has an address in its place, and which line obtained that.
+
+ghost use Rattle.std.specs.Prelude.{◌≡◌, ◌≤◌, ◌+◌, ◌-◌, ◌++◌, length};
+ghost use Rattle.job_script.specs.NamingTexts.{by_line_said, first_said, inside_said, into_said, naming_line, naming_said};
+ghost use Rattle.job_script.specs.Writing.{Prints};
+
+use crate::fact_lines::push_place;
+use crate::print::write_all;
+use crate::reasons::end_line;
+use crate::text::Text;
+use mvs_model::name::Name;
+use mvs_model::place::{Addr, Place};
+use mvs_model::watched::{Failed, Watched};
+use std::io::Write;
+
+// Puts behind a text which line obtained a place.
+fn push_by_line(text: &mut Text, number: u32)
+    requires { length text.old ≤ 100 }
+    ensures text { text.new ≡ text.old ++ by_line_said number }
+    ensures len { length text.new ≤ length text.old + 45 }
+{
+    text.push_all(b" that line ");
+    text.push_decimal(number);
+    text.push_all(b" obtained. (rule 37)");
+}
+
+// Puts behind a text that the place of a name begins at its address.
+fn push_first(text: &mut Text, name: &Name, place: Place, number: u32)
+    requires { length text.old ≤ 2 }
+    ensures text { text.new ≡ text.old ++ first_said name.now place number }
+    ensures len { length text.new ≤ length text.old + 150 }
+{
+    text.push_word(place.addr().get());
+    text.push_all(b" is ");
+    text.push_name(name);
+    text.push_all(b", ");
+    text.push_decimal(place.len());
+    text.push_all(b" bytes");
+    push_by_line(text, number);
+}
+
+// Puts behind a text how far an address lies into a place.
+fn push_into(text: &mut Text, bytes: u32)
+    requires { length text.old ≤ 20 }
+    ensures text { text.new ≡ text.old ++ into_said bytes }
+    ensures len { length text.new ≤ length text.old + 30 }
+{
+    text.push_decimal(bytes);
+    if bytes == 1 {
+        text.push_all(b" byte into ");
+    } else {
+        text.push_all(b" bytes into ");
+    }
+}
+
+// How far an address lies behind another.
+fn distance(addr: Addr, from: Addr) -> u32
+    ensures { result ≡ addr - from }
+{
+    addr.get().saturating_sub(from.get())
+}
+
+// Puts behind a text that an address lies in the place of a name.
+fn push_inside(text: &mut Text, addr: Addr, name: &Name, place: Place, number: u32)
+    requires { length text.old ≤ 2 }
+    ensures text { text.new ≡ text.old ++ inside_said addr name.now place number }
+    ensures len { length text.new ≤ length text.old + 150 }
+{
+    text.push_word(addr.get());
+    text.push_all(b" lies ");
+    push_into(text, distance(addr, place.addr()));
+    text.push_name(name);
+    text.push_all(b", ");
+    push_place(text, place);
+    push_by_line(text, number);
+}
+
+// Puts behind a text that a name has an address in its place.
+fn push_naming(text: &mut Text, addr: Addr, name: &Name, place: Place, number: u32)
+    requires { length text.old ≤ 2 }
+    ensures text { text.new ≡ text.old ++ naming_said addr name.now place number }
+    ensures len { length text.new ≤ length text.old + 150 }
+{
+    if addr.get() == place.addr().get() {
+        push_first(text, name, place, number);
+    } else {
+        push_inside(text, addr, name, place, number);
+    }
+}
+
+/// Prints the line that says that a name has an address in its place, which the line of a number obtained.
+pub fn print_naming<W: Write>(
+    writer: &mut Watched<W>,
+    addr: Addr,
+    name: &Name,
+    place: Place,
+    number: u32,
+) -> Result<(), Failed>
+    ensures { Prints W.contents writer.old writer.new result
+        (naming_line addr name.now place number) }
+{
+    let mut text = Text::new();
+    text.push_all(b"* ");
+    push_naming(&mut text, addr, name, place, number);
+    end_line(&mut text);
+    write_all(writer, text.as_slice())
+}

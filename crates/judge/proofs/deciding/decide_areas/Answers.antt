@@ -1,0 +1,18 @@
+use Rattle.std.proofs.Common.{[], true, ◌∷◌, subst, take}
+use Rattle.mvs_model.specs.Lines.{lines_of}
+use Rattle.judge.specs.Deciding.{DecidesBefore}
+use Rattle.judge.specs.Judging.{AskEach, IsOpen}
+use Rattle.judge.proofs.ListLines.{list_found}
+use Rattle.judge.proofs.deciding.decide_areas.Goals as goal
+
+pub returns-clause-decided : goal.returns-clause-decided
+returns-clause-decided c =
+    let w = c.args.walk.now in
+    let l = take c.args.end c.args.script.now in
+    let s = c.in_ok-served.served in
+    let behind = c.text_behind-behind.ensures in
+    let each = subst (λ x. AskEach (lines_of x) c.args.listed.now.task c.args.listed.now.areas) behind (subst (λ areas. AskEach (lines_of c.text_behind-behind.result.now) c.args.listed.now.task areas) c.as_slice.ensures.items (c.asks_each.ensures.0 c.if-not-asks_each.false)) in
+    list_found c.args.script.now c.args.left.now w c.decide_list.new.walk c.args.end l c.args.listed.now.task c.args.listed.now.areas s.text.items s.goes_on s.passes c.requires.lines c.requires.list each
+    c.in_ok-served.ensures.served c.in_ok-served.ensures.goes_on
+    (λ e. subst (λ x. IsOpen w.number w.step (l ∷ lines_of x) c.args.left.now) behind (c.in_ok-served.ensures.opens e))
+    (λ e. subst (λ x. DecidesBefore (l ∷ []) (lines_of x) c.args.left.now w s.text.items true true c.decide_list.new.walk) behind (c.in_ok-served.ensures.decided e))

@@ -1,0 +1,118 @@
+-- What is found of an output: whether it is the printing of some run of a script.
+use Rattle.std.specs.Prelude.{◌≡◌, ◌≢◌, ◌⊎◌, ℕ, ◌-◌, Bool, true, false, List, [], ◌∷◌, ◌++◌, length, Option, Some, slice_get}
+use Rattle.std.specs.List.{AllByRecursion}
+use Rattle.mvs_model.specs.declared.code.Form.{Form}
+use Rattle.mvs_model.specs.declared.line.Line.{Line}
+use Rattle.mvs_model.specs.declared.line.Line.TheVariants as line
+use Rattle.mvs_model.specs.declared.line.Statement.TheVariants as says
+use Rattle.mvs_model.specs.declared.line.Written.{Written}
+use Rattle.mvs_model.specs.declared.line.Written.TheVariants as written
+use Rattle.mvs_model.specs.declared.name.Name.{Name}
+use Rattle.mvs_model.specs.declared.outcome.Outcome.{Outcome}
+use Rattle.mvs_model.specs.Answers.{Event}
+use Rattle.mvs_model.specs.Going.{Reaches}
+use Rattle.mvs_model.specs.Job.{JobValue}
+use Rattle.mvs_model.specs.Lines.{lines_of}
+use Rattle.mvs_model.specs.Reading.{LineOf}
+use Rattle.mvs_model.specs.Runs.{IsPrinting, machine}
+use Rattle.mvs_model.specs.Texts.{printing}
+use Rattle.mvs_model.specs.Walk.{ServesLine, is_first}
+use Rattle.mvs_model.specs.Want.{AskValue}
+use Rattle.judge.specs.declared.Finding.{Finding}
+use Rattle.judge.specs.declared.Finding.TheVariants.{Accepted, Refused, Undecided}
+
+-- The text is the printing of no run of the script, however it may end.
+abbrev pub IsNoPrinting : List ℕ → List ℕ → Type 0
+IsNoPrinting script text = (outcome : Outcome) → IsPrinting script text outcome → ⊥
+
+-- whether a request may be granted places: areas, the parts of a pool, or a cell
+abbrev pub may_grant : Written → Bool
+may_grant (written.Obtain form number ask variable area) = true
+may_grant (written.ObtainList form number lengths start areas) = true
+may_grant (written.Build pool number size primary secondary loc) = true
+may_grant (written.Get pool conditional cell) = true
+may_grant _ = false
+
+-- the same of what a line says
+abbrev pub leaves_open : Line → Bool
+leaves_open (line.Statement t (says.Request a)) = may_grant a
+leaves_open _ = false
+
+-- The line is a request of a task for one area, variable or not, which sets a name.
+abbrev pub AsksArea : Line → Name → Name → Bool → Type 0
+AsksArea l task area variable = (form : Form) × (number : ℕ) × (ask : AskValue) × (l ≡ line.Statement task (says.Request (written.Obtain form number ask variable area)))
+
+-- No two of the names are the same.
+abbrev pub AreApart : List Name → Type 0
+AreApart [] = Unit {0}
+AreApart (area ∷ areas) = AllByRecursion (λ other. area ≢ other) areas × AreApart areas
+
+-- The line is a request of a task for a list of areas, which sets a name for each of them.
+abbrev pub AsksList : Line → Name → List Name → Type 0
+AsksList l task areas =
+    (form : Form) × (number : ℕ) × (lengths : List ℕ) × (start : ℕ)
+    × (l ≡ line.Statement task (says.Request (written.ObtainList form number lengths start areas))) × (length lengths ≡ length areas) × AreApart areas
+
+-- The line is a question of the task where the name lies.
+abbrev pub IsQuestion : List ℕ → Name → Name → Type 0
+IsQuestion bytes task area = LineOf false bytes (line.Statement task (says.Where area))
+
+-- The first of the lines are questions of the task where the names lie, in their order.
+abbrev pub AskEach : List (List ℕ) → Name → List Name → Type 0
+AskEach lines task [] = Unit {0}
+AskEach [] task (area ∷ areas) = ⊥
+AskEach (question ∷ lines) task (area ∷ areas) = IsQuestion question task area × AskEach lines task areas
+
+-- The line is a request for one area, and the first of the lines behind it asks where the area lies.
+abbrev pub IsAreaAsked : Line → List (List ℕ) → Type 0
+IsAreaAsked l [] = ⊥
+IsAreaAsked l (question ∷ lines) = (task : Name) × (area : Name) × (variable : Bool) × AsksArea l task area variable × IsQuestion question task area
+
+-- The line is a request for a list, and the lines behind it ask where each of its areas lies.
+abbrev pub IsListAsked : Line → List (List ℕ) → Type 0
+IsListAsked l lines = (task : Name) × (areas : List Name) × AsksList l task areas × AskEach lines task areas
+
+-- The lines behind a line ask for what it may be granted.
+abbrev pub IsAskedFor : Line → List (List ℕ) → Type 0
+IsAskedFor l lines = IsAreaAsked l lines ⊎ IsListAsked l lines
+
+-- The line is a request for a list.
+abbrev pub IsForList : Line → Type 0
+IsForList l = (task : Name) × (areas : List Name) × AsksList l task areas
+
+-- The line of this number is a request for a list, which some run is answered otherwise than a text goes on.
+abbrev pub MayDiffer : ℕ → Option JobValue → List ℕ → Line → List ℕ → Type 0
+MayDiffer number step bytes l rest =
+    IsForList l × (events : List Event) × (new : Option JobValue) × ServesLine machine number step bytes events new × ((more : List ℕ) → rest ≡ printing events ++ more → ⊥)
+
+-- The first of the lines, which has this number, may be granted places, and what lies behind it does not ask for them; or it asks for a
+-- list, which may be answered otherwise than a text goes on.
+abbrev pub IsOpen : ℕ → Option JobValue → List (List ℕ) → List ℕ → Type 0
+IsOpen number step [] rest = ⊥
+IsOpen number step (bytes ∷ lines) rest = (l : Line) × LineOf (is_first step) bytes l × (leaves_open l ≡ true) × (IsAskedFor l lines → MayDiffer number step bytes l rest)
+
+-- Each of the first lines that may be granted places is asked for by the line behind it, up to those that are left.
+abbrev pub IsAskedBefore : List (List ℕ) → List (List ℕ) → Type 0
+IsAskedBefore [] left = Unit {0}
+IsAskedBefore (bytes ∷ lines) left = ((l : Line) → LineOf false bytes l → leaves_open l ≡ true → IsAskedFor l (lines ++ left)) × IsAskedBefore lines left
+
+-- the same of all lines
+abbrev pub IsAsked : List (List ℕ) → Type 0
+IsAsked lines = IsAskedBefore lines []
+
+-- The line of this number is a request for a list.
+abbrev pub IsListAt : List (List ℕ) → ℕ → Type 0
+IsListAt lines number = (bytes : List ℕ) × (slice_get lines (number - 1) ≡ Some bytes) × (l : Line) × LineOf false bytes l × IsForList l
+
+-- A run of the script prints what the output begins with, up to the line of this number, which is the first that is open.
+abbrev pub IsOpenAt : List ℕ → List ℕ → ℕ → Type 0
+IsOpenAt script output number =
+    (events : List Event) × (step : Option JobValue) × (left : List (List ℕ)) × (rest : List ℕ)
+    × (reached : Reaches (lines_of script) events number step left) × (output ≡ printing events ++ rest) × IsAskedBefore reached.served left × IsOpen number step left rest
+
+-- What a finding says of an output, when it is compared with a run that ends so: it is the printing of this run, or of none, or it may
+-- depend on places that a line is granted.
+abbrev pub IsFound : List ℕ → List ℕ → Outcome → Finding → Type 0
+IsFound script output outcome Accepted = IsPrinting script output outcome
+IsFound script output outcome Refused = IsNoPrinting script output
+IsFound script output outcome (Undecided number) = IsOpenAt script output number

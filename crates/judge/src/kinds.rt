@@ -1,0 +1,167 @@
+//! What lines of a script can be granted, and which ask for that.
+
+ghost use Rattle.std.specs.Prelude.{◌≡◌, ◌≢◌, ◌≤◌, ◌↔◌, ◌+◌, ◌∷◌, IsTrue, length, drop, take, true, MatchOption};
+ghost use Rattle.std.specs.List.{AllByRecursion};
+ghost use Rattle.mvs_model.specs.Lines.{lines_of};
+ghost use Rattle.mvs_model.specs.Walk.{is_first};
+ghost use Rattle.judge.specs.Deciding.{HasNoQuestion, IsKind, IsKindOf};
+ghost use Rattle.judge.specs.Judging.{AreApart, AskEach, IsQuestion, may_grant};
+
+use job_script::read_line;
+use mvs_job::{Walk, line_end};
+use mvs_model::line::{Line, Names, Statement, Written};
+use mvs_model::name::Name;
+
+/// What a line can be granted.
+#[derive(Drop)]
+pub enum Kind {
+    /// No place.
+    Closed,
+    /// An area of a task, which sets a name, by a request that is variable or not.
+    Area(Name, Name, bool),
+    /// Areas of a task, each of which sets a name of its own.
+    Areas(Name, Names),
+    /// A cell, the parts of a pool, or areas of which two set one name.
+    Several,
+}
+
+/// A task asks for an area, which sets a name, by a request that is variable or not.
+#[derive(Clone, Copy, Debug, PartialEq, Eq)]
+pub struct Asked {
+    pub task: Name,
+    pub area: Name,
+    pub variable: bool,
+}
+
+// Whether a request may be granted places.
+fn may_grant(written: &Written) -> bool
+    ensures { result ≡ may_grant written.now }
+{
+    matches!(
+        written,
+        Written::Obtain { .. }
+            | Written::ObtainList { .. }
+            | Written::Build { .. }
+            | Written::Get { .. }
+    )
+}
+
+// Whether a name is none of some names.
+fn is_none_of(name: &Name, others: &[Name]) -> bool
+    ensures { IsTrue result ↔ AllByRecursion (λ other. name.now ≢ other) others.now }
+{
+    let Some((other, others)) = others.split_first() else {
+        return true;
+    };
+    *name != *other && is_none_of(name, others)
+}
+
+// Whether no two of some names are the same.
+fn are_apart(names: &[Name]) -> bool
+    ensures { IsTrue result ↔ AreApart names.now }
+{
+    let Some((name, names)) = names.split_first() else {
+        return true;
+    };
+    is_none_of(name, names) && are_apart(names)
+}
+
+// Of what kind a line is that says this.
+fn kind_of(read: &Line) -> Kind
+    ensures { IsKindOf read.now result }
+{
+    match read {
+        Line::Statement(task, Statement::Request(Written::Obtain { area, variable, .. })) => {
+            Kind::Area(*task, *area, *variable)
+        }
+        Line::Statement(task, Statement::Request(Written::ObtainList { lengths, areas, .. })) => {
+            if lengths.len() == areas.len() && are_apart(areas.as_slice()) {
+                Kind::Areas(*task, areas.copied())
+            } else {
+                Kind::Several
+            }
+        }
+        Line::Statement(_, Statement::Request(written)) => {
+            if may_grant(written) {
+                Kind::Several
+            } else {
+                Kind::Closed
+            }
+        }
+        _ => Kind::Closed,
+    }
+}
+
+// Whether no step has begun.
+fn is_first(walk: &Walk) -> bool
+    ensures { result ≡ is_first walk.now.step }
+{
+    walk.job().is_none()
+}
+
+/// Of what kind the next line of a job is.
+pub fn next_kind(walk: &Walk, line: &[u8]) -> Kind
+    ensures { IsKind walk.now.step line.now result }
+{
+    let mut read = Line::Nothing;
+    match read_line(line, is_first(walk), &mut read) {
+        Ok(()) => kind_of(&read),
+        Err(_) => Kind::Closed,
+    }
+}
+
+// Whether a line is a question of a task where a name lies.
+fn asks_where(line: &[u8], task: &Name, area: &Name) -> bool
+    ensures yes { result ≡ true → IsQuestion line.now task.now area.now }
+    ensures no { IsQuestion line.now task.now area.now → result ≡ true }
+{
+    let mut read = Line::Nothing;
+    if read_line(line, false, &mut read).is_err() {
+        return false;
+    }
+    match &read {
+        Line::Statement(asking, Statement::Where(name)) => *asking == *task && *name == *area,
+        _ => false,
+    }
+}
+
+/// Where the first line of a script ends, if it asks where an area lies.
+pub fn question_end(script: &[u8], asked: &Asked) -> Option<usize>
+    ensures { MatchOption result
+        (HasNoQuestion (lines_of script.now) asked.now.task asked.now.area)
+        (λ end. (end ≤ length script.now)
+        × (lines_of script.now ≡ take end script.now ∷ lines_of (drop (end + 1) script.now))
+        × IsQuestion (take end script.now) asked.now.task asked.now.area) }
+{
+    if script.is_empty() {
+        return None;
+    }
+    let end = line_end(script);
+    if asks_where(&script[..end], &asked.task, &asked.area) {
+        Some(end)
+    } else {
+        None
+    }
+}
+
+/// Whether the first lines of a script are questions of a task where some names lie, in their order.
+pub fn asks_each(script: &[u8], task: &Name, areas: &[Name]) -> bool
+    ensures { IsTrue result ↔ AskEach (lines_of script.now) task.now areas.now }
+{
+    let Some((area, areas)) = areas.split_first() else {
+        return true;
+    };
+    if script.is_empty() {
+        return false;
+    }
+    let end = line_end(script);
+    if !asks_where(&script[..end], task, area) {
+        return false;
+    }
+    let behind = if end < script.len() {
+        &script[end + 1..]
+    } else {
+        &[]
+    };
+    asks_each(behind, task, areas)
+}

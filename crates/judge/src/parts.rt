@@ -1,0 +1,313 @@
+//! Finds where the parts of cell pools begin, by the cells that an output tells.
+
+use mvs_job::Told;
+use mvs_model::error::OutOfMemory;
+use mvs_model::line::Written;
+use mvs_model::name::Name;
+use mvs_model::place::Addr;
+use std::alloc::Global;
+use std::collections::HashMap;
+
+// Of the cells of a part that are told: the first one that was taken, the lowest and the highest.
+#[derive(Clone, Copy)]
+struct Cells {
+    first: u32,
+    lowest: u32,
+    highest: u32,
+}
+
+// A part: the line at which it was put to its pool, that at which the pool was made, how long a cell is, how many cells there are, and
+// those that are told.
+#[derive(Clone, Copy)]
+struct Part {
+    line: u32,
+    pool_line: u32,
+    cell_size: u32,
+    count: u32,
+    cells: Option<Cells>,
+}
+
+// A pool: the line at which it was made, how long a cell is, how many cells a further part has, how many cells are free, and the part
+// that was put last.
+#[derive(Clone, Copy)]
+struct Pool {
+    line: u32,
+    cell_size: u32,
+    secondary: u32,
+    free: u32,
+    part: usize,
+}
+
+// A cell that was taken: the line, and the part that was put last then.
+#[derive(Clone, Copy)]
+struct Taken {
+    line: u32,
+    part: usize,
+}
+
+/// The parts and the cells of the lines so far.
+#[derive(Drop)]
+pub struct Parts {
+    pools: HashMap<Name, Pool>,
+    parts: Vec<Part>,
+    taken: Vec<Taken>,
+}
+
+impl Cells {
+    // Whether several are told, and the first one that was taken is the highest.
+    fn go_down(&self) -> bool {
+        self.lowest < self.highest && self.first == self.highest
+    }
+
+    // The same of the lowest.
+    fn go_up(&self) -> bool {
+        self.lowest < self.highest && self.first == self.lowest
+    }
+}
+
+impl Part {
+    // The same once a cell of it is told.
+    fn with_cell(&self, addr: u32) -> Part {
+        let cells = match self.cells {
+            Some(cells) => Cells {
+                first: cells.first,
+                lowest: cells.lowest.min(addr),
+                highest: cells.highest.max(addr),
+            },
+            None => Cells {
+                first: addr,
+                lowest: addr,
+                highest: addr,
+            },
+        };
+        Part {
+            cells: Some(cells),
+            ..*self
+        }
+    }
+
+    // Where the first cell is, if the highest one is the last.
+    fn below_highest(&self, cells: &Cells) -> Option<u32> {
+        let before = self.count.saturating_sub(1).saturating_mul(self.cell_size);
+        let first = cells.highest.checked_sub(before)?;
+        if first % 8 == 0 { Some(first) } else { None }
+    }
+
+    // Where the first cell is, if the lowest one is as near to it as it can be: the cells begin on a doubleword.
+    fn from_lowest(&self, cells: &Cells) -> Option<u32> {
+        let mut first = cells.lowest;
+        for _ in 0..8 {
+            if first % 8 == 0 {
+                return Some(first);
+            }
+            first = first.checked_sub(self.cell_size)?;
+        }
+        None
+    }
+
+    // Where the first cell may be: cells are taken upwards, or downwards where several are, or where one is and so are those of
+    // other parts.
+    fn first_cell(&self, others_go_down: bool) -> Option<u32> {
+        let cells = self.cells?;
+        let is_one = cells.lowest == cells.highest;
+        if cells.go_down() || is_one && others_go_down {
+            if let Some(first) = self.below_highest(&cells) {
+                return Some(first);
+            }
+        }
+        self.from_lowest(&cells)
+    }
+}
+
+impl Parts {
+    /// No part.
+    pub fn new(alloc: Global) -> Parts {
+        Parts {
+            pools: HashMap::new(alloc),
+            parts: Vec::new(alloc),
+            taken: Vec::new(alloc),
+        }
+    }
+
+    /// A step begins, which has no pools.
+    pub fn clear(&mut self) {
+        self.pools.clear();
+    }
+
+    // Keeps a pool.
+    fn keep(&mut self, name: &Name, pool: Pool) -> Result<(), OutOfMemory> {
+        match self.pools.insert(*name, pool) {
+            Ok(_) => Ok(()),
+            Err(_) => Err(OutOfMemory),
+        }
+    }
+
+    // Puts a part, and answers its place in the list.
+    fn put(&mut self, part: Part) -> Result<usize, OutOfMemory> {
+        let place = self.parts.len();
+        match self.parts.push(part) {
+            Ok(()) => Ok(place),
+            Err(_) => Err(OutOfMemory),
+        }
+    }
+
+    // A pool is made.
+    fn build(
+        &mut self,
+        name: &Name,
+        line: u32,
+        cell_size: u32,
+        primary: u32,
+        secondary: u32,
+    ) -> Result<(), OutOfMemory> {
+        let part = self.put(Part {
+            line,
+            pool_line: line,
+            cell_size,
+            count: primary,
+            cells: None,
+        })?;
+        let pool = Pool {
+            line,
+            cell_size,
+            secondary,
+            free: primary,
+            part,
+        };
+        self.keep(name, pool)
+    }
+
+    // A cell is taken, of a further part where none was free.
+    fn get(&mut self, name: &Name, line: u32) -> Result<(), OutOfMemory> {
+        let Some(mut pool) = self.pools.get(name).copied() else {
+            return Ok(());
+        };
+        if pool.free == 0 {
+            pool.part = self.put(Part {
+                line,
+                pool_line: pool.line,
+                cell_size: pool.cell_size,
+                count: pool.secondary,
+                cells: None,
+            })?;
+            pool.free = pool.secondary;
+        }
+        pool.free = pool.free.saturating_sub(1);
+        let taken = Taken {
+            line,
+            part: pool.part,
+        };
+        if self.taken.push(taken).is_err() {
+            return Err(OutOfMemory);
+        }
+        self.keep(name, pool)
+    }
+
+    // A cell is given back.
+    fn free(&mut self, name: &Name) -> Result<(), OutOfMemory> {
+        let Some(mut pool) = self.pools.get(name).copied() else {
+            return Ok(());
+        };
+        pool.free = pool.free.saturating_add(1);
+        self.keep(name, pool)
+    }
+
+    /// Takes a request that was granted.
+    pub fn take(&mut self, written: &Written, line: u32) -> Result<(), OutOfMemory> {
+        match written {
+            Written::Build {
+                pool,
+                size,
+                primary,
+                secondary,
+                ..
+            } => self.build(pool, line, size.get(), primary.get(), secondary.get()),
+            Written::Get { pool, .. } => self.get(pool, line),
+            Written::Free { pool, .. } => self.free(pool),
+            Written::Delete { pool } => {
+                self.pools.remove(pool);
+                Ok(())
+            }
+            _ => Ok(()),
+        }
+    }
+
+    // A cell is told that was taken when this part was the last. It is one of the part, unless it was taken before the part was put.
+    fn see(
+        &mut self,
+        place: usize,
+        addr: u32,
+        seen: &mut HashMap<u32, Part>,
+    ) -> Result<(), OutOfMemory> {
+        let Some(part) = self.parts.get(place).copied() else {
+            return Ok(());
+        };
+        if let Some(before) = seen.get(&addr) {
+            if before.pool_line == part.pool_line && before.line != part.line {
+                return Ok(());
+            }
+        }
+        let part = part.with_cell(addr);
+        if let Some(kept) = self.parts.get_mut(place) {
+            *kept = part;
+        }
+        match seen.insert(addr, part) {
+            Ok(_) => Ok(()),
+            Err(_) => Err(OutOfMemory),
+        }
+    }
+
+    // Takes each cell that is told.
+    fn see_each(&mut self, alloc: Global, told: &Told) -> Result<(), OutOfMemory> {
+        let mut seen = HashMap::new(alloc);
+        for number in 0..self.taken.len() {
+            if let Some(taken) = self.taken.get(number).copied() {
+                if let Some(addr) = told.of(taken.line).first() {
+                    self.see(taken.part, addr.get(), &mut seen)?;
+                }
+            }
+        }
+        Ok(())
+    }
+
+    // Whether the cells of some part are taken downwards, and those of none upwards.
+    fn go_down(&self) -> bool {
+        let mut some_down = false;
+        for part in &self.parts {
+            if let Some(cells) = part.cells {
+                if cells.go_up() {
+                    return false;
+                }
+                some_down = some_down || cells.go_down();
+            }
+        }
+        some_down
+    }
+
+    /// Tells where the first cell of each part may be: of the first part of a pool at the line of its BUILD, and of a further one
+    /// behind the cell of the line that put it.
+    pub fn tell(&mut self, alloc: Global, told: &mut Told) -> Result<(), OutOfMemory> {
+        self.see_each(alloc, told)?;
+        let go_down = self.go_down();
+        for part in &self.parts {
+            let is_further = part.line != part.pool_line;
+            if is_further && told.of(part.line).is_empty() {
+                continue;
+            }
+            if let Some(first) = part.first_cell(go_down) {
+                told.tell(alloc, part.line, Addr::new(first.min(0x7FFF_FFFF)))?;
+            }
+        }
+        Ok(())
+    }
+
+    /// Leaves each part to the placement: of a further one an address is told at which no cell begins.
+    pub fn leave(&self, alloc: Global, told: &mut Told) -> Result<(), OutOfMemory> {
+        for part in &self.parts {
+            if part.line != part.pool_line && !told.of(part.line).is_empty() {
+                told.tell(alloc, part.line, Addr::new(0))?;
+            }
+        }
+        Ok(())
+    }
+}

@@ -1,0 +1,55 @@
+//! Runs the rest of a script.
+
+ghost use Rattle.std.specs.Prelude.{◌≡◌, ◌<◌, ◌+◌, ◌^◌, List, ℕ, IfOk, length};
+ghost use Rattle.mvs_model.specs.Runs.{IsPrinting};
+ghost use Rattle.judge.specs.Deciding.{Stands};
+
+use mvs_job::{Told, Walk, line_end, print_closing, run_line};
+use mvs_model::error::OutOfMemory;
+use mvs_model::outcome::Outcome;
+use mvs_model::watched::Watched;
+
+/// How a job ended, and what it printed.
+#[derive(Drop)]
+pub struct Ran {
+    pub outcome: Outcome,
+    pub text: Vec<u8>,
+}
+
+/// Runs the lines that are left of a job that has printed a text, at the addresses that are told of them.
+pub fn run_rest(
+    mut walk: Walk,
+    script: &[u8],
+    told: &Told,
+    text: Vec<u8>,
+) -> Result<Ran, OutOfMemory>
+    requires { walk.number + length script.now + 1 < 2 ^ 32 }
+    ensures { (whole : List ℕ) → Stands whole text.items walk script.now
+        → IfOk result (λ ran. IsPrinting whole ran.text.items ran.outcome) }
+{
+    let mut writer = Watched::new(text);
+    let mut at = 0;
+    'lines: while at < script.len() {
+        let rest = &script[at..];
+        let end = line_end(rest);
+        let line_told = told.of(walk.number());
+        match run_line(&mut walk, &rest[..end], line_told, &mut writer) {
+            Ok(true) => at += end + 1,
+            Ok(false) => {
+                return Ok(Ran {
+                    outcome: Outcome::ScriptFault,
+                    text: writer.into_inner(),
+                });
+            }
+            Err(_) => return Err(OutOfMemory),
+        }
+    }
+    let closing = walk.close();
+    match print_closing(&mut writer, walk.number(), closing.ended) {
+        Ok(()) => Ok(Ran {
+            outcome: closing.outcome,
+            text: writer.into_inner(),
+        }),
+        Err(_) => Err(OutOfMemory),
+    }
+}

@@ -1,0 +1,32 @@
+use Rattle.std.proofs.Common.{◌≡◌, ℕ, ◌+◌, ◌≤◌, length, sym, ap, ◌∙◌, arith}
+use Rattle.mvs_model.specs.Reports.{each_below}
+use Rattle.step_machine.specs.Facts.{listed, owned_at}
+use Rattle.mvs_job.proofs.Freeing.{none_more, one_more, passed}
+use Rattle.mvs_job.proofs.Numbers.{each_none}
+use Rattle.mvs_job.proofs.ends.put_owned.Goals as goal
+use Rattle.mvs_job.proofs.ends.put_owned.Goals.{in-Some-owned, in_default-owned}
+
+pub loop-next-init : goal.loop-next-init
+loop-next-init c = record {
+  low = omega arith;
+  few = (let e = ap length c.clear.ensures in omega (arith, e));
+  each = c.clear.ensures ∙ sym (each_none (λ s. listed (owned_at c.args.job.now.state c.args.task.now s)));
+}
+
+pub loop-next-preserved : goal.loop-next-preserved
+loop-next-preserved c =
+    let st = c.args.job.now.state in
+    let t = c.args.task.now in
+    let next = c.in-Some.next in
+    let is : c.get-from.result ≡ next = c.get-from.ensures.value in
+    let below = c.in-Some.ensures.0 in
+    let few : length c.loop-next.subpools ≤ next = omega (arith, c.loop-next.invariant.few, below) in
+    let each = passed st t c.loop-next.from next c.loop-next.subpools below c.in-Some.ensures.2 c.loop-next.invariant.each in
+    let row = λ (k : ℕ). each_below (k + 1) (λ s. listed (owned_at st t s)) in
+    elim c.match-owned.branch [
+      | in-Some-owned w ↦ (let m = one_more st t next c.loop-next.subpools few each _ _ (sym c.owned.ensures ∙ w.in-Some-owned.is) (w.subpools-is ∙ w.push.ensures) in record { low = omega (arith, c.get-from.ensures.low); few = omega (arith, m.0, is); each = m.1 ∙ ap row (sym is) })
+      | in_default-owned w ↦ (let m = none_more st t next c.loop-next.subpools few each _ (sym c.owned.ensures ∙ w.in_default-owned.is) w.subpools-is in record { low = omega (arith, c.get-from.ensures.low); few = omega (arith, m.0, is); each = m.1 ∙ ap row (sym is) })
+    ]
+
+pub returns : goal.returns
+returns c = passed c.args.job.now.state c.args.task.now c.loop-next.from 4098 c.loop-next.subpools c.loop-next.invariant.low (λ n low high. c.in_default.ensures n low) c.loop-next.invariant.each

@@ -1,0 +1,167 @@
+-- What is told of a request that was granted: what it did, by the step before it and the step behind it.
+use Rattle.std.specs.Prelude.{◌≡◌, ◌⊎◌, ℕ, ◌+◌, ◌-◌, ◌==◌, nat_lt, Bool, true, false, List, [], ◌∷◌, ◌++◌, length, slice_get, flat_map, Option, Some, None, is_some, unwrap_or, option_map, if◌then◌else◌}
+use Rattle.std.specs.Option.{option_and_then}
+use Rattle.std.specs.FinMap.{get}
+use Rattle.mvs_model.specs.declared.fact.Fact.{Fact}
+use Rattle.mvs_model.specs.declared.fact.Fact.TheVariants.{Obtained, NoGreater, NewSubpool, PagesTaken, PagesFreed, Emptied, CellTaken, PartAdded, Given, Shared}
+use Rattle.mvs_model.specs.declared.line.Fault.{Fault}
+use Rattle.mvs_model.specs.declared.line.Line.{Line}
+use Rattle.mvs_model.specs.declared.line.Line.TheVariants as line
+use Rattle.mvs_model.specs.declared.line.Statement.TheVariants as says
+use Rattle.mvs_model.specs.declared.line.Written.{Written}
+use Rattle.mvs_model.specs.declared.line.Written.TheVariants.{Obtain, ObtainList, Release, ReleaseArea, ReleaseList, ReleaseWhole, Build, Get, Delete, Attach}
+use Rattle.mvs_model.specs.declared.name.Name.{Name}
+use Rattle.mvs_model.specs.Answers.{Answer, Event, Told}
+use Rattle.mvs_model.specs.Answers as answer
+use Rattle.mvs_model.specs.Finite.{has}
+use Rattle.mvs_model.specs.Job.{JobValue}
+use Rattle.mvs_model.specs.Name.{same_name}
+use Rattle.mvs_model.specs.Numbers.{task_numbers}
+use Rattle.mvs_model.specs.Place.{round8}
+use Rattle.mvs_model.specs.Pools.{Pool}
+use Rattle.mvs_model.specs.Reading.{LineOf, FaultOf}
+use Rattle.mvs_model.specs.Reports.{each_below}
+use Rattle.mvs_model.specs.State.{State}
+use Rattle.job_script.specs.FactTexts.{fact_line}
+use Rattle.step_machine.specs.Facts.{listed}
+use Rattle.step_machine.specs.Standing.{free_above, free_below, label_had, label_meant}
+use Rattle.mvs_job.specs.declared.granting.Before.{Before}
+
+-- ---- the step before
+
+-- how many parts the pool of a name has
+abbrev pub parts_at : State → Name → ℕ
+parts_at st name = unwrap_or (option_map (λ pool. length pool.parts) (get st.pools name)) 0
+
+-- what is looked at before a request: how many pages hold nothing, whether the task means a subpool, and the parts of a pool
+abbrev pub looked_at : JobValue → Bool → ℕ → Before
+looked_at job had parts = record { below = free_below job.state; above = free_above job.state; had = had; parts = parts }
+
+-- whether a task means a subpool by a number
+abbrev pub means : JobValue → Name → ℕ → Bool
+means job t number = is_some (label_meant job.state.owners t number)
+
+-- what is looked at before a task's request; nothing, where what it did is not told
+abbrev pub before_request : JobValue → Name → Written → Option Before
+before_request job t (Obtain form number ask variable area) = Some (looked_at job (means job t number) 0)
+before_request job t (ObtainList form number lengths start areas) = Some (looked_at job (means job t number) 0)
+before_request job t (Release form number location n) = Some (looked_at job true 0)
+before_request job t (ReleaseArea form number area) = Some (looked_at job true 0)
+before_request job t (ReleaseList form number locations lengths) = Some (looked_at job true 0)
+before_request job t (ReleaseWhole form number) = Some (looked_at job true 0)
+before_request job t (Build pool number size primary secondary loc) = Some (looked_at job (means job t number) 0)
+before_request job t (Get pool conditional cell) = Some (looked_at job true (parts_at job.state pool))
+before_request job t (Delete pool) = Some (looked_at job true 0)
+before_request job t (Attach name gifts residence) = Some (record { below = 0; above = 0; had = true; parts = 0 })
+before_request job t _ = None
+
+-- the same before a line: nothing before the first step
+abbrev pub before_line : Option JobValue → Line → Option Before
+before_line None l = None
+before_line (Some job) line.Nothing = None
+before_line (Some job) (line.Statement t (says.Request a)) = before_request job t a
+before_line (Some job) (line.Statement t s) = None
+
+-- ---- what was done
+
+-- an area that was obtained from the subpool that the task means by the number
+abbrev pub area_fact : JobValue → Name → ℕ → Name → ℕ → ℕ → Option Fact
+area_fact new t number area least most = option_and_then (λ p. option_map (λ l. Obtained area p least most l.0 l.1) (label_meant new.state.owners t number)) (get new.names area)
+
+-- the areas of a list
+abbrev pub area_facts : JobValue → Name → ℕ → List Name → List ℕ → List Fact
+area_facts new t number [] lengths = []
+area_facts new t number (area ∷ areas) [] = []
+area_facts new t number (area ∷ areas) (n ∷ lengths) = listed (area_fact new t number area n n) ++ area_facts new t number areas lengths
+
+-- that no greater length had a place, where less was obtained than the greatest length
+abbrev pub greater_fact : Before → JobValue → Name → ℕ → Option Fact
+greater_fact b new area most = if has (λ p. nat_lt p.len (round8 most)) (get new.names area) then Some (NoGreater b.below b.above) else None
+
+-- a subpool that the task did not mean by the number before
+abbrev pub subpool_fact : Before → JobValue → Name → ℕ → Option Fact
+subpool_fact b new t number = if b.had then None else option_map (λ l. NewSubpool l.0 l.1) (label_meant new.state.owners t number)
+
+-- how many pages hold nothing
+abbrev pub free_in : JobValue → ℕ
+free_in job = free_below job.state + free_above job.state
+
+-- the pages that were taken
+abbrev pub taken_fact : Before → JobValue → Fact
+taken_fact b new = PagesTaken (b.below + b.above - free_in new)
+
+-- the pages that hold nothing any more, if there are some
+abbrev pub freed_fact : Before → JobValue → Option Fact
+freed_fact b new = if free_in new - (b.below + b.above) == 0 then None else Some (PagesFreed (free_in new - (b.below + b.above)))
+
+-- the subpool that the task means by the number, which holds nothing any more
+abbrev pub emptied_fact : JobValue → Name → ℕ → Option Fact
+emptied_fact new t number = option_map (λ l. Emptied l.0 l.1) (label_meant new.state.owners t number)
+
+-- the last part of a pool
+abbrev pub last_part : Name → Pool → Option Fact
+last_part name pool = option_map (λ part. PartAdded name part.count pool.cell_size part.place) (slice_get pool.parts (length pool.parts - 1))
+
+-- the same of a pool that has another number of parts than before
+abbrev pub part_fact : Before → JobValue → Name → Option Fact
+part_fact b new name = option_and_then (λ pool. if length pool.parts == b.parts then None else last_part name pool) (get new.state.pools name)
+
+-- the pages that were taken for it
+abbrev pub part_pages : Before → JobValue → Name → Option Fact
+part_pages b new name = option_map (λ _. taken_fact b new) (part_fact b new name)
+
+-- a cell that was taken
+abbrev pub cell_fact : JobValue → Name → Name → Option Fact
+cell_fact new pool cell = option_map (λ p. CellTaken cell pool p) (get new.names cell)
+
+-- what a subtask has under a number: it owns what its mother gave, and shares the rest
+abbrev pub subtask_fact : JobValue → Name → Name → ℕ → Option Fact
+subtask_fact new mother name n = option_map (λ l. if same_name l.1 name then Given name l.0 mother else Shared name l.0 l.1) (label_had new.state.owners name n)
+
+-- what a task's request did that was granted
+abbrev pub facts_of : Before → Name → Written → JobValue → List Fact
+facts_of b t (Obtain form number ask variable area) new =
+    listed (area_fact new t number area ask.least ask.most) ++ listed (greater_fact b new area ask.most) ++ listed (subpool_fact b new t number) ++ taken_fact b new ∷ []
+facts_of b t (ObtainList form number lengths start areas) new = area_facts new t number areas lengths ++ listed (subpool_fact b new t number) ++ taken_fact b new ∷ []
+facts_of b t (ReleaseWhole form number) new = listed (emptied_fact new t number) ++ listed (freed_fact b new)
+facts_of b t (Build pool number size primary secondary loc) new = listed (part_fact b new pool) ++ listed (subpool_fact b new t number) ++ listed (part_pages b new pool)
+facts_of b t (Get pool conditional cell) new = listed (cell_fact new pool cell) ++ listed (part_fact b new pool) ++ listed (part_pages b new pool)
+facts_of b t (Attach name gifts residence) new = each_below task_numbers (λ n. listed (subtask_fact new t name n))
+facts_of b t _ new = listed (freed_fact b new)
+
+-- ---- its text
+
+-- whether an answer says that a request was granted
+abbrev pub is_grant : Answer → Bool
+is_grant answer.Rc0 = true
+is_grant (answer.Granted n) = true
+is_grant answer.Cell = true
+is_grant answer.Attached = true
+is_grant _ = false
+
+-- whether the events of a line say so
+abbrev pub tells_grant : List Event → Bool
+tells_grant (Told number t a ∷ []) = is_grant a
+tells_grant _ = false
+
+-- what is printed of what a line did, which says this, by the step behind it
+abbrev pub done_text : Option Before → Line → Option JobValue → List ℕ
+done_text None l new = []
+done_text (Some b) l None = []
+done_text (Some b) line.Nothing (Some new) = []
+done_text (Some b) (line.Statement t (says.Request a)) (Some new) = flat_map fact_line (facts_of b t a new)
+done_text (Some b) (line.Statement t s) (Some new) = []
+
+-- the same where the events say that a request was granted
+abbrev pub granted_text : Option Before → Line → List Event → Option JobValue → List ℕ
+granted_text b l events new = if tells_grant events then done_text b l new else []
+
+-- The text says what the next line did, where it tells these events: by the step before it and the step behind it.
+abbrev pub IsGranting : Option JobValue → List ℕ → List Event → Option JobValue → List ℕ → Type 0
+IsGranting old bytes events new text =
+    ((l : Line) × LineOf false bytes l × (text ≡ granted_text (before_line old l) l events new)) ⊎ ((old ≡ None) × (text ≡ [])) ⊎ ((fault : Fault) × FaultOf false bytes fault × (text ≡ []))
+
+-- A line was read as this in a step; or it has a fault and was read as nothing, and so was a line before the first step.
+abbrev pub IsReadIn : Option JobValue → List ℕ → Line → Type 0
+IsReadIn None bytes l = l ≡ line.Nothing
+IsReadIn (Some job) bytes l = LineOf false bytes l ⊎ ((fault : Fault) × FaultOf false bytes fault × (l ≡ line.Nothing))

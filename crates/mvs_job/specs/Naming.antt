@@ -1,0 +1,150 @@
+-- Which line set a name last, and what is told by that of the address of a reason: the name that has it in its place.
+use Rattle.std.specs.Prelude.{◌≡◌, ◌⊎◌, ◌≢◌, ◌≤◌, ℕ, nat_lt, Bool, true, false, List, [], ◌∷◌, Option, Some, None, if◌then◌else◌}
+use Rattle.std.specs.Option.{option_and_then}
+use Rattle.std.specs.FinMap.{FinMap, get, insert, empty}
+use Rattle.mvs_model.specs.declared.line.Fault.{Fault}
+use Rattle.mvs_model.specs.declared.line.Line.{Line}
+use Rattle.mvs_model.specs.declared.line.Line.TheVariants as line
+use Rattle.mvs_model.specs.declared.line.Statement.TheVariants as says
+use Rattle.mvs_model.specs.declared.line.Written.{Written}
+use Rattle.mvs_model.specs.declared.line.Written.TheVariants.{ObtainList}
+use Rattle.mvs_model.specs.declared.name.Name.{Name}
+use Rattle.mvs_model.specs.declared.reason.Reason.{Reason}
+use Rattle.mvs_model.specs.declared.reason.Reason.TheVariants.{OffDoubleword, NotHeld, Overlap, NoTakenCell, NoAccess}
+use Rattle.mvs_model.specs.declared.request.Request.{Request}
+use Rattle.mvs_model.specs.Answers.{Event}
+use Rattle.mvs_model.specs.Job.{JobValue}
+use Rattle.mvs_model.specs.Name.{name_cmp}
+use Rattle.mvs_model.specs.Place.{PlaceValue}
+use Rattle.mvs_model.specs.Reading.{LineOf, FaultOf}
+use Rattle.mvs_model.specs.Resolving.{names_set, resolved}
+use Rattle.mvs_model.specs.Storage.{has_address}
+use Rattle.job_script.specs.NamingTexts.{naming_line}
+use Rattle.job_script.specs.ReasonTexts.{cell_of}
+use Rattle.mvs_job.specs.declared.naming.Naming.{Naming}
+use Rattle.mvs_job.specs.declared.walk.LineTold.{LineTold}
+use Rattle.mvs_job.specs.declared.walk.LineTold.TheVariants as told
+use Rattle.mvs_job.specs.Granting.{tells_grant}
+use Rattle.mvs_job.specs.Telling.{WalkValue, events_told}
+use Rattle.mvs_job.specs.Why.{OfLine, spoken}
+
+-- ---- the lines that set names
+
+-- the names that were set in a step, each with the number of the line that set it last
+abbrev pub SetLines : Type 0
+SetLines = FinMap name_cmp ℕ
+
+-- no name was set
+abbrev pub no_lines : SetLines
+no_lines = empty
+
+-- the same behind a line of this number that sets these names
+abbrev pub set_by : ℕ → SetLines → List Name → SetLines
+set_by number set [] = set
+set_by number set (name ∷ names) = set_by number (insert set name number) names
+
+-- the same behind a line that says this and tells these events: a step begins with none, and a granted request sets its names
+abbrev pub set_behind : ℕ → SetLines → Line → List Event → SetLines
+set_behind number set (line.Statement t (says.Region below above fill residence)) events = no_lines
+set_behind number set (line.Statement t (says.Request a)) events = if tells_grant events then set_by number set (names_set a) else set
+set_behind number set l events = set
+
+-- The same behind the next line, which has no fault: before the first step none was set.
+abbrev pub IsSetBehind : ℕ → Option JobValue → SetLines → List ℕ → List Event → SetLines → Type 0
+IsSetBehind number None set bytes events new = new ≡ no_lines
+IsSetBehind number (Some job) set bytes events new = (l : Line) × LineOf false bytes l × (new ≡ set_behind number set l events)
+
+-- ---- the address of a reason
+
+-- the address that the reason of a request tells, if it tells one
+abbrev pub address_told : Request → Reason → Option ℕ
+address_told request (OffDoubleword a) = Some a
+address_told request (NotHeld a holder) = Some a
+address_told request (Overlap one other a) = Some a
+address_told request (NoTakenCell spot) = Some (cell_of request)
+address_told request (NoAccess a holder) = Some a
+address_told request _ = None
+
+-- the same of the reason of a line
+abbrev pub address_in : JobValue → Line → Option Reason → Option ℕ
+address_in job (line.Statement t (says.Request a)) r = option_and_then (address_told (spoken (resolved job.names a))) r
+address_in job l r = None
+
+-- The reason of the next line of a step tells this address: none, where it has a fault.
+abbrev pub IsAddress : JobValue → List ℕ → Option ℕ → Type 0
+IsAddress job bytes a =
+    ((l : Line) × LineOf false bytes l × ((r : Option Reason) × OfLine job l r × (a ≡ address_in job l r)))
+    ⊎ ((fault : Fault) × FaultOf false bytes fault × (a ≡ None))
+
+-- ---- the name that has it
+
+-- The name has this place, and the line of this number set it last.
+abbrev pub IsSetTo : JobValue → SetLines → Name → PlaceValue → ℕ → Type 0
+IsSetTo job set name p number = (get job.names name ≡ Some p) × (get set name ≡ Some number)
+
+-- Of the names that have the address in their places it is one that was set last; or none has.
+abbrev pub IsNaming : JobValue → SetLines → ℕ → Option Naming → Type 0
+IsNaming job set a None = (name : Name) (p : PlaceValue) (number : ℕ) → IsSetTo job set name p number → has_address p a ≡ true → ⊥
+IsNaming job set a (Some n) =
+    (n.addr ≡ a) × IsSetTo job set n.name n.place n.number × (has_address n.place a ≡ true)
+    × ((name : Name) (p : PlaceValue) (number : ℕ) → IsSetTo job set name p number → has_address p a ≡ true → number ≤ n.number)
+
+-- the same of an address that may not be told
+abbrev pub IsNamingOf : JobValue → SetLines → Option ℕ → Option Naming → Type 0
+IsNamingOf job set None n = n ≡ None
+IsNamingOf job set (Some a) n = IsNaming job set a n
+
+-- what is printed of it
+abbrev pub naming_text : Option Naming → List ℕ
+naming_text None = []
+naming_text (Some n) = naming_line n.addr n.name n.place n.number
+
+-- The text says which name has the address that the reason of the next line tells: nothing before the first step.
+abbrev pub IsNamed : Option JobValue → SetLines → List ℕ → List ℕ → Type 0
+IsNamed None set bytes text = text ≡ []
+IsNamed (Some job) set bytes text = (a : Option ℕ) × IsAddress job bytes a × ((n : Option Naming) × IsNamingOf job set a n × (text ≡ naming_text n))
+
+-- ---- what calls do
+
+-- the lines that set names before a line: none before the first step
+abbrev pub lines_before : Option JobValue → SetLines → SetLines
+lines_before None set = no_lines
+lines_before (Some job) set = set
+
+-- the same of the address that the reason of a line tells: nothing before the first step
+abbrev pub IsNamingIn : Option JobValue → SetLines → Option ℕ → Option Naming → Type 0
+IsNamingIn None set a n = n ≡ None
+IsNamingIn (Some job) set a n = IsNamingOf job set a n
+
+-- the lines that set names are kept behind a line that has no fault
+abbrev pub KeepsLines : WalkValue → SetLines → List ℕ → WalkValue → LineTold → SetLines → Type 0
+KeepsLines w set bytes new (told.Faulted fault) later = Unit {0}
+KeepsLines w set bytes new t later = IsSetBehind w.number w.step set bytes (events_told w.number new t) later
+
+-- A list has a length.
+abbrev pub HasLengths : Written → Type 0
+HasLengths (ObtainList form number lengths start areas) = lengths ≢ []
+HasLengths _ = Unit {0}
+
+-- A line says a request that sets a name.
+abbrev pub SetsSome : Line → Type 0
+SetsSome (line.Statement t (says.Request a)) = (names_set a ≢ []) × HasLengths a
+SetsSome _ = ⊥
+
+-- what a name says of an address, if it has it in its place
+abbrev pub naming_at : JobValue → ℕ → Name × ℕ → Option Naming
+naming_at job a e = option_and_then (λ p. if has_address p a then Some (record { addr = a; name = e.0; place = p; number = e.1 }) else None) (get job.names e.0)
+
+-- whether a line is behind that of another name, if there is one
+abbrev pub is_behind : Option Naming → ℕ → Bool
+is_behind None number = true
+is_behind (Some n) number = nat_lt n.number number
+
+-- one of two
+abbrev pub first_of : Option Naming → Option Naming → Option Naming
+first_of None other = other
+first_of (Some n) other = Some n
+
+-- the later one of a name and the next
+abbrev pub later : JobValue → ℕ → Option Naming → Name × ℕ → Option Naming
+later job a latest e = if is_behind latest e.1 then first_of (naming_at job a e) latest else latest

@@ -1,0 +1,383 @@
+//! What a request did that was granted: what is looked at before it, and what is told behind it.
+
+ghost use Rattle.std.specs.Prelude.{◌≡◌, ◌≤◌, ◌<◌, ◌+◌, ◌^◌, ◌++◌, [], ◌∷◌, ℕ, List, length, flat_map};
+ghost use Rattle.mvs_model.specs.Lent.{lent};
+ghost use Rattle.mvs_model.specs.Numbers.{task_numbers};
+ghost use Rattle.mvs_model.specs.Reports.{each_below};
+ghost use Rattle.mvs_model.specs.State.{State};
+ghost use Rattle.mvs_model.specs.declared.name.Name.{Name as TaskName};
+ghost use Rattle.job_script.specs.FactTexts.{fact_line};
+ghost use Rattle.job_script.specs.Writing.{Prints};
+ghost use Rattle.step_machine.specs.Facts.{listed};
+ghost use Rattle.mvs_job.specs.Granting.{area_fact, area_facts, before_request, cell_fact, emptied_fact, facts_of, free_in, freed_fact, greater_fact, is_grant, looked_at, means, part_fact, part_pages, parts_at, subpool_fact, subtask_fact, taken_fact};
+
+use crate::ends::is_same;
+use crate::job::Job;
+use job_script::print_fact;
+use mvs_model::answer::Answer;
+use mvs_model::bounded::Length;
+use mvs_model::fact::Fact;
+use mvs_model::line::Written;
+use mvs_model::name::Name;
+use mvs_model::numbers::TASK_NUMBERS;
+use mvs_model::short_list::ShortList;
+use mvs_model::subpool::SubNo;
+use mvs_model::watched::{Failed, Watched};
+use std::io::Write;
+
+/// What is looked at before a request.
+#[derive(Clone, Copy, Debug, PartialEq, Eq)]
+pub(crate) struct Before {
+    /// How many pages of each region hold nothing.
+    pub(crate) below: u16,
+    pub(crate) above: u16,
+    /// Whether the task means a subpool by the number of the request.
+    pub(crate) had: bool,
+    /// How many parts the pool has.
+    pub(crate) parts: u32,
+}
+
+const MOST_FACTS: usize = 160;
+
+/// What a request did.
+pub(crate) type Facts = ShortList<Fact, 0, MOST_FACTS>;
+
+// What is looked at before a request, for which a task means a subpool or not, and which is for a pool of so many parts.
+fn looked_at(job: &Job, had: bool, parts: u32) -> Before
+    ensures { result ≡ looked_at job.now had parts }
+{
+    let free = job.free_pages();
+    Before {
+        below: free.below,
+        above: free.above,
+        had,
+        parts,
+    }
+}
+
+// Whether a task means a subpool by a number.
+fn means(job: &Job, task: &Name, number: u8) -> bool
+    ensures { result ≡ means job.now task.now number }
+{
+    job.label_meant(task, number).is_some()
+}
+
+// How many parts the pool of a name has.
+fn parts_at(job: &Job, pool: &Name) -> u32
+    ensures { result ≡ parts_at job.now.state pool.now }
+{
+    match job.newest(pool) {
+        Some(newest) => newest.parts,
+        None => 0,
+    }
+}
+
+/// What is looked at before a task's request; None where it is not told what the request did.
+pub(crate) fn before_request(job: &Job, task: &Name, written: &Written) -> Option<Before>
+    ensures { result ≡ before_request job.now task.now written.now }
+{
+    match written {
+        Written::Obtain { number, .. }
+        | Written::ObtainList { number, .. }
+        | Written::Build { number, .. } => Some(looked_at(job, means(job, task, *number), 0)),
+        Written::Release { .. }
+        | Written::ReleaseArea { .. }
+        | Written::ReleaseList { .. }
+        | Written::ReleaseWhole { .. }
+        | Written::Delete { .. } => Some(looked_at(job, true, 0)),
+        Written::Get { pool, .. } => Some(looked_at(job, true, parts_at(job, pool))),
+        Written::Attach { .. } => Some(Before {
+            below: 0,
+            above: 0,
+            had: true,
+            parts: 0,
+        }),
+        _ => None,
+    }
+}
+
+// An area that was obtained.
+fn area_fact(job: &Job, task: &Name, number: u8, area: &Name, least: u32, most: u32) -> Option<Fact>
+    ensures { result ≡ area_fact job.now task.now number area.now least most }
+{
+    let Some(place) = job.place_of(area) else {
+        return None;
+    };
+    let Some((number, owner)) = job.label_meant(task, number) else {
+        return None;
+    };
+    Some(Fact::Obtained {
+        area: *area,
+        place,
+        least,
+        most,
+        number,
+        owner,
+    })
+}
+
+// That no greater length had a place.
+fn greater_fact(before: &Before, job: &Job, area: &Name, most: u32) -> Option<Fact>
+    requires { most < 2 ^ 31 }
+    ensures { result ≡ greater_fact before.now job.now area.now most }
+{
+    let Some(place) = job.place_of(area) else {
+        return None;
+    };
+    if place.len() < most.div_ceil(8) * 8 {
+        return Some(Fact::NoGreater {
+            below: u32::from(before.below),
+            above: u32::from(before.above),
+        });
+    }
+    None
+}
+
+// A subpool that the task did not mean by the number before.
+fn subpool_fact(before: &Before, job: &Job, task: &Name, number: u8) -> Option<Fact>
+    ensures { result ≡ subpool_fact before.now job.now task.now number }
+{
+    if before.had {
+        return None;
+    }
+    let Some((number, owner)) = job.label_meant(task, number) else {
+        return None;
+    };
+    Some(Fact::NewSubpool { number, owner })
+}
+
+// How many pages of both regions there are, of those that hold nothing.
+fn sum(below: u16, above: u16) -> u32
+    ensures { result ≡ below + above }
+{
+    u32::from(below) + u32::from(above)
+}
+
+// How many pages hold nothing.
+fn free_in(job: &Job) -> u32
+    ensures { result ≡ free_in job.now }
+{
+    let free = job.free_pages();
+    sum(free.below, free.above)
+}
+
+// The pages that were taken.
+fn taken_fact(before: &Before, job: &Job) -> Fact
+    ensures { result ≡ taken_fact before.now job.now }
+{
+    Fact::PagesTaken(sum(before.below, before.above).saturating_sub(free_in(job)))
+}
+
+// The pages that hold nothing any more.
+fn freed_fact(before: &Before, job: &Job) -> Option<Fact>
+    ensures { result ≡ freed_fact before.now job.now }
+{
+    let freed = free_in(job).saturating_sub(sum(before.below, before.above));
+    if freed == 0 {
+        return None;
+    }
+    Some(Fact::PagesFreed(freed))
+}
+
+// The subpool that the task means by the number, of which all was released.
+fn emptied_fact(job: &Job, task: &Name, number: u8) -> Option<Fact>
+    ensures { result ≡ emptied_fact job.now task.now number }
+{
+    let Some((number, owner)) = job.label_meant(task, number) else {
+        return None;
+    };
+    Some(Fact::Emptied { number, owner })
+}
+
+// The last part of a pool that has another number of parts than before.
+fn part_fact(before: &Before, job: &Job, pool: &Name) -> Option<Fact>
+    ensures { result ≡ part_fact before.now job.now pool.now }
+{
+    let Some(newest) = job.newest(pool) else {
+        return None;
+    };
+    if newest.parts == before.parts {
+        return None;
+    }
+    Some(Fact::PartAdded {
+        pool: *pool,
+        cells: newest.cells,
+        size: newest.cell_size,
+        place: newest.place,
+    })
+}
+
+// The pages that were taken for it.
+fn part_pages(before: &Before, job: &Job, pool: &Name) -> Option<Fact>
+    ensures { result ≡ part_pages before.now job.now pool.now }
+{
+    match part_fact(before, job, pool) {
+        Some(_) => Some(taken_fact(before, job)),
+        None => None,
+    }
+}
+
+// A cell that was taken.
+fn cell_fact(job: &Job, pool: &Name, cell: &Name) -> Option<Fact>
+    ensures { result ≡ cell_fact job.now pool.now cell.now }
+{
+    match job.place_of(cell) {
+        Some(place) => Some(Fact::CellTaken {
+            cell: *cell,
+            pool: *pool,
+            place,
+        }),
+        None => None,
+    }
+}
+
+// What a subtask has under a number.
+fn subtask_fact(job: &Job, mother: &Name, subtask: &Name, number: SubNo) -> Option<Fact>
+    ensures { result ≡ subtask_fact job.now mother.now subtask.now number }
+{
+    let Some((number, owner)) = job.label_had(subtask, number) else {
+        return None;
+    };
+    if is_same(&owner, subtask) {
+        return Some(Fact::Given {
+            subtask: *subtask,
+            number,
+            mother: *mother,
+        });
+    }
+    Some(Fact::Shared {
+        subtask: *subtask,
+        number,
+        owner,
+    })
+}
+
+/// No fact.
+pub(crate) fn no_facts() -> Facts
+    ensures { result ≡ [] }
+{
+    Facts::empty(Fact::PagesTaken(0))
+}
+
+// Puts a fact behind others, if there is one.
+fn push_some(facts: &mut Facts, fact: Option<Fact>)
+    requires { length facts.old < 160 }
+    ensures facts { facts.new ≡ facts.old ++ listed fact }
+    ensures len { length facts.new ≤ length facts.old + 1 }
+{
+    if let Some(fact) = fact {
+        facts.push(fact);
+    }
+}
+
+// Puts the areas of a list behind other facts.
+fn push_areas(
+    facts: &mut Facts,
+    job: &Job,
+    task: &Name,
+    number: u8,
+    areas: &[Name],
+    lengths: &[Length],
+)
+    requires { length facts.old + length areas.now ≤ 100 }
+    ensures facts { facts.new
+        ≡ facts.old ++ area_facts job.now task.now number areas.now lengths.now }
+    ensures len { length facts.new ≤ length facts.old + length areas.now }
+{
+    let Some((area, areas)) = areas.split_first() else {
+        return;
+    };
+    let Some((length, lengths)) = lengths.split_first() else {
+        return;
+    };
+    let most = length.get();
+    push_some(facts, area_fact(job, task, number, area, most, most));
+    push_areas(facts, job, task, number, areas, lengths);
+}
+
+// Puts what a subtask has of its mother's in the place of other facts.
+fn put_subtask(facts: &mut Facts, job: &Job, mother: &Name, subtask: &Name)
+    ensures { facts.new
+        ≡ each_below task_numbers
+        (λ n. listed (subtask_fact job.now mother.now subtask.now n)) }
+{
+    facts.clear();
+    for n in 0..TASK_NUMBERS {
+        push_some(facts, subtask_fact(job, mother, subtask, SubNo::of(n)));
+    }
+}
+
+/// Puts what a task's request did that was granted in the place of other facts.
+pub(crate) fn put_facts(
+    facts: &mut Facts,
+    before: &Before,
+    task: &Name,
+    written: &Written,
+    job: &Job,
+)
+    ensures { facts.new ≡ facts_of before.now task.now written.now job.now }
+{
+    facts.clear();
+    match written {
+        Written::Obtain {
+            number,
+            ask,
+            area,
+            ..
+        } => {
+            let (least, most) = (ask.least(), ask.most());
+            push_some(facts, area_fact(job, task, *number, area, least, most));
+            push_some(facts, greater_fact(before, job, area, most));
+            push_some(facts, subpool_fact(before, job, task, *number));
+            facts.push(taken_fact(before, job));
+        }
+        Written::ObtainList {
+            number,
+            lengths,
+            areas,
+            ..
+        } => {
+            let (areas, lengths) = (areas.as_slice(), lengths.as_slice());
+            push_areas(facts, job, task, *number, areas, lengths);
+            push_some(facts, subpool_fact(before, job, task, *number));
+            facts.push(taken_fact(before, job));
+        }
+        Written::ReleaseWhole { number, .. } => {
+            push_some(facts, emptied_fact(job, task, *number));
+            push_some(facts, freed_fact(before, job));
+        }
+        Written::Build { pool, number, .. } => {
+            push_some(facts, part_fact(before, job, pool));
+            push_some(facts, subpool_fact(before, job, task, *number));
+            push_some(facts, part_pages(before, job, pool));
+        }
+        Written::Get { pool, cell, .. } => {
+            push_some(facts, cell_fact(job, pool, cell));
+            push_some(facts, part_fact(before, job, pool));
+            push_some(facts, part_pages(before, job, pool));
+        }
+        Written::Attach { name, .. } => put_subtask(facts, job, task, name),
+        _ => push_some(facts, freed_fact(before, job)),
+    }
+}
+
+/// Prints what a request did.
+pub(crate) fn print_facts<W: Write>(writer: &mut Watched<W>, facts: &[Fact]) -> Result<(), Failed>
+    ensures { Prints W.contents writer.old writer.new result (flat_map fact_line facts.now) }
+{
+    for fact in facts {
+        print_fact(writer, fact)?;
+    }
+    Ok(())
+}
+
+/// Whether an answer says that a request was granted.
+pub(crate) fn is_grant(answer: &Answer) -> bool
+    ensures { (st : State) (fallen : List TaskName) (t : TaskName)
+        → result ≡ is_grant (lent st fallen t answer.now) }
+{
+    matches!(
+        answer,
+        Answer::Rc0 | Answer::Granted(_) | Answer::Cell | Answer::Attached
+    )
+}

@@ -1,0 +1,248 @@
+//! Which line set a name last, and which name has an address in its place.
+
+ghost use Rattle.std.specs.Prelude.{◌≡◌, ◌≢◌, ◌<◌, ℕ, [], None, Some, true, OnErr, OnOk};
+ghost use Rattle.std.specs.FinMap.{insert};
+ghost use Rattle.std.specs.Option.{option_and_then};
+ghost use Rattle.mvs_model.specs.Resolving.{names_set};
+ghost use Rattle.mvs_model.specs.Storage.{has_address};
+ghost use Rattle.job_script.specs.ReasonTexts.{cell_of};
+ghost use Rattle.job_script.specs.Writing.{Prints};
+ghost use Rattle.mvs_job.specs.Granting.{tells_grant};
+ghost use Rattle.mvs_job.specs.Naming.{HasLengths, IsNaming, SetsSome, address_told, first_of, is_behind, later, lines_before, naming_at, naming_text, no_lines, set_behind, set_by};
+ghost use Rattle.mvs_job.specs.Telling.{IsLent, WalkValue, events_told};
+
+use crate::job::Job;
+use crate::walk::{LineTold, Walk};
+use crate::why::tells_grant;
+use job_script::{names_set, print_naming};
+use mvs_model::error::OutOfMemory;
+use mvs_model::line::{Line, Statement, Written};
+use mvs_model::name::Name;
+use mvs_model::place::{Addr, Place};
+use mvs_model::reason::Reason;
+use mvs_model::request::Request;
+use mvs_model::watched::{Failed, Watched};
+use std::alloc::Global;
+use std::collections::HashMap;
+use std::io::Write;
+use std::marker::Model;
+
+/// A name that has an address in its place, and the number of the line that set it last.
+#[derive(Clone, Copy, Debug, PartialEq, Eq)]
+pub(crate) struct Naming {
+    pub(crate) addr: Addr,
+    pub(crate) name: Name,
+    pub(crate) place: Place,
+    pub(crate) number: u32,
+}
+
+/// The names that were set in a step, each with the number of the line that set it last.
+#[derive(Drop)]
+pub(crate) struct SetLines {
+    numbers: HashMap<Name, u32>,
+}
+
+impl Model for SetLines {
+    ghost use Rattle.std.specs.FinMap as map;
+    ghost use Rattle.std.specs.Coded.{coded_ℕ};
+    ghost use Rattle.std.specs.Prelude.{ℕ};
+    ghost use Rattle.mvs_model.specs.Name.{name_cmp, name_code};
+
+    ghost Value = { map.FinMap name_cmp ℕ };
+
+    ghost coded = { map.code name_code coded_ℕ };
+
+    ghost view = { λ l. map.from_entries l.numbers.entries };
+}
+
+// The cell of a request to free one.
+fn cell(request: &Request) -> Addr
+    ensures { result ≡ cell_of request.now }
+{
+    match request {
+        Request::Free { cell, .. } => *cell,
+        _ => Addr::new(0),
+    }
+}
+
+/// The address that the reason of a request tells.
+pub(crate) fn address_told(request: &Request, reason: &Reason) -> Option<Addr>
+    ensures { result ≡ address_told request.now reason.now }
+{
+    match reason {
+        Reason::OffDoubleword(addr)
+        | Reason::NotHeld(addr, _)
+        | Reason::Overlap(_, _, addr)
+        | Reason::NoAccess(addr, _) => Some(*addr),
+        Reason::NoTakenCell(_) => Some(cell(request)),
+        _ => None,
+    }
+}
+
+// Whether an address lies in a place.
+fn has_address(place: Place, addr: Addr) -> bool
+    ensures { result ≡ has_address place addr }
+{
+    let (first, addr) = (u64::from(place.addr().get()), u64::from(addr.get()));
+    first <= addr && addr < first + u64::from(place.len())
+}
+
+// What a name says of an address, if it has it in its place.
+fn naming_at(job: &Job, addr: Addr, name: &Name, number: u32) -> Option<Naming>
+    ensures { result ≡ naming_at job.now addr (name.now, number) }
+{
+    let Some(place) = job.place_of(name) else {
+        return None;
+    };
+    if has_address(place, addr) {
+        return Some(Naming {
+            addr,
+            name: *name,
+            place,
+            number,
+        });
+    }
+    None
+}
+
+// Whether a line is behind that of another name, if there is one.
+fn is_behind(latest: &Option<Naming>, number: u32) -> bool
+    ensures { result ≡ is_behind latest.now number }
+{
+    match latest {
+        Some(naming) => naming.number < number,
+        None => true,
+    }
+}
+
+// The later one of a name and the next, of those that have an address in their places.
+fn later(latest: Option<Naming>, job: &Job, addr: Addr, name: &Name, number: u32) -> Option<Naming>
+    ensures { result ≡ later job.now addr latest (name.now, number) }
+{
+    if !is_behind(&latest, number) {
+        return latest;
+    }
+    match naming_at(job, addr, name, number) {
+        Some(naming) => Some(naming),
+        None => latest,
+    }
+}
+
+// A list that is wanted has a length, as its type says.
+fn has_lengths(written: &Written)
+    ensures { HasLengths written.now }
+{
+    if let Written::ObtainList { lengths, .. } = written {
+        let _ = lengths.as_slice();
+    }
+}
+
+impl SetLines {
+    /// No name was set. This takes no memory.
+    pub(crate) fn new(alloc: Global) -> SetLines
+        ensures { result ≡ no_lines }
+    {
+        SetLines {
+            numbers: HashMap::new(alloc),
+        }
+    }
+
+    // Forgets all names.
+    fn clear(&mut self)
+        ensures { self.new ≡ no_lines }
+    {
+        self.numbers.clear();
+    }
+
+    /// Forgets all names before the first step of a job.
+    pub(crate) fn begin(&mut self, walk: &Walk)
+        ensures { self.new ≡ lines_before walk.now.step self.old }
+    {
+        match walk.job() {
+            Some(_) => {}
+            None => self.clear(),
+        }
+    }
+
+    // Sets a name by the line of a number.
+    fn put(&mut self, name: Name, number: u32) -> Result<(), OutOfMemory>
+        ensures { OnOk result (self.new ≡ insert self.old name number) }
+    {
+        match self.numbers.insert(name, number) {
+            Ok(_) => Ok(()),
+            Err(_) => Err(OutOfMemory),
+        }
+    }
+
+    // Sets names by the line of a number, from the left.
+    fn put_all(&mut self, names: &[Name], number: u32) -> Result<(), OutOfMemory>
+        ensures ok { OnOk result (self.new ≡ set_by number self.old names.now) }
+        ensures err { OnErr result (names.now ≢ []) }
+    {
+        let Some((name, names)) = names.split_first() else {
+            return Ok(());
+        };
+        self.put(*name, number)?;
+        self.put_all(names, number)
+    }
+
+    /// Keeps which names the line of a number sets that was read as this and told this. It takes memory where the line is granted
+    /// a request that sets a name.
+    pub(crate) fn keep(
+        &mut self,
+        number: u32,
+        read: &Line,
+        told: &LineTold,
+    ) -> Result<(), OutOfMemory>
+        ensures ok { OnOk result ((walk : WalkValue) → IsLent walk told.now
+            → self.new ≡ set_behind number self.old read.now (events_told number walk told.now)) }
+        ensures err { OnErr result (SetsSome read.now
+            × ((walk : WalkValue) → IsLent walk told.now
+            → tells_grant (events_told number walk told.now) ≡ true)) }
+    {
+        match read {
+            Line::Statement(_, Statement::Region { .. }) => {
+                self.clear();
+                Ok(())
+            }
+            Line::Statement(_, Statement::Request(written)) => {
+                if !tells_grant(told) {
+                    return Ok(());
+                }
+                has_lengths(written);
+                self.put_all(names_set(written), number)
+            }
+            _ => Ok(()),
+        }
+    }
+
+    /// A name that was set last of those that have an address in their places.
+    pub(crate) fn naming(&self, job: &Job, addr: Addr) -> Option<Naming>
+        ensures { IsNaming job.now self.now addr result }
+    {
+        let mut latest = None;
+        for (name, number) in self.numbers.iter() {
+            latest = later(latest, job, addr, name, *number);
+        }
+        latest
+    }
+}
+
+/// Prints which name has an address in its place, if one has.
+pub(crate) fn print_named<W: Write>(
+    writer: &mut Watched<W>,
+    naming: &Option<Naming>,
+) -> Result<(), Failed>
+    ensures { Prints W.contents writer.old writer.new result (naming_text naming.now) }
+{
+    match naming {
+        Some(naming) => print_naming(
+            writer,
+            naming.addr,
+            &naming.name,
+            naming.place,
+            naming.number,
+        ),
+        None => Ok(()),
+    }
+}

@@ -1,0 +1,9 @@
+use Rattle.std.proofs.Common.{sym, arith}
+use Rattle.std.proofs.lemmas.List.{length-take-le, take_all}
+use Rattle.page.proofs.markup.front.Goals as goal
+
+pub slice_bounds-result-end : goal.slice_bounds-result-end
+slice_bounds-result-end c = sym (length-take-le 255 c.args.line.now (omega (arith, c.if-line-gt255.true)))
+
+pub returns-else-line-gt255 : goal.returns-else-line-gt255
+returns-else-line-gt255 c = sym (take_all 255 c.args.line.now (omega (arith, c.if-line-gt255.false)))

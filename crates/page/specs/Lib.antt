@@ -1,0 +1,6 @@
+pub mod Changes
+pub mod Lines
+pub mod Markup
+pub mod Pages
+pub mod Told
+pub mod Picture

@@ -1,0 +1,369 @@
+//! The lines of change: what a statement did to the step, from which the page's script draws.
+
+ghost use Rattle.std.specs.Prelude.{◌≡◌, ◌≤◌, ◌+◌, ◌++◌, OnOk, codes, decimal, length};
+ghost use Rattle.mvs_model.specs.Name.{trimmed};
+ghost use Rattle.page.specs.Lines.{change_line, change_lines, change_said, has_said, place_said, residence_said, subpool_said};
+
+use job_script::text::Text;
+use mvs_model::name::Name;
+use mvs_model::place::{Addr, Place};
+use mvs_model::subpool::SubNo;
+use mvs_model::want::Residence;
+use std::alloc::AllocError;
+
+/// What a statement did. A subpool is named by the number under which its owner has it, and the owner; one that was not named
+/// before is new, and its owner has it.
+#[derive(Clone, Copy, Debug)]
+pub enum Change {
+    /// A step begins: the pages below and above, and the byte that a grant leaves.
+    Step {
+        below: u32,
+        above: u32,
+        fill: u8,
+    },
+    /// The job step task is active.
+    First {
+        name: Name,
+        residence: Residence,
+    },
+    /// A subtask is active.
+    Task {
+        name: Name,
+        mother: Name,
+        residence: Residence,
+    },
+    /// A task owns the subpool that its mother had under the number, and the mother has it no more.
+    Given {
+        task: Name,
+        number: SubNo,
+        mother: Name,
+    },
+    /// A task has a subpool under a number, and shares it with its owner.
+    Shared {
+        task: Name,
+        held: SubNo,
+        number: SubNo,
+        owner: Name,
+    },
+    /// An area is granted, which the name tells from now on.
+    Take {
+        place: Place,
+        number: SubNo,
+        owner: Name,
+        name: Name,
+    },
+    /// The doublewords of a place are free.
+    Free {
+        place: Place,
+    },
+    /// All that the subpool held is free, its pools are gone, and it stays.
+    Empty {
+        number: SubNo,
+        owner: Name,
+    },
+    /// A cell pool is built, with cells of so many bytes.
+    Pool {
+        name: Name,
+        number: SubNo,
+        owner: Name,
+        size: u32,
+    },
+    /// The pool has a part with so many cells, which it got last.
+    Part {
+        pool: Name,
+        place: Place,
+        cells: u32,
+    },
+    /// A cell is taken, which the name tells from now on.
+    Cell {
+        pool: Name,
+        place: Place,
+        name: Name,
+    },
+    /// A cell is given back.
+    Back {
+        pool: Name,
+        cell: Addr,
+    },
+    /// The pool is gone, and its parts are free.
+    Delete {
+        pool: Name,
+    },
+    /// Bytes are read.
+    Read {
+        place: Place,
+    },
+    /// Bytes are written.
+    Write {
+        place: Place,
+    },
+    /// A place is told.
+    Look {
+        place: Place,
+    },
+    /// A task has ended, by its own return; its subpools go.
+    Return {
+        task: Name,
+    },
+    /// The same by an abend.
+    Abend {
+        task: Name,
+    },
+    /// The same with another task, that abended.
+    Fall {
+        task: Name,
+        other: Name,
+    },
+}
+
+// Puts behind a text where a task resides.
+fn push_residence(text: &mut Text, residence: Residence)
+    requires { length text.old ≤ 140 }
+    ensures text { text.new ≡ text.old ++ residence_said residence }
+    ensures len { length text.new ≤ length text.old + 10 }
+{
+    match residence {
+        Residence::Below => text.push_all(b" RES BELOW"),
+        Residence::Above => text.push_all(b" RES ABOVE"),
+    }
+}
+
+// Puts an address and a length behind a text.
+fn push_place(text: &mut Text, place: Place)
+    requires { length text.old ≤ 120 }
+    ensures text { text.new ≡ text.old ++ place_said place }
+    ensures len { length text.new ≤ length text.old + 17 }
+{
+    text.push_word(place.addr().get());
+    text.push_all(b" ");
+    text.push_word(place.len());
+}
+
+// Puts the number of a subpool behind a text.
+fn push_number(text: &mut Text, number: SubNo)
+    requires { length text.old ≤ 140 }
+    ensures text { text.new ≡ text.old ++ decimal number }
+    ensures len { length text.new ≤ length text.old + 10 }
+{
+    text.push_decimal(u32::from(number.get()));
+}
+
+// Puts a subpool behind a text.
+fn push_subpool(text: &mut Text, number: SubNo, owner: &Name)
+    requires { length text.old ≤ 120 }
+    ensures text { text.new ≡ text.old ++ subpool_said number owner.now }
+    ensures len { length text.new ≤ length text.old + 19 }
+{
+    push_number(text, number);
+    text.push_all(b" ");
+    text.push_name(owner);
+}
+
+// Puts behind a text that a task has something under a number.
+fn push_has(text: &mut Text, task: &Name, number: SubNo)
+    requires { length text.old ≤ 2 }
+    ensures text { text.new ≡ text.old ++ has_said task.now number }
+    ensures len { length text.new ≤ length text.old + 23 }
+{
+    text.push_all(b"HAS ");
+    text.push_name(task);
+    text.push_all(b" ");
+    push_number(text, number);
+}
+
+// Puts a word and a name behind a text.
+fn push_of(text: &mut Text, word: &[u8], name: &Name)
+    requires old { length text.old ≤ 100 }
+    requires word { length word.now ≤ 20 }
+    ensures text { text.new ≡ text.old ++ (word.now ++ trimmed name.now) }
+    ensures len { length text.new ≤ length text.old + (length word.now + 8) }
+{
+    text.push_all(word);
+    text.push_name(name);
+}
+
+// Puts a word and a place behind a text.
+fn push_at(text: &mut Text, word: &[u8], place: Place)
+    requires old { length text.old ≤ 100 }
+    requires word { length word.now ≤ 20 }
+    ensures text { text.new ≡ text.old ++ (word.now ++ place_said place) }
+    ensures len { length text.new ≤ length text.old + (length word.now + 17) }
+{
+    text.push_all(word);
+    push_place(text, place);
+}
+
+// Puts a step that begins behind a text.
+fn push_step(text: &mut Text, below: u32, above: u32, fill: u8)
+    requires { length text.old ≤ 2 }
+    ensures text { text.new ≡ text.old ++ change_said (Change.Step below above fill) }
+    ensures len { length text.new ≤ length text.old + 100 }
+{
+    text.push_all(b"STEP BELOW ");
+    text.push_decimal(below);
+    text.push_all(b" ABOVE ");
+    text.push_decimal(above);
+    text.push_all(b" FILL ");
+    text.push_byte(fill);
+}
+
+// Puts a change of tasks behind a text.
+fn push_task(text: &mut Text, name: &Name, mother: &Name, residence: Residence)
+    requires { length text.old ≤ 2 }
+    ensures text { text.new
+        ≡ text.old ++ change_said (Change.Task name.now mother.now residence) }
+    ensures len { length text.new ≤ length text.old + 100 }
+{
+    push_of(text, b"TASK ", name);
+    push_of(text, b" MOTHER ", mother);
+    push_residence(text, residence);
+}
+
+// Puts an area behind a text that is granted.
+fn push_take(text: &mut Text, place: Place, number: SubNo, owner: &Name, name: &Name)
+    requires { length text.old ≤ 2 }
+    ensures text { text.new
+        ≡ text.old ++ change_said (Change.Take place number owner.now name.now) }
+    ensures len { length text.new ≤ length text.old + 100 }
+{
+    push_at(text, b"TAKE ", place);
+    text.push_all(b" ");
+    push_subpool(text, number, owner);
+    push_of(text, b" ", name);
+}
+
+// Puts a cell pool behind a text that is built.
+fn push_pool(text: &mut Text, name: &Name, number: SubNo, owner: &Name, size: u32)
+    requires { length text.old ≤ 2 }
+    ensures text { text.new
+        ≡ text.old ++ change_said (Change.Pool name.now number owner.now size) }
+    ensures len { length text.new ≤ length text.old + 100 }
+{
+    push_of(text, b"POOL ", name);
+    text.push_all(b" ");
+    push_subpool(text, number, owner);
+    text.push_all(b" ");
+    text.push_decimal(size);
+}
+
+// Puts a part of a cell pool behind a text.
+fn push_part(text: &mut Text, pool: &Name, place: Place, cells: u32)
+    requires { length text.old ≤ 2 }
+    ensures text { text.new ≡ text.old ++ change_said (Change.Part pool.now place cells) }
+    ensures len { length text.new ≤ length text.old + 100 }
+{
+    push_of(text, b"PART ", pool);
+    push_at(text, b" ", place);
+    text.push_all(b" ");
+    text.push_decimal(cells);
+}
+
+// Puts a cell behind a text that is taken.
+fn push_cell(text: &mut Text, pool: &Name, place: Place, name: &Name)
+    requires { length text.old ≤ 2 }
+    ensures text { text.new ≡ text.old ++ change_said (Change.Cell pool.now place name.now) }
+    ensures len { length text.new ≤ length text.old + 100 }
+{
+    push_of(text, b"CELL ", pool);
+    push_at(text, b" ", place);
+    push_of(text, b" ", name);
+}
+
+// Puts a change behind a text.
+fn push_change(text: &mut Text, change: &Change)
+    requires { length text.old ≤ 2 }
+    ensures text { text.new ≡ text.old ++ change_said change.now }
+    ensures len { length text.new ≤ length text.old + 100 }
+{
+    match change {
+        Change::Step { below, above, fill } => push_step(text, *below, *above, *fill),
+        Change::First { name, residence } => {
+            push_of(text, b"TASK ", name);
+            text.push_all(b" MOTHER -");
+            push_residence(text, *residence);
+        }
+        Change::Task {
+            name,
+            mother,
+            residence,
+        } => push_task(text, name, mother, *residence),
+        Change::Given {
+            task,
+            number,
+            mother,
+        } => {
+            push_has(text, task, *number);
+            push_of(text, b" GIVEN ", mother);
+        }
+        Change::Shared {
+            task,
+            held,
+            number,
+            owner,
+        } => {
+            push_has(text, task, *held);
+            text.push_all(b" SHARED ");
+            push_subpool(text, *number, owner);
+        }
+        Change::Take {
+            place,
+            number,
+            owner,
+            name,
+        } => push_take(text, *place, *number, owner, name),
+        Change::Free { place } => push_at(text, b"FREE ", *place),
+        Change::Empty { number, owner } => {
+            text.push_all(b"EMPTY ");
+            push_subpool(text, *number, owner);
+        }
+        Change::Pool {
+            name,
+            number,
+            owner,
+            size,
+        } => push_pool(text, name, *number, owner, *size),
+        Change::Part { pool, place, cells } => push_part(text, pool, *place, *cells),
+        Change::Cell { pool, place, name } => push_cell(text, pool, *place, name),
+        Change::Back { pool, cell } => {
+            push_of(text, b"BACK ", pool);
+            text.push_all(b" ");
+            text.push_word(cell.get());
+        }
+        Change::Delete { pool } => push_of(text, b"DROP ", pool),
+        Change::Read { place } => push_at(text, b"READ ", *place),
+        Change::Write { place } => push_at(text, b"WRITE ", *place),
+        Change::Look { place } => push_at(text, b"LOOK ", *place),
+        Change::Return { task } => {
+            push_of(text, b"END ", task);
+            text.push_all(b" RETURN");
+        }
+        Change::Abend { task } => {
+            push_of(text, b"END ", task);
+            text.push_all(b" ABEND");
+        }
+        Change::Fall { task, other } => {
+            push_of(text, b"END ", task);
+            push_of(text, b" WITH ", other);
+        }
+    }
+}
+
+// Puts the line of a change behind others.
+fn push_line(lines: &mut Vec<u8>, change: &Change) -> Result<(), AllocError>
+    ensures { OnOk result (lines.new.items ≡ lines.old.items ++ change_line change.now) }
+{
+    let mut text = Text::new();
+    push_change(&mut text, change);
+    text.push_all(b"\n");
+    lines.extend_from_slice(text.as_slice())
+}
+
+/// Puts the lines of changes behind others.
+pub fn push_lines(lines: &mut Vec<u8>, changes: &[Change]) -> Result<(), AllocError>
+    ensures { OnOk result (lines.new.items ≡ lines.old.items ++ change_lines changes.now) }
+{
+    for change in changes {
+        push_line(lines, change)?;
+    }
+    Ok(())
+}

@@ -1,0 +1,437 @@
+//! What a line did to the step, as changes.
+
+ghost use Rattle.std.specs.Prelude.{◌≡◌, ◌≤◌, ◌<◌, ◌+◌, ◌++◌, ◌∷◌, [], List, ℕ, Some, length};
+ghost use Rattle.mvs_model.specs.Lent.{fallen_in, lent};
+ghost use Rattle.mvs_model.specs.Name.{same_name};
+ghost use Rattle.mvs_model.specs.Numbers.{task_numbers};
+ghost use Rattle.mvs_model.specs.declared.name.Name.{Name as TaskName};
+ghost use Rattle.mvs_model.specs.Reports.{each_below};
+ghost use Rattle.mvs_model.specs.Resolving.{resolved};
+ghost use Rattle.mvs_model.specs.State.{State};
+ghost use Rattle.step_machine.specs.Facts.{listed};
+ghost use Rattle.mvs_job.specs.Telling.{IsLent, events_told};
+ghost use Rattle.page.specs.Changes.{answer_changes, area_change, area_changes, begin_changes, cell_change, changes_of, done_changes, empty_change, fall_changes, free_changes, held_change, is_done, part_change, pool_change, request_changes, statement_changes, where_changes};
+
+use crate::change::Change;
+use mvs_job::{Job, LineTold, Walk};
+use mvs_model::answer::Answer;
+use mvs_model::card::Card;
+use mvs_model::line::{Line, Statement, Written};
+use mvs_model::name::Name;
+use mvs_model::numbers::TASK_NUMBERS;
+use mvs_model::place::{Addr, Place};
+use mvs_model::request::{Reply, Request};
+use mvs_model::short_list::ShortList;
+use mvs_model::subpool::SubNo;
+
+const MOST_CHANGES: usize = 160;
+
+/// What a line did.
+pub type Changes = ShortList<Change, 0, MOST_CHANGES>;
+
+// No change.
+fn no_changes() -> Changes
+    ensures { result ≡ [] }
+{
+    Changes::empty(Change::Read {
+        place: Place::new(Addr::new(0), 1),
+    })
+}
+
+// Puts a change behind others, if there is one.
+fn push_some(changes: &mut Changes, change: Option<Change>)
+    requires { length changes.old < 160 }
+    ensures changes { changes.new ≡ changes.old ++ listed change }
+    ensures len { length changes.new ≤ length changes.old + 1 }
+{
+    if let Some(change) = change {
+        changes.push(change);
+    }
+}
+
+// An area that was obtained.
+fn area_change(job: &Job, task: &Name, number: u8, area: &Name) -> Option<Change>
+    ensures { result ≡ area_change job.now task.now number area.now }
+{
+    let Some(place) = job.place_of(area) else {
+        return None;
+    };
+    let Some((number, owner)) = job.label_meant(task, number) else {
+        return None;
+    };
+    Some(Change::Take {
+        place,
+        number,
+        owner,
+        name: *area,
+    })
+}
+
+// Puts the areas of a list behind other changes.
+fn push_areas(changes: &mut Changes, job: &Job, task: &Name, number: u8, areas: &[Name])
+    requires { length changes.old + length areas.now ≤ 100 }
+    ensures changes { changes.new
+        ≡ changes.old ++ area_changes job.now task.now number areas.now }
+    ensures len { length changes.new ≤ length changes.old + length areas.now }
+{
+    let Some((area, areas)) = areas.split_first() else {
+        return;
+    };
+    push_some(changes, area_change(job, task, number, area));
+    push_areas(changes, job, task, number, areas);
+}
+
+// Puts places behind other changes that were released.
+fn push_frees(changes: &mut Changes, places: &[Place])
+    requires { length changes.old + length places.now ≤ 100 }
+    ensures changes { changes.new ≡ changes.old ++ free_changes places.now }
+    ensures len { length changes.new ≤ length changes.old + length places.now }
+{
+    let Some((place, places)) = places.split_first() else {
+        return;
+    };
+    changes.push(Change::Free { place: *place });
+    push_frees(changes, places);
+}
+
+// Puts the tasks behind other changes that fell with one.
+fn push_falls(changes: &mut Changes, task: &Name, fallen: &[Name])
+    requires { length changes.old + length fallen.now ≤ 100 }
+    ensures changes { changes.new ≡ changes.old ++ fall_changes task.now fallen.now }
+    ensures len { length changes.new ≤ length changes.old + length fallen.now }
+{
+    let Some((other, fallen)) = fallen.split_first() else {
+        return;
+    };
+    changes.push(Change::Fall {
+        task: *other,
+        other: *task,
+    });
+    push_falls(changes, task, fallen);
+}
+
+// The subpool that the task means by the number, of which all was released.
+fn empty_change(job: &Job, task: &Name, number: u8) -> Option<Change>
+    ensures { result ≡ empty_change job.now task.now number }
+{
+    let Some((number, owner)) = job.label_meant(task, number) else {
+        return None;
+    };
+    Some(Change::Empty { number, owner })
+}
+
+// A pool that was built in that subpool.
+fn pool_change(job: &Job, task: &Name, number: u8, pool: &Name, size: u32) -> Option<Change>
+    ensures { result ≡ pool_change job.now task.now number pool.now size }
+{
+    let Some((number, owner)) = job.label_meant(task, number) else {
+        return None;
+    };
+    Some(Change::Pool {
+        name: *pool,
+        number,
+        owner,
+        size,
+    })
+}
+
+// The last part of a pool.
+fn part_change(job: &Job, pool: &Name) -> Option<Change>
+    ensures { result ≡ part_change job.now pool.now }
+{
+    let Some(newest) = job.newest(pool) else {
+        return None;
+    };
+    Some(Change::Part {
+        pool: *pool,
+        place: newest.place,
+        cells: newest.cells,
+    })
+}
+
+// A cell that was taken.
+fn cell_change(job: &Job, pool: &Name, cell: &Name) -> Option<Change>
+    ensures { result ≡ cell_change job.now pool.now cell.now }
+{
+    let Some(place) = job.place_of(cell) else {
+        return None;
+    };
+    Some(Change::Cell {
+        pool: *pool,
+        place,
+        name: *cell,
+    })
+}
+
+// Whether two names are the same.
+fn is_same(one: &Name, other: &Name) -> bool
+    ensures { result ≡ same_name one.now other.now }
+{
+    *one == *other
+}
+
+// What a subtask has under a number.
+fn held_change(job: &Job, mother: &Name, subtask: &Name, held: SubNo) -> Option<Change>
+    ensures { result ≡ held_change job.now mother.now subtask.now held }
+{
+    let Some((number, owner)) = job.label_had(subtask, held) else {
+        return None;
+    };
+    if is_same(&owner, subtask) {
+        return Some(Change::Given {
+            task: *subtask,
+            number,
+            mother: *mother,
+        });
+    }
+    Some(Change::Shared {
+        task: *subtask,
+        held,
+        number,
+        owner,
+    })
+}
+
+// Puts what a subtask has behind other changes.
+fn push_held(changes: &mut Changes, job: &Job, mother: &Name, subtask: &Name)
+    requires { length changes.old ≤ 2 }
+    ensures { changes.new
+        ≡ changes.old ++ each_below task_numbers
+        (λ n. listed (held_change job.now mother.now subtask.now n)) }
+{
+    for n in 0..TASK_NUMBERS {
+        push_some(changes, held_change(job, mother, subtask, SubNo::of(n)));
+    }
+}
+
+// What a request did that names places.
+fn request_changes(request: &Request) -> Changes
+    ensures { result ≡ request_changes (Some request.now) }
+{
+    let mut changes = no_changes();
+    match request {
+        Request::Release { place, .. } => changes.push(Change::Free { place: *place }),
+        Request::ReleaseList { places, .. } => push_frees(&mut changes, places.as_slice()),
+        Request::Free { pool, cell } => changes.push(Change::Back {
+            pool: *pool,
+            cell: *cell,
+        }),
+        Request::Show { from, len } => changes.push(Change::Read {
+            place: Place::new(*from, len.get()),
+        }),
+        Request::Put { to, bytes } => changes.push(Change::Write {
+            place: Place::new(*to, bytes.len() as u32),
+        }),
+        Request::Move { to, from, len } => {
+            changes.push(Change::Read {
+                place: Place::new(*from, len.get()),
+            });
+            changes.push(Change::Write {
+                place: Place::new(*to, len.get()),
+            });
+        }
+        _ => {}
+    }
+    changes
+}
+
+// The same of a request as it is written.
+fn named_changes(written: &Written, job: &Job, request: &mut Request) -> Changes
+    ensures { result ≡ request_changes (resolved job.now.names written.now) }
+{
+    match job.request_of(written, request) {
+        Some(()) => request_changes(request),
+        None => no_changes(),
+    }
+}
+
+// What a task's request did that was granted.
+fn done_changes(task: &Name, written: &Written, job: &Job, request: &mut Request) -> Changes
+    ensures { result ≡ done_changes task.now written.now job.now }
+{
+    let mut changes = no_changes();
+    match written {
+        Written::Obtain { number, area, .. } => {
+            push_some(&mut changes, area_change(job, task, *number, area));
+        }
+        Written::ObtainList { number, areas, .. } => {
+            push_areas(&mut changes, job, task, *number, areas.as_slice());
+        }
+        Written::ReleaseWhole { number, .. } => {
+            push_some(&mut changes, empty_change(job, task, *number));
+        }
+        Written::Build {
+            pool,
+            number,
+            size,
+            ..
+        } => {
+            push_some(
+                &mut changes,
+                pool_change(job, task, *number, pool, size.get()),
+            );
+            push_some(&mut changes, part_change(job, pool));
+        }
+        Written::Get { pool, cell, .. } => {
+            push_some(&mut changes, part_change(job, pool));
+            push_some(&mut changes, cell_change(job, pool, cell));
+        }
+        Written::Delete { pool } => changes.push(Change::Delete { pool: *pool }),
+        Written::Attach {
+            name,
+            residence,
+            ..
+        } => {
+            changes.push(Change::Task {
+                name: *name,
+                mother: *task,
+                residence: *residence,
+            });
+            push_held(&mut changes, job, task, name);
+        }
+        _ => return named_changes(written, job, request),
+    }
+    changes
+}
+
+// Whether an answer says that a request was done, and its task goes on.
+fn is_done(answer: &Answer) -> bool
+    ensures { (st : State) (fallen : List TaskName) (t : TaskName)
+        → result ≡ is_done (lent st fallen t answer.now) }
+{
+    matches!(
+        answer,
+        Answer::Rc0
+            | Answer::Granted(_)
+            | Answer::Cell
+            | Answer::Attached
+            | Answer::Done
+            | Answer::Data(_)
+    )
+}
+
+// A task that abended, and those that fell with it.
+fn abend_changes(task: &Name, fallen: &[Name]) -> Changes
+    requires { length fallen.now ≤ 31 }
+    ensures { result ≡ Change.Abend task.now ∷ fall_changes task.now fallen.now }
+{
+    let mut changes = no_changes();
+    changes.push(Change::Abend { task: *task });
+    push_falls(&mut changes, task, fallen);
+    changes
+}
+
+// A task that returned.
+fn return_changes(task: &Name) -> Changes
+    ensures { result ≡ Change.Return task.now ∷ [] }
+{
+    let mut changes = no_changes();
+    changes.push(Change::Return { task: *task });
+    changes
+}
+
+// What a request did that is answered so.
+fn answer_changes(
+    task: &Name,
+    written: &Written,
+    answer: &Answer,
+    job: &Job,
+    fallen: &[Name],
+    request: &mut Request,
+) -> Changes
+    requires { length fallen.now ≤ 31 }
+    ensures { (st : State)
+        → result
+        ≡ answer_changes task.now written.now (lent st fallen.now task.now answer.now) job.now }
+{
+    match answer {
+        Answer::Ended => return_changes(task),
+        Answer::Abended(_) => abend_changes(task, fallen),
+        _ if is_done(answer) => done_changes(task, written, job, request),
+        _ => no_changes(),
+    }
+}
+
+// The place that WHERE tells.
+fn where_changes(name: &Name, answer: &Answer, job: &Job) -> Changes
+    ensures { (st : State) (fallen : List TaskName) (t : TaskName)
+        → result ≡ where_changes name.now (lent st fallen t answer.now) job.now }
+{
+    let mut changes = no_changes();
+    if let Answer::At(_) = answer {
+        if let Some(place) = job.place_of(name) {
+            changes.push(Change::Look { place });
+        }
+    }
+    changes
+}
+
+// A step that begins.
+fn begin_changes(card: &Card) -> Changes
+    ensures { result ≡ begin_changes card.now }
+{
+    let mut changes = no_changes();
+    changes.push(Change::Step {
+        below: card.below(),
+        above: card.above(),
+        fill: card.fill(),
+    });
+    changes.push(Change::First {
+        name: card.name(),
+        residence: card.residence(),
+    });
+    changes
+}
+
+// What a statement did that is answered so.
+fn statement_changes(
+    task: &Name,
+    statement: &Statement,
+    answer: &Answer,
+    job: &Job,
+    fallen: &[Name],
+    request: &mut Request,
+) -> Changes
+    requires { length fallen.now ≤ 31 }
+    ensures { (st : State)
+        → result
+        ≡ statement_changes task.now statement.now (lent st fallen.now task.now answer.now)
+        job.now }
+{
+    match statement {
+        Statement::Request(written) => {
+            answer_changes(task, written, answer, job, fallen, request)
+        }
+        Statement::Where(name) => where_changes(name, answer, job),
+        _ => no_changes(),
+    }
+}
+
+// The tasks that ended with the one that abended, where the last request abended.
+fn fallen(walk: &Walk) -> &[Name]
+    ensures names { result.now ≡ fallen_in walk.now.reply }
+    ensures most { length result.now ≤ 31 }
+{
+    match walk.reply() {
+        Reply::Abended(_, fallen) => fallen.names(),
+        _ => &[],
+    }
+}
+
+/// What a line did that says this and told this. The request that it asks for is written over `request`.
+pub fn changes_of(read: &Line, walk: &Walk, told: &LineTold, request: &mut Request) -> Changes
+    requires { IsLent walk.now told.now }
+    ensures { (number : ℕ)
+        → result ≡ changes_of read.now (events_told number walk.now told.now) walk.now.step }
+{
+    match told {
+        LineTold::Began { card, .. } => begin_changes(card),
+        LineTold::Answered { task, answer } => match (read, walk.job()) {
+            (Line::Statement(_, statement), Some(job)) => {
+                statement_changes(task, statement, answer, job, fallen(walk), request)
+            }
+            _ => no_changes(),
+        },
+        _ => no_changes(),
+    }
+}

@@ -1,0 +1,153 @@
+//! The item of a line.
+
+ghost use Rattle.std.specs.Prelude.{◌≡◌, ◌++◌, List, ℕ, IfOk, OnOk, codes};
+ghost use Rattle.mvs_model.specs.Lent.{lent};
+ghost use Rattle.mvs_model.specs.State.{State};
+ghost use Rattle.mvs_model.specs.Texts.{printing};
+ghost use Rattle.mvs_model.specs.declared.name.Name.{Name as TaskName};
+ghost use Rattle.mvs_job.specs.Telling.{IsLent, events_told};
+ghost use Rattle.page.specs.Lines.{change_lines};
+ghost use Rattle.page.specs.Changes.{changes_of};
+ghost use Rattle.page.specs.Markup.{class_of, class_said, head_of, note_of, reply_of, tail_of};
+ghost use Rattle.page.specs.Told.{item_told};
+
+use crate::change::push_lines;
+use crate::changes::changes_of;
+use crate::markup::{push_head, push_note, push_reply, push_tag, push_tail};
+use mvs_job::{LineTold, Walk};
+use mvs_model::answer::Answer;
+use mvs_model::line::Line;
+use mvs_model::request::Request;
+use std::alloc::{AllocError, Global};
+
+/// A line of a script, without its end, and its number.
+#[derive(Clone, Copy)]
+pub struct Numbered<'a> {
+    pub number: u32,
+    pub line: &'a [u8],
+}
+
+/// What a line printed, and what stands behind that.
+#[derive(Drop)]
+pub struct Served {
+    pub told: LineTold,
+    pub printed: Vec<u8>,
+    pub behind: Vec<u8>,
+}
+
+// How a statement went that is answered so.
+fn class_said(answer: &Answer) -> &'static [u8]
+    ensures { (st : State) (fallen : List TaskName) (t : TaskName)
+        → result.now ≡ class_said (lent st fallen t answer.now) }
+{
+    match answer {
+        Answer::NotRun | Answer::NoName | Answer::Rc4 | Answer::NoCell => b"no",
+        Answer::Abended(_) => b"ab",
+        _ => b"ok",
+    }
+}
+
+// The same of what a line told.
+fn class_of(walk: &Walk, told: &LineTold) -> &'static [u8]
+    requires { IsLent walk.now told.now }
+    ensures { (number : ℕ) → result.now ≡ class_of (events_told number walk.now told.now) }
+{
+    match told {
+        LineTold::Answered { answer, .. } => class_said(answer),
+        _ => b"ok",
+    }
+}
+
+// The lines of change of a line that says this and told this.
+fn lines_of_change(
+    alloc: Global,
+    read: &Line,
+    walk: &Walk,
+    told: &LineTold,
+    request: &mut Request,
+) -> Result<Vec<u8>, AllocError>
+    requires { IsLent walk.now told.now }
+    ensures { IfOk result
+        (λ lines. (number : ℕ)
+        → lines.items
+        ≡ change_lines
+        (changes_of read.now (events_told number walk.now told.now) walk.now.step)) }
+{
+    let mut lines = Vec::new(alloc);
+    push_lines(&mut lines, changes_of(read, walk, told, request).as_slice())?;
+    Ok(lines)
+}
+
+// The item of a line that says nothing.
+fn noted(alloc: Global, numbered: &Numbered<'_>) -> Result<Vec<u8>, AllocError>
+    ensures { IfOk result
+        (λ item. item.items ≡ note_of numbered.now.number numbered.now.line.now) }
+{
+    let mut item = Vec::new(alloc);
+    push_note(&mut item, numbered.number, numbered.line)?;
+    Ok(item)
+}
+
+// The item of a line with a fault.
+fn faulted(alloc: Global, numbered: &Numbered<'_>, printed: &[u8]) -> Result<Vec<u8>, AllocError>
+    ensures { IfOk result
+        (λ item. item.items
+        ≡ head_of numbered.now.number (codes "js") numbered.now.line.now ++ (reply_of
+        printed.now ++ codes "<p>The job ends here.</p>\n</article>\n")) }
+{
+    let mut item = Vec::new(alloc);
+    push_head(&mut item, numbered.number, b"js", numbered.line)?;
+    push_reply(&mut item, printed)?;
+    push_tag(&mut item, b"<p>The job ends here.</p>\n</article>\n")?;
+    Ok(item)
+}
+
+// The item of a statement that went so, with these lines of change.
+fn stated(
+    alloc: Global,
+    numbered: &Numbered<'_>,
+    how: &[u8],
+    printed: &[u8],
+    behind: &[u8],
+    changes: &[u8],
+) -> Result<Vec<u8>, AllocError>
+    ensures { IfOk result
+        (λ item. item.items
+        ≡ head_of numbered.now.number how.now numbered.now.line.now ++ (reply_of
+        printed.now ++ tail_of behind.now changes.now)) }
+{
+    let mut item = Vec::new(alloc);
+    push_head(&mut item, numbered.number, how, numbered.line)?;
+    push_reply(&mut item, printed)?;
+    push_tail(&mut item, behind, changes)?;
+    Ok(item)
+}
+
+/// The item of a line that says this, and was served so. The request that it asks for is written over `request`.
+pub fn item_of(
+    alloc: Global,
+    numbered: &Numbered<'_>,
+    read: &Line,
+    walk: &Walk,
+    served: &Served,
+    request: &mut Request,
+) -> Result<Vec<u8>, AllocError>
+    requires lent { IsLent walk.now served.now.told }
+    requires printed { served.now.printed.items
+        ≡ printing (events_told numbered.now.number walk.now served.now.told) }
+    ensures { IfOk result
+        (λ item. item.items
+        ≡ item_told numbered.now.number numbered.now.line.now read.now walk.now
+        served.now.told served.now.behind.items) }
+{
+    let how = class_of(walk, &served.told);
+    let changes = lines_of_change(alloc, read, walk, &served.told, request)?;
+    let lines = changes.as_slice();
+    let printed = served.printed.as_slice();
+    let behind = served.behind.as_slice();
+    match &served.told {
+        LineTold::Nothing => noted(alloc, numbered),
+        LineTold::Faulted(_) => faulted(alloc, numbered, printed),
+        _ => stated(alloc, numbered, how, printed, behind, lines),
+    }
+}

@@ -1,0 +1,13 @@
+//! Writes a script's run as a page: for each line what it prints, why, and what it did to storage and tasks.
+#![tactic(auto)]
+
+mod change;
+mod changes;
+mod frame;
+mod item;
+pub mod laws;
+mod markup;
+mod pages;
+
+pub use frame::FRAME;
+pub use pages::write_page;

@@ -1,0 +1,155 @@
+//! The text of the items of a page.
+
+ghost use Rattle.std.specs.Prelude.{◌≡◌, ◌≤◌, ◌+◌, ◌++◌, OnOk, decimal, drop, length, take};
+ghost use Rattle.page.specs.Markup.{article_tag, escaped, escaped_byte, head_of, most_of_line, note_of, note_tag, reply_of, shown_line, tail_of, words_of};
+
+use job_script::text::Text;
+use mvs_job::line_end;
+use std::alloc::AllocError;
+use std::slice;
+
+/// Puts a tag behind a text.
+pub fn push_tag(item: &mut Vec<u8>, tag: &[u8]) -> Result<(), AllocError>
+    ensures { OnOk result (item.new.items ≡ item.old.items ++ tag.now) }
+{
+    item.extend_from_slice(tag)
+}
+
+// How a byte is written between tags.
+fn escaped_byte(byte: &u8) -> &[u8]
+    ensures { result.now ≡ escaped_byte byte.now }
+{
+    match *byte {
+        b'&' => b"&amp;",
+        b'<' => b"&lt;",
+        b'>' => b"&gt;",
+        b'"' => b"&quot;",
+        b'\n' | b' '..=b'~' => slice::from_ref(byte),
+        _ => b"?",
+    }
+}
+
+// Puts a text behind others as it is written between tags.
+fn push_escaped(item: &mut Vec<u8>, text: &[u8]) -> Result<(), AllocError>
+    ensures { OnOk result (item.new.items ≡ item.old.items ++ escaped text.now) }
+{
+    for byte in text {
+        item.extend_from_slice(escaped_byte(byte))?;
+    }
+    Ok(())
+}
+
+// Puts a number behind a text.
+fn push_number(item: &mut Vec<u8>, number: u32) -> Result<(), AllocError>
+    ensures { OnOk result (item.new.items ≡ item.old.items ++ escaped (decimal number)) }
+{
+    let mut text = Text::new();
+    text.push_decimal(number);
+    push_escaped(item, text.as_slice())
+}
+
+// The front of a line that is shown.
+fn front(line: &[u8]) -> &[u8]
+    ensures { result.now ≡ take most_of_line line.now }
+{
+    if line.len() > 255 { &line[..255] } else { line }
+}
+
+// A line of reasons without its asterisk and the blank behind that.
+fn without_star(line: &[u8]) -> &[u8]
+    ensures { result.now ≡ drop 2 line.now }
+{
+    if line.len() > 2 { &line[2..] } else { &[] }
+}
+
+// The lines behind the first one of a text.
+fn behind_line(text: &[u8], end: usize) -> &[u8]
+    requires { end ≤ length text.now }
+    ensures { result.now ≡ drop (end + 1) text.now }
+{
+    if end < text.len() {
+        &text[end + 1..]
+    } else {
+        &[]
+    }
+}
+
+// Puts the words behind a text that stand behind an answer, line for line.
+fn push_words(item: &mut Vec<u8>, behind: &[u8]) -> Result<(), AllocError>
+    ensures { OnOk result (item.new.items ≡ item.old.items ++ words_of behind.now) }
+{
+    if behind.is_empty() {
+        return Ok(());
+    }
+    let end = line_end(behind);
+    push_escaped(item, without_star(&behind[..end]))?;
+    item.extend_from_slice(b"\n")?;
+    push_words(item, behind_line(behind, end))
+}
+
+// Puts the tag behind others that begins the item of a statement.
+fn push_article_tag(item: &mut Vec<u8>, number: u32, how: &[u8]) -> Result<(), AllocError>
+    ensures { OnOk result (item.new.items ≡ item.old.items ++ article_tag number how.now) }
+{
+    push_tag(item, b"<article id=\"l")?;
+    push_number(item, number)?;
+    push_tag(item, b"\" class=\"")?;
+    push_tag(item, how)?;
+    push_tag(item, b"\">")?;
+    Ok(())
+}
+
+/// Puts the head of an item of a statement behind others: its number, how it went, and its line.
+pub fn push_head(item: &mut Vec<u8>, number: u32, how: &[u8], line: &[u8]) -> Result<(), AllocError>
+    ensures { OnOk result (item.new.items ≡ item.old.items ++ head_of number how.now line.now) }
+{
+    push_article_tag(item, number, how)?;
+    push_tag(item, b"\n<h2>")?;
+    push_number(item, number)?;
+    push_tag(item, b" <code>")?;
+    push_escaped(item, front(line))?;
+    push_tag(item, b"</code></h2>\n")?;
+    Ok(())
+}
+
+/// Puts what a line prints behind an item.
+pub fn push_reply(item: &mut Vec<u8>, printed: &[u8]) -> Result<(), AllocError>
+    ensures { OnOk result (item.new.items ≡ item.old.items ++ reply_of printed.now) }
+{
+    push_tag(item, b"<pre>")?;
+    push_escaped(item, printed)?;
+    push_tag(item, b"</pre>\n")?;
+    Ok(())
+}
+
+/// Puts the words and the lines of change behind an item.
+pub fn push_tail(item: &mut Vec<u8>, behind: &[u8], changes: &[u8]) -> Result<(), AllocError>
+    ensures { OnOk result (item.new.items ≡ item.old.items ++ tail_of behind.now changes.now) }
+{
+    push_tag(item, b"<p>")?;
+    push_words(item, behind)?;
+    push_tag(item, b"</p>\n<pre class=\"d\">")?;
+    push_escaped(item, changes)?;
+    push_tag(item, b"</pre>\n</article>\n")?;
+    Ok(())
+}
+
+// Puts the tag behind others that begins the item of a line that says nothing.
+fn push_note_tag(item: &mut Vec<u8>, number: u32) -> Result<(), AllocError>
+    ensures { OnOk result (item.new.items ≡ item.old.items ++ note_tag number) }
+{
+    push_tag(item, b"<p id=\"l")?;
+    push_number(item, number)?;
+    push_tag(item, b"\">")?;
+    Ok(())
+}
+
+/// Puts the item of a line that says nothing behind others.
+pub fn push_note(item: &mut Vec<u8>, number: u32, line: &[u8]) -> Result<(), AllocError>
+    ensures { OnOk result (item.new.items ≡ item.old.items ++ note_of number line.now) }
+{
+    push_note_tag(item, number)?;
+    push_escaped(item, front(line))?;
+    push_tag(item, b"</p>\n")?;
+    Ok(())
+}

@@ -1,0 +1,205 @@
+//! Writes the page of a script.
+
+ghost use Rattle.std.specs.Prelude.{◌≡◌, ◌≤◌, ◌<◌, ◌+◌, ◌^◌, [], Some, true, length, IfOk, OnOk, IsErrOf};
+ghost use Rattle.mvs_model.specs.Numbers.{most_script_bytes};
+ghost use Rattle.mvs_model.specs.Texts.{printing};
+ghost use Rattle.mvs_job.specs.Apart.{StandsBehind};
+ghost use Rattle.mvs_job.specs.Naming.{KeepsLines, no_lines};
+ghost use Rattle.mvs_job.specs.Telling.{IsLent, IsTold, closing, events_told};
+ghost use Rattle.mvs_model.specs.Walk.{is_first};
+ghost use Rattle.page.specs.Markup.{closing_of};
+ghost use Rattle.page.specs.Pages.{IsReadAs, WritesItem, WritesPage, WritesShown};
+ghost use Rattle.page.specs.Told.{goes_on};
+
+use crate::item::{Numbered, Served, item_of};
+use crate::markup::push_reply;
+use job_script::{read_line, write_all};
+use mvs_job::{Explainer, LineTold, Stop, Walk, line_end, print_closing};
+use mvs_model::line::Line;
+use mvs_model::outcome::Outcome;
+use mvs_model::request::Request;
+use mvs_model::want::Placement;
+use mvs_model::watched::Watched;
+use std::alloc::{AllocError, Global};
+use std::io::Write;
+
+// Room for what is looked at at a line, which is long.
+#[derive(Drop)]
+struct Maker {
+    explainer: Explainer,
+    read: Line,
+    request: Request,
+}
+
+// What was written to memory, where no growth was refused.
+fn written(text: Watched<Vec<u8>>) -> Vec<u8>
+    ensures { result ≡ text.inner }
+{
+    text.into_inner()
+}
+
+// Whether no step has begun.
+fn is_first(walk: &Walk) -> bool
+    ensures { result ≡ is_first walk.now.step }
+{
+    match walk.job() {
+        Some(_) => false,
+        None => true,
+    }
+}
+
+// Reads a line of a job that stands so.
+fn read_as(walk: &Walk, line: &[u8], read: &mut Line)
+    ensures { IsReadAs walk.now.step line.now read.new }
+{
+    let _ = read_line(line, is_first(walk), read);
+}
+
+// Whether a job goes on behind a line that told this.
+fn goes_on(told: &LineTold) -> bool
+    ensures { result ≡ goes_on told.now }
+{
+    match told {
+        LineTold::Faulted(_) => false,
+        _ => true,
+    }
+}
+
+impl Maker {
+    fn new(alloc: Global) -> Maker
+        ensures { result.explainer ≡ no_lines }
+    {
+        Maker {
+            explainer: Explainer::new(alloc),
+            read: Line::Nothing,
+            request: Request::Return,
+        }
+    }
+
+    // Serves a line. Memory may be wanting for that, or for what it prints.
+    fn serve(&mut self, alloc: Global, walk: &mut Walk, line: &[u8]) -> Result<Served, AllocError>
+        requires { walk.old.number + 1 < 2 ^ 32 }
+        ensures told { IfOk result (λ served. IsTold walk.old line.now served.told walk.new) }
+        ensures printed { IfOk result
+            (λ served. served.printed.items
+            ≡ printing (events_told walk.old.number walk.new served.told)) }
+        ensures behind { IfOk result
+            (λ served. StandsBehind (Some []) (Some served.behind.items) walk.old
+            self.old.explainer line.now walk.new served.told) }
+        ensures lines { IfOk result
+            (λ served. KeepsLines walk.old self.old.explainer line.now walk.new served.told
+            self.new.explainer) }
+        ensures lent { IfOk result (λ served. IsLent walk.new served.told) }
+        ensures read { IsReadAs walk.old.step line.now self.new.read }
+        ensures number { walk.new.number ≡ walk.old.number + 1 }
+    {
+        read_as(walk, line, &mut self.read);
+        let mut printed = Watched::new(Vec::new(alloc));
+        let mut behind = Watched::new(Vec::new(alloc));
+        match self.explainer.serve(walk, line, &mut printed, &mut behind) {
+            Ok(told) => Ok(Served {
+                told,
+                printed: written(printed),
+                behind: written(behind),
+            }),
+            Err(_) => Err(AllocError),
+        }
+    }
+
+    // Serves a line, and writes its item. Answers whether the job goes on.
+    fn write_item<W: Write>(
+        &mut self,
+        alloc: Global,
+        walk: &mut Walk,
+        line: &[u8],
+        writer: &mut Watched<W>,
+    ) -> Result<bool, Stop>
+        requires { walk.old.number + 1 < 2 ^ 32 }
+        ensures ran { WritesItem (W.contents writer.old.inner) (W.contents writer.new.inner)
+            walk.old.number walk.old.step self.old.explainer line.now walk.new.step
+            self.new.explainer result }
+        ensures number { walk.new.number ≡ walk.old.number + 1 }
+        ensures ok { OnOk result (writer.new.failed ≡ writer.old.failed) }
+        ensures write { IsErrOf result Stop.Write → writer.new.failed ≡ true }
+    {
+        let numbered = Numbered {
+            number: walk.number(),
+            line,
+        };
+        let Ok(served) = self.serve(alloc, walk, line) else {
+            return Err(Stop::Memory);
+        };
+        let Ok(item) = item_of(
+            alloc,
+            &numbered,
+            &self.read,
+            walk,
+            &served,
+            &mut self.request,
+        ) else {
+            return Err(Stop::Memory);
+        };
+        match write_all(writer, &item) {
+            Ok(()) => Ok(goes_on(&served.told)),
+            Err(_) => Err(Stop::Write),
+        }
+    }
+}
+
+// The item at the end of a job that has no more lines.
+fn closing_of(alloc: Global, number: u32, end: Option<bool>) -> Result<Vec<u8>, AllocError>
+    ensures { IfOk result (λ item. item.items ≡ closing_of (closing number end)) }
+{
+    let mut printed = Watched::new(Vec::new(alloc));
+    let Ok(()) = print_closing(&mut printed, number, end) else {
+        return Err(AllocError);
+    };
+    let mut item = Vec::new(alloc);
+    push_reply(&mut item, &written(printed))?;
+    Ok(item)
+}
+
+/// Writes the page of a script: a fixed part, which is told, and an item for each line. It takes 16,777,215 bytes at most.
+pub fn write_page<W: Write>(
+    alloc: Global,
+    frame: &[u8],
+    script: &[u8],
+    writer: &mut Watched<W>,
+    placement: Placement,
+) -> Result<Outcome, Stop>
+    requires { length script.now ≤ most_script_bytes }
+    // What is written is the page of a run of the script, or a front of one where the job gives up.
+    ensures page { WritesPage (W.contents writer.old.inner) (W.contents writer.new.inner)
+        frame.now script.now result }
+    // The texts of its `<pre>` without a class are the printing of a run.
+    ensures shown { IfOk result
+        (WritesShown (W.contents writer.old.inner) (W.contents writer.new.inner) frame.now
+        script.now) }
+    ensures ok { OnOk result (writer.new.failed ≡ writer.old.failed) }
+    ensures write { IsErrOf result Stop.Write → writer.new.failed ≡ true }
+{
+    match write_all(writer, frame) {
+        Ok(()) => {}
+        Err(_) => return Err(Stop::Write),
+    }
+    let mut walk = Walk::new(alloc, placement);
+    let mut maker = Maker::new(alloc);
+    let mut at = 0;
+    'lines: while at < script.len() {
+        let rest = &script[at..];
+        let end = line_end(rest);
+        match maker.write_item(alloc, &mut walk, &rest[..end], writer) {
+            Ok(true) => at += end + 1,
+            Ok(false) => return Ok(Outcome::ScriptFault),
+            Err(stop) => return Err(stop),
+        }
+    }
+    let closing = walk.close();
+    let Ok(item) = closing_of(alloc, walk.number(), closing.ended) else {
+        return Err(Stop::Memory);
+    };
+    match write_all(writer, &item) {
+        Ok(()) => Ok(closing.outcome),
+        Err(_) => Err(Stop::Write),
+    }
+}

@@ -1,0 +1,114 @@
+"""A browser without a window, told what to do over a pipe: Chromium (Debian's package `chromium`) and its DevTools protocol."""
+
+import itertools
+import json
+import os
+import select
+import shutil
+import subprocess
+import tempfile
+from pathlib import Path
+
+PATIENCE = 60  # seconds
+NAMES = ("chromium", "chromium-browser", "google-chrome")
+KEYS = {"ArrowRight": 39, "ArrowLeft": 37, "Home": 36, "End": 35, "PageDown": 34, "a": 65, "r": 82}
+
+
+def found():
+    """The path of a browser, or None."""
+    return next(filter(None, map(shutil.which, NAMES)), None)
+
+
+class Browser:
+    """One page at a time, and what went wrong in it."""
+
+    def __init__(self, width=1400, height=900):
+        self.folder = tempfile.TemporaryDirectory()
+        read, self.to = os.pipe()
+        self.back, write = os.pipe()
+        words = [found(), "--headless", "--no-sandbox", "--disable-gpu", "--disable-dev-shm-usage", "--disable-extensions"]
+        words += ["--remote-debugging-pipe", f"--user-data-dir={self.folder.name}", f"--window-size={width},{height}", "about:blank"]
+        self.process = subprocess.Popen(
+            ["bash", "-c", f'exec "$@" 3<&{read} 4>&{write}', "bash", *words],
+            pass_fds=(read, write), stdin=subprocess.DEVNULL, stdout=subprocess.DEVNULL, stderr=subprocess.DEVNULL,
+        )
+        os.close(read)
+        os.close(write)
+        self.kept, self.numbers, self.session = b"", itertools.count(1), None
+        self.errors, self.loaded = [], 0
+        target = self.call("Target.createTarget", url="about:blank")["targetId"]
+        self.session = self.call("Target.attachToTarget", targetId=target, flatten=True)["sessionId"]
+        for domain in ("Page", "Runtime", "Log"):
+            self.call(f"{domain}.enable")
+
+    def __enter__(self):
+        return self
+
+    def __exit__(self, *_):
+        self.process.terminate()
+        self.process.wait()
+        os.close(self.to)
+        os.close(self.back)
+        self.folder.cleanup()
+
+    def message(self):
+        """The next message; what it tells of errors and of loading is kept."""
+        while b"\0" not in self.kept:
+            if not select.select([self.back], [], [], PATIENCE)[0]:
+                raise TimeoutError("the browser says nothing")
+            more = os.read(self.back, 1 << 20)
+            if not more:
+                raise EOFError("the browser has ended")
+            self.kept += more
+        text, self.kept = self.kept.split(b"\0", 1)
+        told = json.loads(text)
+        if told.get("method") == "Page.loadEventFired":
+            self.loaded += 1
+        elif told.get("method") == "Runtime.exceptionThrown":
+            self.errors.append(told["params"]["exceptionDetails"]["text"])
+        elif told.get("method") == "Log.entryAdded" and told["params"]["entry"]["level"] in ("error", "warning"):
+            self.errors.append(told["params"]["entry"]["text"])
+        elif told.get("method") == "Runtime.consoleAPICalled":
+            self.errors.append(str(told["params"]["args"]))
+        return told
+
+    def call(self, method, **how):
+        number = next(self.numbers)
+        command = {"id": number, "method": method, "params": how} | ({"sessionId": self.session} if self.session else {})
+        os.write(self.to, json.dumps(command).encode() + b"\0")
+        while True:
+            told = self.message()
+            if told.get("id") == number:
+                if "error" in told:
+                    raise RuntimeError(f"{method}: {told['error']['message']}")
+                return told["result"]
+
+    def open(self, path, where=""):
+        """Opens a file, and waits until it is loaded; its errors are kept from here on."""
+        self.call("Page.navigate", url="about:blank")
+        before, self.errors = self.loaded, []
+        while self.loaded == before:
+            self.message()
+        before = self.loaded
+        self.call("Page.navigate", url=Path(path).resolve().as_uri() + where)
+        while self.loaded == before:
+            self.message()
+
+    def tell(self, expression):
+        """The value of an expression in the page."""
+        result = self.call("Runtime.evaluate", expression=expression, returnByValue=True, awaitPromise=True)
+        if "exceptionDetails" in result:
+            raise RuntimeError(result["exceptionDetails"]["exception"].get("description", "?"))
+        return result["result"].get("value")
+
+    def press(self, key):
+        code = KEYS[key]
+        for kind in ("keyDown", "keyUp"):
+            self.call("Input.dispatchKeyEvent", type=kind, key=key, windowsVirtualKeyCode=code)
+
+    def scripts(self, on):
+        self.call("Emulation.setScriptExecutionDisabled", value=not on)
+
+    def scheme(self, name):
+        """Light or dark."""
+        self.call("Emulation.setEmulatedMedia", features=[{"name": "prefers-color-scheme", "value": name}])
