@@ -16,7 +16,7 @@ lines-init g c =
     let first : c.new-walk.result.number ≡ 1 = ap (λ w. w.number) c.new-walk.ensures in
     record {
       so_far = subst (λ w. SoFar start after c.args.frame.now c.args.script.now w.number w.step c.new-maker.result.explainer c.args.script.now) (sym c.new-walk.ensures)
-      (so_far_start start after c.args.frame.now c.args.script.now c.new-maker.result.explainer c.new-maker.ensures c.in-Ok.ensures.bytes);
+          (so_far_start start after c.args.frame.now c.args.script.now c.new-maker.result.explainer c.new-maker.ensures c.in-Ok.ensures.bytes);
       within = omega arith;
       number = omega (arith, first);
       same = c.in-Ok.ensures.ok;
