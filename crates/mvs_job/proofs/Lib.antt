@@ -6,8 +6,11 @@ pub mod Freeing
 pub mod Mapping
 pub mod Numbers
 pub mod Resolved
+pub mod ReadNames
+pub mod RunNames
 pub mod Running
 pub mod Serving
+pub mod StandingLines
 pub mod Starred
 pub mod Steady
 pub mod Strictly

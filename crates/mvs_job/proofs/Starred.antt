@@ -18,7 +18,7 @@ use Rattle.mvs_model.specs.Job.{JobValue}
 use Rattle.mvs_model.specs.Lines.{ended_text, lines_of, IsUnended}
 use Rattle.mvs_model.specs.Name.{trimmed}
 use Rattle.mvs_model.specs.Resolving.{resolved}
-use Rattle.mvs_model.specs.Runs.{machine}
+use Rattle.mvs_model.specs.Runs.{machine, IsPrinting}
 use Rattle.mvs_model.specs.Texts.{answer_text, code_text, data_lines, fault_number, map_text, printing, reply_line, said, subpool_text, text_of}
 use Rattle.mvs_model.specs.Walk.{JobEnds, Walks}
 use Rattle.mvs_model.proofs.Going.{printed_both}
@@ -33,7 +33,7 @@ use Rattle.job_script.specs.NamingTexts.{naming_said}
 use Rattle.mvs_job.specs.declared.naming.Naming.{Naming}
 use Rattle.mvs_job.specs.Naming.{IsNamed, SetLines, naming_text, no_lines}
 use Rattle.mvs_job.specs.Why.{spoken}
-use Rattle.mvs_job.specs.Explaining.{Annotates, Explains, IsBehind, IsExplained, IsExplanation, IsTurnTold, WritesExplained, reason_text, unless_granted, without_starred}
+use Rattle.mvs_job.specs.Explaining.{Explains, IsBehind, IsExplanation, IsTurnTold, NoLineIsStarred, WritesExplained, reason_text, unless_granted, without_starred}
 use Rattle.mvs_job.proofs.Feeding.{all_before, lines_cut, lines_ended}
 
 -- ---- texts that end in a line feed
@@ -264,11 +264,8 @@ left outcome (l ∷ lines) number old set text (inr (mid, later, events, why, re
           ∙ ap without_starred (sym (printed_both events s.0)),
     )
 
-annotated : (script text : List ℕ) (outcome : Outcome) → IsExplained script text (Ok outcome) → Annotates script text outcome
-annotated script text outcome h =
-    let s = left outcome (lines_of script) 1 None no_lines text h in
-    record { events = s.0; run = s.1; printed = s.2 }
-
--- Without its reasons the text of a run with reasons is the printing of a run.
-pub annotates : (start after : Option (List ℕ)) (script : List ℕ) (outcome : Outcome) → WritesExplained start after script (Ok outcome) → (text : List ℕ) × Appends start after text × Annotates script text outcome
-annotates start after script outcome h = (h.0, h.1, annotated script h.0 outcome h.2)
+-- Without its lines that begin with an asterisk the text of a run with reasons is the printing of a run.
+pub annotates : NoLineIsStarred → (start after : Option (List ℕ)) (script : List ℕ) (outcome : Outcome) → WritesExplained start after script (Ok outcome) → (text : List ℕ) × Appends start after text × IsPrinting script (without_starred text) outcome
+annotates none start after script outcome h =
+    let s = left outcome (lines_of script) 1 None no_lines h.0 h.2 in
+    (h.0, h.1, (s.0, s.1, s.2 ∙ none script (printing s.0) outcome (s.0, s.1, refl)))

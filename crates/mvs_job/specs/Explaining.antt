@@ -21,7 +21,7 @@ use Rattle.mvs_model.specs.Lines.{ended_text, lines_of}
 use Rattle.mvs_model.specs.Memory.{StopsForMemory}
 use Rattle.mvs_model.specs.Reading.{LineOf, FaultOf}
 use Rattle.mvs_model.specs.Resolving.{resolved}
-use Rattle.mvs_model.specs.Runs.{machine, IsRun}
+use Rattle.mvs_model.specs.Runs.{machine, IsPrinting}
 use Rattle.mvs_model.specs.Texts.{printing}
 use Rattle.mvs_model.specs.Walk.{ServesLine, Faults, Closes, is_first}
 use Rattle.job_script.specs.ReasonTexts.{reason_line}
@@ -127,11 +127,9 @@ WritesExplained before after script how = (text : List ℕ) × Appends before af
 abbrev pub without_starred : List ℕ → List ℕ
 without_starred text = ended_text (filter (λ l. not (slice_index l 0 == 42)) (lines_of text))
 
--- The text is written for a run of the script: without the lines that begin with an asterisk, it is the printing without these.
-pub record Annotates (script text : List ℕ) (outcome : Outcome) : Type 0 where
-  pub events : List Event
-  pub run : IsRun script events outcome
-  pub printed : without_starred text ≡ without_starred (printing events)
+-- No line of a printing begins with an asterisk.
+abbrev pub NoLineIsStarred : Type 0
+NoLineIsStarred = (script text : List ℕ) (outcome : Outcome) → IsPrinting script text outcome → without_starred text ≡ text
 
 -- ---- what calls do
 

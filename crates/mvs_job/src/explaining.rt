@@ -3,10 +3,12 @@
 ghost use Rattle.std.specs.Prelude.{◌≡◌, ◌≢◌, ◌<◌, ◌≤◌, ◌+◌, ◌^◌, ◌∷◌, ℕ, List, length, take, drop, slice_index, true, OnOk, IfOk, IsErrOf, MatchOption};
 ghost use Rattle.mvs_model.specs.Lines.{lines_of};
 ghost use Rattle.mvs_model.specs.Numbers.{most_script_bytes};
-ghost use Rattle.mvs_job.specs.Explaining.{Annotates, ExplainsLine, WritesExplained};
+ghost use Rattle.mvs_job.specs.Explaining.{ExplainsLine, WritesExplained, without_starred};
+ghost use Rattle.mvs_model.specs.Runs.{IsPrinting};
 ghost use Rattle.std.specs.Io.KnownBytes.{Appends};
 
 use crate::asking::Asking;
+use crate::laws::no_line_is_starred;
 use crate::printing::{Stop, print_closing};
 use crate::walk::{LineTold, Walk};
 use memchr::memchr;
@@ -81,13 +83,14 @@ pub fn explain_script<W: Write>(
     // that go.
     ensures explained { WritesExplained (W.contents writer.old.inner)
         (W.contents writer.new.inner) script.now result }
-    // Without the lines that begin with an asterisk it is the printing of a run without these.
+    // Without the lines that begin with an asterisk it is the printing of a run.
     ensures run { IfOk result
         (λ outcome. (text : List ℕ) × Appends (W.contents writer.old.inner)
-        (W.contents writer.new.inner) text × Annotates script.now text outcome) }
+        (W.contents writer.new.inner) text × IsPrinting script.now (without_starred text) outcome) }
     ensures ok { OnOk result (writer.new.failed ≡ writer.old.failed) }
     ensures write { IsErrOf result Stop.Write → writer.new.failed ≡ true }
 {
+    no_line_is_starred();
     let mut walk = Walk::new(alloc, placement);
     let mut asking = Asking::new(alloc);
     let mut at = 0;

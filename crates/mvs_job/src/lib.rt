@@ -7,6 +7,7 @@ mod ends;
 mod explaining;
 mod granting;
 mod job;
+pub mod laws;
 mod naming;
 mod printing;
 mod reports;

@@ -1,5 +1,6 @@
 use Rattle.std.proofs.Common.{arith, ◌≤◌, ◌∙◌, drop, refl, sym, subst}
 use Rattle.std.proofs.lemmas.List.{take_rest}
+use Rattle.mvs_model.specs.declared.outcome.Outcome.TheVariants.{ScriptFault}
 use Rattle.mvs_job.proofs.Starred.{annotates}
 use Rattle.mvs_job.proofs.Explained.{line_fault, line_gave_up, line_on, none_left, so_far_end, so_far_in_end, so_far_start}
 use Rattle.mvs_job.specs.Telling.{new_walk}
@@ -28,7 +29,7 @@ returns-in-Ok-false-clause-explained g c =
     line_fault _ _ _ c.args.script.now _ c.lines.at c.line_end-end.result c.lines.walk c.explain_line.new.walk c.lines.asking.lines c.explain_line.new.asking.lines (take_rest c.args.script.now c.lines.at) c.line_end-end.ensures.lines c.lines.invariant.so_far _ c.in-Ok-false.field-0-test c.in-Ok-false.ensures.ran
 
 pub returns-in-Ok-false-clause-run : goal.returns-in-Ok-false-clause-run
-returns-in-Ok-false-clause-run g c = annotates _ _ _ _
+returns-in-Ok-false-clause-run g c = annotates c.no_line_is_starred.ensures _ _ c.args.script.now ScriptFault
     (line_fault _ _ _ c.args.script.now _ c.lines.at c.line_end-end.result c.lines.walk c.explain_line.new.walk c.lines.asking.lines c.explain_line.new.asking.lines (take_rest c.args.script.now c.lines.at) c.line_end-end.ensures.lines c.lines.invariant.so_far _ c.in-Ok-false.field-0-test c.in-Ok-false.ensures.ran)
 
 pub returns-in-Err-clause-explained : goal.returns-in-Err-clause-explained
@@ -40,7 +41,7 @@ returns-in-Ok-clause-explained g c =
     so_far_end _ _ _ c.args.script.now (drop c.lines.at c.args.script.now) c.lines.walk c.lines.asking.lines c.lines.invariant.so_far _ _ (none_left c.args.script.now c.lines.at (omega (arith, c.lines-test.false))) c.close-closing.ensures (rw (c.number.ensures) at c.in-Ok.ensures.bytes)
 
 pub returns-in-Ok-clause-run : goal.returns-in-Ok-clause-run
-returns-in-Ok-clause-run g c = annotates _ _ _ _
+returns-in-Ok-clause-run g c = annotates c.no_line_is_starred.ensures _ _ c.args.script.now c.close-closing.result.outcome
     (so_far_end _ _ _ c.args.script.now (drop c.lines.at c.args.script.now) c.lines.walk c.lines.asking.lines c.lines.invariant.so_far _ _ (none_left c.args.script.now c.lines.at (omega (arith, c.lines-test.false))) c.close-closing.ensures (rw (c.number.ensures) at c.in-Ok.ensures.bytes))
 
 pub returns-clause-explained : goal.returns-clause-explained
