@@ -394,12 +394,13 @@ module _ (told : List ℕ) (w w1 w2 : WalkValue) (l q : List ℕ) (tl tq : LineT
     pair_decides k front is number last front_is reads true begun never = pair_passes last (begun refl)
     pair_decides k front is number last front_is reads false begun never = pair_differs k front is number front_is reads (λ rest e. false_true (never rest e))
 
+-- what a line says is one thing
+pub one_said : {a b : Line} → (x : Option Line) → x ≡ Some a → x ≡ Some b → a ≡ b
+one_said x e f = let g = sym e ∙ f in cc
+
 -- a grant and a question behind it, which asks for it
 pub area_asked : (step : Option JobValue) (l q : List ℕ) (task area : Name) (variable : Bool) (left : List (List ℕ)) → IsGrant step l task area variable → IsQuestion q task area → IsAskedBefore (l ∷ q ∷ []) left
 area_asked step l q task area variable left grant question = (first, (second, tt)) where
-  one_said : {a b : Line} → (x : Option Line) → x ≡ Some a → x ≡ Some b → a ≡ b
-  one_said x e f = let g = sym e ∙ f in cc
-
   first : (said : Line) → LineOf false l said → leaves_open said ≡ true → IsAskedFor said (q ∷ left)
   first said is opens = inl (task, area, variable, (grant.2.0, grant.2.1, grant.2.2, one_said (line_said l) is.says grant.1.says ∙ grant.2.3), question)
 

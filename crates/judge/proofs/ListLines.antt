@@ -31,7 +31,7 @@ use Rattle.mvs_job.specs.declared.walk.LineTold.TheVariants as tells
 use Rattle.mvs_job.specs.Telling.{IsToldBy, WalkValue, events_told}
 use Rattle.judge.specs.Judging.{AreApart, AskEach, IsAskedBefore, IsAskedFor, IsOpen, IsQuestion, leaves_open}
 use Rattle.judge.specs.Deciding.{DecidesBefore, InBounds, IsFoundFirst, IsList, IsServed, MayPrint, ReadsEach, at_text, no_bytes}
-use Rattle.judge.proofs.Decided.{HasTold, Serving, at_long, digits_behind, line_served, may_serve, one_leads, told_cases}
+use Rattle.judge.proofs.Decided.{HasTold, Serving, at_long, digits_behind, line_served, may_serve, one_leads, one_said, told_cases}
 use Rattle.judge.proofs.Lists.{AreAt, AreOtherwise, ListApart, listed, texts_part}
 
 -- ---- addresses that are read
@@ -161,9 +161,6 @@ module _ (told : List ℕ) (w w1 : WalkValue) (l : List ℕ) (tl : LineTold) (ta
 -- a list behind which its areas are asked for
 pub list_asked : (step : Option JobValue) (l : List ℕ) (task : Name) (areas : List Name) (more : List (List ℕ)) → IsList step l task areas → AskEach more task areas → IsAskedBefore (l ∷ []) more
 list_asked step l task areas more asks each = (first, tt) where
-  one_said : {a b : Line} → (x : Option Line) → x ≡ Some a → x ≡ Some b → a ≡ b
-  one_said x e f = let g = sym e ∙ f in cc
-
   first : (said : Line) → LineOf false l said → leaves_open said ≡ true → IsAskedFor said more
   first said is opens = inr (task, areas, (asks.2.0, asks.2.1, asks.2.2, asks.2.3, one_said (line_said l) is.says asks.1.says ∙ asks.2.4, asks.2.5, asks.2.6), each)
 

@@ -7,7 +7,7 @@ use Rattle.std.specs.FinMap as map
 use Rattle.std.specs.FinMap.Entries.{find}
 use Rattle.std.specs.Map.{lookup}
 use Rattle.std.specs.Cmp.Lexicographic.{pointwise}
-use Rattle.std.proofs.lemmas.Bool.Decides.{nat_tests}
+use Rattle.std.proofs.lemmas.Bool.{ltb-false, ltb-true}
 use Rattle.std.proofs.lemmas.List.Elements.{All-head, All-tail}
 use Rattle.mvs_model.specs.declared.name.Name.{Name}
 use Rattle.mvs_model.specs.Job.{JobValue}
@@ -64,12 +64,6 @@ module _ (job : JobValue) (a : ℕ) where
   AtLeast number None = ⊥
   AtLeast number (Some n) = number ≤ n.number
 
-  less : (m n : ℕ) → nat_lt m n ≡ true → m < n
-  less m n h = grind (arith, nat_tests)
-
-  not_less : (m n : ℕ) → nat_lt m n ≡ false → n ≤ m
-  not_less m n h = grind (arith, nat_tests)
-
   step_keeps : (r : Option Naming) (e : Name × ℕ) (number : ℕ) → AtLeast number r → AtLeast number (later job a r e)
   step_keeps None e number h = absurd h
   step_keeps (Some n) e number h = at (nat_lt n.number e.1) refl where
@@ -78,7 +72,7 @@ module _ (job : JobValue) (a : ℕ) where
     here (Some m) is l = let k = (says e m is).2 in omega (arith, k, l, h)
 
     at : (b : Bool) → nat_lt n.number e.1 ≡ b → AtLeast number (cond b (first_of (naming_at job a e) (Some n)) (Some n))
-    at true l = here (naming_at job a e) refl (less n.number e.1 l)
+    at true l = here (naming_at job a e) refl (ltb-true n.number e.1 l)
     at false l = h
 
   step_takes : (r : Option Naming) (e : Name × ℕ) (m : Naming) → naming_at job a e ≡ Some m → AtLeast m.number (later job a r e)
@@ -86,7 +80,7 @@ module _ (job : JobValue) (a : ℕ) where
   step_takes (Some n) e m is = at (nat_lt n.number e.1) refl where
     at : (b : Bool) → nat_lt n.number e.1 ≡ b → AtLeast m.number (cond b (first_of (naming_at job a e) (Some n)) (Some n))
     at true l = rw is (let k : m.number ≤ m.number = omega arith in k)
-    at false l = let k = (says e m is).2 in let g = not_less n.number e.1 l in omega (arith, k, g)
+    at false l = let k = (says e m is).2 in let g = ltb-false n.number e.1 l in omega (arith, k, g)
 
   step_from : (r : Option Naming) (e : Name × ℕ) (n : Naming) → later job a r e ≡ Some n → (r ≡ Some n) ⊎ (naming_at job a e ≡ Some n)
   step_from r e n h = at (is_behind r e.1) h where

@@ -129,16 +129,8 @@ abbrev pub NamesUnended : Line → Type 0
 NamesUnended line.Nothing = Unit {0}
 NamesUnended (line.Statement t s) = IsUnended t × SaysUnended s
 
--- what a chain says has what its end has
-chained : {A B : Type 0} (P : B → Type 0) (o : Option A) (f : A → Option B) (s : B) → (o >>= f) ≡ Some s → ((x : A) → o ≡ Some x → f x ≡ Some s → P s) → P s
-chained P None f s e k = none_some e
-chained P (Some x) f s e k = k x refl e
-
-is_said : {B : Type 0} (P : B → Type 0) (x s : B) → Some x ≡ Some s → P x → P s
-is_said P x s e p = subst P (let g : Some x ≡ Some s = e in cc) p
-
 statement_unended : (meaning : Meaning) (form : List ℕ) (os : ByKey) (s : Statement) → UnderUnended os → statement_of meaning form os ≡ Some s → SaysUnended s
-statement_unended meaning form os s h1 h2 = grind (arith, nat_tests, chained, is_said, unended_padded)
+statement_unended meaning form os s h1 h2 = grind (arith, nat_tests, none_some, unended_padded)
 
 -- ---- the line
 
@@ -151,12 +143,22 @@ line_unended bytes l h e = at (says_nothing bytes) e where
   os : List (List ℕ)
   os = operands_of bytes
 
-  at : (b : Bool) → cond b (Some line.Nothing) (row_of (operation_in bytes) os >>= λ row. statement_of row.meaning (form_in (operation_in bytes) os) (by_key (behind_form row os)) >>= λ statement. Some (line.Statement (padded (task_in bytes)) statement)) ≡ Some l → NamesUnended l
-  at true e = is_said NamesUnended _ l e (tt {0})
-  at false e =
-      chained NamesUnended (row_of (operation_in bytes) os) _ l e (λ row found e.
-      chained NamesUnended (statement_of row.meaning (form_in (operation_in bytes) os) (by_key (behind_form row os))) _ l e (λ s said e.
-      is_said NamesUnended _ l e (unended_padded (task_in bytes) (unended_front _ bytes h), statement_unended row.meaning _ _ s (under_unended _ (behind row os (operands_unended bytes h))) said)))
+  form : List ℕ
+  form = form_in (operation_in bytes) os
+
+  with_statement : (row : Row) (o : Option Statement) → statement_of row.meaning form (by_key (behind_form row os)) ≡ o → (o >>= λ s. Some (line.Statement (padded (task_in bytes)) s)) ≡ Some l → NamesUnended l
+  with_statement row None said e = none_some e
+  with_statement row (Some s) said e =
+      subst NamesUnended {x = line.Statement (padded (task_in bytes)) s} (let g : Some (line.Statement (padded (task_in bytes)) s) ≡ Some l = e in cc)
+      (unended_padded (task_in bytes) (unended_front _ bytes h), statement_unended row.meaning form _ s (under_unended _ (behind row os (operands_unended bytes h))) said)
+
+  with_row : (o : Option Row) → (o >>= λ row. statement_of row.meaning form (by_key (behind_form row os)) >>= λ s. Some (line.Statement (padded (task_in bytes)) s)) ≡ Some l → NamesUnended l
+  with_row None e = none_some e
+  with_row (Some row) e = with_statement row _ refl e
+
+  at : (b : Bool) → cond b (Some line.Nothing) (row_of (operation_in bytes) os >>= λ row. statement_of row.meaning form (by_key (behind_form row os)) >>= λ s. Some (line.Statement (padded (task_in bytes)) s)) ≡ Some l → NamesUnended l
+  at true e = subst NamesUnended {x = line.Nothing} (let g : Some line.Nothing ≡ Some l = e in cc) tt
+  at false e = with_row (row_of (operation_in bytes) os) e
 
 -- No name of a task that a line says has a line feed.
 pub names_unended : (first : Bool) (bytes : List ℕ) (l : Line) → LineOf first bytes l → NamesUnended l

@@ -1,6 +1,6 @@
 -- The page of a script, a line at a time.
-use Rattle.std.proofs.Common.{◌≡◌, ℕ, ◌+◌, ◌≤◌, List, [], ◌∷◌, ◌++◌, length, take, drop, append_assoc, append-nil, codes, Option, Some, None, Result, Bool, true, false, Ok, Err, inl, inr, refl, sym, ap, ◌∙◌, subst}
-use Rattle.std.proofs.lemmas.List.{drop_all, drop-drop}
+use Rattle.std.proofs.Common.{◌≡◌, ℕ, ◌+◌, List, [], ◌∷◌, ◌++◌, take, drop, append_assoc, append-nil, codes, Option, Some, None, Result, Bool, true, false, Ok, Err, inl, inr, refl, sym, ap, ◌∙◌, subst}
+use Rattle.std.proofs.lemmas.List.{drop-drop}
 use Rattle.std.proofs.lemmas.Grind.{flat_map-append}
 use Rattle.std.specs.Io.KnownBytes.{Appends, Keeps}
 use Rattle.std.proofs.KnownBytes.{Appends-trans}
@@ -98,10 +98,6 @@ module _ (start before after : Option (List ℕ)) (frame script rest : List ℕ)
 
   pub line_gave_up : (why : Stop) → WritesItem before after number step set (take end rest) new later (Err why) → WritesPage start after frame script (Err why)
   line_gave_up = so_far_stopped start before after frame script (drop at script) number step set s (take end rest) (lines_of (drop (end + 1) rest)) here_cut new later
-
--- behind the last line
-pub none_left : (script : List ℕ) (at : ℕ) → length script ≤ at → lines_of (drop at script) ≡ []
-none_left script at h = ap lines_of (drop_all at script h)
 
 -- ---- what a reader sees
 

@@ -2,7 +2,7 @@
 use Rattle.std.proofs.Common.{◌≡◌, ℕ, ◌==◌, List, [], ◌∷◌, ◌++◌, append_assoc, append-nil, codes, decimal, take, drop, Bool, true, false, cond, refl, sym, ap, ◌∙◌}
 use Rattle.std.specs.Prelude.{◌&&◌, not, nat_le}
 use Rattle.std.specs.List.{flat_map}
-use Rattle.std.proofs.lemmas.Bool.{and_from, and_parts}
+use Rattle.std.proofs.lemmas.Bool.{and_from, and_parts, not-true}
 use Rattle.mvs_model.specs.Lines.{lines_of}
 use Rattle.page.specs.Markup.{Inside, Tag, article_tag, escaped, escaped_byte, head_of, is_plain, is_plain_byte, most_of_line, note_of, note_tag, pre_texts, reply_of, shown_line, tail_of, words_of}
 
@@ -77,15 +77,11 @@ plain_stays (b ∷ t) p =
     let h = and_parts (is_plain_byte b) (is_plain t) p in
     rw ((skip_tag b h.0).1) (plain_stays t h.1)
 
-not_end : (v : Bool) → not v ≡ true → v ≡ false
-not_end false h = refl
-not_end true h = absurd (let e : false ≡ true = h in cc)
-
 tagged : (t rest name : List ℕ) → stays t ≡ true → pre_texts (Tag name) (t ++ rest) ≡ pre_texts (Tag (name ++ t)) rest
 tagged [] rest name p = ap (λ n. pre_texts (Tag n) rest) (sym (append-nil name))
 tagged (b ∷ t) rest name p =
     let h = and_parts (not (b == 62)) (stays t) p in
-    rw (not_end (b == 62) h.0) (tagged t rest (name ++ b ∷ []) h.1 ∙ ap (λ n. pre_texts (Tag n) rest) (append_assoc name (b ∷ []) t))
+    rw (not-true (b == 62) h.0) (tagged t rest (name ++ b ∷ []) h.1 ∙ ap (λ n. pre_texts (Tag n) rest) (append_assoc name (b ∷ []) t))
 
 -- Of a text this is seen, whatever follows it.
 abbrev pub Shows : List ℕ → List ℕ → Type 0

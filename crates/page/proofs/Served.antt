@@ -1,5 +1,5 @@
 -- The item of a line that was served.
-use Rattle.std.proofs.Common.{◌≡◌, ℕ, List, [], ◌∷◌, ◌++◌, Option, Some, None, Result, Ok, Err, Bool, true, false, inl, inr, refl, sym, ap, ◌∙◌, subst, append_assoc, codes}
+use Rattle.std.proofs.Common.{◌≡◌, ℕ, List, [], ◌∷◌, ◌++◌, Option, Some, None, Result, Ok, Err, Bool, true, false, inl, inr, refl, sym, ap, ◌∙◌, subst, codes}
 use Rattle.std.specs.Io.KnownBytes.{Appends}
 use Rattle.std.proofs.KnownBytes.{Keeps-refl}
 use Rattle.mvs_model.specs.declared.line.Line.{Line}
@@ -57,10 +57,6 @@ module _ (w w' : WalkValue) (set later : SetLines) (l : List ℕ) (read : Line) 
     item_cut before after f = (f.0, f.3, inr (f.1, subst (IsNext w.number w.step set (l ∷ [])) f.2 (next_is (goes_on t) refl)))
 
 -- ---- the text of an item
-
--- the text of some bytes that grew twice
-pub then : (old mid new a rest : List ℕ) → mid ≡ old ++ a → new ≡ mid ++ rest → new ≡ old ++ (a ++ rest)
-then old mid new a rest e f = f ∙ ap (λ x. x ++ rest) e ∙ append_assoc old a rest
 
 -- the item of a line with a fault
 pub faulted_is : (number : ℕ) (l : List ℕ) (read : Line) (w : WalkValue) (t : LineTold) (fault : Fault) (behind printed : List ℕ) → t ≡ told.Faulted fault → printed ≡ printing (events_told number w t)

@@ -1,12 +1,12 @@
 use Rattle.std.proofs.Common.{◌++◌, codes, decimal}
 use Rattle.page.specs.Markup.{escaped}
-use Rattle.page.proofs.Served.{then}
+use Rattle.job_script.proofs.Appending.{behind}
 use Rattle.page.proofs.markup.push_article_tag.Goals as goal
 
 pub returns : goal.returns
 returns c =
-    then c.args.item.now.items c.push_tag.new.item.items c.push_tag-4.new.item.items (codes "<article id=\"l") (escaped (decimal c.args.number) ++ (codes "\" class=\"" ++ (c.args.how.now ++ (codes "\">")))) c.in_ok-push_tag.ensures
-    (then c.push_tag.new.item.items c.push_number.new.item.items c.push_tag-4.new.item.items (escaped (decimal c.args.number)) (codes "\" class=\"" ++ (c.args.how.now ++ (codes "\">"))) c.in_ok-push_number.ensures
-    (then c.push_number.new.item.items c.push_tag-2.new.item.items c.push_tag-4.new.item.items (codes "\" class=\"") (c.args.how.now ++ (codes "\">")) c.in_ok-push_tag-2.ensures
-    (then c.push_tag-2.new.item.items c.push_tag-3.new.item.items c.push_tag-4.new.item.items (c.args.how.now) (codes "\">") c.in_ok-push_tag-3.ensures
+    behind c.args.item.now.items c.push_tag.new.item.items c.push_tag-4.new.item.items (codes "<article id=\"l") (escaped (decimal c.args.number) ++ (codes "\" class=\"" ++ (c.args.how.now ++ (codes "\">")))) c.in_ok-push_tag.ensures
+    (behind c.push_tag.new.item.items c.push_number.new.item.items c.push_tag-4.new.item.items (escaped (decimal c.args.number)) (codes "\" class=\"" ++ (c.args.how.now ++ (codes "\">"))) c.in_ok-push_number.ensures
+    (behind c.push_number.new.item.items c.push_tag-2.new.item.items c.push_tag-4.new.item.items (codes "\" class=\"") (c.args.how.now ++ (codes "\">")) c.in_ok-push_tag-2.ensures
+    (behind c.push_tag-2.new.item.items c.push_tag-3.new.item.items c.push_tag-4.new.item.items (c.args.how.now) (codes "\">") c.in_ok-push_tag-3.ensures
     (c.in_ok-push_tag-4.ensures))))
