@@ -29,7 +29,7 @@ use Rattle.mvs_model.specs.State.{State, plain, holder, granted}
 use Rattle.mvs_model.specs.Codes.{family, is_conditional, short, not_held}
 use Rattle.mvs_model.specs.Changes.{GrantTo, ShortOf, ListGrant, ListShort, Frees, Drops, End, GivesCell, DropsPool, Extends, with_part, TakesCell, Writes}
 use Rattle.mvs_model.specs.Steps.{Plan, new_pool, Builds, BuildStep, Gets, GetsMore, GetsNone, GetStep, Abends, Refuses, Fails, side_for, is_invalid, ObtainStep, ObtainListStep, whole, on_doubleword, MayRelease, ReleaseStep, EmptiesEntry, ReleaseWholeStep, FreeStep, DeleteStep, Attaches, AttachCase, all_granted, Accesses, bytes_from, moved_from, Acts, IsRequest}
-use Rattle.mvs_model.specs.Determined.{granted_at, parts_at, picked, is_list, OneStep, NothingPicked}
+use Rattle.mvs_model.specs.Determined.{granted_at, granted_by, parts_at, picked, is_list, OneStep, NothingPicked}
 use Rattle.mvs_model.specs.Numbers.{most_pools}
 use Rattle.mvs_model.proofs.Tables.{same_maps}
 use Rattle.mvs_model.proofs.Orders.{name_cmp_total, name_cmp-IsAntisymmetric, same_name_self}
@@ -359,27 +359,24 @@ module _ (old : State) (t : Name) (one other : Reply) (a b : State) where
     at (inr x) y = absurd (built_some a name number plan _ x.0 e)
 
   -- a cell that is taken is told
-  took_some : (mid : State) (name : Name) (pool : Pool) (c : ℕ) (more : List ℕ) → Gets mid name pool c one a → granted_at one ++ more ≡ [] → ⊥
-  took_some mid name pool c more x e = let f : c ∷ more ≡ [] = sym (ap (λ r. granted_at r ++ more) x.1) ∙ e in cc
+  took_some : (mid : State) (name : Name) (pool : Pool) (c : ℕ) → Gets mid name pool c one a → granted_at one ≡ [] → ⊥
+  took_some mid name pool c x e = let f : c ∷ [] ≡ [] = sym (ap granted_at x.1) ∙ e in cc
 
-  get_none : (name : Name) (conditional : Bool) (o : Option Pool) → GetStep old t name conditional o one a → GetStep old t name conditional o other b → granted_at one ++ parts_at (get a.pools name) ≡ [] → granted_at other ++ parts_at (get b.pools name) ≡ []
+  get_none : (name : Name) (conditional : Bool) (o : Option Pool) → GetStep old t name conditional o one a → GetStep old t name conditional o other b → granted_at one ≡ [] → granted_at other ≡ []
   get_none name conditional o x y e = at o x y where
-    same : Same old t one other a b → granted_at other ++ parts_at (get b.pools name) ≡ []
-    same h = sym (λ i. granted_at (h.0 i) ++ parts_at (get (h.1 i).pools name)) ∙ e
-
     more : (pool : Pool) → (NoPlace old.regions (holder old) pool.subpool (part_want pool.cell_size pool.secondary pool.side) × Abends old t (short Located) one a) ⊎ GetsMore old name pool one a
-        → (NoPlace old.regions (holder old) pool.subpool (part_want pool.cell_size pool.secondary pool.side) × Abends old t (short Located) other b) ⊎ GetsMore old name pool other b → granted_at other ++ parts_at (get b.pools name) ≡ []
-    more pool (inl x) (inl y) = same (abends_same old t one other a b _ x.1 y.1)
+        → (NoPlace old.regions (holder old) pool.subpool (part_want pool.cell_size pool.secondary pool.side) × Abends old t (short Located) other b) ⊎ GetsMore old name pool other b → granted_at other ≡ []
+    more pool (inl x) (inl y) = abend_none _ y.1
     more pool (inl x) (inr y) = absurd (none_chosen old.regions (holder old) pool.subpool (part_want pool.cell_size pool.secondary pool.side) y.0 (part_some pool.cell_size pool.secondary) x.0 y.2.chosen)
-    more pool (inr x) y = absurd (took_some x.1 name (with_part pool pool.secondary x.0) x.3.0 (parts_at (get a.pools name)) x.3.2 e)
+    more pool (inr x) y = absurd (took_some x.1 name (with_part pool pool.secondary x.0) x.3.0 x.3.2 e)
 
-    at : (o : Option Pool) → GetStep old t name conditional o one a → GetStep old t name conditional o other b → granted_at other ++ parts_at (get b.pools name) ≡ []
-    at None x y = same (abends_same old t one other a b _ x y)
-    at (Some pool) (inl x) y = absurd (took_some old name pool x.0 (parts_at (get a.pools name)) x.2 e)
+    at : (o : Option Pool) → GetStep old t name conditional o one a → GetStep old t name conditional o other b → granted_at other ≡ []
+    at None x y = abend_none _ y
+    at (Some pool) (inl x) y = absurd (took_some old name pool x.0 x.2 e)
     at (Some pool) (inr x) (inl y) = absurd (x.0 y.0 y.1)
-    at (Some pool) (inr x) (inr y) = by_two conditional x.1 y.1 (λ p q. same (refuses_same old t one other a b NoCell p q)) (λ p q. more pool p q)
+    at (Some pool) (inr x) (inr y) = by_two conditional x.1 y.1 (λ p q. ap granted_at q.0) (λ p q. more pool p q)
 
-  acts_none : (r : Request) → is_list r ≡ false → IsRequest r → Acts old t r one a → Acts old t r other b → picked r one a ≡ [] → picked r other b ≡ []
+  acts_none : (r : Request) → is_list r ≡ false → IsRequest r → Acts old t r one a → Acts old t r other b → granted_by r one a ≡ [] → granted_by r other b ≡ []
   acts_none (Obtain form number ask) single is x y e = obtain_none form number (want_of ask (side_for old t form ask.loc)) (round8_some ask.least is.some) x y e
   acts_none (ObtainList form number lengths start) single is x y e = absurd (let f : true ≡ false = single in cc)
   acts_none (Release form number p) single is x y e = release_none form number (p ∷ []) y
@@ -398,5 +395,5 @@ module _ (old : State) (t : Name) (one other : Reply) (a b : State) where
 
 pub nothing_picked : NothingPicked
 nothing_picked old t r one other a b single is x y e =
-    by_two (not (is_active old.owners t)) x y (λ p q. let h = refuses_same old t one other a b NotRun p q in sym (λ i. picked r (h.0 i) (h.1 i)) ∙ e)
+    by_two (not (is_active old.owners t)) x y (λ p q. let h = refuses_same old t one other a b NotRun p q in sym (λ i. granted_by r (h.0 i) (h.1 i)) ∙ e)
     (λ p q. acts_none old t one other a b r single is p q e)

@@ -53,11 +53,16 @@ abbrev pub is_list : Request → Bool
 is_list (request.ObtainList form number lengths start) = true
 is_list _ = false
 
+-- the addresses that a step grants: of the places that its reply grants, and of the parts of the pool that it builds
+abbrev pub granted_by : Request → Reply → State → List ℕ
+granted_by (request.Build name number size primary secondary loc) reply new = parts_at (get new.pools name)
+granted_by _ reply new = granted_at reply
+
 -- A request that may be refused is not granted, wherever its places might lie; a request for a list aside.
 abbrev pub NothingPicked : Type 0
 NothingPicked =
     (old : State) (t : Name) (r : Request) (one other : Reply) (a b : State)
-    → is_list r ≡ false → IsRequest r → Step old t r one a → Step old t r other b → picked r one a ≡ [] → picked r other b ≡ []
+    → is_list r ≡ false → IsRequest r → Step old t r one a → Step old t r other b → granted_by r one a ≡ [] → granted_by r other b ≡ []
 
 -- a step of one page below
 abbrev pub one_page : Name → State

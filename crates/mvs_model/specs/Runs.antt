@@ -1,5 +1,5 @@
 -- The runs of a job: what its statements may be answered, and the printing of that.
-use Rattle.std.specs.Prelude.{◌≡◌, ℕ, ◌||◌, not, List, ◌++◌, Option, Some, None}
+use Rattle.std.specs.Prelude.{◌≡◌, ◌<◌, ℕ, ◌||◌, not, List, ◌++◌, length, Option, Some, None}
 use Rattle.std.specs.Bool.{MatchBool}
 use Rattle.std.specs.List.{AllByRecursion}
 use Rattle.std.specs.FinMap.{get}
@@ -85,13 +85,15 @@ IsPrinting script text outcome = (events : List Event) × IsRun script events ou
 abbrev pub IsPrintingFront : List ℕ → List ℕ → Type 0
 IsPrintingFront script text = (rest : List ℕ) × (outcome : Outcome) × IsPrinting script (text ++ rest) outcome
 
--- All lines that have ended in some bytes of a script are answered: the text is the printing of a run of them.
+-- All lines that have ended in some bytes of a script are answered: the text is the printing of a run of them. The rest may still
+-- become a line.
 pub record IsAnswered (told text : List ℕ) : Type 0 where
   pub lines : List (List ℕ)
   pub kept : List ℕ
   pub cut : told ≡ ended_text lines ++ kept
   pub each : AllByRecursion IsUnended lines
   pub unended : IsUnended kept
+  pub short : length kept < 256
   pub events : List Event
   pub step : Option JobValue
   pub leads : Leads machine 1 None lines events step
