@@ -1,6 +1,6 @@
 //! Access to bytes: SHOW, PUT and MOVE, which are this project's own statements.
 
-ghost use Rattle.std.specs.Prelude.{◌≡◌, ◌<◌, ◌≤◌, ◌+◌, ◌^◌, ◌↔◌, ◌⊎◌, Some, IfSome, IsSome, IsTrue, MatchBool, MatchOption, ℕ, true, false, length, slice_get};
+ghost use Rattle.std.specs.Prelude.{◌≡◌, ◌≢◌, ◌<◌, ◌≤◌, ◌+◌, ◌^◌, ◌↔◌, ◌⊎◌, Some, IfSome, IsSome, IsTrue, MatchBool, MatchOption, ℕ, true, false, length, slice_get};
 ghost use Rattle.std.specs.FinMap.{get};
 ghost use Rattle.mvs_model.specs.declared.name.Name.{Name};
 ghost use Rattle.mvs_model.specs.declared.request.Request.TheVariants as request;
@@ -143,15 +143,16 @@ fn copy_apart(store: &mut Store, to: Addr, from: Addr, len: u32)
     target.copy_from_slice(source);
 }
 
-// Copies bytes to lower addresses, the first ones first: as many at a time as the two places lie apart.
+// Copies bytes, the first ones first, as many at a time as the two places are apart. At lower addresses they are those that the
+// source held before.
 fn copy_down(store: &mut Store, to: Addr, from: Addr, len: u32)
     requires storage { IsStepStorage store.old.storage }
     requires target { AllHeld store.old.storage (place_at to len) }
     requires source { AllHeld store.old.storage (place_at from len) }
-    requires lower { to < from }
-    ensures { Copied store.old.storage to from len store.new.storage }
+    requires apart { to ≢ from }
+    ensures { to < from → Copied store.old.storage to from len store.new.storage }
 {
-    let distance = from.get() - to.get();
+    let distance = from.get().abs_diff(to.get());
     let mut done = 0;
     'pieces: while done < len {
         let piece = distance.min(len - done);

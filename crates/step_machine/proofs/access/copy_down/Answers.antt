@@ -1,4 +1,4 @@
-use Rattle.std.proofs.Common.{arith}
+use Rattle.std.proofs.Common.{◌∙◌, arith}
 use Rattle.step_machine.proofs.Copying.{address_held, copied_next}
 use Rattle.step_machine.proofs.access.copy_down.Goals as goal
 
@@ -11,6 +11,7 @@ behind-requires-in-pieces c = address_held c.args.store.now.storage c.args.from 
 pub pieces-preserved : goal.pieces-preserved
 pieces-preserved c = record {
   most = omega arith;
-  copied = copied_next c.args.store.now.storage c.pieces.store.storage c.copy_apart.new.store.storage c.args.to c.args.from c.pieces.done c.min-piece.result (omega arith) c.pieces.invariant.copied
+  held = c.copy_apart.ensures.held ∙ c.pieces.invariant.held;
+  copied = λ lower. copied_next c.args.store.now.storage c.pieces.store.storage c.copy_apart.new.store.storage c.args.to c.args.from c.pieces.done c.min-piece.result (omega arith) (c.pieces.invariant.copied lower)
       (rw (c.behind.ensures, c.behind-in-pieces.ensures) at c.copy_apart.ensures);
 }
