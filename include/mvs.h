@@ -39,7 +39,6 @@ enum {
     MVS_NO_ACCESS = 36,    /* no step runs, there is no byte, or one of them may not be read and written (0C4) */
     MVS_NO_MORE = 40,      /* there is no more of what was asked for */
     MVS_TOO_LONG = 44,     /* mvs_run: the script has more than 16,777,215 bytes */
-    MVS_NOT_READ = 48,     /* mvs_run: does not happen, which is not proved */
     MVS_NO_REQUEST = 52,   /* mvs_request, mvs_list: a name or a number is out of its range; nothing is done */
     MVS_NO_STEP_RUNS = 56  /* mvs_request, mvs_list: no step runs; nothing is done */
 };
@@ -218,8 +217,8 @@ uint32_t mvs_map(mvs_session *session, uint32_t from, mvs_map_run *run);
 void mvs_free(mvs_session *session);
 
 /* Runs a whole script of length bytes, and prints to the front of a buffer of room bytes. *wanted is the length of what is
- * printed. MVS_OK, MVS_SOME_ABEND or MVS_SCRIPT_FAULT; MVS_TOO_SMALL; MVS_NO_MEMORY, MVS_TOO_LONG or MVS_NOT_READ, and then
- * buffer and *wanted are as they were. While it runs it keeps what is printed in memory of its own; it takes 64 KiB of stack. */
+ * printed. MVS_OK, MVS_SOME_ABEND or MVS_SCRIPT_FAULT; MVS_TOO_SMALL; MVS_NO_MEMORY or MVS_TOO_LONG, and then the
+ * buffer and *wanted are as they were. While it runs it keeps what is printed in memory of its own. */
 uint32_t mvs_run(uint32_t place, const uint8_t *script, size_t length, uint8_t *out, size_t room, size_t *wanted);
 
 #ifdef __cplusplus

@@ -54,8 +54,8 @@ list_at all served (bytes ∷ lines) number cut counted x =
     let n : number - 1 ≡ length served = omega (arith, counted) in
     (bytes, (λ i. slice_get (cut i) (n i)) ∙ get_behind served bytes lines, x.0, x.1, x.2)
 
-pub asked_decides : (script output : List ℕ) (outcome : Outcome) (f : Finding) (number : ℕ) → IsAsked (lines_of script) → IsFound script output outcome f → f ≡ Undecided number → IsListAt (lines_of script) number
-asked_decides script output outcome f number a found is = at (subst (IsFound script output outcome) is found) where
+pub asked_decides : (script output text : List ℕ) (outcome : Outcome) (f : Finding) (number : ℕ) → IsAsked (lines_of script) → IsFound script output text outcome f → f ≡ Undecided number → IsListAt (lines_of script) number
+asked_decides script output text outcome f number a found is = at (subst (IsFound script output text outcome) is found).0 where
   at : IsOpenAt script output number → IsListAt (lines_of script) number
   at (events, step, left, rest, reached, front, before, opens) =
       list_at (lines_of script) reached.served left number reached.lines reached.counted (list_first number step left rest (asked_behind reached.served left (subst IsAsked reached.lines a)) opens)

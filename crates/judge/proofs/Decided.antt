@@ -512,12 +512,21 @@ module _ (script output rest left text : List ℕ) (at done taken : ℕ) (w w' :
   opens_here is =
       (stood.0, w.step, lines_of rest, drop done output, stood.1, sym (take-append-drop done output) ∙ ap (λ x. x ++ drop done output) stood.2, asked_here, subst (IsOpen w.number w.step (lines_of rest)) left_is is)
 
+  -- what was printed up to it
+  opened : (is : IsOpen w.number w.step (lines_of rest) left) → take done output ++ text ≡ printing (opens_here is).0 ++ text
+  unfolding stood opens_here
+  opened is = ap (λ x. x ++ text) f.1.2
+
+  opened_none : (is : IsOpen w.number w.step (lines_of rest) left) → take done output ++ [] ≡ printing (opens_here is).0 ++ []
+  unfolding stood opens_here
+  opened_none is = ap (λ x. x ++ []) f.1.2
+
   module _ (last : ℕ) (last_is : drop last script ≡ drop (at + taken) script) (last_in : last ≤ length script) (number : w'.number ≤ last + 2) where
     left_open : (goes_on passes : Bool) → goes_on ≡ true → passes ≡ true → LeavesFirst rest left w taken text goes_on passes w' → IsFollowed script output w' last (take done output ++ text) passes (end_at goes_on) w.number
     left_open false passes e f d = absurd (false_true e)
     left_open true false e f d = absurd (false_true f)
     left_open true true e f d =
-        let s = stands_on script (take done output) text rest (lines_of (drop last script)) (lines_of (drop taken rest)) w w' (d.0 ∷ []) d.1 (ap lines_of (behind ∙ sym last_is)) stood d.2 in (opens_here d.3, (s.0, s.1, s.2), last_in, number)
+        let s = stands_on script (take done output) text rest (lines_of (drop last script)) (lines_of (drop taken rest)) w w' (d.0 ∷ []) d.1 (ap lines_of (behind ∙ sym last_is)) stood d.2 in ((opens_here d.3, text, opened d.3), (s.0, s.1, s.2), last_in, number)
 
     pub follows_no_more : (goes_on passes open_here : Bool) → (passes && goes_on && not open_here) ≡ false → IsFoundFirst rest left w taken text goes_on passes open_here w' → IsFollowed script output w' last (take done output ++ text) passes (end_at goes_on) w.number
     follows_no_more goes_on passes true ends d = left_open goes_on passes d.4 d.5 d
@@ -532,7 +541,7 @@ module _ (script output rest left text : List ℕ) (at done taken : ℕ) (w w' :
   pub follows_open : w' ≡ w → IsOpen w.number w.step (lines_of rest) left → at ≤ length script → w.number ≤ at + 2 → IsFollowed script output w' at (take done output ++ []) true None w.number
   follows_open same is within number =
       subst (λ w'. IsFollowed script output w' at (take done output ++ []) true None w.number) (sym same)
-      (opens_here is, (f.1.0, f.1.1, append-nil (take done output) ∙ f.1.2), within, number)
+      ((opens_here is, [], opened_none is), (f.1.0, f.1.1, append-nil (take done output) ∙ f.1.2), within, number)
 
 -- behind the last line
 pub follows_to_end : (script output : List ℕ) (at done : ℕ) (w : WalkValue) (last : List ℕ) (outcome : Outcome) (passes : Bool) → length script ≤ at → Follows script output at done w → PrintsEnd w last outcome → Tests passes (drop done output ≡ last)

@@ -1,18 +1,19 @@
 -- What is found of an output, by how far it was followed and what was printed.
-use Rattle.std.proofs.Common.{Decides as Tests, ◌≡◌, ◌≤◌, ◌+◌, ℕ, Bool, true, false, List, drop, length, Option, Some, None, refl, subst}
+use Rattle.std.proofs.Common.{Decides as Tests, ◌≡◌, ◌≤◌, ◌+◌, ◌++◌, ◌∙◌, ap, append_assoc, ℕ, Bool, true, false, List, drop, length, Option, Some, None, refl, subst}
 use Rattle.std.specs.Prelude.{◌↔◌, not}
 use Rattle.mvs_model.specs.declared.outcome.Outcome.{Outcome}
 use Rattle.mvs_model.specs.Runs.{IsPrinting}
+use Rattle.mvs_model.specs.Texts.{printing}
 use Rattle.mvs_model.proofs.Tests.{false_true}
 use Rattle.mvs_job.specs.Telling.{WalkValue}
 use Rattle.judge.specs.declared.Finding.{Finding}
 use Rattle.judge.specs.declared.Finding.TheVariants.{Accepted, Refused, Undecided}
-use Rattle.judge.specs.Judging.{IsFound, IsNoPrinting}
+use Rattle.judge.specs.Judging.{IsFound, IsNoPrinting, IsOpenIn}
 use Rattle.judge.specs.Deciding.{HasEnded, HasParted, IsFollowed, Stands, finding_of}
 
 -- What is found, and what that says of the text that was printed.
 abbrev pub IsSaid : List ℕ → List ℕ → List ℕ → Outcome → Finding → Type 0
-IsSaid script output text outcome f = IsFound script output outcome f × IsPrinting script text outcome × ((f ≡ Accepted) ↔ (text ≡ output))
+IsSaid script output text outcome f = IsFound script output text outcome f × IsPrinting script text outcome × ((f ≡ Accepted) ↔ (text ≡ output))
 
 same_found : (script output text : List ℕ) (outcome : Outcome) → IsPrinting script text outcome → text ≡ output → IsSaid script output text outcome Accepted
 same_found script output text outcome is e = (subst (λ text. IsPrinting script text outcome) e is, is, ((λ _. e), (λ _. refl)))
@@ -24,15 +25,19 @@ pub found_ended : (script output text : List ℕ) (outcome : Outcome) (passes : 
 found_ended script output text outcome true (is, e) = same_found script output text outcome is e
 found_ended script output text outcome false (is, none) = none_found script output text outcome is none
 
-pub found_parted : (script output text : List ℕ) (outcome : Outcome) (number : ℕ) (passes agrees : Bool) → HasParted script output number passes → IsPrinting script text outcome → Tests agrees (text ≡ output) → IsSaid script output text outcome (finding_of (not passes) agrees number)
-found_parted script output text outcome number false agrees none is same = none_found script output text outcome is none
-found_parted script output text outcome number true true opens is same = same_found script output text outcome is (same.0 refl)
-found_parted script output text outcome number true false opens is same =
-    (opens, is, ((λ e. absurd (let f : Undecided number ≡ Accepted = e in cc)), (λ e. absurd (false_true (same.1 e)))))
+-- what was printed when the output parted, and more
+open_longer : (script output front text more : List ℕ) (number : ℕ) → text ≡ front ++ more → IsOpenIn script output front number → IsOpenIn script output text number
+open_longer script output front text more number e (opens, rest, is) = (opens, rest ++ more, e ∙ ap (λ x. x ++ more) is ∙ append_assoc (printing opens.0) rest more)
+
+pub found_parted : (script output front text more : List ℕ) (outcome : Outcome) (number : ℕ) (passes agrees : Bool) → text ≡ front ++ more → HasParted script output front number passes → IsPrinting script text outcome → Tests agrees (text ≡ output) → IsSaid script output text outcome (finding_of (not passes) agrees number)
+found_parted script output front text more outcome number false agrees grown none is same = none_found script output text outcome is none
+found_parted script output front text more outcome number true true grown opens is same = same_found script output text outcome is (same.0 refl)
+found_parted script output front text more outcome number true false grown opens is same =
+    (open_longer script output front text more number grown opens, is, ((λ e. absurd (let f : Undecided number ≡ Accepted = e in cc)), (λ e. absurd (false_true (same.1 e)))))
 
 -- how it was followed
 pub followed_ended : (script output : List ℕ) (w : WalkValue) (at : ℕ) (text : List ℕ) (passes : Bool) (ended : Option Outcome) (number : ℕ) (outcome : Outcome) → ended ≡ Some outcome → IsFollowed script output w at text passes ended number → HasEnded script output outcome text passes
 followed_ended script output w at text passes ended number outcome e f = subst (λ ended. IsFollowed script output w at text passes ended number) e f
 
-pub followed_on : (script output : List ℕ) (w : WalkValue) (at : ℕ) (text : List ℕ) (passes : Bool) (ended : Option Outcome) (number : ℕ) → ended ≡ None → IsFollowed script output w at text passes ended number → HasParted script output number passes × Stands script text w (drop at script) × (at ≤ length script) × (w.number ≤ at + 2)
+pub followed_on : (script output : List ℕ) (w : WalkValue) (at : ℕ) (text : List ℕ) (passes : Bool) (ended : Option Outcome) (number : ℕ) → ended ≡ None → IsFollowed script output w at text passes ended number → HasParted script output text number passes × Stands script text w (drop at script) × (at ≤ length script) × (w.number ≤ at + 2)
 followed_on script output w at text passes ended number e f = subst (λ ended. IsFollowed script output w at text passes ended number) e f

@@ -1,5 +1,5 @@
 -- The rest of a script is run, a line at a time.
-use Rattle.std.proofs.Common.{◌≡◌, ℕ, ◌+◌, ◌≤◌, List, [], ◌∷◌, ◌++◌, length, take, drop, Option, Some, Bool, true, false, Ok, inl, refl, sym, ap, ◌∙◌, subst}
+use Rattle.std.proofs.Common.{append_assoc, ◌≡◌, ℕ, ◌+◌, ◌≤◌, List, [], ◌∷◌, ◌++◌, length, take, drop, Option, Some, Bool, true, false, Ok, inl, refl, sym, ap, ◌∙◌, subst}
 use Rattle.std.proofs.lemmas.List.{drop_all, drop-drop}
 use Rattle.std.specs.Io.KnownBytes.{Appends}
 use Rattle.mvs_model.specs.declared.outcome.Outcome.{Outcome}
@@ -17,6 +17,14 @@ use Rattle.judge.specs.Deciding.{Stands}
 -- what was printed, and what is printed now
 both : (text text' front back : List ℕ) → text ≡ front → text' ≡ text ++ back → text' ≡ front ++ back
 both text text' front back e f = f ∙ ap (λ x. x ++ back) e
+
+-- a text that has grown, and grows by a line
+pub grown_on : (start text text' : List ℕ) (w w' : WalkValue) (l : List ℕ) (b : Bool) → ((more : List ℕ) × (text ≡ start ++ more)) → RunsLine (Some text) (Some text') w l w' (Ok b) → (more : List ℕ) × (text' ≡ start ++ more)
+grown_on start text text' w w' l true (more, e) (events, appended, serves) = (more ++ printing events, appended ∙ ap (λ x. x ++ printing events) e ∙ append_assoc start more (printing events))
+grown_on start text text' w w' l false (more, e) (events, appended, faults) = (more ++ printing events, appended ∙ ap (λ x. x ++ printing events) e ∙ append_assoc start more (printing events))
+
+pub grown_end : (start text text' last : List ℕ) → ((more : List ℕ) × (text ≡ start ++ more)) → Appends (Some text) (Some text') last → (more : List ℕ) × (text' ≡ start ++ more)
+grown_end start text text' last (more, e) appended = (more ++ last, appended ∙ ap (λ x. x ++ last) e ∙ append_assoc start more last)
 
 module _ (whole script text text' rest : List ℕ) (at end : ℕ) (w w' : WalkValue) (is : rest ≡ drop at script) (cut : lines_of rest ≡ take end rest ∷ lines_of (drop (end + 1) rest)) (s : Stands whole text w (drop at script)) where
   here : Reaches (lines_of whole) s.0 w.number w.step (take end rest ∷ lines_of (drop (end + 1) rest))

@@ -19,7 +19,7 @@ use Rattle.judge.specs.declared.kinds.Kind.{Kind}
 use Rattle.judge.specs.declared.kinds.Kind.TheVariants.{Area, Areas, Closed, Several}
 use Rattle.judge.specs.declared.Finding.{Finding}
 use Rattle.judge.specs.declared.Finding.TheVariants as finding
-use Rattle.judge.specs.Judging.{AsksArea, AsksList, IsAskedBefore, IsNoPrinting, IsOpen, IsOpenAt, IsQuestion, leaves_open}
+use Rattle.judge.specs.Judging.{AsksArea, AsksList, IsAskedBefore, IsNoPrinting, IsOpen, IsOpenIn, IsQuestion, leaves_open}
 
 -- From the line of this number on a run may print this text, and end so.
 abbrev pub MayPrint : ℕ → Option JobValue → List (List ℕ) → List ℕ → Outcome → Type 0
@@ -137,10 +137,10 @@ abbrev pub HasEnded : List ℕ → List ℕ → Outcome → List ℕ → Bool �
 HasEnded script output outcome text true = IsPrinting script text outcome × (text ≡ output)
 HasEnded script output outcome text false = IsPrinting script text outcome × IsNoPrinting script output
 
--- An output and the runs of a script part: no run prints the output, or the line of this number is open.
-abbrev pub HasParted : List ℕ → List ℕ → ℕ → Bool → Type 0
-HasParted script output number false = IsNoPrinting script output
-HasParted script output number true = IsOpenAt script output number
+-- An output and the runs of a script part, when this was printed: no run prints the output, or the line of this number is open.
+abbrev pub HasParted : List ℕ → List ℕ → List ℕ → ℕ → Bool → Type 0
+HasParted script output text number false = IsNoPrinting script output
+HasParted script output text number true = IsOpenIn script output text number
 
 -- how a job has ended behind lines, if it does not go on: at a fault
 abbrev pub end_at : Bool → Option Outcome
@@ -151,7 +151,7 @@ end_at false = Some ScriptFault
 abbrev pub IsFollowed : List ℕ → List ℕ → WalkValue → ℕ → List ℕ → Bool → Option Outcome → ℕ → Type 0
 IsFollowed script output w at text passes (Some outcome) number = HasEnded script output outcome text passes
 IsFollowed script output w at text passes None number =
-    HasParted script output number passes × Stands script text w (drop at script) × (at ≤ length script) × (w.number ≤ at + 2)
+    HasParted script output text number passes × Stands script text w (drop at script) × (at ≤ length script) × (w.number ≤ at + 2)
 
 -- what is found of an output from which the runs of a script part where the next line has this number
 abbrev pub finding_of : Bool → Bool → ℕ → Finding

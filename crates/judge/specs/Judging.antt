@@ -110,9 +110,13 @@ IsOpenAt script output number =
     (events : List Event) × (step : Option JobValue) × (left : List (List ℕ)) × (rest : List ℕ)
     × (reached : Reaches (lines_of script) events number step left) × (output ≡ printing events ++ rest) × IsAskedBefore reached.served left × IsOpen number step left rest
 
--- What a finding says of an output, when it is compared with a run that ends so: it is the printing of this run, or of none, or it may
--- depend on places that a line is granted.
-abbrev pub IsFound : List ℕ → List ℕ → Outcome → Finding → Type 0
-IsFound script output outcome Accepted = IsPrinting script output outcome
-IsFound script output outcome Refused = IsNoPrinting script output
-IsFound script output outcome (Undecided number) = IsOpenAt script output number
+-- The same, and another text begins with what this run prints up to that line.
+abbrev pub IsOpenIn : List ℕ → List ℕ → List ℕ → ℕ → Type 0
+IsOpenIn script output text number = (open_at : IsOpenAt script output number) × (more : List ℕ) × (text ≡ printing open_at.0 ++ more)
+
+-- What a finding says of an output, when it is compared with a run that prints this text and ends so: it is the printing of this run, or
+-- of none, or it may depend on places that a line is granted, up to which this run prints the same.
+abbrev pub IsFound : List ℕ → List ℕ → List ℕ → Outcome → Finding → Type 0
+IsFound script output text outcome Accepted = IsPrinting script output outcome
+IsFound script output text outcome Refused = IsNoPrinting script output
+IsFound script output text outcome (Undecided number) = IsOpenIn script output text number

@@ -1,7 +1,7 @@
 //! Judges an output: whether it is the printing of a run of a script.
 #![tactic(auto)]
 
-ghost use Rattle.std.specs.Prelude.{◌≡◌, ◌≤◌, ◌↔◌, ℕ, IfOk, length};
+ghost use Rattle.std.specs.Prelude.{◌≡◌, ◌<◌, ◌≤◌, ◌↔◌, ℕ, IfErr, IfOk, IsErrOf, length};
 ghost use Rattle.mvs_model.specs.Numbers.{most_script_bytes};
 ghost use Rattle.mvs_model.specs.Lines.{lines_of};
 ghost use Rattle.mvs_model.specs.Runs.{IsPrinting};
@@ -90,7 +90,8 @@ fn judge_run(
     by_cells: bool,
 ) -> Result<Judgement, RunFault>
     requires { length script.now ≤ most_script_bytes }
-    ensures found { IfOk result (λ j. IsFound script.now output.now j.outcome j.finding) }
+    ensures found { IfOk result
+        (λ j. IsFound script.now output.now j.text.items j.outcome j.finding) }
     // Where the script asks for each area, and for each of a list, it is accepted or refused, or left open at a list.
     ensures decided { IfOk result
         (λ j. IsAsked (lines_of script.now)
@@ -98,6 +99,7 @@ fn judge_run(
     ensures run { IfOk result (λ j. IsPrinting script.now j.text.items j.outcome) }
     ensures agrees { IfOk result
         (λ j. j.finding ≡ Finding.Accepted ↔ j.text.items ≡ output.now) }
+    ensures memory { IfErr result (λ fault. fault ≡ RunFault.Memory) }
 {
     let mut walk = Walk::new(alloc, Placement::Low);
     let Ok(followed) = follow(alloc, &mut walk, script, output) else {
@@ -137,7 +139,8 @@ fn judge_run(
 /// the output. No answer tells where the parts of a pool lie: the first run places them by their cells, the other one as the placement
 /// does.
 pub fn judge(alloc: Global, script: &[u8], output: &[u8]) -> Result<Judgement, RunFault>
-    ensures found { IfOk result (λ j. IsFound script.now output.now j.outcome j.finding) }
+    ensures found { IfOk result
+        (λ j. IsFound script.now output.now j.text.items j.outcome j.finding) }
     // Where the script asks for each area, and for each of a list, it is accepted or refused, or left open at a list.
     ensures decided { IfOk result
         (λ j. IsAsked (lines_of script.now)
@@ -145,15 +148,26 @@ pub fn judge(alloc: Global, script: &[u8], output: &[u8]) -> Result<Judgement, R
     ensures run { IfOk result (λ j. IsPrinting script.now j.text.items j.outcome) }
     ensures agrees { IfOk result
         (λ j. j.finding ≡ Finding.Accepted ↔ j.text.items ≡ output.now) }
+    // It gives up at a script that is too long, and else only for want of memory, of which each line takes some.
+    ensures too_long { most_script_bytes < length script.now
+        → IsErrOf result RunFault.ReadTooLong }
+    ensures memory { IfErr result
+        (λ fault. length script.now ≤ most_script_bytes → fault ≡ RunFault.Memory) }
 {
     if script.len() > MOST_SCRIPT_BYTES {
         return Err(RunFault::ReadTooLong);
     }
-    let judgement = judge_run(alloc, script, output, true)?;
+    let judgement = match judge_run(alloc, script, output, true) {
+        Ok(judgement) => judgement,
+        Err(fault) => return Err(fault),
+    };
     let Finding::Undecided(_) = judgement.finding else {
         return Ok(judgement);
     };
-    let other = judge_run(alloc, script, output, false)?;
+    let other = match judge_run(alloc, script, output, false) {
+        Ok(other) => other,
+        Err(fault) => return Err(fault),
+    };
     if other.finding == Finding::Accepted {
         return Ok(other);
     }

@@ -1,6 +1,6 @@
 //! Runs the rest of a script.
 
-ghost use Rattle.std.specs.Prelude.{◌≡◌, ◌<◌, ◌+◌, ◌^◌, List, ℕ, IfOk, length};
+ghost use Rattle.std.specs.Prelude.{◌≡◌, ◌<◌, ◌+◌, ◌^◌, ◌++◌, List, ℕ, IfOk, length};
 ghost use Rattle.mvs_model.specs.Runs.{IsPrinting};
 ghost use Rattle.judge.specs.Deciding.{Stands};
 
@@ -24,8 +24,10 @@ pub fn run_rest(
     text: Vec<u8>,
 ) -> Result<Ran, OutOfMemory>
     requires { walk.number + length script.now + 1 < 2 ^ 32 }
-    ensures { (whole : List ℕ) → Stands whole text.items walk script.now
+    ensures run { (whole : List ℕ) → Stands whole text.items walk script.now
         → IfOk result (λ ran. IsPrinting whole ran.text.items ran.outcome) }
+    ensures grown { IfOk result
+        (λ ran. (more : List ℕ) × (ran.text.items ≡ text.items ++ more)) }
 {
     let mut writer = Watched::new(text);
     let mut at = 0;

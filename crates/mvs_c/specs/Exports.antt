@@ -1,5 +1,5 @@
 -- What the calls of C do. The numbers of the statuses are this project's choice.
-use Rattle.std.specs.Prelude.{◌≡◌, ℕ, ◌+◌, ◌<◌, ◌≤◌, List, [], ◌∷◌, ◌++◌, drop, length, Option, Some, None, Result, Ok, Err, MatchBool, MatchOption, MatchResult, true, false}
+use Rattle.std.specs.Prelude.{◌≡◌, ℕ, ◌+◌, ◌<◌, ◌≤◌, List, [], ◌∷◌, ◌++◌, drop, length, Option, Some, None, Result, Ok, Err, IfOk, MatchBool, MatchOption, MatchResult, true, false}
 use Rattle.mvs_model.specs.declared.name.Name.{Name}
 use Rattle.mvs_model.specs.declared.request.Request.{Request}
 use Rattle.mvs_model.specs.declared.outcome.Outcome.{Outcome}
@@ -11,7 +11,7 @@ use Rattle.mvs_job.specs.declared.walk.LineTold.{LineTold}
 use Rattle.mvs_job.specs.declared.walk.LineTold.TheVariants as told
 use Rattle.mvs_job.specs.declared.walk.Stopped.{Stopped}
 use Rattle.mvs_job.specs.declared.walk.Closing.{Closing}
-use Rattle.mvs_job.specs.Telling.{WalkValue, IsTold, closing, ended, goes_on}
+use Rattle.mvs_job.specs.Telling.{WalkValue, IsTold, KeepsReplyOf, closing, ended, goes_on}
 use Rattle.mvs_job.specs.Valued.{RequestsOf}
 use Rattle.mvs_c.specs.declared.event.Event.{Event}
 use Rattle.mvs_c.specs.declared.last.Last.TheVariants as last
@@ -37,12 +37,13 @@ abbrev pub WithSession : Option OpenValue → Option OpenValue → Type 0 → (O
 WithSession None after none some = (after ≡ None) × none
 WithSession (Some old) after none some = (new : OpenValue) × (after ≡ Some new) × some old new
 
--- A session serves a line, and tells this.
+-- A session serves a line, and tells this. The reply that it keeps is that to the request of the line, if that makes one.
 abbrev pub TellsLine : OpenValue → List ℕ → Result LineTold Stopped → OpenValue → Type 0
 TellsLine old line told new =
     MatchResult told (λ told. IsTold old.session.walk line told new.session.walk)
     (λ stopped. StopsForMemory old.session.walk.number old.session.walk.step (line ∷ []) (ended stopped.ended))
     × (new.session.walk.number ≡ old.session.walk.number + 1) × (new.session.goes_on ≡ goes_on told) × (new.last ≡ last_of old.session.walk.number told)
+    × IfOk told (λ told. KeepsReplyOf old.session.walk line told new.session.walk)
 
 -- What a call answers that tells a session a line: the session serves it, or takes none, and then all is as it was.
 abbrev pub AnswersLine : OpenValue → List ℕ → OpenValue → Event → Event → ℕ → Type 0

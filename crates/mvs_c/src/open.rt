@@ -6,7 +6,7 @@ ghost use Rattle.mvs_model.specs.Memory.{StopsForMemory};
 ghost use Rattle.mvs_model.specs.Runs.{machine};
 ghost use Rattle.mvs_model.specs.Walk.{Closes};
 ghost use Rattle.job_script.specs.Writing.{Prints};
-ghost use Rattle.mvs_job.specs.Telling.{IsTold, closing, ended, goes_on};
+ghost use Rattle.mvs_job.specs.Telling.{IsTold, KeepsReplyOf, closing, ended, goes_on};
 ghost use Rattle.mvs_job.specs.Valued.{RequestsOf, WritesOf};
 ghost use Rattle.mvs_c.specs.declared.last.Last.TheVariants as last;
 ghost use Rattle.mvs_c.specs.Opens.{TakesLine, last_of, new_open, text_of, without_line};
@@ -88,6 +88,8 @@ impl Open {
             (λ told. IsTold self.old.session.walk line.now told self.new.session.walk)
             (λ stopped. StopsForMemory self.old.session.walk.number self.old.session.walk.step
             (line.now ∷ []) (ended stopped.ended)) }
+        ensures reply { IfOk result
+            (λ told. KeepsReplyOf self.old.session.walk line.now told self.new.session.walk) }
         ensures number { self.new.session.walk.number ≡ self.old.session.walk.number + 1 }
         ensures goes_on { self.new.session.goes_on ≡ goes_on result }
         ensures last { self.new.last ≡ last_of self.old.session.walk.number result }

@@ -113,8 +113,8 @@ progress_of start now told w kept st more = record {
   };
 }
 
-pub is_answered : (start now : Option (List ℕ)) (told : List ℕ) (w : WalkValue) (kept : List ℕ) (st : Stands start now told w kept) → IsAnswered told (printing st.events)
-is_answered start now told w kept st = record { lines = st.lines; kept = kept; cut = st.cut; each = st.each; unended = st.unended; events = st.events; step = w.step; leads = st.leads; printed = refl }
+pub is_answered : (start now : Option (List ℕ)) (told : List ℕ) (w : WalkValue) (kept : List ℕ) (st : Stands start now told w kept) → length kept < 256 → IsAnswered told (printing st.events)
+is_answered start now told w kept st short = record { lines = st.lines; kept = kept; cut = st.cut; each = st.each; unended = st.unended; short = short; events = st.events; step = w.step; leads = st.leads; printed = refl }
 
 -- bytes of one line
 pub stands_many : (start now : Option (List ℕ)) (told : List ℕ) (w : WalkValue) (kept line : List ℕ) → Stands start now told w kept → AllByRecursion (λ b. b ≢ 10) line → Stands start now (told ++ line) w (kept ++ line)
@@ -343,10 +343,10 @@ module _ (unread left left' start now flushed : Option (List ℕ)) (count : ℕ)
   here : Stands start flushed u.0 w k
   here = stands_kept start now flushed u.0 w k u.3 kept
 
-  pub read_failed : (room : ℕ) (fault : RunFault) → (fault ≡ Memory → ⊥) → Keeps left left' → HasBroken unread left' start flushed (count + room) fault
-  read_failed room fault other same =
+  pub read_failed : (room : ℕ) (fault : RunFault) → (fault ≡ Memory → ⊥) → Keeps left left' → length k < 256 → HasBroken unread left' start flushed (count + room) fault
+  read_failed room fault other same short =
       let r = rest_of left' in
-      (u.0, r.0, printing here.events, Consumes-kept unread left left' u.0 u.1 same, r.1, here.appended, (rw (u.2) (omega arith), stands_front start flushed u.0 w k here r.0, (λ e. absurd (other e)), (λ e. is_answered start flushed u.0 w k here)))
+      (u.0, r.0, printing here.events, Consumes-kept unread left left' u.0 u.1 same, r.1, here.appended, (rw (u.2) (omega arith), stands_front start flushed u.0 w k here r.0, (λ e. absurd (other e)), (λ e. is_answered start flushed u.0 w k here short)))
 
   -- the end of the script
   module _ (after : Option (List ℕ)) (most m : ℕ) (chunk : List ℕ) (enough : count ≤ most) (none : m ≡ 0) (ended : IsAtEnd left') (c : Consumes left left' (take m chunk)) where
@@ -389,14 +389,14 @@ module _ (unread left left' start now flushed : Option (List ℕ)) (count : ℕ)
         broken unread left' start after (count + room) (u.0 ++ take m chunk) r.0 stop fault is (Consumes-trans unread left left' u.0 _ u.1 c) r.1 read_most p
 
   -- a byte too many: what is printed is a front, however the script goes on
-  module _ (m : ℕ) (chunk : List ℕ) (c : Consumes left left' (take m chunk)) (fits : m ≤ length chunk) (least : length chunk ≤ 1) (some : 0 < m) where
+  module _ (m : ℕ) (chunk : List ℕ) (c : Consumes left left' (take m chunk)) (fits : m ≤ length chunk) (least : length chunk ≤ 1) (some : 0 < m) (short : length k < 256) where
     pub read_too_many : HasGivenUp unread left' start flushed count ReadTooLong
     read_too_many =
         let r = rest_of left' in
         let p : IsPrintingFront ((u.0 ++ take m chunk) ++ r.0) (printing here.events) = rw (append_assoc u.0 (take m chunk) r.0) (stands_front start flushed u.0 w k here (take m chunk ++ r.0)) in
         let first : take count (u.0 ++ take m chunk) ≡ u.0 = take_at u.0 (take m chunk) count u.2 in
         let told : length (u.0 ++ take m chunk) ≡ count + m = length-append u.0 (take m chunk) ∙ rw (u.2, length-take-le m chunk fits) refl in
-        (u.0 ++ take m chunk, r.0, printing here.events, Consumes-trans unread left left' u.0 _ u.1 c, r.1, here.appended, (rw told (omega arith), p, (λ e. rw told (omega arith)), (λ e. absurd (let f : ReadTooLong ≡ Memory = e in cc)), (λ e. rw first (is_answered start flushed u.0 w k here))))
+        (u.0 ++ take m chunk, r.0, printing here.events, Consumes-trans unread left left' u.0 _ u.1 c, r.1, here.appended, (rw told (omega arith), p, (λ e. rw told (omega arith)), (λ e. absurd (let f : ReadTooLong ≡ Memory = e in cc)), (λ e. rw first (is_answered start flushed u.0 w k here short))))
 
 -- a job that broke off, but not for the length of its script
 pub given_up : (unread left start now : Option (List ℕ)) (count most : ℕ) (fault : RunFault) → HasBroken unread left start now most fault → most ≤ count → (fault ≡ ReadTooLong → ⊥) → HasGivenUp unread left start now count fault

@@ -23,7 +23,7 @@ use Rattle.mvs_model.specs.Memory.{TakesMemory, StopsForMemory}
 use Rattle.mvs_model.specs.Reading.{LineOf, IsReading}
 use Rattle.mvs_model.specs.Replies.{is_abend, answer_of}
 use Rattle.mvs_model.specs.Resolving.{resolved, all_set, names_set, places_in}
-use Rattle.mvs_model.specs.Runs.{Condition, Any, Asks, Does, job_machine, machine}
+use Rattle.mvs_model.specs.Runs.{Condition, Any, Asks, Does, Makes, job_machine, machine}
 use Rattle.mvs_model.specs.Steps.{Step}
 use Rattle.mvs_model.specs.Texts.{text_of, printing}
 use Rattle.mvs_model.specs.Walk.{Serves, Faults, ending, is_first}
@@ -35,14 +35,18 @@ use Rattle.job_script.proofs.Appending.{front_longer, front_more}
 use Rattle.mvs_job.specs.declared.walk.Stopped.{Stopped}
 use Rattle.mvs_job.specs.declared.walk.LineTold.{LineTold}
 use Rattle.mvs_job.specs.declared.walk.LineTold.TheVariants as told
-use Rattle.mvs_job.specs.Telling.{WalkValue, IsTold, IsToldBy, IsLentBy, card_said, ended, events_told, lent_in}
+use Rattle.mvs_job.specs.Telling.{WalkValue, IsTold, IsToldBy, IsLentBy, KeepsReply, card_said, ended, events_told, lent_in}
 
 -- A request that is made, and whose names are set.
+pub made_by : (P : Condition) (old : JobValue) (t : Name) (a : Written) (r : Request) (reply : Reply) (new : JobValue) → Step old.state t r reply new.state → P old.state t r reply new.state
+    → new.names ≡ all_set old.names (names_set a) (places_in reply) → new.abended ≡ (old.abended || is_abend reply) → new.former ≡ old.former → Makes P old t a r (answer_of old.state a r reply) new
+made_by P old t a r reply new step meets names abended former = record { reply = reply; step = step; meets = meets; names = names; abended = abended; former = former; told = refl }
+
 pub made : (P : Condition) (old : JobValue) (t : Name) (a : Written) (r : Request) (reply : Reply) (new : JobValue) → resolved old.names a ≡ Some r → Step old.state t r reply new.state → P old.state t r reply new.state
     → new.names ≡ all_set old.names (names_set a) (places_in reply) → new.abended ≡ (old.abended || is_abend reply) → new.former ≡ old.former
     → Asks P old t a (resolved old.names a) (answer_of old.state a r reply) new
 made P old t a r reply new is step meets names abended former =
-    subst (λ o. Asks P old t a o (answer_of old.state a r reply) new) (sym is) (record { reply = reply; step = step; meets = meets; names = names; abended = abended; former = former; told = refl })
+    subst (λ o. Asks P old t a o (answer_of old.state a r reply) new) (sym is) (made_by P old t a r reply new step meets names abended former)
 
 -- whether no statement came before
 pub first_is : (o : Option JobValue) (b : Bool) → is_some o ≡ not b → b ≡ is_first o
@@ -52,7 +56,7 @@ first_is (Some job) true e = absurd (let f : true ≡ false = e in cc)
 first_is (Some job) false e = refl
 
 -- What a line says, as it was read.
-said_so : (first before : Bool) (bytes : List ℕ) (read : Result Line Fault) (l : Line) → first ≡ before → IsReading first bytes read → read ≡ Ok l → LineOf before bytes l
+pub said_so : (first before : Bool) (bytes : List ℕ) (read : Result Line Fault) (l : Line) → first ≡ before → IsReading first bytes read → read ≡ Ok l → LineOf before bytes l
 said_so first before bytes read l same reading is = subst (λ first. LineOf first bytes l) same (subst (IsReading first bytes) is reading)
 
 module _ (P : Condition) (old new : WalkValue) (bytes : List ℕ) (first : Bool) (read : Result Line Fault) (same : first ≡ is_first old.step) (reading : IsReading first bytes read) where
@@ -144,6 +148,12 @@ pub served_in_step : (P : Condition) (o : Option JobValue) (step later : JobValu
     → MatchResult r (λ answer. (x : JobValue) × (y : JobValue) × (o ≡ Some x) × (◌≡◌ {A = Option JobValue} (Some later) (Some y)) × Does P x t s (lent y.state (fallen_in reply) t answer) y × IsLentBy y.state answer) (λ _. TakesMemory o (line.Statement t s) [])
 served_in_step P o step later t s reply (Ok answer) is does lent = (step, later, is, refl, does, lent)
 served_in_step P o step later t s reply (Err e) is takes lent = subst (λ o. TakesMemory o (line.Statement t s) []) (sym is) takes
+
+-- the reply that a step keeps, where it is the one that runs
+pub kept_in_step : (o : Option JobValue) (step later : JobValue) (t : Name) (s : Statement) (before reply : Reply) (r : Result Short OutOfMemory) → o ≡ Some step → IfOk r (λ answer. KeepsReply step t s before (lent later.state (fallen_in reply) t answer) reply later)
+    → IfOk r (λ answer. (x : JobValue) × (y : JobValue) × (o ≡ Some x) × (◌≡◌ {A = Option JobValue} (Some later) (Some y)) × KeepsReply x t s before (lent y.state (fallen_in reply) t answer) reply y)
+kept_in_step o step later t s before reply (Ok answer) is kept = (step, later, is, refl, kept)
+kept_in_step o step later t s before reply (Err e) is kept = tt
 
 -- texts that are printed by two calls, one behind the other
 pub both_written : {W X Y E F : Type 0} (contents : W → Option (List ℕ)) (old mid new : WatchedValue W) (u : X) (result : Result Y F) (first second : List ℕ) → Prints {W = W} {X = X} {E = E} contents old mid (Ok u) first → Prints {W = W} {X = Y} {E = F} contents mid new result second

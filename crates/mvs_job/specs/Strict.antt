@@ -1,11 +1,14 @@
 -- Lines that are easily overlooked: nothing was done, since their task was not active, or a name in them was not set.
-use Rattle.std.specs.Prelude.{◌≡◌, ℕ, ◌&&◌, List, Option, Some, None, Result, Ok, Err, Bool, true, false}
+use Rattle.std.specs.Prelude.{◌≡◌, ℕ, ◌-◌, ◌&&◌, List, [], ◌∷◌, ◌++◌, get_or, Option, Some, None, Result, Ok, Err, Bool, true, false}
 use Rattle.std.specs.List.{list_all}
 use Rattle.std.specs.Io.KnownBytes.{Appends}
 use Rattle.mvs_model.specs.declared.answer.Answer.{Answer as Short}
 use Rattle.mvs_model.specs.declared.answer.Answer.TheVariants as short
 use Rattle.mvs_model.specs.declared.outcome.Outcome.{Outcome}
 use Rattle.mvs_model.specs.Answers.{Answer, NotRun, NoName, Event, Told}
+use Rattle.mvs_model.specs.Going.{Reaches}
+use Rattle.mvs_model.specs.Job.{JobValue}
+use Rattle.mvs_model.specs.Lines.{lines_of}
 use Rattle.mvs_model.specs.Runs.{IsRun}
 use Rattle.mvs_model.specs.Texts.{printing}
 use Rattle.mvs_job.specs.declared.printing.Stop.{Stop}
@@ -25,9 +28,17 @@ abbrev pub is_of_served : Event → Bool
 is_of_served (Told number t answer) = serves answer
 is_of_served event = true
 
--- What stands between two moments of a writer is the printing of a run of the script, which ends so, and each line was served, or not.
-abbrev pub PrintsStrictly : Option (List ℕ) → Option (List ℕ) → List ℕ → Outcome → Bool → Type 0
-PrintsStrictly before after script outcome all = (events : List Event) × Appends before after (printing events) × IsRun script events outcome × (all ≡ list_all is_of_served events)
+-- a line that was not served: its number, its text, and why
+pub record Skipped : Type 0 where
+  pub number : ℕ
+  pub line : List ℕ
+  pub why : Unserved
+
+-- a known list grows by some items, in their order
+abbrev pub Grows : {A : Type 0} → Option (List A) → Option (List A) → List A → Type 0
+Grows None new more = Unit {0}
+Grows (Some xs) None more = ⊥
+Grows (Some xs) (Some ys) more = ys ≡ xs ++ more
 
 -- why a line was not served, by its short answer
 abbrev pub why_unserved : Short → Option Unserved
@@ -35,8 +46,41 @@ why_unserved short.NotRun = Some why.NotRun
 why_unserved short.NoName = Some why.NoName
 why_unserved answer = None
 
+-- a line of a number, if it was not served
+abbrev pub skipped_for : ℕ → List ℕ → Option Unserved → List Skipped
+skipped_for number line None = []
+skipped_for number line (Some why) = record { number = number; line = line; why = why } ∷ []
+
+-- what an event tells of a line that was not served, where each number stands for a line
+abbrev pub skipped_in : (ℕ → List ℕ) → Event → List Skipped
+skipped_in line (Told number t NotRun) = skipped_for number (line number) (Some why.NotRun)
+skipped_in line (Told number t NoName) = skipped_for number (line number) (Some why.NoName)
+skipped_in line event = []
+
+-- all lines that were not served, in the order in which the events tell them
+abbrev pub all_skipped : (ℕ → List ℕ) → List Event → List Skipped
+all_skipped line [] = []
+all_skipped line (event ∷ events) = skipped_in line event ++ all_skipped line events
+
+-- the line of a number in a script
+abbrev pub line_at : List ℕ → ℕ → List ℕ
+line_at script number = get_or (lines_of script) (number - 1) []
+
+-- What stands between two moments of a writer is the printing of a run of the script, which ends so; each line was served, or not; and
+-- just the lines that were not are heard of, in their order.
+abbrev pub PrintsStrictly : Option (List ℕ) → Option (List ℕ) → Option (List Skipped) → Option (List Skipped) → List ℕ → Outcome → Bool → Type 0
+PrintsStrictly before after heard heard' script outcome all =
+    (events : List Event) × Appends before after (printing events) × IsRun script events outcome × (all ≡ list_all is_of_served events) × Grows heard heard' (all_skipped (line_at script) events)
+
+-- Just the lines are heard of that were not served of the first lines of a script, in a run of it.
+abbrev pub HearsFront : Option (List Skipped) → Option (List Skipped) → List ℕ → Type 0
+HearsFront heard heard' script =
+    (events : List Event) × (number : ℕ) × (step : Option JobValue) × (left : List (List ℕ)) × Reaches (lines_of script) events number step left × Grows heard heard' (all_skipped (line_at script) events)
+
 -- What the call for one line does, where each line before was served, or not.
-abbrev pub RunsStrictly : Option (List ℕ) → Option (List ℕ) → WalkValue → List ℕ → WalkValue → Bool → Bool → Result Bool Stop → Type 0
-RunsStrictly before after w line new all all' (Ok true) = (ran : RunsLine before after w line new (Ok true)) × (all' ≡ (all && list_all is_of_served ran.0))
-RunsStrictly before after w line new all all' (Ok false) = (ran : RunsLine before after w line new (Ok false)) × (all' ≡ (all && list_all is_of_served ran.0))
-RunsStrictly before after w line new all all' (Err stop) = RunsLine before after w line new (Err stop)
+abbrev pub RunsStrictly : Option (List ℕ) → Option (List ℕ) → Option (List Skipped) → Option (List Skipped) → WalkValue → List ℕ → WalkValue → Bool → Bool → Result Bool Stop → Type 0
+RunsStrictly before after heard heard' w line new all all' (Ok true) =
+    (ran : RunsLine before after w line new (Ok true)) × (all' ≡ (all && list_all is_of_served ran.0)) × ((lines : ℕ → List ℕ) → lines w.number ≡ line → Grows heard heard' (all_skipped lines ran.0))
+RunsStrictly before after heard heard' w line new all all' (Ok false) =
+    (ran : RunsLine before after w line new (Ok false)) × (all' ≡ (all && list_all is_of_served ran.0)) × ((lines : ℕ → List ℕ) → lines w.number ≡ line → Grows heard heard' (all_skipped lines ran.0))
+RunsStrictly before after heard heard' w line new all all' (Err stop) = RunsLine before after w line new (Err stop) × Grows heard heard' []

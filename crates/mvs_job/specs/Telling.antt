@@ -1,9 +1,11 @@
 -- What a line tells, and how a job stands between two lines.
-use Rattle.std.specs.Prelude.{refl, ◌≡◌, ◌≤◌, ℕ, List, [], ◌∷◌, ◌++◌, Option, Some, None, Bool, true, false, Result, Ok, Err}
+use Rattle.std.specs.Prelude.{refl, ◌≡◌, ◌≤◌, ℕ, List, [], ◌∷◌, ◌++◌, Option, Some, None, Bool, true, false, Result, Ok, Err, MatchOption}
+use Rattle.std.specs.Bool.{MatchBool}
 use Rattle.std.specs.Coded.{Coded, code_by, coded×, coded_bool, coded_ℕ, coded_option}
 use Rattle.std.specs.FinMap as map
 use Rattle.mvs_model.specs.declared.name.Name.{Name}
 use Rattle.mvs_model.specs.declared.line.Fault.TheVariants.{OutOfPlace}
+use Rattle.mvs_model.specs.declared.line.Line.TheVariants as line
 use Rattle.mvs_model.specs.declared.line.Statement.{Statement}
 use Rattle.mvs_model.specs.declared.line.Statement.TheVariants as says
 use Rattle.mvs_model.specs.declared.answer.Answer.{Answer as Short}
@@ -20,8 +22,10 @@ use Rattle.mvs_model.specs.Lines.{card_of}
 use Rattle.mvs_model.specs.Name.{name_cmp, name_code}
 use Rattle.mvs_model.specs.Numbers.{most_shown}
 use Rattle.mvs_model.specs.Place.{PlaceValue, place_code}
-use Rattle.mvs_model.specs.Reading.{FaultOf}
-use Rattle.mvs_model.specs.Runs.{Condition, Any, job_machine}
+use Rattle.mvs_model.specs.Owners.{is_active}
+use Rattle.mvs_model.specs.Reading.{FaultOf, LineOf}
+use Rattle.mvs_model.specs.Resolving.{resolved}
+use Rattle.mvs_model.specs.Runs.{Condition, Any, Makes, job_machine}
 use Rattle.mvs_model.specs.State.{State, state_code}
 use Rattle.mvs_model.specs.Walk.{ServesLine, is_first}
 use Rattle.mvs_job.specs.declared.walk.Stopped.{Stopped}
@@ -87,6 +91,24 @@ IsToldBy P old bytes told new = ServesLine (job_machine P) old.number old.step b
 -- the same with no condition
 abbrev pub IsTold : WalkValue → List ℕ → LineTold → WalkValue → Type 0
 IsTold = IsToldBy Any
+
+-- The step's reply is this one.
+abbrev pub Replies : Reply → Condition
+Replies kept old t r answered new = answered ≡ kept
+
+-- The reply that is kept behind a statement of a task: it is that of the step where the statement makes a request, since the task is
+-- active and all its names are set; and else it is the one before.
+abbrev pub KeepsReply : JobValue → Name → Statement → Reply → Answer → Reply → JobValue → Type 0
+KeepsReply old t (says.Request a) before answer reply new =
+    MatchBool (is_active old.state.owners t) (MatchOption (resolved old.names a) (reply ≡ before) (λ r. Makes (Replies reply) old t a r answer new)) (reply ≡ before)
+KeepsReply old t s before answer reply new = reply ≡ before
+
+-- The same of a line: one that is no statement of a step makes no request.
+abbrev pub KeepsReplyOf : WalkValue → List ℕ → LineTold → WalkValue → Type 0
+KeepsReplyOf old bytes (told.Answered t a) new =
+    (s : Statement) × (job : JobValue) × (later : JobValue) × LineOf (is_first old.step) bytes (line.Statement t s) × (old.step ≡ Some job) × (new.step ≡ Some later)
+    × KeepsReply job t s old.reply (lent later.state (fallen_in new.reply) t a) new.reply later
+KeepsReplyOf old bytes told new = new.reply ≡ old.reply
 
 -- The bytes of which an answer speaks may be read, and are few.
 abbrev pub IsLentBy : State → Short → Type 0

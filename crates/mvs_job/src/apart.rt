@@ -1,10 +1,11 @@
 //! Serves lines with their reasons, which are printed apart from what the lines tell.
 
-ghost use Rattle.std.specs.Prelude.{◌≡◌, ◌<◌, ◌+◌, ◌^◌, IfOk};
+ghost use Rattle.std.specs.Prelude.{◌≡◌, ◌<◌, ◌+◌, ◌^◌, ◌⊎◌, true, IfOk, IsErrOf};
 ghost use Rattle.std.specs.Io.KnownBytes.{Appends};
 ghost use Rattle.mvs_model.specs.Texts.{printing};
 ghost use Rattle.mvs_job.specs.Apart.{StandsBehind};
 ghost use Rattle.mvs_job.specs.Naming.{KeepsLines, no_lines};
+ghost use Rattle.mvs_job.specs.Serving.{RunsLine};
 ghost use Rattle.mvs_job.specs.Telling.{IsLent, IsTold, events_told};
 
 use crate::asking::Asking;
@@ -66,6 +67,13 @@ impl Explainer {
             (λ told. KeepsLines walk.old self.old line.now walk.new told self.new) }
         ensures lent { IfOk result (IsLent walk.new) }
         ensures number { walk.new.number ≡ walk.old.number + 1 }
+        // Memory is exhausted only at a REGION statement, and at a granted request that sets a name; then one writer has what is printed
+        // before the answer to it.
+        ensures memory { IsErrOf result Stop.Memory
+            → RunsLine (W.contents writer.old.inner) (W.contents writer.new.inner) walk.old line.now
+            walk.new (Err Stop.Memory) }
+        ensures write { IsErrOf result Stop.Write
+            → (writer.new.failed ≡ true) ⊎ (behind.new.failed ≡ true) }
     {
         let told = match self.asking.tell(walk, line, writer) {
             Ok(told) => told,

@@ -20,14 +20,14 @@ ghost use Rattle.step_machine.specs.Standing.{free_above, free_below, label_had,
 ghost use Rattle.mvs_model.specs.Replies as replies;
 ghost use Rattle.mvs_model.specs.declared.reason.Reason.TheVariants.{NotSet};
 ghost use Rattle.mvs_model.specs.Resolving.{first_unset, looked_up, resolved};
-ghost use Rattle.mvs_model.specs.Runs.{Asks, Does};
+ghost use Rattle.mvs_model.specs.Runs.{Asks, Does, Makes};
 ghost use Rattle.mvs_model.specs.State.{State};
 ghost use Rattle.mvs_model.specs.View.{IsBounded};
 ghost use Rattle.mvs_model.specs.NextOwned.{IsNextOwned};
 ghost use Rattle.step_machine.specs.Facts.{owned_at};
 ghost use Rattle.step_machine.specs.Taking.{Takes};
 ghost use Rattle.step_machine.specs.Reports.{HasNone, IsMapEnd, IsMapRun, IsSubpoolLine};
-ghost use Rattle.mvs_job.specs.Telling.{IsLentBy, card_said};
+ghost use Rattle.mvs_job.specs.Telling.{IsLentBy, KeepsReply, Replies, card_said};
 ghost use Rattle.mvs_job.specs.Explaining.{SpeaksOf};
 ghost use Rattle.mvs_job.specs.Valued.{BuildsInRange, MayWrite, Requests};
 ghost use Rattle.mvs_job.specs.Why.{OfStatement, TurnWritten};
@@ -372,6 +372,10 @@ impl Job {
             (resolved self.old.names written.now)
             (lent self.new.state (fallen_in reply.new) task.now answer) self.new)
             (λ _. SetsName self.old task.now written.now) }
+        ensures reply { IfOk result
+            (λ answer. MatchOption (resolved self.old.names written.now) (reply.new ≡ reply.old)
+            (λ asked. Makes (Replies reply.new) self.old task.now written.now asked
+            (lent self.new.state (fallen_in reply.new) task.now answer) self.new)) }
         ensures lent { IfOk result (IsLentBy self.new.state) }
     {
         let Some(()) = resolve(&self.names, written, request) else {
@@ -402,6 +406,9 @@ impl Job {
             (λ answer. Does (Takes told.now) self.old task.now statement.now
             (lent self.new.state (fallen_in reply.new) task.now answer) self.new)
             (λ _. TakesMemory (Some self.old) (line.Statement task.now statement.now) []) }
+        ensures reply { IfOk result
+            (λ answer. KeepsReply self.old task.now statement.now reply.old
+            (lent self.new.state (fallen_in reply.new) task.now answer) reply.new self.new) }
         ensures lent { IfOk result (IsLentBy self.new.state) }
     {
         if !self.step.is_active(task) {

@@ -60,28 +60,28 @@ impl Error for RunFault {}
 const CHUNK: usize = 65_536;
 
 /// Runs a script as it comes: 16,777,215 bytes at most, and a byte more to see that there are too many. It keeps no more of it than a
-/// line, passes on what it printed before each read, and reads no further behind a fault of the script. Areas that are granted lie at
-/// the addresses that are told of their lines, where the machine allows that, and else where the placement says.
+/// line, passes on what it printed before each read, and reads no further after a fault of the script. It tries the addresses of
+/// `hints` first for what their lines are granted, and else those of the placement; no clause depends on either.
 pub fn run_job<R: Read, W: Write>(
     alloc: Global,
     reader: &mut Watched<R>,
     writer: &mut Watched<W>,
     placement: Placement,
-    told: Told,
+    hints: Told,
 ) -> Result<Outcome, RunFault>
     requires reader { reader.old.failed ≡ false }
     requires writer { writer.old.failed ≡ false }
-    // What is written is the printing of a run of the script: of what was told and what the reader has left.
+    // What is written is the printing of a run of the script: of what was consumed and what the reader has left.
     ensures ok { IfOk result
         (λ outcome. Exchanges (R.remaining reader.old.inner) (R.remaining reader.new.inner)
         (W.contents writer.old.inner) (W.contents writer.new.inner)
-        (λ told script written. (length told ≤ most_script_bytes)
+        (λ consumed script written. (length consumed ≤ most_script_bytes)
         × IsPrinting script written outcome)) }
     // Where a tidy script was granted in full, it is what the label machine prints, wherever the areas lie.
     ensures tidy { IfOk result
         (λ outcome. Exchanges (R.remaining reader.old.inner) (R.remaining reader.new.inner)
         (W.contents writer.old.inner) (W.contents writer.new.inner)
-        (λ told script written. IsPrinting script written outcome
+        (λ consumed script written. IsPrinting script written outcome
         × (Tidy script → IsPrintingInFull script written outcome
         → IsLabelText script written))) }
     // All was read, or the script has a fault.
@@ -92,25 +92,25 @@ pub fn run_job<R: Read, W: Write>(
     ensures fault { IfErr result
         (λ fault. Exchanges (R.remaining reader.old.inner) (R.remaining reader.new.inner)
         (W.contents writer.old.inner) (W.contents writer.new.inner)
-        (λ told script written. (length told ≤ most_script_bytes + 1)
+        (λ consumed script written. (length consumed ≤ most_script_bytes + 1)
         × IsPrintingFront script written
-        × (fault ≡ RunFault.ReadTooLong → most_script_bytes < length told))) }
+        × (fault ≡ RunFault.ReadTooLong → most_script_bytes < length consumed))) }
     // For want of memory it is the whole printing before the reply to a REGION statement, or to a granted request that sets a name.
     ensures memory { IfErr result
         (λ fault. fault ≡ RunFault.Memory
         → Exchanges (R.remaining reader.old.inner) (R.remaining reader.new.inner)
         (W.contents writer.old.inner) (W.contents writer.new.inner)
-        (λ told script written. IsPrintingBefore script written)) }
+        (λ consumed script written. IsPrintingBefore script written)) }
     // Before a read that failed, and before the byte that is too many, all lines that have ended are answered.
     ensures answered { IfErr result
         (λ fault. (fault ≡ RunFault.Read) ⊎ (fault ≡ RunFault.ReadTooLong)
         → Exchanges (R.remaining reader.old.inner) (R.remaining reader.new.inner)
         (W.contents writer.old.inner) (W.contents writer.new.inner)
-        (λ told script written. IsAnswered (take most_script_bytes told) written)) }
+        (λ consumed script written. IsAnswered (take most_script_bytes consumed) written)) }
     ensures read { IsErrOf result RunFault.Read → reader.new.failed ≡ true }
     ensures write { IsErrOf result RunFault.Write → writer.new.failed ≡ true }
 {
-    let mut stream = Stream::new(alloc, placement, told);
+    let mut stream = Stream::new(alloc, placement, hints);
     let mut chunk = [0u8; CHUNK];
     let mut count = 0usize;
     'reading: while count < MOST_SCRIPT_BYTES {

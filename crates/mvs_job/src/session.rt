@@ -9,7 +9,7 @@ ghost use Rattle.mvs_model.specs.Numbers.{subpool_numbers};
 ghost use Rattle.mvs_model.specs.Runs.{machine};
 ghost use Rattle.mvs_model.specs.Walk.{Closes};
 ghost use Rattle.mvs_job.specs.Sessions.{new_session};
-ghost use Rattle.mvs_job.specs.Telling.{IsLent, IsTold, closing, ended, goes_on};
+ghost use Rattle.mvs_job.specs.Telling.{IsLent, IsTold, KeepsReplyOf, closing, ended, goes_on};
 ghost use Rattle.mvs_job.specs.Valued.{RequestsOf, WritesOf};
 
 use crate::walk::{Closing, LineTold, Stopped, Walk};
@@ -79,6 +79,8 @@ impl Session {
         ensures told { MatchResult result (λ told. IsTold self.old.walk line.now told self.new.walk)
             (λ stopped. StopsForMemory self.old.walk.number self.old.walk.step (line.now ∷ [])
             (ended stopped.ended)) }
+        ensures reply { IfOk result
+            (λ told. KeepsReplyOf self.old.walk line.now told self.new.walk) }
         ensures lent { IfOk result (IsLent self.new.walk) }
         ensures number { self.new.walk.number ≡ self.old.walk.number + 1 }
         ensures goes_on { self.new.goes_on ≡ goes_on result }

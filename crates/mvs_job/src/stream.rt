@@ -322,7 +322,8 @@ impl Stream {
         reader: &mut Watched<R>,
         writer: &mut Watched<W>,
     ) -> Result<Outcome, RunFault>
-        requires { self.old.walk.number + 1 < 2 ^ 32 }
+        requires room { length self.old.line < 256 }
+        requires number { self.old.walk.number + 1 < 2 ^ 32 }
         ensures turn { (unread start : Option (List ℕ)) (count : ℕ)
             → IsUnderWay unread (R.remaining reader.old.inner) start (W.contents writer.old.inner)
             count self.old.walk self.old.line

@@ -1,10 +1,10 @@
 //! Runs a script, and lets someone hear of each line that was not served.
 
-ghost use Rattle.std.specs.Prelude.{◌≡◌, ◌<◌, ◌≤◌, ◌+◌, ◌^◌, ℕ, length, true, is_some, not, OnOk, IfOk, IfErr, IsErrOf};
+ghost use Rattle.std.specs.Prelude.{◌≡◌, ◌<◌, ◌≤◌, ◌+◌, ◌^◌, ◌∷◌, [], ℕ, List, Option, length, true, is_some, not, OnOk, IfOk, IfErr, IsErrOf};
 ghost use Rattle.std.specs.List.{list_all};
 ghost use Rattle.mvs_model.specs.Numbers.{most_script_bytes};
 ghost use Rattle.mvs_job.specs.Streams.{PrintedUpTo};
-ghost use Rattle.mvs_job.specs.Strict.{PrintsStrictly, RunsStrictly, is_of_served, why_unserved};
+ghost use Rattle.mvs_job.specs.Strict.{Grows, HearsFront, PrintsStrictly, RunsStrictly, Skipped, all_skipped, is_of_served, skipped_for, why_unserved};
 ghost use Rattle.mvs_job.specs.Telling.{IsLent, events_told};
 
 use crate::explaining::line_end;
@@ -28,8 +28,13 @@ pub enum Unserved {
 
 /// Who hears of lines that were not served.
 pub trait Hears {
+    // The lines that were heard of, where that is known.
+    ghost heard: { Self → Option (List Skipped) };
+
     /// Hears of a line, which is given without its end, and by its number. The job stands as before the line.
-    fn hear(&mut self, walk: &Walk, line_number: u32, line: &[u8], why: Unserved);
+    fn hear(&mut self, walk: &Walk, line_number: u32, line: &[u8], why: Unserved)
+        ensures { Grows (heard self.old) (heard self.new)
+            (record { number = line_number; line = line.now; why = why } ∷ []) };
 }
 
 /// How a job ended, and whether each line was served.
@@ -53,8 +58,11 @@ fn why_unserved(answer: &Answer) -> Option<Unserved>
 // The same of what a line told.
 fn why_of(walk: &Walk, told: &LineTold) -> Option<Unserved>
     requires { IsLent walk.now told.now }
-    ensures { (number : ℕ)
+    ensures served { (number : ℕ)
         → list_all is_of_served (events_told number walk.now told.now) ≡ not (is_some result) }
+    ensures skipped { (number : ℕ) (lines : ℕ → List ℕ)
+        → all_skipped lines (events_told number walk.now told.now)
+        ≡ skipped_for number (lines number) result }
 {
     match told {
         LineTold::Answered { answer, .. } => why_unserved(answer),
@@ -71,8 +79,9 @@ fn hear_line<W: Write, H: Hears>(
     all_served: &mut bool,
 ) -> Result<bool, Stop>
     requires { walk.old.number + 1 < 2 ^ 32 }
-    ensures ran { RunsStrictly (W.contents writer.old.inner) (W.contents writer.new.inner) walk.old
-        line.now walk.new all_served.old all_served.new result }
+    ensures ran { RunsStrictly (W.contents writer.old.inner) (W.contents writer.new.inner)
+        (H.heard hearer.old) (H.heard hearer.new) walk.old line.now walk.new all_served.old
+        all_served.new result }
     ensures number { walk.new.number ≡ walk.old.number + 1 }
     ensures ok { OnOk result (writer.new.failed ≡ writer.old.failed) }
     ensures write { IsErrOf result Stop.Write → writer.new.failed ≡ true }
@@ -99,14 +108,18 @@ pub fn run_strictly<W: Write, H: Hears>(
     hearer: &mut H,
 ) -> Result<StrictEnd, Stop>
     requires { length script.now ≤ most_script_bytes }
-    // What is written is the printing of a run of the script, in which each line was served, or not.
+    // What is written is the printing of a run of the script, in which each line was served, or not; and what is heard of is each line that
+    // was not, by its number, its text and the cause, in their order, and nothing else.
     ensures run { IfOk result
         (λ end. PrintsStrictly (W.contents writer.old.inner) (W.contents writer.new.inner)
-        script.now end.outcome end.all_served) }
+        (H.heard hearer.old) (H.heard hearer.new) script.now end.outcome end.all_served) }
     // Else it is a front of such a printing; for want of memory the whole printing before the reply to a statement that takes some.
     ensures stop { IfErr result
         (λ stop. PrintedUpTo stop (W.contents writer.old.inner) (W.contents writer.new.inner)
         script.now) }
+    // And what is heard of is each of the lines before that was not served.
+    ensures heard { IfErr result
+        (λ stop. HearsFront (H.heard hearer.old) (H.heard hearer.new) script.now) }
     ensures ok { OnOk result (writer.new.failed ≡ writer.old.failed) }
     ensures write { IsErrOf result Stop.Write → writer.new.failed ≡ true }
 {

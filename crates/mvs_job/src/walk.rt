@@ -10,7 +10,7 @@ ghost use Rattle.mvs_model.specs.Memory.{StopsForMemory, TakesMemory};
 ghost use Rattle.mvs_model.specs.Runs.{Does, machine};
 ghost use Rattle.mvs_model.specs.Walk.{Closes, has_abended, is_first};
 ghost use Rattle.step_machine.specs.Taking.{Takes};
-ghost use Rattle.mvs_job.specs.Telling.{IsLent, IsLentBy, IsToldBy, card_said, closing, end_told, ended, new_walk};
+ghost use Rattle.mvs_job.specs.Telling.{IsLent, IsLentBy, IsToldBy, KeepsReply, KeepsReplyOf, card_said, closing, end_told, ended, new_walk};
 ghost use Rattle.mvs_job.specs.Valued.{RequestsOf, WritesOf};
 ghost use Rattle.mvs_job.specs.Why.{TurnWritten};
 
@@ -160,6 +160,11 @@ fn serve(
         (lent later.state (fallen_in reply.new) task.now answer) later
         × IsLentBy later.state answer)
         (λ _. TakesMemory job.old (line.Statement task.now statement.now) []) }
+    ensures reply { IfOk result
+        (λ answer. (step : JobValue) × (later : JobValue) × (job.old ≡ Some step)
+        × (job.new ≡ Some later)
+        × KeepsReply step task.now statement.now reply.old
+        (lent later.state (fallen_in reply.new) task.now answer) reply.new later) }
 {
     match job {
         Some(job) => job.serve(task, statement, told, request, reply),
@@ -259,6 +264,8 @@ impl Walk {
         ensures told { MatchResult result (λ answered. IsToldBy (Takes told.now) self.old line.now answered self.new)
             (λ stopped. StopsForMemory self.old.number self.old.step (line.now ∷ [])
             (ended stopped.ended)) }
+        // Where the line makes a request, the reply that is kept is the one to that, and else the one before.
+        ensures reply { IfOk result (λ answered. KeepsReplyOf self.old line.now answered self.new) }
         ensures lent { IfOk result (IsLent self.new) }
         ensures number { self.new.number ≡ self.old.number + 1 }
     {

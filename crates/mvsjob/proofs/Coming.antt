@@ -1,5 +1,5 @@
 -- What is passed on of a script, a byte at a time.
-use Rattle.std.proofs.Common.{◌≡◌, ◌≢◌, ℕ, ◌<◌, ◌==◌, ◌&&◌, Bool, true, false, if◌then◌else◌, slice_set, ◌≤◌, List, [], ◌∷◌, ◌++◌, length, take, drop, append_assoc, append-nil, Option, Some, None, is_some, refl, sym, ap, ◌∙◌, arith, length-append, lt-ltb, ne_eqb, eq-eqb, eqb-true, subst, Result, Ok, Err, IfOk, IfErr}
+use Rattle.std.proofs.Common.{◌⊎◌, ◌≡◌, ◌≢◌, ℕ, ◌<◌, ◌==◌, ◌&&◌, Bool, true, false, if◌then◌else◌, slice_set, ◌≤◌, List, [], ◌∷◌, ◌++◌, length, take, drop, append_assoc, append-nil, Option, Some, None, is_some, refl, sym, ap, ◌∙◌, arith, length-append, lt-ltb, ne_eqb, eq-eqb, eqb-true, subst, Result, Ok, Err, IfOk, IfErr}
 use Rattle.std.specs.Option.{option_map}
 use Rattle.std.specs.Io.KnownBytes.{Consumes, IsAtEnd, Keeps}
 use Rattle.mvs_model.specs.declared.line.Fault.{Fault}
@@ -8,12 +8,12 @@ use Rattle.mvs_model.specs.Reading.{FaultOf, LineOf, is_empty, says_nothing}
 use Rattle.mvs_model.specs.declared.line.Line.{Line}
 use Rattle.mvs_model.specs.declared.outcome.Outcome.{Outcome}
 use Rattle.mvs_model.specs.Memory.{IsPrintingBefore}
-use Rattle.mvs_model.specs.Runs.{IsPrinting, IsPrintingFront}
+use Rattle.mvs_model.specs.Runs.{IsAnswered, IsPrinting, IsPrintingFront}
 use Rattle.mvs_job.specs.declared.run.RunFault.{RunFault}
-use Rattle.mvs_job.specs.declared.run.RunFault.TheVariants.{Memory, ReadTooLong}
+use Rattle.mvs_job.specs.declared.run.RunFault.TheVariants.{Memory, Read, ReadTooLong}
 use Rattle.mvs_job.specs.Exchanging.{Exchanges, IsRest}
 use Rattle.mvs_job.proofs.Feeding.{lines_ended, lines_last}
-use Rattle.mvsjob.specs.Faultless.{is_faulty, faultless, without_faults, passed, first_behind, passed_of, rest_of, begun, coming, known_coming, Writes}
+use Rattle.mvsjob.specs.Faultless.{is_faulty, faultless, without_faults, passed, first_behind, passed_of, rest_of, begun, coming, known_coming, Writes, WritesPart}
 
 -- ---- a line that is too long
 
@@ -191,10 +191,22 @@ module _ (left unread more before after : Option (List ℕ)) (same : left ≡ un
   written_ok (Ok outcome) h = subst (λ l. Writes l before after (λ script written. IsPrinting script written outcome)) same (writes_of left more before after (λ told script written. (length told ≤ 16777215) × IsPrinting script written outcome) (λ script written. IsPrinting script written outcome) (λ told script written p. p.1) h)
   written_ok (Err fault) h = tt
 
-  pub written_front : (r : Result Outcome RunFault) → IfErr r (λ fault. Exchanges left more before after (λ told script written. (length told ≤ 16777216) × IsPrintingFront script written × (fault ≡ ReadTooLong → 16777215 < length told)))
-      → IfErr r (λ fault. Writes unread before after (λ script written. IsPrintingFront script written))
+  part : (P : List ℕ → List ℕ → List ℕ → Type 0) → Exchanges left more before after P → WritesPart unread before after P
+  part P h = (more, subst (λ l. Exchanges l more before after P) same h)
+
+  abbrev IsCut : RunFault → List ℕ → List ℕ → List ℕ → Type 0
+  IsCut fault consumed script written = (length consumed ≤ 16777216) × IsPrintingFront script written × (fault ≡ ReadTooLong → 16777215 < length consumed)
+
+  pub written_front : (r : Result Outcome RunFault) → IfErr r (λ fault. Exchanges left more before after (IsCut fault)) → IfErr r (λ fault. WritesPart unread before after (IsCut fault))
   written_front (Ok outcome) h = tt
-  written_front (Err fault) h = subst (λ l. Writes l before after (λ script written. IsPrintingFront script written)) same (writes_of left more before after (λ told script written. (length told ≤ 16777216) × IsPrintingFront script written × (fault ≡ ReadTooLong → 16777215 < length told)) (λ script written. IsPrintingFront script written) (λ told script written p. p.1) h)
+  written_front (Err fault) h = part (IsCut fault) h
+
+  abbrev IsAnsweredIn : List ℕ → List ℕ → List ℕ → Type 0
+  IsAnsweredIn consumed script written = IsAnswered (take 16777215 consumed) written
+
+  pub written_answers : (r : Result Outcome RunFault) → IfErr r (λ fault. (fault ≡ Read) ⊎ (fault ≡ ReadTooLong) → Exchanges left more before after IsAnsweredIn) → IfErr r (λ fault. (fault ≡ Read) ⊎ (fault ≡ ReadTooLong) → WritesPart unread before after IsAnsweredIn)
+  written_answers (Ok outcome) h = tt
+  written_answers (Err fault) h = λ e. part IsAnsweredIn (h e)
 
   pub written_before : (r : Result Outcome RunFault) → IfErr r (λ fault. fault ≡ Memory → Exchanges left more before after (λ told script written. IsPrintingBefore script written))
       → IfErr r (λ fault. fault ≡ Memory → Writes unread before after (λ script written. IsPrintingBefore script written))

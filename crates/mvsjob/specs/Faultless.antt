@@ -3,7 +3,7 @@ use Rattle.std.specs.Prelude.{ℕ, ◌==◌, ◌&&◌, Bool, true, if◌then◌e
 use Rattle.std.specs.Io.KnownBytes.{Appends}
 use Rattle.mvs_model.specs.Lines.{lines_of, ended_text}
 use Rattle.mvs_model.specs.Reading.{checks, first_of, is_empty, says_nothing}
-use Rattle.mvs_job.specs.Exchanging.{IsRest}
+use Rattle.mvs_job.specs.Exchanging.{Exchanges, IsRest}
 
 -- whether a line has a fault, where no statement came before it, or one did
 unfoldable pub is_faulty : Bool → List ℕ → Bool
@@ -21,6 +21,10 @@ without_faults script = ended_text (faultless true (lines_of script))
 -- Where it is known what is left to be told, P holds of that and of what is written; and else of some bytes and of what is written.
 abbrev pub Writes : Option (List ℕ) → Option (List ℕ) → Option (List ℕ) → (List ℕ → List ℕ → Type 0) → Type 0
 Writes left before after P = (script : List ℕ) × (written : List ℕ) × IsRest left script × Appends before after written × P script written
+
+-- Where it is known what is left to be told, a front of that was consumed; and P holds of that, of all of it, and of what is written.
+abbrev pub WritesPart : Option (List ℕ) → Option (List ℕ) → Option (List ℕ) → (List ℕ → List ℕ → List ℕ → Type 0) → Type 0
+WritesPart unread before after P = (left : Option (List ℕ)) × Exchanges unread left before after P
 
 -- ---- as it comes
 

@@ -1,11 +1,12 @@
 //! A reader that leaves out the lines of a script that have a fault.
 
-ghost use Rattle.std.specs.Prelude.{◌≡◌, ◌||◌, ◌∷◌, [], ℕ, List, None, true, false, is_some, IfErr, IfOk, IsErrOf, MatchOption, OnOk};
+ghost use Rattle.std.specs.Prelude.{◌≡◌, ◌<◌, ◌≤◌, ◌+◌, ◌||◌, ◌⊎◌, ◌∷◌, [], ℕ, List, None, true, false, is_some, length, take, IfErr, IfOk, IsErrOf, MatchOption, OnOk};
 ghost use Rattle.mvs_model.specs.Memory.{IsPrintingBefore};
-ghost use Rattle.mvs_model.specs.Runs.{IsPrinting, IsPrintingFront};
+ghost use Rattle.mvs_model.specs.Numbers.{most_script_bytes};
+ghost use Rattle.mvs_model.specs.Runs.{IsAnswered, IsPrinting, IsPrintingFront};
 ghost use Rattle.std.specs.Option.{option_map};
 ghost use Rattle.std.specs.Io.KnownBytes.{Keeps};
-ghost use Rattle.mvsjob.specs.Faultless.{Writes, begun, coming, first_behind, known_coming, passed, rest_of, without_faults};
+ghost use Rattle.mvsjob.specs.Faultless.{Writes, WritesPart, begun, coming, first_behind, known_coming, passed, rest_of, without_faults};
 
 use crate::faulty::says_nothing;
 use job_script::{LineBuffer, read_line};
@@ -267,13 +268,21 @@ pub fn run_faultless<R: Read + Drop, L: Listens + Drop, W: Write>(
         (λ script written. IsPrinting script written outcome)) }
     // Else it is a front of such a printing; for want of memory the whole printing before the reply to a statement that takes some.
     ensures fault { IfErr result.ended
-        (λ fault. Writes (option_map without_faults (R.remaining reader))
+        (λ fault. WritesPart (option_map without_faults (R.remaining reader))
         (W.contents writer.old.inner) (W.contents writer.new.inner)
-        (λ script written. IsPrintingFront script written)) }
+        (λ consumed script written. (length consumed ≤ most_script_bytes + 1)
+        × IsPrintingFront script written
+        × (fault ≡ RunFault.ReadTooLong → most_script_bytes < length consumed))) }
     ensures memory { IfErr result.ended
         (λ fault. fault ≡ RunFault.Memory → Writes (option_map without_faults (R.remaining reader))
         (W.contents writer.old.inner) (W.contents writer.new.inner)
         (λ script written. IsPrintingBefore script written)) }
+    // Before a read that failed, and before the byte that is too many, all lines that have ended are answered.
+    ensures answered { IfErr result.ended
+        (λ fault. (fault ≡ RunFault.Read) ⊎ (fault ≡ RunFault.ReadTooLong)
+        → WritesPart (option_map without_faults (R.remaining reader))
+        (W.contents writer.old.inner) (W.contents writer.new.inner)
+        (λ consumed script written. IsAnswered (take most_script_bytes consumed) written)) }
     ensures healthy { OnOk result.ended (writer.new.failed ≡ false) }
     ensures write { IsErrOf result.ended RunFault.Write → writer.new.failed ≡ true }
 {

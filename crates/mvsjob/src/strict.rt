@@ -1,5 +1,7 @@
 //! Runs the script, and tells each line that was not served.
 
+ghost use Rattle.std.specs.Prelude.{None};
+
 use crate::choices::Settings;
 use crate::clues::{Lacked, clue_of, unset};
 use crate::ending::{Ending, GiveUp};
@@ -54,6 +56,8 @@ impl Teller<'_> {
 }
 
 impl Hears for Teller<'_> {
+    ghost heard = { λ _. None };
+
     // A failure to tell changes nothing.
     fn hear(&mut self, walk: &Walk, line_number: u32, line: &[u8], why: Unserved) {
         let Some(job) = walk.job() else {

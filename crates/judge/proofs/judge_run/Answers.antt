@@ -20,16 +20,17 @@ said_of : (c : goal.After-drop-told-2) → IsSaid c.args.script.now c.args.outpu
 said_of c =
     let f = c.in-Ok.followed in
     let on = followed_on c.args.script.now c.args.output.now c.follow.new.walk f.at f.text.items f.passes f.ended f.open_line c.in_default-ended.is c.in-Ok.ensures in
-    let printed = c.in-Ok-run_rest.ensures c.args.script.now (subst (Stands c.args.script.now f.text.items c.follow.new.walk) (sym (take_rest c.args.script.now f.at)) on.1) in
+    let printed = c.in-Ok-run_rest.ensures.run c.args.script.now (subst (Stands c.args.script.now f.text.items c.follow.new.walk) (sym (take_rest c.args.script.now f.at)) on.1) in
+    let grown = c.in-Ok-run_rest.ensures.grown in
     let test = subst (λ x. Tests c.eq-agrees.result (x ≡ c.args.output.now)) c.as_slice.ensures.value (slice_eq-Decides same_test _ _ c.eq-agrees.result c.eq-agrees.ensures) in
     subst (IsSaid c.args.script.now c.args.output.now c.in-Ok-run_rest.ran.text.items c.in-Ok-run_rest.ran.outcome) (sym c.finding_of-2.ensures)
-    (found_parted c.args.script.now c.args.output.now c.in-Ok-run_rest.ran.text.items c.in-Ok-run_rest.ran.outcome f.open_line f.passes c.eq-agrees.result on.0 printed test)
+    (found_parted c.args.script.now c.args.output.now f.text.items c.in-Ok-run_rest.ran.text.items grown.0 c.in-Ok-run_rest.ran.outcome f.open_line f.passes c.eq-agrees.result grown.1 on.0 printed test)
 
 pub returns-clause-found : goal.returns-clause-found
 returns-clause-found c = (said_of c).0
 
 pub returns-clause-decided : goal.returns-clause-decided
-returns-clause-decided c = λ asked n e. asked_decides c.args.script.now c.args.output.now c.in-Ok-run_rest.ran.outcome c.finding_of-2.result n asked (said_of c).0 e
+returns-clause-decided c = λ asked n e. asked_decides c.args.script.now c.args.output.now c.in-Ok-run_rest.ran.text.items c.in-Ok-run_rest.ran.outcome c.finding_of-2.result n asked (said_of c).0 e
 
 pub returns-clause-agrees : goal.returns-clause-agrees
 returns-clause-agrees c = (said_of c).2

@@ -1,17 +1,21 @@
-use Rattle.mvs_job.proofs.Strictly.{line_faulted, line_served, line_unserved, none_of}
+use Rattle.mvs_job.proofs.Strictly.{line_faulted, line_served, line_stopped, line_unserved, none_of}
 use Rattle.mvs_job.proofs.strict.hear_line.Goals as goal
 use Rattle.mvs_job.proofs.strict.hear_line.Goals.{in-Faulted, in_default-matches}
 
 pub returns-in-Some-clause-ran : goal.returns-in-Some-clause-ran
 returns-in-Some-clause-ran g c =
-    line_unserved _ _ c.args.walk.now c.tell_line.new.walk c.args.line.now c.args.all_served.now c.in-Ok.told c.why_of.result c.in-Some.why c.in-Some.is (c.why_of.ensures c.args.walk.now.number) c.in-Ok.ensures.ran.0 c.in-Ok.ensures.ran.1
+    line_unserved _ _ _ _ c.args.walk.now c.tell_line.new.walk c.args.line.now c.args.all_served.now c.in-Ok.told c.why_of.result c.in-Some.why c.in-Some.is (c.why_of.ensures.served c.args.walk.now.number) (c.why_of.ensures.skipped c.args.walk.now.number) (rw (c.number.ensures) at c.hear.ensures) c.in-Ok.ensures.ran.0 c.in-Ok.ensures.ran.1
 
 pub returns-clause-ran : goal.returns-clause-ran
 returns-clause-ran g c =
-    let served = none_of c.why_of.result c.in_default.not-Some in
-    let heard = c.why_of.ensures c.args.walk.now.number in
+    let none = none_of c.why_of.result c.in_default.not-Some in
+    let served = c.why_of.ensures.served c.args.walk.now.number in
+    let skipped = c.why_of.ensures.skipped c.args.walk.now.number in
     let ran = c.in-Ok.ensures.ran in
     elim c.match-matches.branch [
-      | in-Faulted w ↦ rw (w.matches-is) (line_faulted _ _ c.args.walk.now c.tell_line.new.walk c.args.line.now c.args.all_served.now c.in-Ok.told c.why_of.result _ w.in-Faulted.is served heard ran.0 ran.1)
-      | in_default-matches w ↦ rw (w.matches-is) (line_served _ _ c.args.walk.now c.tell_line.new.walk c.args.line.now c.args.all_served.now c.in-Ok.told c.why_of.result w.in_default-matches.not-Faulted served heard ran.0 ran.1)
+      | in-Faulted w ↦ rw (w.matches-is) (line_faulted _ _ _ _ c.args.walk.now c.tell_line.new.walk c.args.line.now c.args.all_served.now c.in-Ok.told c.why_of.result _ w.in-Faulted.is none served skipped ran.0 ran.1)
+      | in_default-matches w ↦ rw (w.matches-is) (line_served _ _ _ _ c.args.walk.now c.tell_line.new.walk c.args.line.now c.args.all_served.now c.in-Ok.told c.why_of.result w.in_default-matches.not-Faulted none served skipped ran.0 ran.1)
     ]
+
+pub returns-in-Err-clause-ran : goal.returns-in-Err-clause-ran
+returns-in-Err-clause-ran g c = line_stopped _ _ _ _ c.args.walk.now c.tell_line.new.walk c.args.line.now c.args.all_served.now c.in-Err.stop c.in-Err.ensures.ran _

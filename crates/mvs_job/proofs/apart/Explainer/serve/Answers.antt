@@ -1,4 +1,8 @@
-use Rattle.std.proofs.Common.{subst, sym}
+use Rattle.std.proofs.Common.{◌≡◌, Ok, Err, Result, inl, inr, subst, sym}
+use Rattle.mvs_job.specs.declared.printing.Stop.{Stop}
+use Rattle.mvs_job.specs.declared.printing.Stop.TheVariants.{Memory, Write}
+use Rattle.mvs_job.specs.declared.walk.LineTold.{LineTold}
+use Rattle.mvs_job.specs.Serving.{RunsLine}
 use Rattle.mvs_job.specs.Explaining.{behind_said}
 use Rattle.mvs_job.specs.Naming.{KeepsLines}
 use Rattle.mvs_job.proofs.Parting.{stands_behind}
@@ -17,6 +21,32 @@ returns g c = elim c.match-print_behind.branch [
         lines = subst (λ later. KeepsLines c.args.walk.now set c.args.line.now c.tell.new.walk c.in-Ok.told later) (sym c.print_behind.ensures.lines) c.in-Ok.ensures.lines;
         lent = c.in-Ok.ensures.lent;
         number = c.in-Ok.ensures.number;
+        memory = λ e. absurd (is_ok Memory e);
+        write = λ e. absurd (is_ok Write e);
       })
-  | in-Err-print_behind w ↦ rw (w.result-is) (record { told = tt; printed = tt; behind = tt; lines = tt; lent = tt; number = c.in-Ok.ensures.number })
-]
+  | in-Err-print_behind w ↦ rw (w.result-is) (record {
+      told = tt;
+      printed = tt;
+      behind = tt;
+      lines = tt;
+      lent = tt;
+      number = c.in-Ok.ensures.number;
+      memory = λ e. absurd (is_write e);
+      write = λ e. inr (w.in-Err-print_behind.ensures.printed c.args.walk.now.number).err;
+    })
+] where
+  is_write : (◌≡◌ {A = Result LineTold Stop} (Err Write) (Err Memory)) → ⊥
+  is_write e = cc
+
+  is_ok : (stop : Stop) → (◌≡◌ {A = Result LineTold Stop} (Ok c.in-Ok.told) (Err stop)) → ⊥
+  is_ok stop e = cc
+
+-- where the line itself stopped
+pub returns-in-Err-clause-memory : goal.returns-in-Err-clause-memory
+returns-in-Err-clause-memory g c = λ e.
+    let is : c.in-Err.stop ≡ Memory = cc in
+    rw (← c.self.view_is) (subst (λ stop. RunsLine (g.W.Write.contents c.args.writer.now.inner) (g.W.Write.contents c.tell.new.writer.inner) c.args.walk.now c.args.line.now c.tell.new.walk (Err stop)) is c.in-Err.ensures.ran)
+
+pub returns-in-Err-clause-write : goal.returns-in-Err-clause-write
+returns-in-Err-clause-write g c = λ e. inl (c.in-Err.ensures.write e)
+

@@ -4,11 +4,11 @@ use Rattle.mvs_job.proofs.stream.Stream.last_turn.Goals as goal
 
 pub returns-in-Err-clause-turn : goal.returns-in-Err-clause-turn
 returns-in-Err-clause-turn g c = λ unread start count u.
-    given_up _ _ _ _ count _ c.in-Err.fault (read_failed _ _ _ _ _ _ _ _ _ u c.in-Err.ensures.unwritten 0 c.in-Err.fault (λ e. c.in-Err.ensures.not_memory (ap (λ x. Err x) e)) c.in-Err.ensures.bytes) (omega arith) (λ e. c.in-Err.ensures.not_long (ap (λ x. Err x) e))
+    given_up _ _ _ _ count _ c.in-Err.fault (read_failed _ _ _ _ _ _ _ _ _ u c.in-Err.ensures.unwritten 0 c.in-Err.fault (λ e. c.in-Err.ensures.not_memory (ap (λ x. Err x) e)) c.in-Err.ensures.bytes c.requires.room) (omega arith) (λ e. c.in-Err.ensures.not_long (ap (λ x. Err x) e))
 
 pub returns-then-count-gt0-clause-turn : goal.returns-then-count-gt0-clause-turn
 returns-then-count-gt0-clause-turn g c = λ unread start count u.
-    read_too_many _ _ _ _ _ _ _ _ _ u c.in-Ok.ensures.unwritten c.in-Ok.count c.read.new.chunk c.in-Ok.ensures.bytes c.in-Ok.ensures.bound (omega (arith, c.in-Ok.ensures.room)) (omega (arith, c.if-count-gt0.true))
+    read_too_many _ _ _ _ _ _ _ _ _ u c.in-Ok.ensures.unwritten c.in-Ok.count c.read.new.chunk c.in-Ok.ensures.bytes c.in-Ok.ensures.bound (omega (arith, c.in-Ok.ensures.room)) (omega (arith, c.if-count-gt0.true)) c.requires.room
 
 pub returns-in-Ok-finish-clause-turn : goal.returns-in-Ok-finish-clause-turn
 returns-in-Ok-finish-clause-turn g c = λ unread start count u.

@@ -3,7 +3,7 @@ use Rattle.mvs_job.proofs.Feeding.{read_failed, read_end, read_end_stopped, read
 use Rattle.mvs_job.proofs.stream.Stream.turn.Goals as goal
 
 pub returns-in-Err-clause-turn : goal.returns-in-Err-clause-turn
-returns-in-Err-clause-turn g c = λ unread start count u. read_failed _ _ _ _ _ _ _ _ _ u c.in-Err.ensures.unwritten (length c.args.chunk.now) c.in-Err.fault (λ e. c.in-Err.ensures.not_memory (ap (λ x. Err x) e)) c.in-Err.ensures.bytes
+returns-in-Err-clause-turn g c = λ unread start count u. read_failed _ _ _ _ _ _ _ _ _ u c.in-Err.ensures.unwritten (length c.args.chunk.now) c.in-Err.fault (λ e. c.in-Err.ensures.not_memory (ap (λ x. Err x) e)) c.in-Err.ensures.bytes c.requires.room
 
 pub returns-in-Ok-finish-clause-turn : goal.returns-in-Ok-finish-clause-turn
 returns-in-Ok-finish-clause-turn g c = λ unread start count u.
