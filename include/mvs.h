@@ -164,7 +164,8 @@ typedef struct mvs_session {
 
 #define MVS_SESSION_INIT { NULL }
 
-/* Which of the places that serve is taken. Any other number is MVS_HIGH too. */
+/* Which of the places that fit is taken: the lowest or the highest. Any other number is MVS_HIGH too. The machine allows each such
+ * place, so no proof says that this one is taken: it is tested. */
 enum { MVS_LOW = 0, MVS_HIGH = 1 };
 
 /* Begins a session, and frees the one that was there. MVS_OK, or MVS_NO_MEMORY. */
@@ -202,7 +203,7 @@ uint32_t mvs_read(mvs_session *session, uint32_t address, uint8_t *out, size_t l
 uint32_t mvs_write(mvs_session *session, uint32_t address, const uint8_t *bytes, size_t length);
 
 /* Tells the name, padded with blanks, of the task of this index, from 0 on, among those that ended with the one that abended,
- * where the last request that was made abended. MVS_OK; MVS_NO_MORE or MVS_NO_SESSION, and then the name is as it was. */
+ * where the last request that was made abended: of a line or by values; a line that makes no request changes nothing of this. MVS_OK; MVS_NO_MORE or MVS_NO_SESSION, and then the name is as it was. */
 uint32_t mvs_fallen(mvs_session *session, size_t index, uint8_t name[8]);
 
 /* Tells of the first subpool number at or after one that a task has. The task's name has length bytes, 1 to 8, and no blank. MVS_OK;

@@ -6,3 +6,4 @@ mod ListLines
 mod Asked
 mod Rest
 mod Found
+mod Answering

@@ -1,6 +1,6 @@
 -- The line of a list decides what a run may print, where questions stand behind it.
 use Rattle.std.proofs.Common.{◌≡◌, ℕ, ◌+◌, ◌<◌, ◌⊎◌, inl, inr, Bool, true, false, List, [], ◌∷◌, ◌++◌, suc, length, map, drop, codes, ◌-◌, Option, Some, None, append_assoc, append-nil, arith, refl, sym, ap, ◌∙◌, subst}
-use Rattle.std.specs.Prelude.{not, ◌^◌}
+use Rattle.std.specs.Prelude.{◌||◌, not, ◌^◌}
 use Rattle.std.specs.Bool.{MatchBool}
 use Rattle.std.specs.List.{AllByRecursion}
 use Rattle.std.specs.FinMap.{get}
@@ -25,12 +25,13 @@ use Rattle.mvs_model.specs.Runs.{machine, job_machine}
 use Rattle.mvs_model.specs.Texts.{answer_text, hex, printing, reply_line, said}
 use Rattle.mvs_model.specs.Walk.{Faults, Serves, is_first}
 use Rattle.mvs_model.proofs.Reading.{one_reading}
+use Rattle.mvs_model.proofs.Tests.{false_true}
 use Rattle.step_machine.specs.Taking.{Takes}
 use Rattle.mvs_job.specs.declared.walk.LineTold.{LineTold}
 use Rattle.mvs_job.specs.declared.walk.LineTold.TheVariants as tells
 use Rattle.mvs_job.specs.Telling.{IsToldBy, WalkValue, events_told}
-use Rattle.judge.specs.Judging.{AreApart, AskEach, IsAskedBefore, IsAskedFor, IsOpen, IsQuestion, leaves_open}
-use Rattle.judge.specs.Deciding.{DecidesBefore, InBounds, IsFoundFirst, IsList, IsServed, MayPrint, ReadsEach, at_text, no_bytes}
+use Rattle.judge.specs.Judging.{AreApart, AskEach, BeginsAnswered, IsAskedBefore, IsAskedFor, IsOpen, IsQuestion, leaves_open}
+use Rattle.judge.specs.Deciding.{DecidesBefore, InBounds, IsFoundFirst, IsList, IsServed, MayPrint, OpensList, ReadsEach, at_text, no_bytes}
 use Rattle.judge.proofs.Decided.{HasTold, Serving, at_long, digits_behind, line_served, may_serve, one_leads, one_said, told_cases}
 use Rattle.judge.proofs.Lists.{AreAt, AreOtherwise, ListApart, listed, texts_part}
 
@@ -154,9 +155,39 @@ module _ (told : List ℕ) (w w1 : WalkValue) (l : List ℕ) (tl : LineTold) (ta
           (goes_on (drop (length printed) left) outcome (λ e. subst (λ x. ReadsEach (drop (length x) left) (w.number + 1) task areas told) (sym (same ∙ e)) reads) (front ∙ ap (λ x. x ++ drop (length printed) left) same) may)
 
     -- or the list is open
-    pub list_opens : ((rest : List ℕ) → left ≡ printed ++ rest → ⊥) → IsOpen w.number w.step (l ∷ more) left
-    list_opens differs =
-        (asks.0, asks.1, ap leaves_open asks.2.4, λ _. ((task, areas, asks.2), events_told w.number w1 tl, w1.step, one_leads (Takes told) w w1 l tl printed is_l same list_whole, (λ rest e. differs rest (e ∙ ap (λ x. x ++ rest) (sym same)))))
+    pub list_opens : ((rest : List ℕ) → left ≡ printed ++ rest → ⊥) → BeginsAnswered w.number task left → IsOpen w.number w.step (l ∷ more) left
+    list_opens differs begins =
+        (asks.0, asks.1, ap leaves_open asks.2.4, λ _. ((task, areas, asks.2), events_told w.number w1 tl, w1.step, one_leads (Takes told) w w1 l tl printed is_l same list_whole, (λ rest e. differs rest (e ∙ ap (λ x. x ++ rest) (sym same))), begins))
+
+    -- or no list is answered so
+    pub list_refuses : ((rest : List ℕ) → left ≡ printed ++ rest → ⊥) → (BeginsAnswered w.number task left → ⊥) → DecidesBefore (l ∷ []) more left w printed true false w1
+    list_refuses differs none outcome may = at (told_cases (Takes told) w l tl w1 is_l) (may_serve w.number w.step l more left outcome may) where
+      step_differs : (old : Option JobValue) → InBounds old → (events other : List Event) (a b : Option JobValue) (rest : List ℕ) → Serves (job_machine (Takes told)) w.number old (list_line task asks.2.0 asks.2.1 asks.2.2 asks.2.3 areas) events a
+          → Serves machine w.number old (list_line task asks.2.0 asks.2.1 asks.2.2 asks.2.3 areas) other b → printed ≡ printing events → left ≡ printing other ++ rest → ⊥
+      step_differs None bounds events other a b rest x y is e = absurd x
+      step_differs (Some job) bounds events other a b rest x y is e = go (listed told job task x.0 y.0 x.1 y.1 asks.2.0 asks.2.1 asks.2.2 asks.2.3 areas asks.2.5 asks.2.6 bounds x.2 y.2) where
+        theirs : left ≡ answer_text w.number task y.0 ++ rest
+        theirs = e ∙ ap (λ events. printing events ++ rest) y.3 ∙ ap (λ x. x ++ rest) (append-nil (answer_text w.number task y.0))
+
+        alike_differs : x.0 ≡ y.0 → ⊥
+        alike_differs f = differs rest (e ∙ ap (λ events. printing events ++ rest) (y.3 ∙ ap (λ answer. Told w.number task answer ∷ []) (sym f) ∙ sym x.3) ∙ ap (λ x. x ++ rest) (sym is))
+
+        other_differs : AreOtherwise x.0 y.0 → ⊥
+        other_differs (inl (f, g)) = none (y.0, inr g, rest, theirs)
+        other_differs (inr (f, g)) = none (y.0, inl g, rest, theirs)
+
+        go : ((x.0 ≡ y.0) × (x.1 ≡ y.1)) ⊎ (AreOtherwise x.0 y.0 ⊎ ((x.0 ≡ y.0) × (x.0 ≡ Rc0) × ListApart told x.1 y.1 task areas)) → ⊥
+        go (inl s) = alike_differs s.0
+        go (inr (inl o)) = other_differs o
+        go (inr (inr (f, g, h))) = alike_differs f
+
+      at : HasTold (Takes told) w l tl w1 → ((events : List Event) × Faults w.number (is_first w.step) l events × (left ≡ printing events)) ⊎ Serving w.number w.step l more left outcome → ⊥
+      at (inl u) v = list_whole u.0 u.1
+      at (inr u) (inl v) = one_reading.not_both (is_first w.step) l _ v.1.0 said_is v.1.1
+      at (inr u) (inr v) =
+          let mine = subst (λ said. Serves (job_machine (Takes told)) w.number w.step said (events_told w.number w1 tl) w1.step) (one_reading.one_line (is_first w.step) l u.1.0 _ u.1.1 said_is) u.1.2 in
+          let theirs = subst (λ said. Serves machine w.number w.step said v.1 v.0) (one_reading.one_line (is_first w.step) l v.3.0 _ v.3.1 said_is) v.3.2 in
+          step_differs w.step bounds (events_told w.number w1 tl) v.1 w1.step v.0 v.2 mine theirs same v.4
 
 -- a list behind which its areas are asked for
 pub list_asked : (step : Option JobValue) (l : List ℕ) (task : Name) (areas : List Name) (more : List (List ℕ)) → IsList step l task areas → AskEach more task areas → IsAskedBefore (l ∷ []) more
@@ -165,15 +196,26 @@ list_asked step l task areas more asks each = (first, tt) where
   first said is opens = inr (task, areas, (asks.2.0, asks.2.1, asks.2.2, asks.2.3, one_said (line_said l) is.says asks.1.says ∙ asks.2.4, asks.2.5, asks.2.6), each)
 
 -- what is found at a list
-pub list_found : (script left : List ℕ) (w w1 : WalkValue) (end : ℕ) (l : List ℕ) (task : Name) (areas : List Name) (text : List ℕ) (goes_on passes : Bool) → lines_of script ≡ l ∷ lines_of (drop (end + 1) script) → IsList w.step l task areas → AskEach (lines_of (drop (end + 1) script)) task areas
-    → IsServed (l ∷ []) w text true w1 → goes_on ≡ true → (passes ≡ false → IsOpen w.number w.step (l ∷ lines_of (drop (end + 1) script)) left) → (passes ≡ true → DecidesBefore (l ∷ []) (lines_of (drop (end + 1) script)) left w text true true w1)
-    → IsFoundFirst script left w (end + 1) text goes_on true (not passes) w1
-list_found script left w w1 end l task areas text goes_on true cut asks each served goes opens decides = (
+pub list_found : (script left : List ℕ) (w w1 : WalkValue) (end : ℕ) (l : List ℕ) (task : Name) (areas : List Name) (text : List ℕ) (goes_on passes opens : Bool) → lines_of script ≡ l ∷ lines_of (drop (end + 1) script) → IsList w.step l task areas → AskEach (lines_of (drop (end + 1) script)) task areas
+    → IsServed (l ∷ []) w text true w1 → goes_on ≡ true
+    → (passes ≡ false → BeginsAnswered w.number task left → IsOpen w.number w.step (l ∷ lines_of (drop (end + 1) script)) left)
+    → (passes ≡ false → (BeginsAnswered w.number task left → ⊥) → DecidesBefore (l ∷ []) (lines_of (drop (end + 1) script)) left w text true false w1)
+    → (passes ≡ true → DecidesBefore (l ∷ []) (lines_of (drop (end + 1) script)) left w text true true w1)
+    → OpensList w.number task left passes opens → IsFoundFirst script left w (end + 1) text goes_on (passes || opens) opens w1
+list_found script left w w1 end l task areas text goes_on true true cut asks each served goes is_open refuses decides tested = absurd (let e : true ≡ false = tested in cc)
+list_found script left w w1 end l task areas text goes_on true false cut asks each served goes is_open refuses decides tested = (
   l ∷ [],
   cut,
   subst (λ b. IsServed (l ∷ []) w text b w1) (sym goes) served,
   subst (λ b. DecidesBefore (l ∷ []) (lines_of (drop (end + 1) script)) left w text b true w1) (sym goes) (decides refl),
   λ _. list_asked w.step l task areas (lines_of (drop (end + 1) script)) asks each,
 )
-list_found script left w w1 end l task areas text goes_on false cut asks each served goes opens decides =
-    (l, cut, served, subst (λ lines. IsOpen w.number w.step lines left) (sym cut) (opens refl), goes, refl)
+list_found script left w w1 end l task areas text goes_on false true cut asks each served goes is_open refuses decides tested =
+    (l, cut, served, subst (λ lines. IsOpen w.number w.step lines left) (sym cut) (is_open refl (tested.0 refl)), goes, refl)
+list_found script left w w1 end l task areas text goes_on false false cut asks each served goes is_open refuses decides tested = (
+  l ∷ [],
+  cut,
+  subst (λ b. IsServed (l ∷ []) w text b w1) (sym goes) served,
+  subst (λ b. DecidesBefore (l ∷ []) (lines_of (drop (end + 1) script)) left w text b false w1) (sym goes) (refuses refl (λ begins. false_true (tested.1 begins))),
+  λ _. list_asked w.step l task areas (lines_of (drop (end + 1) script)) asks each,
+)

@@ -5,7 +5,6 @@ use Rattle.std.specs.List.{AllByRecursion}
 use Rattle.std.specs.FinMap.{FinMap, get, insert, get-insert}
 use Rattle.std.proofs.lemmas.List.{append_cancel_left}
 use Rattle.mvs_model.specs.declared.name.Name.{Name}
-use Rattle.mvs_model.specs.declared.code.Code.{Code}
 use Rattle.mvs_model.specs.declared.code.Form.{Form}
 use Rattle.mvs_model.specs.declared.want.Side.TheVariants.{Below}
 use Rattle.mvs_model.specs.declared.line.Statement.TheVariants as says
@@ -22,6 +21,7 @@ use Rattle.mvs_model.specs.Texts.{answer_text, code_text, reply_line}
 use Rattle.mvs_model.specs.Owners.{is_active, keeper}
 use Rattle.mvs_model.specs.Storage.{InRegion, Regions}
 use Rattle.mvs_model.specs.State.{State}
+use Rattle.mvs_model.specs.declared.code.Family.{Family}
 use Rattle.mvs_model.specs.Codes.{family, is_conditional, short}
 use Rattle.mvs_model.specs.Changes.{ListGrant, ListShort}
 use Rattle.mvs_model.specs.Steps.{Fails, is_invalid}
@@ -36,7 +36,7 @@ use Rattle.mvs_model.proofs.OneSteps.{by_two, head_of, none_granted, one_grant, 
 use Rattle.mvs_model.proofs.Orders.{name_cmp_total, told as told_apart}
 use Rattle.mvs_model.proofs.RegionsKept.{list_inside}
 use Rattle.step_machine.specs.Taking.{Takes}
-use Rattle.judge.specs.Judging.{AreApart}
+use Rattle.judge.specs.Judging.{AnswersList, AreApart}
 use Rattle.judge.proofs.Areas.{by_active, name_put, small, task_stays}
 use Rattle.judge.proofs.Settled.{made_same}
 
@@ -100,7 +100,7 @@ all_small r (p ∷ ps) bounded x = (small r p bounded x.0, all_small r ps bounde
 
 -- The list is refused.
 abbrev pub IsFailure : Answer → Type 0
-IsFailure answer = (answer ≡ Rc4) ⊎ ((code : Code) × (fallen : List Name) × (answer ≡ Abended code fallen))
+IsFailure answer = (answer ≡ Rc4) ⊎ ((kin : Family) × (fallen : List Name) × (answer ≡ Abended (short kin) fallen))
 
 front_parts : (d s x u : List ℕ) → (d ++ codes " " ++ s ++ codes " " ++ x ++ codes "\n") ++ u ≡ (d ++ codes " " ++ s ++ codes " ") ++ (x ++ (codes "\n" ++ u))
 front_parts d s x u = search (append_assoc)
@@ -113,8 +113,8 @@ texts_part number t answer u v (inl is) e =
     let f = behind_front number t (codes "RC 0") (codes "RC 4") u v (e ∙ ap (λ a. answer_text number t a ++ v) is) in
     let g : 48 ≡ 52 = ap (λ x. head_of (tail_of (tail_of (tail_of x)))) f in
     omega (arith, g)
-texts_part number t answer u v (inr (code, fallen, is)) e =
-    let f = behind_front number t (codes "RC 0") (codes "ABEND " ++ code_text code) u _ (e ∙ ap (λ a. answer_text number t a ++ v) is ∙ append_assoc (reply_line number t (codes "ABEND " ++ code_text code)) _ v) in
+texts_part number t answer u v (inr (kin, fallen, is)) e =
+    let f = behind_front number t (codes "RC 0") (codes "ABEND " ++ code_text (short kin)) u _ (e ∙ ap (λ a. answer_text number t a ++ v) is ∙ append_assoc (reply_line number t (codes "ABEND " ++ code_text (short kin))) _ v) in
     let g : 82 ≡ 65 = ap head_of f in
     omega (arith, g)
 
@@ -149,9 +149,9 @@ module _ (told : List ℕ) (old : JobValue) (t : Name) (answer other : Answer) (
   abbrev Alike : Type 0
   Alike = ((answer ≡ other) × (a ≡ b)) ⊎ (AreOtherwise answer other ⊎ ((answer ≡ other) × (answer ≡ Rc0) × ListApart told a b t areas))
 
-  fails : (c : Bool) (code : Code) (reply : Reply) (new : State) (said : Answer) → Fails c old.state t code reply new → said ≡ answer_of old.state k r reply → IsFailure said
-  fails true code reply new said x e = inl (e ∙ ap (answer_of old.state k r) x.0)
-  fails false code reply new said x e = inr (code, x.0.fallen, e ∙ ap (answer_of old.state k r) x.1)
+  fails : (c : Bool) (kin : Family) (reply : Reply) (new : State) (said : Answer) → Fails c old.state t (short kin) reply new → said ≡ answer_of old.state k r reply → IsFailure said
+  fails true kin reply new said x e = inl (e ∙ ap (answer_of old.state k r) x.0)
+  fails false kin reply new said x e = inr (kin, x.0.fallen, e ∙ ap (answer_of old.state k r) x.1)
 
   obtains : Makes (Takes told) old t k r answer a → Makes Any old t k r other b → Alike
   obtains x y = by_active (is_active old.state.owners t) x.step y.step (λ p q. none (ap granted_at p.0) (ap granted_at q.0))
@@ -189,9 +189,13 @@ module _ (told : List ℕ) (old : JobValue) (t : Name) (answer other : Answer) (
         at : is_active old.state.owners t ≡ true → (ListShort old.state keeps number wants × Fails (is_conditional form) old.state t (short (family form)) x.reply a.state) ⊎ ((ps : List PlaceValue) × (x.reply ≡ Listed ps) × ListGrant old.state keeps number wants ps a.state)
             → (ListShort old.state keeps number wants × Fails (is_conditional form) old.state t (short (family form)) y.reply b.state) ⊎ ((ps : List PlaceValue) × (y.reply ≡ Listed ps) × ListGrant old.state keeps number wants ps b.state) → Alike
         at active (inl u) (inl v) = none (none_granted (is_conditional form) old.state t _ x.reply a.state u.1) (none_granted (is_conditional form) old.state t _ y.reply b.state v.1)
-        at active (inl u) (inr v) = inr (inl (inr (fails (is_conditional form) _ x.reply a.state answer u.1 x.told, y.told ∙ ap (answer_of old.state k r) v.1)))
-        at active (inr u) (inl v) = inr (inl (inl (x.told ∙ ap (answer_of old.state k r) u.1, fails (is_conditional form) _ y.reply b.state other v.1 y.told)))
+        at active (inl u) (inr v) = inr (inl (inr (fails (is_conditional form) (family form) x.reply a.state answer u.1 x.told, y.told ∙ ap (answer_of old.state k r) v.1)))
+        at active (inr u) (inl v) = inr (inl (inl (x.told ∙ ap (answer_of old.state k r) u.1, fails (is_conditional form) (family form) y.reply b.state other v.1 y.told)))
         at active (inr u) (inr v) = both active u.0 v.0 u.1 v.1 u.2 v.2
 
   pub listed : Does (Takes told) old t (says.Request k) answer a → Does Any old t (says.Request k) other b → Alike
   listed x y = by_two (not (is_active old.state.owners t)) x y (λ p q. inl (p.0 ∙ sym q.0, p.1 ∙ sym q.1)) obtains
+
+-- so a list is answered what it may be
+pub answers_list : (answer : Answer) → IsFailure answer → AnswersList answer
+answers_list answer x = inr x

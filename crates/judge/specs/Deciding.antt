@@ -19,7 +19,7 @@ use Rattle.judge.specs.declared.kinds.Kind.{Kind}
 use Rattle.judge.specs.declared.kinds.Kind.TheVariants.{Area, Areas, Closed, Several}
 use Rattle.judge.specs.declared.Finding.{Finding}
 use Rattle.judge.specs.declared.Finding.TheVariants as finding
-use Rattle.judge.specs.Judging.{AsksArea, AsksList, IsAskedBefore, IsNoPrinting, IsOpen, IsOpenIn, IsQuestion, leaves_open}
+use Rattle.judge.specs.Judging.{AsksArea, AsksList, BeginsAnswered, IsAskedBefore, IsNoPrinting, IsOpen, IsOpenIn, IsQuestion, leaves_open}
 
 -- From the line of this number on a run may print this text, and end so.
 abbrev pub MayPrint : ℕ → Option JobValue → List (List ℕ) → List ℕ → Outcome → Type 0
@@ -84,6 +84,15 @@ at_text number task (addr ∷ addrs) = reply_line number task (said (At addr)) +
 abbrev pub ReadsEach : List ℕ → ℕ → Name → List Name → List ℕ → Type 0
 ReadsEach text number task areas told =
     (addrs : List ℕ) (rest : List ℕ) → length addrs ≡ length areas → AllByRecursion (λ addr. addr < 2 ^ 31) addrs → text ≡ at_text number task addrs ++ rest → told ≡ addrs
+
+-- Whether a text begins with another one.
+abbrev pub BeginsBy : List ℕ → List ℕ → Bool → Type 0
+BeginsBy text front b = (b ≡ true → (more : List ℕ) × (text ≡ front ++ more)) × ((more : List ℕ) → text ≡ front ++ more → b ≡ true)
+
+-- Whether a list is open at which a text may pass: it does not, and goes on with what a list may be answered.
+abbrev pub OpensList : ℕ → Name → List ℕ → Bool → Bool → Type 0
+OpensList number task text true b = b ≡ false
+OpensList number task text false b = (b ≡ true → BeginsAnswered number task text) × (BeginsAnswered number task text → b ≡ true)
 
 -- Some lines are served, and this is printed of them: all of them, or one with a fault, which ends the job.
 abbrev pub IsServed : List (List ℕ) → WalkValue → List ℕ → Bool → WalkValue → Type 0

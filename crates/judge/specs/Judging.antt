@@ -9,13 +9,15 @@ use Rattle.mvs_model.specs.declared.line.Written.{Written}
 use Rattle.mvs_model.specs.declared.line.Written.TheVariants as written
 use Rattle.mvs_model.specs.declared.name.Name.{Name}
 use Rattle.mvs_model.specs.declared.outcome.Outcome.{Outcome}
-use Rattle.mvs_model.specs.Answers.{Event}
+use Rattle.mvs_model.specs.Answers.{Abended, Answer, Event, Rc0, Rc4}
+use Rattle.mvs_model.specs.declared.code.Family.{Family}
+use Rattle.mvs_model.specs.Codes.{short}
 use Rattle.mvs_model.specs.Going.{Reaches}
 use Rattle.mvs_model.specs.Job.{JobValue}
 use Rattle.mvs_model.specs.Lines.{lines_of}
 use Rattle.mvs_model.specs.Reading.{LineOf}
 use Rattle.mvs_model.specs.Runs.{IsPrinting, machine}
-use Rattle.mvs_model.specs.Texts.{printing}
+use Rattle.mvs_model.specs.Texts.{answer_text, printing}
 use Rattle.mvs_model.specs.Walk.{ServesLine, is_first}
 use Rattle.mvs_model.specs.Want.{AskValue}
 use Rattle.judge.specs.declared.Finding.{Finding}
@@ -80,10 +82,19 @@ IsAskedFor l lines = IsAreaAsked l lines ⊎ IsListAsked l lines
 abbrev pub IsForList : Line → Type 0
 IsForList l = (task : Name) × (areas : List Name) × AsksList l task areas
 
--- The line of this number is a request for a list, which some run is answered otherwise than a text goes on.
+-- A list is answered so where it is granted, or refused for want of places.
+abbrev pub AnswersList : Answer → Type 0
+AnswersList answer = (answer ≡ Rc0) ⊎ ((answer ≡ Rc4) ⊎ ((f : Family) × (fallen : List Name) × (answer ≡ Abended (short f) fallen)))
+
+-- A text begins with such an answer to a line of this number of a task.
+abbrev pub BeginsAnswered : ℕ → Name → List ℕ → Type 0
+BeginsAnswered number task text = (answer : Answer) × AnswersList answer × (more : List ℕ) × (text ≡ answer_text number task answer ++ more)
+
+-- The line of this number is a request for a list, which some run is answered otherwise than a text goes on; and the text goes on with
+-- what a list may be answered.
 abbrev pub MayDiffer : ℕ → Option JobValue → List ℕ → Line → List ℕ → Type 0
 MayDiffer number step bytes l rest =
-    IsForList l × (events : List Event) × (new : Option JobValue) × ServesLine machine number step bytes events new × ((more : List ℕ) → rest ≡ printing events ++ more → ⊥)
+    (list : IsForList l) × (events : List Event) × (new : Option JobValue) × ServesLine machine number step bytes events new × ((more : List ℕ) → rest ≡ printing events ++ more → ⊥) × BeginsAnswered number list.0 rest
 
 -- The first of the lines, which has this number, may be granted places, and what lies behind it does not ask for them; or it asks for a
 -- list, which may be answered otherwise than a text goes on.

@@ -11,9 +11,10 @@ ghost use Rattle.mvs_model.specs.Lines.{lines_of};
 ghost use Rattle.mvs_model.specs.State.{State};
 ghost use Rattle.mvs_model.specs.declared.name.Name.{Name as TaskName};
 ghost use Rattle.judge.specs.Deciding.{Decides, DecidesBefore, InBounds, IsClosed, IsFoundFirst, IsGrant, IsList, IsServed, ReadsEach, at_text, no_bytes};
-ghost use Rattle.judge.specs.Judging.{AskEach, IsOpen, IsQuestion};
+ghost use Rattle.judge.specs.Judging.{AskEach, BeginsAnswered, IsOpen, IsQuestion};
 
 use crate::kinds::{Asked, Kind, asks_each, next_kind, question_end};
+use crate::list_answers::opens_list;
 use job_script::digits::{are_hex_digits, hex_number};
 use job_script::print_said;
 use mvs_job::{LineTold, Walk, line_end, print_line};
@@ -98,7 +99,7 @@ fn print_next(
 }
 
 // Whether a text begins so.
-fn begins(text: &[u8], front: &[u8]) -> bool
+pub(crate) fn begins(text: &[u8], front: &[u8]) -> bool
     ensures yes { result ≡ true → text.now ≡ front.now ++ drop (length front.now) text.now }
     ensures no { (rest : List ℕ) → text.now ≡ front.now ++ rest → result ≡ true }
     ensures within { result ≡ true → length front.now ≤ length text.now }
@@ -142,7 +143,7 @@ fn decide_line(
 }
 
 // Prints an answer of one line behind a text.
-fn print_answer(
+pub(crate) fn print_answer(
     text: Vec<u8>,
     line_number: u32,
     task: &Name,
@@ -377,7 +378,7 @@ fn read_areas(
 }
 
 // Decides at a list with questions behind it. Its areas lie at the addresses that the text tells of the questions, where the machine
-// allows that. It is open where it is answered otherwise than the text says.
+// allows that. It is open where it is answered otherwise than the text says, and the text says what a list may be answered.
 fn decide_list(
     alloc: Global,
     walk: &mut Walk,
@@ -394,8 +395,13 @@ fn decide_list(
         (λ s. IsServed (line.now ∷ []) walk.old s.text.items true walk.new) }
     ensures goes_on { IfOk result (λ s. s.goes_on ≡ true) }
     ensures opens { IfOk result
-        (λ s. s.passes ≡ false → IsOpen walk.old.number walk.old.step
-        (line.now ∷ lines_of behind.now) left.now) }
+        (λ s. s.passes ≡ false → BeginsAnswered walk.old.number listed.now.task left.now
+        → IsOpen walk.old.number walk.old.step (line.now ∷ lines_of behind.now) left.now) }
+    ensures refuses { IfOk result
+        (λ s. s.passes ≡ false
+        → (BeginsAnswered walk.old.number listed.now.task left.now → ⊥)
+        → DecidesBefore (line.now ∷ []) (lines_of behind.now) left.now walk.old s.text.items true
+        false walk.new) }
     ensures decided { IfOk result
         (λ s. s.passes ≡ true → DecidesBefore (line.now ∷ []) (lines_of behind.now) left.now
         walk.old s.text.items true true walk.new) }
@@ -441,9 +447,10 @@ fn decide_areas(
     if !asks_each(behind, &listed.task, listed.areas.as_slice()) {
         return Ok(None);
     }
+    let line_number = walk.number();
     let mut served = decide_list(alloc, walk, &script[..end], behind, left, listed)?;
-    let is_open = !served.passes;
-    served.passes = true;
+    let is_open = opens_list(alloc, line_number, &listed.task, left, served.passes)?;
+    served.passes |= is_open;
     Ok(Some(Decided {
         taken: end + 1,
         served,

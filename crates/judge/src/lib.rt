@@ -15,6 +15,7 @@ mod difference;
 mod following;
 mod hearing;
 mod kinds;
+mod list_answers;
 mod parts;
 mod resting;
 

@@ -5,7 +5,7 @@ use Rattle.mvs_model.specs.Texts.{answer_text, printing}
 use Rattle.mvs_job.specs.Telling.{events_told}
 use Rattle.judge.specs.Deciding.{ReadsEach, no_bytes}
 use Rattle.judge.proofs.Decided.{in_bounds}
-use Rattle.judge.proofs.ListLines.{list_decides, list_opens, list_served}
+use Rattle.judge.proofs.ListLines.{list_decides, list_opens, list_refuses, list_served}
 use Rattle.judge.proofs.deciding.decide_list.Goals as goal
 
 pub returns-clause-served : goal.returns-clause-served
@@ -14,10 +14,16 @@ returns-clause-served c =
     list_served c.as_slice.result.now c.args.walk.now c.print_next.new.walk c.args.line.now c.in_ok-printed.printed.told c.args.listed.now.task c.args.listed.now.areas c.in_ok-printed.ensures.served c.requires.list c.requires.bounds c.in_ok-printed.printed.text.items same c.print_next.ensures.number
 
 pub returns-clause-opens : goal.returns-clause-opens
-returns-clause-opens c = λ differs.
+returns-clause-opens c = λ differs begins.
     let same = c.in_ok-printed.ensures.printed ∙ ap (λ x. x ++ printing (events_told c.args.walk.now.number c.print_next.new.walk c.in_ok-printed.printed.told)) c.new.ensures.items in
     list_opens c.as_slice.result.now c.args.walk.now c.print_next.new.walk c.args.line.now c.in_ok-printed.printed.told c.args.listed.now.task c.args.listed.now.areas c.in_ok-printed.ensures.served c.requires.list c.requires.bounds c.in_ok-printed.printed.text.items same
-    (lines_of c.args.behind.now) c.args.left.now c.requires.questions (λ rest e. false_true (sym differs ∙ c.begins-passes.ensures.no rest (e ∙ ap (λ x. x ++ rest) (sym c.as_slice-2.ensures.value))))
+    (lines_of c.args.behind.now) c.args.left.now c.requires.questions (λ rest e. false_true (sym differs ∙ c.begins-passes.ensures.no rest (e ∙ ap (λ x. x ++ rest) (sym c.as_slice-2.ensures.value)))) begins
+
+pub returns-clause-refuses : goal.returns-clause-refuses
+returns-clause-refuses c = λ differs none.
+    let same = c.in_ok-printed.ensures.printed ∙ ap (λ x. x ++ printing (events_told c.args.walk.now.number c.print_next.new.walk c.in_ok-printed.printed.told)) c.new.ensures.items in
+    list_refuses c.as_slice.result.now c.args.walk.now c.print_next.new.walk c.args.line.now c.in_ok-printed.printed.told c.args.listed.now.task c.args.listed.now.areas c.in_ok-printed.ensures.served c.requires.list c.requires.bounds c.in_ok-printed.printed.text.items same
+    (lines_of c.args.behind.now) c.args.left.now c.requires.questions (λ rest e. false_true (sym differs ∙ c.begins-passes.ensures.no rest (e ∙ ap (λ x. x ++ rest) (sym c.as_slice-2.ensures.value)))) none
 
 pub returns-clause-decided : goal.returns-clause-decided
 returns-clause-decided c = λ passes.
