@@ -42,4 +42,4 @@ returns-clause-stop g c =
     progress_in_end _ _ _ c.args.script.now c.lines.walk _ c.lines.invariant.so_far.0 _ _ (none_left c.args.script.now c.lines.at (omega (arith, c.lines-test.false))) (rw (c.number.ensures) at c.in-Err-print_closing.ensures.bytes) c.close-closing.ensures
 
 pub returns-clause-heard : goal.returns-clause-heard
-returns-clause-heard g c = so_far_hears _ _ _ _ _ c.args.script.now (drop c.lines.at c.args.script.now) c.lines.walk c.lines.all_served c.lines.invariant.so_far
+returns-clause-heard g c = so_far_hears _ _ (g.W.Write.contents c.lines.writer.inner) _ _ c.args.script.now (drop c.lines.at c.args.script.now) c.lines.walk c.lines.all_served c.lines.invariant.so_far

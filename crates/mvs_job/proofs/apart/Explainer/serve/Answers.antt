@@ -45,7 +45,7 @@ returns g c = elim c.match-print_behind.branch [
 pub returns-in-Err-clause-memory : goal.returns-in-Err-clause-memory
 returns-in-Err-clause-memory g c = λ e.
     let is : c.in-Err.stop ≡ Memory = cc in
-    rw (← c.self.view_is) (subst (λ stop. RunsLine (g.W.Write.contents c.args.writer.now.inner) (g.W.Write.contents c.tell.new.writer.inner) c.args.walk.now c.args.line.now c.tell.new.walk (Err stop)) is c.in-Err.ensures.ran)
+    subst (λ stop. RunsLine (g.W.Write.contents c.args.writer.now.inner) (g.W.Write.contents c.tell.new.writer.inner) c.args.walk.now c.args.line.now c.tell.new.walk (Err stop)) is c.in-Err.ensures.ran
 
 pub returns-in-Err-clause-write : goal.returns-in-Err-clause-write
 returns-in-Err-clause-write g c = λ e. inl (c.in-Err.ensures.write e)
