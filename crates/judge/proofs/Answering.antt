@@ -13,7 +13,7 @@ use Rattle.judge.specs.Deciding.{BeginsBy}
 use Rattle.judge.specs.Judging.{AnswersList, BeginsAnswered}
 
 pub begun : (text printed front : List ℕ) (b : Bool) → printed ≡ front → (b ≡ true → text ≡ printed ++ drop (length printed) text) → ((rest : List ℕ) → text ≡ printed ++ rest → b ≡ true) → BeginsBy text front b
-begun text printed front b e yes no = ((λ t. (drop (length printed) text, yes t ∙ ap (λ x. x ++ drop (length printed) text) e)), (λ more is. no more (is ∙ ap (λ x. x ++ more) (sym e))))
+begun text printed front b e begins other = ((λ t. (drop (length printed) text, begins t ∙ ap (λ x. x ++ drop (length printed) text) e)), (λ more is. other more (is ∙ ap (λ x. x ++ more) (sym e))))
 
 or_true : (a b : Bool) → b ≡ true → (a || b) ≡ true
 or_true true b e = refl

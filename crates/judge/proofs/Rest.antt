@@ -19,9 +19,9 @@ both : (text text' front back : List ℕ) → text ≡ front → text' ≡ text 
 both text text' front back e f = f ∙ ap (λ x. x ++ back) e
 
 -- a text that has grown, and grows by a line
-pub grown_on : (start text text' : List ℕ) (w w' : WalkValue) (l : List ℕ) (b : Bool) → ((more : List ℕ) × (text ≡ start ++ more)) → RunsLine (Some text) (Some text') w l w' (Ok b) → (more : List ℕ) × (text' ≡ start ++ more)
-grown_on start text text' w w' l true (more, e) (events, appended, serves) = (more ++ printing events, appended ∙ ap (λ x. x ++ printing events) e ∙ append_assoc start more (printing events))
-grown_on start text text' w w' l false (more, e) (events, appended, faults) = (more ++ printing events, appended ∙ ap (λ x. x ++ printing events) e ∙ append_assoc start more (printing events))
+pub grown_on : (start text text' script rest : List ℕ) (at end : ℕ) (w w' : WalkValue) (b : Bool) → rest ≡ drop at script → ((more : List ℕ) × (text ≡ start ++ more)) → RunsLine (Some text) (Some text') w (take end rest) w' (Ok b) → (more : List ℕ) × (text' ≡ start ++ more)
+grown_on start text text' script rest at end w w' true is (more, e) (events, appended, serves) = (more ++ printing events, appended ∙ ap (λ x. x ++ printing events) e ∙ append_assoc start more (printing events))
+grown_on start text text' script rest at end w w' false is (more, e) (events, appended, faults) = (more ++ printing events, appended ∙ ap (λ x. x ++ printing events) e ∙ append_assoc start more (printing events))
 
 pub grown_end : (start text text' last : List ℕ) → ((more : List ℕ) × (text ≡ start ++ more)) → Appends (Some text) (Some text') last → (more : List ℕ) × (text' ≡ start ++ more)
 grown_end start text text' last (more, e) appended = (more ++ last, appended ∙ ap (λ x. x ++ last) e ∙ append_assoc start more last)

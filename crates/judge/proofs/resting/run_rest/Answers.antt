@@ -17,7 +17,7 @@ lines-init c = record {
 pub lines-preserved : goal.lines-preserved
 lines-preserved c = record {
   stands = λ whole s. rest_on whole c.args.script.now _ _ _ c.lines.at c.line_end-end.result c.lines.walk c.run_line.new.walk (take_rest c.args.script.now c.lines.at) c.line_end-end.ensures.lines (c.lines.invariant.stands whole s) c.in-Ok-true.ensures.number _ c.in-Ok-true.field-0-test c.in-Ok-true.ensures.ran;
-  grown = grown_on _ _ _ c.lines.walk c.run_line.new.walk _ _ c.lines.invariant.grown c.in-Ok-true.ensures.ran;
+  grown = grown_on _ _ _ c.args.script.now _ c.lines.at c.line_end-end.result c.lines.walk c.run_line.new.walk _ (take_rest c.args.script.now c.lines.at) c.lines.invariant.grown c.in-Ok-true.ensures.ran;
   within = let e = c.line_end-end.ensures.within in omega (arith, e, c.lines-test.true);
   number = omega (arith, c.in-Ok-true.ensures.number, c.lines.invariant.number);
 }
@@ -36,7 +36,7 @@ returns-in-Ok-clause-run c = λ whole s.
 
 pub returns-in-Ok-false-clause-grown : goal.returns-in-Ok-false-clause-grown
 returns-in-Ok-false-clause-grown c =
-    let g = grown_on _ _ _ c.lines.walk c.run_line.new.walk _ _ c.lines.invariant.grown c.in-Ok-false.ensures.ran in
+    let g = grown_on _ _ _ c.args.script.now _ c.lines.at c.line_end-end.result c.lines.walk c.run_line.new.walk _ (take_rest c.args.script.now c.lines.at) c.lines.invariant.grown c.in-Ok-false.ensures.ran in
     (g.0, ap (λ v. v.items) c.into_inner.ensures ∙ g.1 ∙ ap (λ v. v.items ++ g.0) c.new-writer.ensures.inner)
 
 pub returns-in-Ok-clause-grown : goal.returns-in-Ok-clause-grown
