@@ -15,6 +15,7 @@ use mvs_model::watched::Watched;
 use std::alloc::Global;
 
 // An observer that does nothing.
+#[derive(Drop)]
 struct Silent;
 
 impl Hears for Silent {
