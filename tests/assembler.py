@@ -14,6 +14,7 @@ from pathlib import Path
 import hlasm
 import hlasm_run
 import random_scripts
+from cases import each, seeds, whole
 
 TOP = Path(__file__).resolve().parent.parent
 CONVERTER = TOP / "crates/mvsjob_asm/out/mvsjob_asm"
@@ -299,15 +300,15 @@ def judged(program):
         return [(name, is_judged(program, Path(folder), TOP / f"lessons/{name}.job")) for name in names]
 
 
-def groups(program, each):
+def groups(program):
     scripts = sorted((TOP / "examples").glob("*.job")) + sorted((TOP / "lessons").glob("*.job"))
     yield "assembler sources", each(partial(is_said, program), SOURCES)
     yield "assembler listings", each(is_said_of_listing, SOURCES)
-    yield "random assembler sources", each(partial(is_random_said, program), range(300), str, chunksize=10)
-    yield "damaged assembler sources", each(partial(is_damaged_read, program), range(600), str, chunksize=10)
+    yield "random assembler sources", each(partial(is_random_said, program), seeds(300), str, chunksize=10)
+    yield "damaged assembler sources", each(partial(is_damaged_read, program), seeds(600), str, chunksize=10)
     yield "assembled", each(partial(is_assembled, program), scripts)
     yield "assembled random scripts", each(partial(is_random_assembled, program), range(80), str, chunksize=10)
     yield "assembled and run", each(partial(is_example_written, program), sorted((TOP / "examples").glob("*.job")))
     kinds = [(kind, seed) for kind in ("storage", "pools", "anything", "steps") for seed in range(20)]
     yield "assembled and run, random", each(partial(is_random_written, program), kinds, str)
-    yield "from a job log to the judge", lambda: judged(program)
+    yield "from a job log to the judge", whole(judged, program)

@@ -12,6 +12,7 @@ from pathlib import Path
 
 import annotated
 import browser
+from cases import each, seeds, whole
 
 TOP = Path(__file__).resolve().parent.parent
 PAGE = 4096
@@ -235,27 +236,46 @@ JOB REPORT SP </body></html><plaintext>
 
 
 def hostile(program, folder, view):
-    """Lines that look like markup, each byte, each length of line, no statement, and a script of 16 MB."""
+    """Lines that look like markup."""
     page = folder / "markup.html"
     page.write_bytes(called(program, MARKUP, "--page")[0])
     view.open(page)
     inert = view.tell('document.title!=="taken"&&document.scripts.length===1&&document.images.length===0')
     yield "markup in a browser", inert and view.errors == [] and not view.tell('!!document.getElementById("wrong")') and shows(program, MARKUP)
-    first = b"JOB REGION BELOW=1\n"
-    yield "each byte of a comment", all(shows(program, first + b"* a" + bytes([byte]) + b"b\nJOB REPORT MAP\n") for byte in range(256))
-    yield "each byte of a remark", all(shows(program, first + b"JOB REPORT MAP a" + bytes([byte]) + b"b\n") for byte in range(256))
-    yield "each length", all(shows(program, first + b"*" * length + b"\nJOB REPORT MAP\n") for length in range(300))
-    yield "no statement", all(shows(program, script) for script in (b"* note\n", b"\n\n"))
-    longest = first + b"* a comment of some length, which is told many times\n" * 316000
-    whole = called(program, longest[: (1 << 24) - 1], "--page")
-    yield "16 MB", whole[2] == 0 and whole[0].count(b"\n<p id=") == longest[: (1 << 24) - 1].count(b"\n* ")
 
 
-def groups(program, each):
-    yield "pages of examples and lessons", lambda: [(path.name, shows(program, statements(path))) for path in scripts()]
-    yield "pages of scripts", lambda: [(case.name, shows(program, case.script().encode())) for case in annotated.all_scripts()]
-    yield "pages of random scripts", each(partial(as_random, program), range(RANDOM_SCRIPTS), str)
-    yield "pages in a browser", lambda: in_a_browser(program)
+FIRST = b"JOB REGION BELOW=1\n"
+HOSTILE = {
+    "each byte of a comment": [FIRST + b"* a" + bytes([byte]) + b"b\nJOB REPORT MAP\n" for byte in range(256)],
+    "each byte of a remark": [FIRST + b"JOB REPORT MAP a" + bytes([byte]) + b"b\n" for byte in range(256)],
+    "each length": [FIRST + b"*" * length + b"\nJOB REPORT MAP\n" for length in range(300)],
+    "no statement": [b"* note\n", b"\n\n"],
+    "16 MB": [(FIRST + b"* a comment of some length, which is told many times\n" * 316000)[: (1 << 24) - 1]],
+}
+
+
+def is_shown(program, name):
+    """Whether the pages of some scripts show them."""
+    if name == "16 MB":
+        page, _, status = called(program, HOSTILE[name][0], "--page")
+        return status == 0 and page.count(b"\n<p id=") == HOSTILE[name][0].count(b"\n* ")
+    return all(shows(program, script) for script in HOSTILE[name])
+
+
+def of_path(program, path):
+    return shows(program, statements(path))
+
+
+def of_case(program, case):
+    return shows(program, case.script().encode())
+
+
+def groups(program):
+    yield "pages of examples and lessons", each(partial(of_path, program), scripts(), chunksize=5)
+    yield "pages of scripts", each(partial(of_case, program), annotated.all_scripts(), chunksize=5)
+    yield "pages of random scripts", each(partial(as_random, program), seeds(RANDOM_SCRIPTS), str, chunksize=5)
+    yield "pages in a browser", whole(in_a_browser, program)
+    yield "hostile pages", each(partial(is_shown, program), HOSTILE, str)
 
 
 def as_random(program, seed):

@@ -7,6 +7,8 @@ import tempfile
 import time
 from pathlib import Path
 
+from cases import Lacking
+
 TOP = Path(__file__).resolve().parent.parent
 FIRST = TOP / "examples/first.job"
 BEGUN = "1 JOB REGION BELOW 1 ABOVE 0\n"
@@ -35,7 +37,7 @@ def inputs(program, folder):
     locked.write_text("")
     locked.chmod(0)
     denied = (16, "", f"mvsjob: {locked}: permission denied\n")
-    yield "no permission", None if os.geteuid() == 0 else shell(program, f'"$MVSJOB" {locked}') == denied
+    yield "no permission", Lacking("a user other than root") if os.geteuid() == 0 else shell(program, f'"$MVSJOB" {locked}') == denied
     yield "a folder", shell(program, f'"$MVSJOB" {folder}') == (16, "", f"mvsjob: {folder}: is a directory\n")
     yield "closed input", shell(program, '"$MVSJOB" <&-') == (16, "", "mvsjob: read failed\n")
     yield "an empty script", shell(program, '"$MVSJOB" /dev/null') == (12, "1 JS09\nJOB FAULT RC 12\n", "/dev/null:1:1: JS09: the script has no statement\n")
