@@ -31,7 +31,7 @@ def unstarred(printed):
 
 
 def called(program, script, *words):
-    ran = subprocess.run([program, *words], input=script, capture_output=True, timeout=120)
+    ran = subprocess.run([program, *words], input=script, capture_output=True, timeout=600)
     return ran.stdout, ran.stderr, ran.returncode
 
 

@@ -59,7 +59,7 @@ class Failing:
         with tempfile.TemporaryFile() as stdin:  # of which a read gets all that it asks for
             stdin.write(script)
             stdin.seek(0)
-            ran = subprocess.run([self.program, *words], stdin=stdin, env=env, capture_output=True, timeout=60)
+            ran = subprocess.run([self.program, *words], stdin=stdin, env=env, capture_output=True, timeout=600)
         return ran.returncode, ran.stdout, ran.stderr.decode()
 
     def counted(self, run):
@@ -182,7 +182,7 @@ def at_the_limit(program):
     lines = MOST_BYTES - len(begin) - len(last)
     script = begin + b"\n" * lines + last
     printed = f"1 JOB REGION BELOW 1 ABOVE 0\n2 JOB RC 0\n{lines + 3} JOB AT 00006000\n".encode()
-    plain = lambda text: subprocess.run([program], input=text, capture_output=True, timeout=60)
+    plain = lambda text: subprocess.run([program], input=text, capture_output=True, timeout=600)
     said = lambda ran: (ran.returncode, ran.stdout, ran.stderr.decode())
     yield "a script of newlines", said(plain(b"\n" * MOST_BYTES)) == (12, b"16777216 JS09\nJOB FAULT RC 12\n", NO_STATEMENT)
     yield "one newline more", said(plain(b"\n" * (MOST_BYTES + 1))) == (16, b"", "mvsjob: script too long\n")

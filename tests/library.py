@@ -35,7 +35,7 @@ def printed(words, path):
     wanted = path.with_suffix(".out").read_text()
     lines = wanted.splitlines()
     status = 12 if lines[-1:] == ["JOB FAULT RC 12"] else 8 if "STEP ENDED RC 8" in lines else 0
-    ran = subprocess.run(words, stdin=path.open(), capture_output=True, text=True, timeout=60)
+    ran = subprocess.run(words, stdin=path.open(), capture_output=True, text=True, timeout=600)
     return (ran.returncode, ran.stdout, ran.stderr) == (status, wanted, "")
 
 
@@ -73,11 +73,11 @@ def by_compiler(name, words, archive, folder):
         for how in ("lines", "whole"):
             yield f"{name}, {path.name}, {how}", printed([replay, how], path)
     checks = compiled(words, TOP / "tests/library.c", archive, folder / f"{name} library")
-    yield f"{name}, each answer", subprocess.run([checks], timeout=60).returncode == 0
+    yield f"{name}, each answer", subprocess.run([checks], timeout=600).returncode == 0
     refused = compiled([*words, "-Wl,--wrap=malloc,--wrap=realloc"], TOP / "tests/refused.c", archive, folder / f"{name} refused")
-    yield f"{name}, memory refused", subprocess.run([refused], timeout=60).returncode == 0
+    yield f"{name}, memory refused", subprocess.run([refused], timeout=600).returncode == 0
     handler = compiled(words, TOP / "examples/c/handler.c", archive, folder / f"{name} handler")
-    ran = subprocess.run([handler], capture_output=True, text=True, timeout=60)
+    ran = subprocess.run([handler], capture_output=True, text=True, timeout=600)
     yield f"{name}, handler", (ran.returncode, ran.stdout, ran.stderr) == (0, HANDLED, "")
 
 
@@ -86,7 +86,7 @@ def by_valgrind(program):
     if not program.exists() or not shutil.which("valgrind"):
         return Lacking("valgrind" if program.exists() else "gcc")
     words = ["valgrind", "--quiet", "--leak-check=full", "--show-leak-kinds=all", "--error-exitcode=99", program]
-    return subprocess.run(words, capture_output=True, timeout=120).returncode == 0
+    return subprocess.run(words, capture_output=True, timeout=600).returncode == 0
 
 
 def by_cargo(archive, folder):
@@ -111,7 +111,7 @@ def in_cplusplus(archive, folder):
         return Lacking("g++")
     words = ["g++", "-x", "c++", "-std=c++11", "-Wno-missing-field-initializers"]
     program = compiled(words, TOP / "tests/library.c", archive, folder / "c++")
-    return subprocess.run([program], timeout=60).returncode == 0
+    return subprocess.run([program], timeout=600).returncode == 0
 
 
 def results():

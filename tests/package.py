@@ -41,7 +41,7 @@ def output(*words, **how):
 
 def example(program, path):
     """Whether an example prints what stands beside it, where the program has no environment."""
-    ran = subprocess.run([program, path.name], cwd=path.parent, env={}, capture_output=True, text=True, timeout=60)
+    ran = subprocess.run([program, path.name], cwd=path.parent, env={}, capture_output=True, text=True, timeout=600)
     wanted = (TOP / "examples" / path.name).with_suffix(".out").read_text()
     status = 8 if "STEP ENDED RC 8" in wanted.splitlines() else 0
     return (ran.returncode, ran.stdout, ran.stderr) == (status, wanted, "")

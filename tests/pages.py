@@ -19,7 +19,7 @@ PAGE = 4096
 RANDOM_SCRIPTS = 200
 # At most so many times what the calibration page takes in the same browser: a page of 2,000 statements until it is open and for a
 # step, and one of 10,240 pages until it is open.
-OPENS, STEPS, OPENS_LARGE = 8, 8, 12
+OPENS, STEPS, OPENS_LARGE = 12, 4, 4
 
 
 class Reader(HTMLParser):
@@ -55,7 +55,7 @@ class Reader(HTMLParser):
 
 
 def called(program, script, *words):
-    ran = subprocess.run([program, *words], input=script, capture_output=True, timeout=300)
+    ran = subprocess.run([program, *words], input=script, capture_output=True, timeout=600)
     return ran.stdout, ran.stderr, ran.returncode
 
 
