@@ -14,6 +14,7 @@ from pathlib import Path
 import hlasm
 import hlasm_run
 import random_scripts
+from cases import each, seeds, whole
 
 TOP = Path(__file__).resolve().parent.parent
 CONVERTER = TOP / "crates/mvsjob_asm/out/mvsjob_asm"
@@ -23,7 +24,7 @@ HEAD = "  Loc  Object Code    Addr1 Addr2  Stmt   Source Statement              
 
 def convert(source):
     """The script of a source, what is summed up of it, and the exit status."""
-    ran = subprocess.run([CONVERTER], input=source, capture_output=True, timeout=60)
+    ran = subprocess.run([CONVERTER], input=source, capture_output=True, timeout=600)
     return ran.stdout.decode(), ran.stderr.decode(), ran.returncode
 
 
@@ -72,7 +73,7 @@ def is_said_of_listing(path):
 
 def is_script(program, script):
     """Whether no line of a script has a fault."""
-    return subprocess.run([program], input=script.encode(), capture_output=True, timeout=60).returncode in (0, 8)
+    return subprocess.run([program], input=script.encode(), capture_output=True, timeout=600).returncode in (0, 8)
 
 
 class Source:
@@ -231,20 +232,20 @@ def is_damaged_read(program, seed):
 
 
 def is_assembled(program, path):
-    ran = subprocess.run([program, "--assemble", path], capture_output=True, text=True, timeout=60)
+    ran = subprocess.run([program, "--assemble", path], capture_output=True, text=True, timeout=600)
     return hlasm.mistakes(ran.stdout) == [] and ran.returncode in (0, 12)
 
 
 def is_random_assembled(program, seed):
     profile = ("storage", "tasks", "pools", "tidy")[seed % 4]
     script = subprocess.run([program, "--random", str(seed), "--lines", "60", "--profile", profile], capture_output=True).stdout
-    ran = subprocess.run([program, "--assemble"], input=script, capture_output=True, timeout=60)
+    ran = subprocess.run([program, "--assemble"], input=script, capture_output=True, timeout=600)
     return hlasm.mistakes(ran.stdout.decode()) == [] and ran.returncode == 0
 
 
 def written(program, script):
     """What the programs of a script write, but for the lines of its reports."""
-    job = subprocess.run([program, "--assemble"], input=script.encode(), capture_output=True, timeout=60).stdout.decode()
+    job = subprocess.run([program, "--assemble"], input=script.encode(), capture_output=True, timeout=600).stdout.decode()
     cards = []
     for line in script.splitlines():
         found = re.match(r"(\S+) +REGION +(\S*BELOW=\S*)", line)
@@ -289,7 +290,7 @@ def is_judged(program, folder, path):
     log = "".join(f" 10.23.{k % 60:02} JOB00123  +MVSJOB {line}\n" for k, line in enumerate(written(program, script.read_text())))
     log = " 10.22.00 JOB00123  IEF403I MVSJOB - STARTED\n" + log + " 10.24.00 JOB00123  IEF404I MVSJOB - ENDED\n"
     output.write_text(subprocess.run(["sed", "-n", "s/.*MVSJOB \\([0-9S]\\)/\\1/p"], input=log, capture_output=True, text=True).stdout)
-    ran = subprocess.run([program, "--judge", output, script], capture_output=True, text=True, timeout=60)
+    ran = subprocess.run([program, "--judge", output, script], capture_output=True, text=True, timeout=600)
     return ran.stdout == "ACCEPTED\n"
 
 
@@ -299,15 +300,15 @@ def judged(program):
         return [(name, is_judged(program, Path(folder), TOP / f"lessons/{name}.job")) for name in names]
 
 
-def groups(program, each):
+def groups(program):
     scripts = sorted((TOP / "examples").glob("*.job")) + sorted((TOP / "lessons").glob("*.job"))
     yield "assembler sources", each(partial(is_said, program), SOURCES)
     yield "assembler listings", each(is_said_of_listing, SOURCES)
-    yield "random assembler sources", each(partial(is_random_said, program), range(300), str, chunksize=10)
-    yield "damaged assembler sources", each(partial(is_damaged_read, program), range(600), str, chunksize=10)
+    yield "random assembler sources", each(partial(is_random_said, program), seeds(300), str, chunksize=10)
+    yield "damaged assembler sources", each(partial(is_damaged_read, program), seeds(600), str, chunksize=10)
     yield "assembled", each(partial(is_assembled, program), scripts)
     yield "assembled random scripts", each(partial(is_random_assembled, program), range(80), str, chunksize=10)
     yield "assembled and run", each(partial(is_example_written, program), sorted((TOP / "examples").glob("*.job")))
     kinds = [(kind, seed) for kind in ("storage", "pools", "anything", "steps") for seed in range(20)]
     yield "assembled and run, random", each(partial(is_random_written, program), kinds, str)
-    yield "from a job log to the judge", lambda: judged(program)
+    yield "from a job log to the judge", whole(judged, program)

@@ -9,7 +9,7 @@ import subprocess
 import tempfile
 from pathlib import Path
 
-PATIENCE = 60  # seconds
+PATIENCE = 600  # seconds
 NAMES = ("chromium", "chromium-browser", "google-chrome")
 KEYS = {"ArrowRight": 39, "ArrowLeft": 37, "Home": 36, "End": 35, "PageDown": 34, "a": 65, "r": 82}
 

@@ -18,7 +18,7 @@ def in_colour(printed):
 
 
 def printed(program, script, *words):
-    return subprocess.run([program, *words], input=script.encode(), capture_output=True, timeout=60).stdout.decode()
+    return subprocess.run([program, *words], input=script.encode(), capture_output=True, timeout=600).stdout.decode()
 
 
 def at_terminal(program, script, *words, **names):

@@ -18,6 +18,7 @@ from pathlib import Path
 
 import plain_emulator
 import pool_scripts
+from cases import each, seeds
 
 HERE = Path(__file__).resolve().parent
 SCRIPTS = sorted((HERE.parent / "conformance/scripts").glob("*.job"))
@@ -155,12 +156,12 @@ def is_held(program, held):
     return hashlib.sha256(subprocess.run([program, *words], capture_output=True).stdout).hexdigest() == checksum
 
 
-def groups(program, each):
+def groups(program):
     cases = [(path, placement) for path in SCRIPTS for placement in PLACEMENTS]
     name = lambda case: f"{case[0].stem}, {case[1]}"  # noqa: E731
     yield "judged corpus", each(partial(of_corpus, program), cases, name, chunksize=20)
-    yield "judged random scripts", each(partial(of_seed, program), range(RANDOM), str, chunksize=10)
-    yield "judged cells", each(partial(of_cells, program), range(POOLS), str, chunksize=5)
-    yield "judged changes", each(partial(of_change, program), range(CHANGED), str, chunksize=10)
+    yield "judged random scripts", each(partial(of_seed, program), seeds(RANDOM), str, chunksize=10)
+    yield "judged cells", each(partial(of_cells, program), seeds(POOLS), str, chunksize=5)
+    yield "judged changes", each(partial(of_change, program), seeds(CHANGED), str, chunksize=10)
     yield "judged wrong variants", each(partial(of_wrong, program), sorted(plain_emulator.WRONG), str)
     yield "bytes of random scripts", each(partial(is_held, program), HELD, lambda held: " ".join(held[1:]))

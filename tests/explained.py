@@ -4,11 +4,13 @@ docs/EXPLAIN.md, and the cost."""
 import re
 import subprocess
 import time
+from functools import partial
 from pathlib import Path
 
 import plain_facts
 import plain_shortages
 import random_scripts
+from cases import each, seeds, whole
 
 TOP = Path(__file__).resolve().parent.parent
 REASONS = TOP / "tests/reasons"
@@ -18,7 +20,7 @@ FACT_SCRIPTS = 1000
 WANTING_SCRIPTS = 600
 
 
-def whole():
+def known():
     """The scripts beside which a file says what they print with reasons."""
     return sorted([*(TOP / "examples").glob("*.job"), *REASONS.glob("*.job")])
 
@@ -29,7 +31,7 @@ def unstarred(printed):
 
 
 def called(program, script, *words):
-    ran = subprocess.run([program, *words], input=script, capture_output=True, timeout=120)
+    ran = subprocess.run([program, *words], input=script, capture_output=True, timeout=600)
     return ran.stdout, ran.stderr, ran.returncode
 
 
@@ -70,7 +72,7 @@ def as_wanting(program, seed):
 
 def starred():
     """The lines with a reason of all scripts that are known."""
-    return [line for path in whole() for line in path.with_suffix(".why").read_text().splitlines() if line.startswith("*")]
+    return [line for path in known() for line in path.with_suffix(".why").read_text().splitlines() if line.startswith("*")]
 
 
 def rows():
@@ -102,10 +104,14 @@ def quick_enough(program):
     return min(seconds("--explain") for _ in range(3)) <= 5 * min(seconds() for _ in range(3))
 
 
-def groups(program, each):
-    yield "explained scripts", each(as_known, whole(), lambda path: path.name)
-    yield "explained random scripts", each(same_bytes, range(RANDOM_SCRIPTS), str, chunksize=20)
-    yield "facts of random scripts", each(as_plain, range(FACT_SCRIPTS), str, chunksize=20)
-    yield "wants of random scripts", each(as_wanting, range(WANTING_SCRIPTS), str, chunksize=20)
-    yield "texts of reasons", lambda: list(texts())
-    yield "cost of reasons", lambda: [("long script", quick_enough(program))]
+def cost(program):
+    yield "long script", quick_enough(program)
+
+
+def groups(program):
+    yield "explained scripts", each(partial(as_known, program), known())
+    yield "explained random scripts", each(partial(same_bytes, program), seeds(RANDOM_SCRIPTS), str, chunksize=20)
+    yield "facts of random scripts", each(partial(as_plain, program), seeds(FACT_SCRIPTS), str, chunksize=10)
+    yield "wants of random scripts", each(partial(as_wanting, program), seeds(WANTING_SCRIPTS), str, chunksize=5)
+    yield "texts of reasons", whole(texts)
+    yield "cost of reasons", whole(cost, program)

@@ -184,5 +184,5 @@ def cases():
 def results(program):
     for line, before, wanted in cases():
         script = f"{before}{line}\n".encode("latin-1")
-        ran = subprocess.run([program], input=script, capture_output=True, timeout=60)
+        ran = subprocess.run([program], input=script, capture_output=True, timeout=600)
         yield line[:80], ran.stdout.decode() == wanted

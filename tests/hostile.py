@@ -6,6 +6,7 @@ What a program that gives up has printed is asked for to its end: all that the l
 import functools
 import os
 import random
+import shutil
 import subprocess
 import tempfile
 from functools import partial
@@ -14,6 +15,7 @@ from pathlib import Path
 import mistakes
 import random_scripts
 import session
+from cases import each, seeds, whole
 
 CASES = 20_000
 MOST_BYTES = 16_777_215
@@ -37,11 +39,11 @@ def folder():
 
 @functools.cache
 def library():
-    """Lets a call fail, once it is preloaded."""
+    """Lets a call fail, once it is preloaded; None where it cannot be made."""
     made = f"{folder().name}/failing.so"
     source = Path(__file__).with_name("failing.c")
-    subprocess.run(["cc", "-shared", "-fPIC", "-O1", "-o", made, source, "-ldl"], check=True)
-    return made
+    words = ["cc", "-shared", "-fPIC", "-O1", "-o", made, source, "-ldl"]
+    return made if shutil.which("cc") and subprocess.run(words).returncode == 0 else None
 
 
 class Failing:
@@ -51,11 +53,13 @@ class Failing:
         self.program, self.library, self.folder = program, library(), folder().name
 
     def run(self, script, *words, **names):
+        if self.library is None:
+            raise RuntimeError("tests/failing.c is not compiled")
         env = os.environ | {"LD_PRELOAD": self.library} | names
         with tempfile.TemporaryFile() as stdin:  # of which a read gets all that it asks for
             stdin.write(script)
             stdin.seek(0)
-            ran = subprocess.run([self.program, *words], stdin=stdin, env=env, capture_output=True, timeout=60)
+            ran = subprocess.run([self.program, *words], stdin=stdin, env=env, capture_output=True, timeout=600)
         return ran.returncode, ran.stdout, ran.stderr.decode()
 
     def counted(self, run):
@@ -178,7 +182,7 @@ def at_the_limit(program):
     lines = MOST_BYTES - len(begin) - len(last)
     script = begin + b"\n" * lines + last
     printed = f"1 JOB REGION BELOW 1 ABOVE 0\n2 JOB RC 0\n{lines + 3} JOB AT 00006000\n".encode()
-    plain = lambda text: subprocess.run([program], input=text, capture_output=True, timeout=60)
+    plain = lambda text: subprocess.run([program], input=text, capture_output=True, timeout=600)
     said = lambda ran: (ran.returncode, ran.stdout, ran.stderr.decode())
     yield "a script of newlines", said(plain(b"\n" * MOST_BYTES)) == (12, b"16777216 JS09\nJOB FAULT RC 12\n", NO_STATEMENT)
     yield "one newline more", said(plain(b"\n" * (MOST_BYTES + 1))) == (16, b"", "mvsjob: script too long\n")
@@ -191,27 +195,30 @@ def at_the_limit(program):
     yield "one byte more, at a pipe", heard and pipe.end() == (16, printed, "mvsjob: script too long\n")
 
 
-def groups(program, cases, examples, each):
-    """The groups of cases. The library is made when the first of them runs, so that each fails where it cannot be made."""
+def of_text(holds, failing, named):
+    """Whether it holds of a text that has a name."""
+    return holds(failing, named[1])
+
+
+def groups(program, cases, examples):
+    """The groups of cases."""
+    failing = Failing(program)
     scripts = {f"example {path.name}": path.read_bytes() for path in examples}
     scripts |= {f"script {case.name}": case.script().encode() for case in cases}
     fed = [case for case in cases if case.name in FED]
     cuts = {name: scripts[name] for name in CUT}
 
-    def run(holds, cases, name, **how):
-        return each(partial(holds, Failing(program)), cases, name, **how)()
-
     def over(holds, texts):
-        return lambda: [(name, well) for name, (_, well) in zip(texts, run(holds, texts.values(), len))]
+        return each(partial(of_text, holds, failing), texts.items(), lambda named: named[0])
 
     def seeded(holds):
-        return lambda: run(holds, range(CASES), str, chunksize=50)
+        return each(partial(holds, failing), seeds(CASES), str, chunksize=50)
 
     yield "each call failing", over(each_failing, scripts)
     yield "each read failing, byte by byte", over(reads_failing, cuts)
-    yield "each write failing, line by line", lambda: run(writes_failing, fed, lambda case: case.name)
+    yield "each write failing, line by line", each(partial(writes_failing, failing), fed)
     yield "in pieces", over(in_pieces, scripts)
     yield "cut", over(cut, cuts)
-    yield "at the limit", lambda: list(at_the_limit(program))
+    yield "at the limit", whole(at_the_limit, program)
     yield "damaged scripts", seeded(damaged_is_sound)
     yield "random bytes", seeded(bytes_are_sound)

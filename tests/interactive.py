@@ -35,7 +35,7 @@ PRINTED = f"1 {BEGUN}\n3 JOB NO NAME\n4 JOB ENDED\nSTEP ENDED RC 0\n"
 
 
 def called(program, script, *words):
-    ran = subprocess.run([program, "--interactive", *words], input=script, capture_output=True, timeout=60)
+    ran = subprocess.run([program, "--interactive", *words], input=script, capture_output=True, timeout=600)
     return ran.returncode, ran.stdout.decode(), ran.stderr.decode(errors="replace")
 
 
@@ -84,7 +84,7 @@ class Terminal:
         self.run = subprocess.Popen([program, *words], stdin=self.slave, stdout=self.slave, stderr=self.slave, env=os.environ | {"NO_COLOR": "1"} | names)
         os.close(self.slave)
 
-    def read(self, end, seconds=20):
+    def read(self, end, seconds=600):
         """What it says up to some text, or to its end."""
         heard, until = "", time.monotonic() + seconds
         while not heard.endswith(end) or not end:
@@ -123,7 +123,7 @@ def typed(program, *words):
         for text, wanted in steps:
             terminal.type(text)
             yield repr(text), terminal.read(wanted) == wanted
-        yield "ends", terminal.run.wait(20) == 0
+        yield "ends", terminal.run.wait(600) == 0
     finally:
         terminal.close()
 
@@ -135,7 +135,7 @@ def left(program):
         terminal.read("1> ")
         terminal.type("\x04")
         told = "\n1 JS09\nJOB FAULT RC 12\n-:1:1: JS09: the script has no statement\n"
-        yield "nothing typed", (terminal.read(told), terminal.run.wait(20)) == (told, 12)
+        yield "nothing typed", (terminal.read(told), terminal.run.wait(600)) == (told, 12)
     finally:
         terminal.close()
 
@@ -150,7 +150,7 @@ def others(program):
     yield "an abend", called(program, b"JOB REGION BELOW=1\nNOPE\nJOB ABEND 1\n")[0] == 8
     yield "a file", called(program, b"", "/dev/stdin")[:2] == (12, "1 JS09\nJOB FAULT RC 12\n")
     yield "a folder", called(program, b"", "/")[0] == 16
-    yield "a pipe for input", subprocess.run([program], input=b"JOB NOPE\n", capture_output=True, timeout=60).stderr.startswith(b"-:1:")
+    yield "a pipe for input", subprocess.run([program], input=b"JOB NOPE\n", capture_output=True, timeout=600).stderr.startswith(b"-:1:")
 
 
 def results(program):

@@ -70,9 +70,9 @@ def areas_hold(event):
 
 def holds(program, script):
     """Whether the lines of JSON say what is printed, with and without reasons."""
-    plain = subprocess.run([program], input=script, capture_output=True, timeout=60)
+    plain = subprocess.run([program], input=script, capture_output=True, timeout=600)
     for words in (["--json"], ["--json", "--explain"]):
-        ran = subprocess.run([program, *words], input=script, capture_output=True, timeout=60)
+        ran = subprocess.run([program, *words], input=script, capture_output=True, timeout=600)
         events = [json.loads(line) for line in ran.stdout.decode().splitlines()]
         lines = [line for event in events for line in printed(event)]
         if (lines, ran.returncode, ran.stderr) != (plain.stdout.decode().splitlines(), plain.returncode, plain.stderr):
@@ -83,5 +83,5 @@ def holds(program, script):
 
 
 def random_holds(program, profile, seed):
-    script = subprocess.run([program, "--random", str(seed), "--profile", profile], capture_output=True, timeout=60).stdout
+    script = subprocess.run([program, "--random", str(seed), "--profile", profile], capture_output=True, timeout=600).stdout
     return holds(program, script)

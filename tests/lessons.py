@@ -1,8 +1,8 @@
-"""The lessons, and what ties the documents together.
+"""The lessons, and the rules that they show.
 
 Each lesson is a sheet (`lessons/NN_name.md`) and a solution (`lessons/NN_name.job`), in which ` => ` and the answers stand
 behind the statements that the sheet asks for, as in tests/scripts. The sheet has the same script, with `?` for each answer.
-Each rule of docs/RULES.md is shown by an example or a lesson that is there and says so, and each link of a document holds.
+Each rule of docs/RULES.md is shown by an example or a lesson that is there and says so.
 """
 
 import re
@@ -13,7 +13,6 @@ import annotated
 
 TOP = Path(__file__).resolve().parent.parent
 FOLDER = TOP / "lessons"
-LINK = re.compile(r"\]\((?!https?:)([^)#\s]*)(#[^)\s]*)?\)")
 
 
 def solutions():
@@ -72,24 +71,6 @@ def is_shown(number, shown):
     return len(sheets) == 1 and number in cited(sheets[0])
 
 
-def anchors(path):
-    """The anchors of a document, as its headings make them."""
-    for heading in re.findall(r"(?m)^#+ (.*)$", path.read_text()):
-        yield "#" + re.sub(r"[^\w\- ]", "", heading.lower()).replace(" ", "-")
-
-
-def documents():
-    return [path for path in sorted(TOP.rglob("*.md")) if not {"out", ".git"} & set(path.parts)]
-
-
-def links_hold(path):
-    for file, anchor in LINK.findall(re.sub(r"(?s)```.*?```", "", path.read_text())):
-        target = path.parent / file if file else path
-        if not target.exists() or anchor and anchor not in anchors(target):
-            return False
-    return True
-
-
 def is_written_out(path):
     """Whether docs/FROM-ASSEMBLER.md has the statements of a solution."""
     statements = "".join(line.partition(" => ")[0].rstrip() + "\n" for line in path.read_text().splitlines())
@@ -112,5 +93,3 @@ def results(program):
         yield f"rule {number}", is_shown(number, shown)
     taught = {number for path in FOLDER.glob("[0-9]*.md") for number in cited(path)}
     yield "every rule has a lesson", taught == set(numbers)
-    for path in documents():
-        yield f"links of {path.relative_to(TOP)}", links_hold(path)

@@ -45,7 +45,7 @@ def cases():
 def of_line(program, line, expected, second):
     """Whether the line is told as expected, and standard output has its code and the end alone."""
     script = (REGION if second else b"") + line + b"\n"
-    ran = subprocess.run([program], input=script, capture_output=True, timeout=60)
+    ran = subprocess.run([program], input=script, capture_output=True, timeout=600)
     code = expected.split(": ")[1]
     printed = f"{'1 JOB REGION BELOW 1 ABOVE 0' if second else ''}\n{2 if second else 1} {code}\nJOB FAULT RC 12\n".lstrip("\n")
     return (ran.returncode, ran.stdout.decode(), ran.stderr.decode()) == (12, printed, expected)

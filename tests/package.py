@@ -1,7 +1,7 @@
 """What ./package and `./build --install` make: the same bytes twice, a program that runs the examples without any environment,
 manual pages without a warning, completions.
 
-It needs no root and no network. Where a shell is not on the machine its completion is not tried, and not counted; nor is lintian.
+It needs no root and no network. What needs a shell, lintian or another tool that is not on the machine is not tried.
 """
 
 import os
@@ -10,6 +10,8 @@ import shutil
 import subprocess
 import tempfile
 from pathlib import Path
+
+from cases import Lacking
 
 TOP = Path(__file__).resolve().parent.parent
 EXAMPLES = sorted((TOP / "examples").glob("*.job"))
@@ -39,7 +41,7 @@ def output(*words, **how):
 
 def example(program, path):
     """Whether an example prints what stands beside it, where the program has no environment."""
-    ran = subprocess.run([program, path.name], cwd=path.parent, env={}, capture_output=True, text=True, timeout=60)
+    ran = subprocess.run([program, path.name], cwd=path.parent, env={}, capture_output=True, text=True, timeout=600)
     wanted = (TOP / "examples" / path.name).with_suffix(".out").read_text()
     status = 8 if "STEP ENDED RC 8" in wanted.splitlines() else 0
     return (ran.returncode, ran.stdout, ran.stderr) == (status, wanted, "")
@@ -74,8 +76,8 @@ def fish_options(text):
 
 
 def read_by_shell(shell, path):
-    """Whether a shell can read its completion; None where the shell is not there."""
-    return subprocess.run([shell, "-n", path]).returncode == 0 if shutil.which(shell) else None
+    """Whether a shell can read its completion."""
+    return subprocess.run([shell, "-n", path]).returncode == 0 if shutil.which(shell) else Lacking(shell)
 
 
 def completions(root):
@@ -91,17 +93,17 @@ def completions(root):
 
 
 def without_errors(package):
-    """Whether lintian finds no error in a package; None where it is not there."""
+    """Whether lintian finds no error in a package."""
     if not shutil.which("lintian"):
-        return None
+        return Lacking("lintian")
     ran = subprocess.run(["lintian", "--fail-on", "error", package], capture_output=True, text=True)
     return ran.returncode == 0
 
 
 def linked(root, program):
-    """Whether pkg-config leads a compiler to the library below a folder; None where either is not there."""
-    if not shutil.which("pkg-config") or not shutil.which("cc"):
-        yield "pkg-config", None
+    """Whether pkg-config leads a compiler to the library below a folder."""
+    if not shutil.which("pkg-config"):
+        yield "pkg-config", Lacking("pkg-config")
         return
     env = os.environ | {"PKG_CONFIG_LIBDIR": str(root / "lib/pkgconfig")}
     words = output("pkg-config", f"--define-variable=prefix={root}", "--cflags", "--libs", "--static", "mvs", env=env).split()
@@ -157,7 +159,7 @@ def by_build(folder):
 
 
 def cannot_write(folder):
-    """Whether ./build says that it cannot write in its folder. Root can, so it becomes nobody; None where it cannot."""
+    """Whether ./build says that it cannot write in its folder. Root can, so it becomes nobody."""
     closed = folder / "closed"
     (closed / "crates/mvs_model").mkdir(parents=True)
     shutil.copy(TOP / "build", closed)
@@ -167,7 +169,7 @@ def cannot_write(folder):
         path.chmod(0o555 if path != folder else 0o755)
     nobody = ["setpriv", "--reuid=65534", "--regid=65534", "--clear-groups"] if os.geteuid() == 0 else []
     if nobody and not shutil.which(nobody[0]):
-        return None
+        return Lacking(nobody[0])
     env = os.environ | {"PATH": f"{closed}:/usr/bin:/bin"}
     ran = subprocess.run([*nobody, closed / "build"], env=env, capture_output=True, text=True)
     return ran.returncode == 16 and ran.stderr == f"build: cannot write in {closed}/crates/mvs_model, where the proofs are kept\n"

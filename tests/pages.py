@@ -12,12 +12,14 @@ from pathlib import Path
 
 import annotated
 import browser
+from cases import each, seeds, whole
 
 TOP = Path(__file__).resolve().parent.parent
 PAGE = 4096
 RANDOM_SCRIPTS = 200
-OPENS, STEPS = 2.0, 0.05  # seconds, for 2,000 statements
-OPENS_LARGE = 3.0  # for 10,240 pages
+# At most so many times what the calibration page takes in the same browser: a page of 2,000 statements until it is open and for a
+# step, and one of 10,240 pages until it is open.
+OPENS, STEPS, OPENS_LARGE = 12, 4, 4
 
 
 class Reader(HTMLParser):
@@ -53,7 +55,7 @@ class Reader(HTMLParser):
 
 
 def called(program, script, *words):
-    ran = subprocess.run([program, *words], input=script, capture_output=True, timeout=300)
+    ran = subprocess.run([program, *words], input=script, capture_output=True, timeout=600)
     return ran.stdout, ran.stderr, ran.returncode
 
 
@@ -207,22 +209,40 @@ MOVES = """(function(){var took=[];for(var i=0;i<20;i++){var b=performance.now()
   took.sort(function(a,b){return a-b});return took[10]/1000})()"""
 
 
+# A page of 2,000 items, of which a script draws each again: by it the speed of the browser on this machine at this time is measured.
+CALIBRATION = """<!DOCTYPE html><meta charset="utf-8"><body>%s<svg id="now" width="900" height="900"></svg><script>
+var items=document.querySelectorAll("article"),now=document.getElementById("now");
+function draw(from,count){now.textContent="";for(var i=0;i<count;i++){
+  var text=document.createElementNS("http://www.w3.org/2000/svg","text");text.setAttribute("x",i%%30*30);text.setAttribute("y",(i/30|0)*12);
+  text.textContent=items[(from+i)%%items.length].textContent.slice(0,8);now.appendChild(text)}}
+draw(0,2000);var at=0;addEventListener("keydown",function(){draw(++at,200)})</script></body>""" % "".join(
+    f"<article id=l{k}><h2>{k} <code>JOB GETMAIN RU,LV={k},A=X</code></h2><pre>{k} JOB RC 0</pre><p>{k} bytes</p></article>" for k in range(2000)
+)
+
+
 def quick(program, folder, view):
-    """How long a page of 2,000 statements takes, and one of 10,240 pages."""
+    """Whether a page of 2,000 statements, and one of 10,240 pages, take at most so many times what the calibration page takes."""
+    plain = folder / "calibration.html"
+    plain.write_text(CALIBRATION)
+    opens = min(opened(view, plain) for _ in range(3))
+    steps = min(view.tell(MOVES) for _ in range(3))
     script = called(program, b"", "--random", "1", "--lines", "2000")[0]
     page = folder / "long.html"
     page.write_bytes(called(program, script, "--page")[0])
     took = min(opened(view, page) for _ in range(3))
-    yield f"opens in {took:.2f} s", took < OPENS and view.errors == []
+    print(f"a page of 2,000 statements opens in {took:.2f} s, {took / opens:.1f} times the calibration page", flush=True)
+    yield "2,000 statements open", took < OPENS * opens and view.errors == []
     view.tell('dispatchEvent(new KeyboardEvent("keydown",{key:"End"}));for(var i=0;i<60;i++)dispatchEvent(new KeyboardEvent("keydown",{key:"PageUp"}))')
     move = min(view.tell(MOVES) for _ in range(3))
-    yield f"moves in {1000 * move:.0f} ms", move < STEPS
+    print(f"a step takes {1000 * move:.1f} ms, {move / steps:.1f} times one of the calibration page", flush=True)
+    yield "2,000 statements, a step", move < STEPS * steps
     lines = ["JOB REGION BELOW=2048,ABOVE=8192"]
     lines += [f"JOB STORAGE OBTAIN,LENGTH={PAGE * 7},ADDR=A{k},SP={k % 100},LOC=31" for k in range(1000)]
     large = folder / "large.html"
     large.write_bytes(called(program, ("\n".join(lines) + "\n").encode(), "--page")[0])
     took = min(opened(view, large) for _ in range(3))
-    yield f"opens 10,240 pages in {took:.2f} s", took < OPENS_LARGE and view.errors == []
+    print(f"10,240 pages open in {took:.2f} s, {took / opens:.1f} times the calibration page", flush=True)
+    yield "10,240 pages open", took < OPENS_LARGE * opens and view.errors == []
 
 
 MARKUP = b"""* </p><script>document.title="taken"</script><img src=x onerror=alert(1)>
@@ -235,27 +255,46 @@ JOB REPORT SP </body></html><plaintext>
 
 
 def hostile(program, folder, view):
-    """Lines that look like markup, each byte, each length of line, no statement, and a script of 16 MB."""
+    """Lines that look like markup."""
     page = folder / "markup.html"
     page.write_bytes(called(program, MARKUP, "--page")[0])
     view.open(page)
     inert = view.tell('document.title!=="taken"&&document.scripts.length===1&&document.images.length===0')
     yield "markup in a browser", inert and view.errors == [] and not view.tell('!!document.getElementById("wrong")') and shows(program, MARKUP)
-    first = b"JOB REGION BELOW=1\n"
-    yield "each byte of a comment", all(shows(program, first + b"* a" + bytes([byte]) + b"b\nJOB REPORT MAP\n") for byte in range(256))
-    yield "each byte of a remark", all(shows(program, first + b"JOB REPORT MAP a" + bytes([byte]) + b"b\n") for byte in range(256))
-    yield "each length", all(shows(program, first + b"*" * length + b"\nJOB REPORT MAP\n") for length in range(300))
-    yield "no statement", all(shows(program, script) for script in (b"* note\n", b"\n\n"))
-    longest = first + b"* a comment of some length, which is told many times\n" * 316000
-    whole = called(program, longest[: (1 << 24) - 1], "--page")
-    yield "16 MB", whole[2] == 0 and whole[0].count(b"\n<p id=") == longest[: (1 << 24) - 1].count(b"\n* ")
 
 
-def groups(program, each):
-    yield "pages of examples and lessons", lambda: [(path.name, shows(program, statements(path))) for path in scripts()]
-    yield "pages of scripts", lambda: [(case.name, shows(program, case.script().encode())) for case in annotated.all_scripts()]
-    yield "pages of random scripts", each(partial(as_random, program), range(RANDOM_SCRIPTS), str)
-    yield "pages in a browser", lambda: in_a_browser(program)
+FIRST = b"JOB REGION BELOW=1\n"
+HOSTILE = {
+    "each byte of a comment": [FIRST + b"* a" + bytes([byte]) + b"b\nJOB REPORT MAP\n" for byte in range(256)],
+    "each byte of a remark": [FIRST + b"JOB REPORT MAP a" + bytes([byte]) + b"b\n" for byte in range(256)],
+    "each length": [FIRST + b"*" * length + b"\nJOB REPORT MAP\n" for length in range(300)],
+    "no statement": [b"* note\n", b"\n\n"],
+    "16 MB": [(FIRST + b"* a comment of some length, which is told many times\n" * 316000)[: (1 << 24) - 1]],
+}
+
+
+def is_shown(program, name):
+    """Whether the pages of some scripts show them."""
+    if name == "16 MB":
+        page, _, status = called(program, HOSTILE[name][0], "--page")
+        return status == 0 and page.count(b"\n<p id=") == HOSTILE[name][0].count(b"\n* ")
+    return all(shows(program, script) for script in HOSTILE[name])
+
+
+def of_path(program, path):
+    return shows(program, statements(path))
+
+
+def of_case(program, case):
+    return shows(program, case.script().encode())
+
+
+def groups(program):
+    yield "pages of examples and lessons", each(partial(of_path, program), scripts(), chunksize=5)
+    yield "pages of scripts", each(partial(of_case, program), annotated.all_scripts(), chunksize=5)
+    yield "pages of random scripts", each(partial(as_random, program), seeds(RANDOM_SCRIPTS), str, chunksize=5)
+    yield "pages in a browser", whole(in_a_browser, program)
+    yield "hostile pages", each(partial(is_shown, program), HOSTILE, str)
 
 
 def as_random(program, seed):

@@ -43,7 +43,7 @@ class Checkout:
         self.notes.unlink(missing_ok=True)
         env = os.environ | {"PATH": path or self.path, "NOTES": str(self.notes)}
         how = {"stderr": subprocess.PIPE, "stdin": subprocess.DEVNULL} | how
-        ran = subprocess.run(["bash", "-c", command], cwd=self.folder, env=env, stdout=subprocess.PIPE, timeout=60, **how)
+        ran = subprocess.run(["bash", "-c", command], cwd=self.folder, env=env, stdout=subprocess.PIPE, timeout=600, **how)
         return ran.returncode, ran.stdout.decode(), (ran.stderr or b"").decode(), self.notes.exists()
 
     def at_a_terminal(self, command):

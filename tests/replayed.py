@@ -7,6 +7,7 @@ from functools import partial
 
 import pages
 import random_scripts
+from cases import each, seeds
 from plain_emulator import DOES, Statement, address, begin, emulator
 from plain_machine import part_length
 
@@ -272,7 +273,7 @@ def as_anything(program, seed):
     return holds(program, random_scripts.anything(seed, seed % 2 == 1).text().encode())
 
 
-def groups(program, each):
+def groups(program):
     yield "replayed pages", each(partial(as_known, program), pages.scripts())
-    yield "replayed pages of random scripts", each(partial(as_random, program), range(RANDOM_SCRIPTS), str)
-    yield "replayed pages of random anything", each(partial(as_anything, program), range(ANYTHING_SCRIPTS), str)
+    yield "replayed pages of random scripts", each(partial(as_random, program), seeds(RANDOM_SCRIPTS), str)
+    yield "replayed pages of random anything", each(partial(as_anything, program), seeds(ANYTHING_SCRIPTS), str)

@@ -10,6 +10,7 @@ import re
 from functools import partial
 
 import plain_emulator
+from cases import each, seeds
 from conformance import ACCEPTED, REFUSED, UNDECIDED, asked, judged, judgement
 
 SCRIPTS = 3000  # of which 2,000 ask for their places
@@ -248,5 +249,5 @@ def of_seed(program, seed):
     return agrees(program, script, printed) and agrees(program, script, change(printed, dice))
 
 
-def groups(program, each):
-    yield "judged by search", each(partial(of_seed, program), range(SCRIPTS), str, chunksize=20)
+def groups(program):
+    yield "judged by search", each(partial(of_seed, program), seeds(SCRIPTS), str, chunksize=20)

@@ -6,7 +6,7 @@ import subprocess
 
 import annotated
 
-PATIENCE = 30  # seconds
+PATIENCE = 600  # seconds
 
 
 class Session:

@@ -7,6 +7,8 @@ import tempfile
 import time
 from pathlib import Path
 
+from cases import Lacking
+
 TOP = Path(__file__).resolve().parent.parent
 FIRST = TOP / "examples/first.job"
 BEGUN = "1 JOB REGION BELOW 1 ABOVE 0\n"
@@ -14,7 +16,7 @@ BEGUN = "1 JOB REGION BELOW 1 ABOVE 0\n"
 
 def shell(program, command, stdin=None, **names):
     env = os.environ | {"MVSJOB": str(program), "FIRST": str(FIRST)} | names
-    ran = subprocess.run(["bash", "-c", command], input=stdin, env=env, capture_output=True, timeout=120)
+    ran = subprocess.run(["bash", "-c", command], input=stdin, env=env, capture_output=True, timeout=600)
     return ran.returncode, ran.stdout.decode(errors="replace"), ran.stderr.decode(errors="replace")
 
 
@@ -25,7 +27,7 @@ def interrupted(program, script):
         run.stdin.flush()
         time.sleep(0.2)
         run.send_signal(signal.SIGINT)
-        return run.wait(30) == -signal.SIGINT and run.stderr.read() == b""
+        return run.wait(600) == -signal.SIGINT and run.stderr.read() == b""
 
 
 def inputs(program, folder):
@@ -35,7 +37,7 @@ def inputs(program, folder):
     locked.write_text("")
     locked.chmod(0)
     denied = (16, "", f"mvsjob: {locked}: permission denied\n")
-    yield "no permission", None if os.geteuid() == 0 else shell(program, f'"$MVSJOB" {locked}') == denied
+    yield "no permission", Lacking("a user other than root") if os.geteuid() == 0 else shell(program, f'"$MVSJOB" {locked}') == denied
     yield "a folder", shell(program, f'"$MVSJOB" {folder}') == (16, "", f"mvsjob: {folder}: is a directory\n")
     yield "closed input", shell(program, '"$MVSJOB" <&-') == (16, "", "mvsjob: read failed\n")
     yield "an empty script", shell(program, '"$MVSJOB" /dev/null') == (12, "1 JS09\nJOB FAULT RC 12\n", "/dev/null:1:1: JS09: the script has no statement\n")
@@ -63,7 +65,7 @@ def outputs(program):
     closed = 'yes "JOB REGION BELOW=1" | head -99999 | "$MVSJOB" | head -1; echo ${PIPESTATUS[2]}'
     yield "a closed pipe", shell(program, closed) == (0, f"{BEGUN}141\n", "")
     runs = [subprocess.Popen([program, FIRST], stdout=subprocess.PIPE, stderr=subprocess.STDOUT) for _ in range(20)]
-    yield "20 at once", all(run.communicate(timeout=60)[0] == FIRST.with_suffix(".out").read_bytes() for run in runs)
+    yield "20 at once", all(run.communicate(timeout=600)[0] == FIRST.with_suffix(".out").read_bytes() for run in runs)
     yield "interrupted while it waits", interrupted(program, b"JOB REGION BELOW=1\n")
 
 

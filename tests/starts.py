@@ -27,7 +27,7 @@ BIG = "JOB REGION BELOW=1\nJOB GETMAIN R,LV=4096,A=X\n" + "JOB SHOW X,4096\n" * 
 
 def shell(command, cwd=None, stdin=None, **names):
     env = os.environ | {"RUN": str(TOP / "run"), "FIRST": str(FIRST)} | names
-    ran = subprocess.run(["bash", "-c", command], cwd=cwd, input=stdin, env=env, capture_output=True, timeout=300)
+    ran = subprocess.run(["bash", "-c", command], cwd=cwd, input=stdin, env=env, capture_output=True, timeout=600)
     return ran.returncode, ran.stdout.decode(), ran.stderr.decode()
 
 
@@ -36,7 +36,7 @@ def ends_at_a_fault():
     with subprocess.Popen([TOP / "run"], stdin=subprocess.PIPE, stdout=subprocess.PIPE, stderr=subprocess.DEVNULL) as run:
         run.stdin.write(ONE_AREA.encode() + 256 * b"*")
         run.stdin.flush()
-        return run.wait(60) == 12 and run.stdout.read().endswith(b"\n4 JS01\nJOB FAULT RC 12\n")
+        return run.wait(600) == 12 and run.stdout.read().endswith(b"\n4 JS01\nJOB FAULT RC 12\n")
 
 
 def cases(folder):
@@ -75,7 +75,7 @@ def cases(folder):
     shutil.copy(TOP / "run", bare)
     status, out, err = shell("./run x.job", cwd=bare, PATH="/usr/bin:/bin")
     yield "no kit", status == 16 and out == "" and "rt" in err and len(err.splitlines()) == 1
-    out, err = patient.communicate(timeout=300)
+    out, err = patient.communicate(timeout=600)
     yield "a long run", (patient.returncode, out.decode(), err) == (0, printed, b"")
 
 

@@ -19,7 +19,7 @@ def cases():
 
 
 def called(program, script, *words):
-    ran = subprocess.run([program, *words], input=script, capture_output=True, text=True, timeout=60)
+    ran = subprocess.run([program, *words], input=script, capture_output=True, text=True, timeout=600)
     return ran.returncode, ran.stdout, ran.stderr
 
 

@@ -1,11 +1,11 @@
 //! ATTACH and ATTACHX.
 
+use crate::names::NoName;
 use crate::operands::{Keys, Operands};
 use crate::reason::{Unsaid, Why};
 use crate::said::State;
 use crate::values::put_number;
 use crate::words::is_symbol;
-use std::alloc::AllocError;
 use std::fmt::Write;
 
 const KEYS: Keys = Keys {
@@ -89,7 +89,7 @@ impl State<'_> {
     }
 
     // The task of a program that is attached: called as the program the first time, and else with a number.
-    fn task(&mut self, program: &str) -> Result<String, AllocError> {
+    fn task(&mut self, program: &str) -> Result<String, NoName> {
         if self
             .attached
             .insert(String::from_str(self.alloc, program)?)?

@@ -1,6 +1,7 @@
 //! GETMAIN.
 
 use crate::held::Content;
+use crate::names::NoName;
 use crate::operands::{Keys, Operands};
 use crate::reason::{Unsaid, Why};
 use crate::said::State;
@@ -161,13 +162,14 @@ impl State<'_> {
         text: &mut String,
         symbol: &str,
         count: usize,
-    ) -> Result<(), AllocError> {
+    ) -> Result<(), NoName> {
         for place in 1..=count {
             let name = self.names.of_item(symbol, place)?;
             let before = if place > 1 { "," } else { ",A=(" };
             write!(text, "{before}{name}")?;
         }
-        text.push_str(")")
+        text.push_str(")")?;
+        Ok(())
     }
 
     /// What GETMAIN is said by.

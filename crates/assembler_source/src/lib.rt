@@ -27,5 +27,6 @@ mod values;
 mod walk;
 mod words;
 
+pub use crate::names::NoName;
 pub use crate::said::{Found, Saying};
 pub use crate::walk::{Requests, find_requests};

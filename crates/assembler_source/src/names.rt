@@ -1,16 +1,80 @@
 //! Names of a script for the symbols of a source.
 
-use std::alloc::{AllocError, Global};
+use std::alloc::{AllocError, AllocFailed, Global};
 use std::collections::{BTreeMap, BTreeSet};
 
 /// The most characters of a name.
 const LONGEST: usize = 8;
 
-/// How many names are tried for a symbol.
-const TRIES: u32 = 100_000;
+/// The numbers with some count of digits that a name may end in.
+#[derive(Clone, Copy)]
+struct Numbers {
+    digits: usize,
+    least: u32,
+    end: u32,
+}
+
+/// All numbers that a name may end in. The plain name counts as the first.
+const NUMBERS: [Numbers; 7] = [
+    Numbers {
+        digits: 1,
+        least: 2,
+        end: 10,
+    },
+    Numbers {
+        digits: 2,
+        least: 10,
+        end: 100,
+    },
+    Numbers {
+        digits: 3,
+        least: 100,
+        end: 1_000,
+    },
+    Numbers {
+        digits: 4,
+        least: 1_000,
+        end: 10_000,
+    },
+    Numbers {
+        digits: 5,
+        least: 10_000,
+        end: 100_000,
+    },
+    Numbers {
+        digits: 6,
+        least: 100_000,
+        end: 1_000_000,
+    },
+    Numbers {
+        digits: 7,
+        least: 1_000_000,
+        end: 10_000_000,
+    },
+];
 
 /// The front of a name for a symbol of which a name may have nothing.
 const UNNAMED: &str = "X";
+
+/// Why a symbol gets no name.
+#[derive(Clone, Copy, Debug, PartialEq, Eq)]
+pub enum NoName {
+    Memory,
+    /// Each name that could be made of the symbol is in use.
+    AllUsed,
+}
+
+impl From<AllocError> for NoName {
+    fn from(_: AllocError) -> NoName {
+        NoName::Memory
+    }
+}
+
+impl<T: Drop> From<AllocFailed<T>> for NoName {
+    fn from(_: AllocFailed<T>) -> NoName {
+        NoName::Memory
+    }
+}
 
 /// The names that symbols were given.
 #[derive(Drop)]
@@ -18,6 +82,8 @@ pub struct Names {
     alloc: Global,
     of: BTreeMap<String, String>,
     used: BTreeSet<String>,
+    /// By the front of a name and the count of its digits, the next number to try: all smaller ones are in use.
+    next: BTreeMap<String, u32>,
 }
 
 // Whether a name may have a character.
@@ -45,34 +111,54 @@ impl Names {
             alloc,
             of: BTreeMap::new(alloc),
             used: BTreeSet::new(alloc),
+            next: BTreeMap::new(alloc),
         }
     }
 
-    // A name that no other symbol has: the front of the symbol, or a shorter one with a number.
-    fn unused(&self, symbol: &str) -> Result<String, AllocError> {
-        let mut name = shortened(self.alloc, symbol, LONGEST)?;
-        for number in 2..TRIES {
+    // Finds an unused name that ends in one of these numbers; None if all are in use.
+    fn numbered(&mut self, symbol: &str, numbers: Numbers) -> Result<Option<String>, AllocError> {
+        let front = shortened(self.alloc, symbol, LONGEST.saturating_sub(numbers.digits))?;
+        let key = format!(in self.alloc; "{front} {}", numbers.digits)?;
+        let first = match self.next.get(key.as_str()) {
+            Some(next) => *next,
+            None => numbers.least,
+        };
+        for number in first.min(numbers.end)..numbers.end {
+            let name = format!(in self.alloc; "{front}{number}")?;
             if !self.used.contains(name.as_str()) {
+                self.next.insert(key, number.saturating_add(1))?;
+                return Ok(Some(name));
+            }
+        }
+        self.next.insert(key, numbers.end)?;
+        Ok(None)
+    }
+
+    // Finds a name that no other symbol has: the front of the symbol, or a shorter one with a number.
+    fn unused(&mut self, symbol: &str) -> Result<String, NoName> {
+        let name = shortened(self.alloc, symbol, LONGEST)?;
+        if !self.used.contains(name.as_str()) {
+            return Ok(name);
+        }
+        for numbers in NUMBERS {
+            if let Some(name) = self.numbered(symbol, numbers)? {
                 return Ok(name);
             }
-            let digits = format!(in self.alloc; "{number}")?;
-            name = shortened(self.alloc, symbol, LONGEST.saturating_sub(digits.len()))?;
-            name.push_str(&digits)?;
         }
-        Ok(name)
+        Err(NoName::AllUsed)
     }
 
     /// A name for something that is called by a symbol, and has no name yet.
-    pub fn new_name(&mut self, symbol: &str) -> Result<String, AllocError> {
+    pub fn new_name(&mut self, symbol: &str) -> Result<String, NoName> {
         let name = self.unused(symbol)?;
         self.used.insert(name.clone()?)?;
         Ok(name)
     }
 
     /// The name of what is called so, which is made of a text where it has none yet.
-    pub fn called(&mut self, called: &str, text: &str) -> Result<String, AllocError> {
+    pub fn called(&mut self, called: &str, text: &str) -> Result<String, NoName> {
         if let Some(name) = self.of.get(called) {
-            return name.clone();
+            return Ok(name.clone()?);
         }
         let name = self.new_name(text)?;
         self.of
@@ -81,7 +167,7 @@ impl Names {
     }
 
     /// The name of a symbol.
-    pub fn of(&mut self, symbol: &str) -> Result<String, AllocError> {
+    pub fn of(&mut self, symbol: &str) -> Result<String, NoName> {
         self.called(symbol, symbol)
     }
 
@@ -97,7 +183,7 @@ impl Names {
     }
 
     /// The name of an item of a list: that of the list with the place of the item.
-    pub fn of_item(&mut self, list: &str, place: usize) -> Result<String, AllocError> {
+    pub fn of_item(&mut self, list: &str, place: usize) -> Result<String, NoName> {
         let digits = format!(in self.alloc; "{place}")?;
         let mut text = shortened(self.alloc, list, LONGEST.saturating_sub(digits.len()))?;
         text.push_str(&digits)?;
@@ -106,7 +192,7 @@ impl Names {
     }
 
     /// The name of the task of a program.
-    pub fn of_task(&mut self, program: &str) -> Result<String, AllocError> {
+    pub fn of_task(&mut self, program: &str) -> Result<String, NoName> {
         let called = format!(in self.alloc; "task {program}")?;
         self.called(&called, program)
     }

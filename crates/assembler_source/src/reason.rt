@@ -1,5 +1,6 @@
 //! Why a request cannot be said as a statement of a script.
 
+use crate::names::NoName;
 use std::alloc::{AllocError, Global};
 use std::fmt;
 
@@ -25,6 +26,8 @@ pub enum Why {
     /// An operand is missing.
     Missing,
     Branch,
+    /// Each name that could be made of a symbol is in use.
+    NoName,
 }
 
 /// Why a request cannot be said, and what it is said of.
@@ -49,6 +52,7 @@ impl fmt::Display for Reason {
             Why::NoForm => write!(f, "{of}: no form of the script"),
             Why::Missing => write!(f, "{of} is missing"),
             Why::Branch => write!(f, "a branch: the script has one path"),
+            Why::NoName => write!(f, "no name is left for a symbol"),
         }
     }
 }
@@ -70,11 +74,21 @@ impl Reason {
     }
 }
 
-/// Why there is no statement: a reason, or want of memory.
+/// Why there is no statement: a reason, no name that is left, or no memory.
 #[derive(Drop)]
 pub enum Unsaid {
     For(Reason),
+    NoName,
     Memory,
+}
+
+impl From<NoName> for Unsaid {
+    fn from(why: NoName) -> Unsaid {
+        match why {
+            NoName::Memory => Unsaid::Memory,
+            NoName::AllUsed => Unsaid::NoName,
+        }
+    }
 }
 
 impl From<AllocError> for Unsaid {

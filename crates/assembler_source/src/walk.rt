@@ -5,7 +5,7 @@ use crate::held::{Content, Held};
 use crate::lines::source_lines;
 use crate::list_forms::{Written, how_written, operands_of};
 use crate::macros::{Macro, macro_of};
-use crate::names::Names;
+use crate::names::{Names, NoName};
 use crate::operands::Operands;
 use crate::reason::{Reason, Unsaid, Why};
 use crate::said::{Found, Saying, State};
@@ -104,6 +104,7 @@ impl<'a> Walk<'a> {
                 })
             }
             Err(Unsaid::For(reason)) => Ok(Saying::Open(reason)),
+            Err(Unsaid::NoName) => Ok(Saying::Open(Reason::alone(self.state.alloc, Why::NoName))),
             Err(Unsaid::Memory) => Err(AllocError),
         }
     }
@@ -132,7 +133,7 @@ impl<'a> Walk<'a> {
     }
 
     // Goes over the statement at a place.
-    fn pass(&mut self, place: usize, statement: &'a Statement) -> Result<(), AllocError> {
+    fn pass(&mut self, place: usize, statement: &'a Statement) -> Result<(), NoName> {
         let statements = self.state.statements;
         self.state.number = statement.number;
         self.state.behind = statements.get(place.saturating_add(1)..).unwrap_or(&[]);
@@ -147,14 +148,16 @@ impl<'a> Walk<'a> {
             self.branch = Some(place);
         }
         match macro_of(&statement.operation) {
-            Some(asked) => self.pass_request(asked, statement),
-            None => self.state.pass(statement),
+            Some(asked) => self.pass_request(asked, statement)?,
+            None => self.state.pass(statement)?,
         }
+        Ok(())
     }
 }
 
-/// What is said of each request of a source, or of a listing of it, in the order of the source.
-pub fn find_requests(alloc: Global, source: &[u8]) -> Result<Requests, AllocError> {
+/// Returns what is said of each request of a source, or of a listing of it, in the order of the source. It fails if memory is exhausted, or
+/// if no name is left for a program.
+pub fn find_requests(alloc: Global, source: &[u8]) -> Result<Requests, NoName> {
     let lines = source_lines(alloc, source)?;
     let statements = statements(alloc, &lines)?;
     let symbols = symbols_of(alloc, &statements)?;

@@ -4,7 +4,7 @@
 mod script;
 
 use crate::script::{Stop, Sum, write_script};
-use assembler_source::find_requests;
+use assembler_source::{NoName, find_requests};
 use clap::{Arg, Command};
 use std::env;
 use std::fs::File;
@@ -34,6 +34,7 @@ enum GiveUp {
     Read,
     TooLong,
     Memory,
+    NoName,
     Write,
     /// The words were refused, or the help was printed: with this status.
     Words(u8),
@@ -49,6 +50,7 @@ impl GiveUp {
             GiveUp::Read => Some("read failed"),
             GiveUp::TooLong => Some("source too long"),
             GiveUp::Memory => Some("out of memory"),
+            GiveUp::NoName => Some("no name is left for a program"),
             GiveUp::Write => Some("write failed"),
             GiveUp::Words(_) => None,
         }
@@ -71,6 +73,15 @@ impl From<ErrorKind> for GiveUp {
             ErrorKind::IsADirectory => GiveUp::Directory,
             ErrorKind::OutOfMemory => GiveUp::Memory,
             _ => GiveUp::Read,
+        }
+    }
+}
+
+impl From<NoName> for GiveUp {
+    fn from(why: NoName) -> GiveUp {
+        match why {
+            NoName::Memory => GiveUp::Memory,
+            NoName::AllUsed => GiveUp::NoName,
         }
     }
 }
@@ -108,9 +119,7 @@ fn source(rt: &HostRuntime, name: &str) -> Result<Vec<u8>, GiveUp> {
 // Writes the script of the source of a name.
 fn convert(rt: &HostRuntime, name: &str) -> Result<Sum, GiveUp> {
     let source = source(rt, name)?;
-    let Ok(requests) = find_requests(rt.alloc(), &source) else {
-        return Err(GiveUp::Memory);
-    };
+    let requests = find_requests(rt.alloc(), &source)?;
     let Ok(mut writer) = BufWriter::new(rt.alloc(), io::writer(rt)) else {
         return Err(GiveUp::Memory);
     };

@@ -1,0 +1,177 @@
+#!/usr/bin/env python3
+"""gate.py: the gate itself. In a copy of some of the repository each plant makes it fail, and without a plant it passes.
+
+`tools/ci`: over a copy of two small crates, as `rt ci` proves them and tries their edits; and over a command that stands for `rt` and prints what
+that would print. `tests/run`: over a copy of the tests and the program. Last line: 'N passed, M failed'.
+"""
+
+import os
+import shutil
+import subprocess
+import sys
+import tempfile
+from pathlib import Path
+
+TOP = Path(__file__).resolve().parent.parent
+CRATES = ("mvs_model", "page_map", "boundary_loc")
+LIB = "crates/boundary_loc/src/lib.rt"
+STALE = "file: src/lib.rt\nold: this text is nowhere\nnew: here\n"
+NO_CODE = "file: src/lib.rt\nold:     number / unit * unit\nnew:     number / unit ((((\n"
+# The same under another name, which the proof cites.
+RENAMED = (
+    "file: src/lib.rt\n"
+    "old:     let last = round_down(from + (room - len), power(want.start()));\n"
+    "new:     let far = round_down(from + (room - len), power(want.start()));\n"
+    "old:     let at = last_start(last, want.start(), want.within(), len);\n"
+    "new:     let at = last_start(far, want.start(), want.within(), len);\n"
+)
+STAND_IN = '#!/bin/sh\ncat "$(dirname "$0")/said"\nexit $(cat "$(dirname "$0")/status")\n'
+REFUSED = "rt: must-fail toy/one.edit: refused, as it must be: note: src/lib.rt:1:1: it is not proved\n"
+AT_LIMIT = "rt: must-fail toy/one.edit: refused, as it must be (only by a limit of the prover, which gave no verdict): error\n"
+BY_NAME = "rt: must-fail toy/one.edit: refused, as it must be (only because a proof file names what the edit took away): error\n"
+BAD = "rt: must-fail toy/one.edit: BAD EDIT: an 'old:' text is in src/lib.rt 0 times, and not once\n"
+MISPLACED = "rt: crates/toy/must-fail/deep: BAD EDIT: an edit stands right in must-fail/\n"
+KEPT = "rt: toy: 1 of its 1 must-fail edits were tried by an earlier run on this machine\n"
+WELL = "2 passed, 0 failed\n"
+
+
+def called(*words, **how):
+    ran = subprocess.run(words, stdout=subprocess.PIPE, stderr=subprocess.STDOUT, text=True, errors="replace", **how)
+    return ran.returncode, ran.stdout
+
+
+def last(printed):
+    return printed.splitlines()[-1] if printed else ""
+
+
+# ---- tools/ci over what stands for rt
+
+
+def of_stand_in(folder, said, status, edits=("one.edit",)):
+    """What tools/ci makes of what `rt ci` prints, of a crate with these edits."""
+    shutil.rmtree(folder, ignore_errors=True)
+    for name in ("tools", "crates/toy/must-fail", "bin"):
+        (folder / name).mkdir(parents=True)
+    shutil.copy(TOP / "tools/ci", folder / "tools")
+    for name in edits:
+        (folder / "crates/toy/must-fail" / name).write_text(STALE)
+    (folder / "bin/rt").write_text(STAND_IN)
+    (folder / "bin/rt").chmod(0o755)
+    (folder / "bin/said").write_text(said)
+    (folder / "bin/status").write_text(str(status))
+    env = os.environ | {"PATH": f"{folder}/bin:{os.environ['PATH']}"}
+    return called(folder / "tools/ci", env=env)
+
+
+def stand_ins(folder):
+    fails = lambda found: found[0] == 1 and not last(found[1]).endswith(" 0 failed")  # noqa: E731
+    yield "a refusal", of_stand_in(folder, REFUSED + WELL, 0) == (0, REFUSED + WELL)
+    yield "a refusal of an earlier run", of_stand_in(folder, KEPT + REFUSED + WELL, 0) == (0, KEPT + REFUSED + WELL)
+    for name, said in {"a bad edit": BAD, "a misplaced edit": REFUSED + MISPLACED, "a limit": AT_LIMIT, "a name in a proof": BY_NAME}.items():
+        yield name, fails(of_stand_in(folder, said + WELL, 0))
+    yield "an edit without a refusal", fails(of_stand_in(folder, REFUSED + WELL, 0, ("one.edit", "two.edit")))
+    yield "a refusal without an edit", fails(of_stand_in(folder, REFUSED + WELL, 0, ()))
+    yield "a status that is not 0", fails(of_stand_in(folder, REFUSED + WELL, 2))
+    yield "no sum", fails(of_stand_in(folder, REFUSED, 0))
+    yield "no output", fails(of_stand_in(folder, "", 0))
+    yield "a failure of rt", fails(of_stand_in(folder, REFUSED + "1 passed, 1 failed\n", 1))
+
+
+# ---- tools/ci and tools/wrong_bodies over two crates
+
+
+def copied(folder):
+    """A copy of the repository with the small crates alone."""
+    for name in ("tools", *(f"crates/{crate}" for crate in CRATES)):
+        shutil.copytree(TOP / name, folder / name, ignore=shutil.ignore_patterns("out"))
+    lines = (TOP / "crates.txt").read_text().splitlines()
+    (folder / "crates.txt").write_text("".join(f"{line}\n" for line in lines if line.split(":")[0] in CRATES))
+    shutil.copy(TOP / "HANDLES", folder)
+    for edit in (folder / "crates/mvs_model").glob("*/*.edit"):
+        edit.unlink()
+    return folder
+
+
+def plants(folder):
+    """A run without a plant, and one with three edits that show nothing."""
+    status, printed = called(folder / "tools/ci")
+    yield "two crates", status == 0 and last(printed).endswith(" 0 failed")
+    planted = {"stale": STALE, "no_code": NO_CODE, "renamed": RENAMED}
+    for name, text in planted.items():
+        (folder / f"crates/boundary_loc/must-fail/{name}.edit").write_text(text)
+    status, printed = called(folder / "tools/ci")
+    for name in planted:
+        yield f"planted {name}", status == 1 and f"ci: must-fail boundary_loc/{name}.edit: " in printed
+    yield "planted edits count", last(printed).endswith(" 3 failed")
+    for name in planted:
+        (folder / f"crates/boundary_loc/must-fail/{name}.edit").unlink()
+
+
+def planted_wrong_bodies(folder):
+    """Wrong bodies that show nothing, and one that names a goal on which it is not refused."""
+    wrong = folder / "crates/boundary_loc/wrong"
+    wrong.mkdir(exist_ok=True)
+    other = (folder / "crates/boundary_loc/must-fail/boundary_checked_at_start.edit").read_text()
+    other = "".join(line for line in other.splitlines(True) if not line.startswith("# refused")) + "# refused: another\n"
+    same = "file: src/lib.rt\nold:     number / unit * unit\nnew:     (number / unit) * unit\n# refused: returns\n"
+    planted = {"stale": STALE, "no_code": NO_CODE, "renamed": RENAMED, "other_goal": other, "same": same}
+    for name, text in planted.items():
+        (wrong / f"{name}.edit").write_text(text)
+    status, printed = called(folder / "tools/wrong_bodies", "boundary_loc")
+    for name in planted:
+        line = next((line for line in printed.splitlines() if line.startswith(f"boundary_loc/{name}: ")), "")
+        yield f"wrong body {name}", status == 1 and line != "" and ": refused on " not in line.partition(", and not on")[0] + ", and not on" * (name == "other_goal")
+    yield "wrong bodies count", last(printed).endswith(f" {len(planted)} not refused")
+
+
+# ---- tests/run
+
+
+def tests_fail(folder):
+    """tests/run over a copy, with scripts and programs missing."""
+    for name in ("tests", "examples", "docs", "lessons", "tools"):
+        shutil.copytree(TOP / name, folder / name)
+    made = folder / "crates/mvsjob/out"
+    made.mkdir(parents=True)
+    for name in ("mvsjob", "mvsjob.by-rattle"):
+        shutil.copy(TOP / "crates/mvsjob/out" / name, made)
+    run = lambda *words: called(folder / "tests/run", *words)  # noqa: E731
+    status, printed = run("scripts")
+    yield "tests", status == 0 and last(printed).endswith(" 0 failed")
+    (made / "mvsjob.by-rattle").unlink()
+    yield "one program is missing", run("scripts")[0] == 1
+    shutil.copy(made / "mvsjob", made / "mvsjob.by-rattle")
+    yield "no such group", run("script")[0] == 1
+    cases = sorted((folder / "tests/scripts").glob("*.job"))
+    wanted = cases[0].read_text()
+    cases[0].write_text(wanted.replace("STEP ENDED RC 0", "STEP ENDED RC 8").replace(" => RC 0", " => RC 4"))
+    yield "a wrong answer", run("scripts")[0] == 1
+    cases[0].write_text(wanted)
+    for path in cases[24:]:
+        path.unlink()
+    status, printed = run("scripts")
+    yield "case files are missing", status == 1 and f"24 cases, and tests/counts has {len(cases)}" in printed
+    (made / "mvsjob").unlink()
+    (made / "mvsjob.by-rattle").unlink()
+    yield "no program", last(run("scripts")[1]) == "0 passed, 1 failed"
+
+
+def main():
+    found = []
+    with tempfile.TemporaryDirectory(prefix="gate-") as name:
+        room = Path(name)
+        for part, folder in ((stand_ins, room / "stand_in"), (tests_fail, room / "tests"), (plants, None), (planted_wrong_bodies, None)):
+            try:
+                crates = room / "crates"
+                for case, well in part(folder or (crates if crates.exists() else copied(crates))):
+                    print(f"gate: {case}: {'passed' if well else 'FAILED'}", flush=True)
+                    found.append(well)
+            except (OSError, IndexError) as error:
+                print(f"gate: {part.__name__}: {error}")
+                found.append(False)
+    print(f"{sum(found)} passed, {len(found) - sum(found)} failed")
+    return 1 if not all(found) else 0
+
+
+if __name__ == "__main__":
+    sys.exit(main())
