@@ -25,15 +25,15 @@ returns g c = elim c.match-print_behind.branch [
         write = λ e. absurd (is_ok Write e);
       })
   | in-Err-print_behind w ↦ rw (w.result-is) (record {
-      told = tt;
-      printed = tt;
-      behind = tt;
-      lines = tt;
-      lent = tt;
-      number = c.in-Ok.ensures.number;
-      memory = λ e. absurd (is_write e);
-      write = λ e. inr (w.in-Err-print_behind.ensures.printed c.args.walk.now.number).err;
-    })
+    told = tt;
+    printed = tt;
+    behind = tt;
+    lines = tt;
+    lent = tt;
+    number = c.in-Ok.ensures.number;
+    memory = λ e. absurd (is_write e);
+    write = λ e. inr (w.in-Err-print_behind.ensures.printed c.args.walk.now.number).err;
+  })
 ] where
   is_write : (◌≡◌ {A = Result LineTold Stop} (Err Write) (Err Memory)) → ⊥
   is_write e = cc
@@ -49,4 +49,3 @@ returns-in-Err-clause-memory g c = λ e.
 
 pub returns-in-Err-clause-write : goal.returns-in-Err-clause-write
 returns-in-Err-clause-write g c = λ e. inl (c.in-Err.ensures.write e)
-
