@@ -300,10 +300,20 @@ def judged(program):
         return [(name, is_judged(program, Path(folder), TOP / f"lessons/{name}.job")) for name in names]
 
 
+def many_names():
+    """Whether each of 100,000 areas has a name of its own."""
+    source = "PROG CSECT\n" + "".join(f" GETMAIN RU,LV=8,A=({number})\n" for number in range(100_000))
+    script, err, status = convert(source.encode())
+    names = re.findall(r"(?m)^PROG GETMAIN RU,LV=8,A=(\S+)", script)
+    yield "each is said", len(names) == 100_000 and summed(script, err, status)
+    yield "no name twice", len(set(names)) == len(names) and all(re.fullmatch("[A-Z@#$][A-Z0-9@#$]{0,7}", name) for name in names)
+
+
 def groups(program):
     scripts = sorted((TOP / "examples").glob("*.job")) + sorted((TOP / "lessons").glob("*.job"))
     yield "assembler sources", each(partial(is_said, program), SOURCES)
     yield "assembler listings", each(is_said_of_listing, SOURCES)
+    yield "many assembler names", whole(many_names)
     yield "random assembler sources", each(partial(is_random_said, program), seeds(300), str, chunksize=10)
     yield "damaged assembler sources", each(partial(is_damaged_read, program), seeds(600), str, chunksize=10)
     yield "assembled", each(partial(is_assembled, program), scripts)

@@ -22,7 +22,9 @@ from libraries import PARTS
 
 TOP = Path(__file__).resolve().parent.parent
 NEED = 3_000_000_000  # bytes of memory that a check may take
-HEADS = re.compile(r"^( *)(?:pub(?:\(.*?\))? )?(?:const )?(?:unsafe )?(?:extern \"C\" )?fn (\w+)|^(?:unsafe )?impl\b(?:<.*?>(?= ))? (?:[^{]*? for )?(?:&\S* )?(\w+)", re.M)
+FUNCTION = r"^( *)(?:pub(?:\(.*?\))? )?(?:const )?(?:unsafe )?(?:extern \"C\" )?fn (\w+)"
+IMPL = r"^(?:unsafe )?impl\b(?:<.*?>(?= ))? (?:(?:\w+::)*(\w+)(?:<.*>)? for )?(?:&\S* )?(\w+)"
+HEADS = re.compile(f"{FUNCTION}|{IMPL}", re.M)
 NAMED = re.compile(r"\bhas no field|\bis not in scope|\bhas no `|\bwas not admitted")
 LIMIT = re.compile(r"could not tell|antt ran out of|outgrew the memory limit|stopped at the step limit")
 WAITS = re.compile(r"it calls `[^`]*`, which is not proved|wait for a callee's proof")
@@ -70,12 +72,14 @@ class Change:
         module = "::".join(module[:-1] if module[-1] in ("lib", "main") else module)
         paths = set()
         for old, _ in self.pairs:
-            heads = list(HEADS.finditer(self.original[: self.original.index(old)]))
+            before = self.original[: self.original.index(old)]
+            heads = list(HEADS.finditer(before))
             function = next((it for it in reversed(heads) if it[2]), None)
-            owner = next((it for it in reversed(heads) if it[3]), None)
-            if function is None or function[1] and owner is None:
+            owner = next((it for it in reversed(heads) if it[4]), None)
+            if function is None or function[1] and owner is None or f"\n{function[1]}}}\n" in before[function.end() :]:
                 return None
-            paths.add(f"{owner[3]}::{function[2]}" if function[1] else f"{module}::{function[2]}")
+            trait = owner[3] if function[1] and owner[3] not in (None, "Drop") else ""  # its methods are those of `TypeTrait`
+            paths.add(f"{owner[4]}{trait}::{function[2]}" if function[1] else f"{module}::{function[2]}")
         return paths
 
     def asked(self):
