@@ -6,6 +6,8 @@ import tempfile
 import time
 from pathlib import Path
 
+import annotated
+
 TOP = Path(__file__).resolve().parent.parent
 REGION = b"JOB REGION BELOW=1\n"
 SCRIPT = REGION + b"JOB GETMAIN R,LV=8,A=X\nJOB WHERE X => AT 00006000\n"
@@ -13,6 +15,9 @@ PRINTED = b"1 JOB REGION BELOW 1 ABOVE 0\n2 JOB RC 0\n3 JOB AT 00006000\nSTEP EN
 MOST_BYTES = 16_777_215
 OF_SCRIPT = ("", "--explain", "--json", "--page", "--strict", "--interactive", "--check", "--blank", "--ask", "--assemble", "--judge OUTPUT")
 FOREIGN = {"X'0D'": b"* from Windows\r\n", "no UTF-8": b"* pr\xfcfung\n", "an escape": b"* \x1b[2J\n"}
+# What these print depends on where areas lie: the first shows the lowest place, and the others ask for addresses or fill a region.
+SHOW_PLACES = {"storage_areas_lie_low.job", "place_lengths_at_their_ends.job", "pool_above_and_below.job", "pool_cell_across_pages.job"}
+SHOW_PLACES |= {"pool_in_a_given_subpool.job", "pool_parts.job", "statements_with_all_their_operands.job"}
 LINES_NOT_SERVED = 64_000
 APART = (
     "--random 1 FILE",
@@ -143,7 +148,17 @@ def names(modes):
     yield "an output that is not there", modes.run("--judge nowhere", SCRIPT) == (16, b"", "mvsjob: cannot read output\n    nowhere: no such file\n")
 
 
+def placed_high(program):
+    """Each annotated script prints the same with both placements, but for those that show where areas lie, and those that name a
+    placement."""
+    for case in annotated.all_scripts():
+        if case.name not in SHOW_PLACES and not case.words:
+            ran = subprocess.run([program, "--place", "high"], input=case.script(), capture_output=True, text=True, timeout=60)
+            yield f"{case.name} placed high", ran.stdout.splitlines() == case.printed()
+
+
 def results(program):
     with tempfile.TemporaryDirectory() as folder:
         modes = Modes(program, folder)
-        return [case for group in (reading, pipes, checks, judgements, options, unserved, names) for case in group(modes)]
+        groups = (reading, pipes, checks, judgements, options, unserved, names)
+        return [case for group in groups for case in group(modes)] + list(placed_high(program))

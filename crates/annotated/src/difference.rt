@@ -47,7 +47,11 @@ fn write_difference<W: Write>(
 ) -> io::Result<()> {
     let Place { name, number } = place;
     let expected = Plain(expected);
-    write!(writer, "{}:{number}: expected {expected}, got ", PlainName(name))?;
+    write!(
+        writer,
+        "{}:{number}: expected {expected}, got ",
+        PlainName(name)
+    )?;
     if printed.is_empty() {
         return writeln!(writer, "nothing");
     }

@@ -22,7 +22,11 @@ pub fn parted_at<'a>(text: &'a [u8], separator: &[u8]) -> (&'a [u8], Option<&'a 
 /// Returns the statement of a line, without the answers after it. A line with a byte that no script may have is returned whole.
 pub fn statement_of(line: &[u8]) -> &[u8] {
     let is_text = line.iter().all(|byte| *byte >= b' ' && *byte <= b'~');
-    if is_text { parted_at(line, ARROW).0 } else { line }
+    if is_text {
+        parted_at(line, ARROW).0
+    } else {
+        line
+    }
 }
 
 /// Returns the last line that a script expects, if its last line is such a comment.

@@ -27,7 +27,11 @@ pub struct PlainName<'a>(pub &'a str);
 impl fmt::Display for PlainName<'_> {
     fn fmt<W: fmt::Write>(&self, f: &mut fmt::Formatter<W>) -> fmt::Result {
         for character in self.0.chars() {
-            let shown = if character.is_control() { '.' } else { character };
+            let shown = if character.is_control() {
+                '.'
+            } else {
+                character
+            };
             write!(f, "{shown}")?;
         }
         Ok(())

@@ -137,7 +137,10 @@ impl Lacked {
             if !self.is_there(job, name) {
                 continue;
             }
-            match (edits_between(alloc, self.name().text(), name.text()), &nearest) {
+            match (
+                edits_between(alloc, self.name().text(), name.text()),
+                &nearest,
+            ) {
                 (Some(edits), Some((least, _))) if edits >= *least => {}
                 (Some(edits), _) => nearest = Some((edits, *name)),
                 (None, _) => {}

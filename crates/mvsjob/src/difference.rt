@@ -1,5 +1,7 @@
 //! Where an output differs from what a run prints.
 
+ghost use Rattle.std.specs.Prelude.{◌<◌, length};
+
 use diagnosis::Plain;
 use std::io::{self, Write};
 
@@ -18,7 +20,9 @@ enum Difference {
 type LineAndEnd<'a> = Option<&'a [u8]>;
 
 // Returns the first line of a text with its end, and what is after it.
-fn first_line(text: &[u8]) -> (LineAndEnd<'_>, &[u8]) {
+fn first_line(text: &[u8]) -> (LineAndEnd<'_>, &[u8])
+    ensures { 0 < length text.now → length result.1.now < length text.now }
+{
     if text.is_empty() {
         return (None, text);
     }

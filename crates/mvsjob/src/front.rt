@@ -37,7 +37,9 @@ pub fn front_of(script: &[u8]) -> Front<'_> {
         faulty: Some(Faulty {
             number: ended_lines(front).saturating_add(1),
             line,
-            fault: read_line(line, false, &mut read).err().unwrap_or(Fault::InvalidByte),
+            fault: read_line(line, false, &mut read)
+                .err()
+                .unwrap_or(Fault::InvalidByte),
         }),
     }
 }

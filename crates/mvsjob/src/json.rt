@@ -62,7 +62,11 @@ fn write_script<W: Write>(
     let mut rest = script;
     'lines: while !rest.is_empty() {
         let (bytes, more) = parted(rest, b'\n');
-        let asked = if settings.explains { Some(&mut why) } else { None };
+        let asked = if settings.explains {
+            Some(&mut why)
+        } else {
+            None
+        };
         if !write_told(alloc, writer, &mut session, bytes, asked)? {
             return Ok(Outcome::ScriptFault);
         }

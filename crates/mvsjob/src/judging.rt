@@ -3,10 +3,10 @@
 ghost use Rattle.std.specs.Prelude.{◌≡◌, ◌∷◌, ◌++◌, ℕ, List, IfOk};
 ghost use Rattle.mvsjob.specs.Served.{Judges, word_of};
 
+use crate::difference::write_difference;
 use crate::ending::{Ending, GiveUp};
 use crate::served::Served;
 use job_script::write_all;
-use crate::difference::write_difference;
 use judge::{Finding, Judgement, judge};
 use mvs_job::RunFault;
 use mvs_model::watched::Watched;

@@ -1,7 +1,7 @@
 //! Simulates the virtual storage services that an unauthorized program of MVS uses in its own region.
 #![tactic(auto)]
 
-ghost use Rattle.std.specs.Prelude.{◌≡◌};
+ghost use Rattle.std.specs.Prelude.{◌≡◌, false, IfOk};
 ghost use Rattle.std.specs.Process.{exit_status};
 ghost use Rattle.mvsjob.specs.Endings.{status_of};
 
@@ -62,7 +62,9 @@ pub(crate) type Output<'a> = Coloured<BufWriter<Piped<io::Printer<'a, HostRuntim
 fn standard_output<'a>(
     rt: &'a HostRuntime,
     settings: &Settings<'_>,
-) -> Result<Watched<Output<'a>>, GiveUp> {
+) -> Result<Watched<Output<'a>>, GiveUp>
+    ensures { IfOk result (λ writer. writer.failed ≡ false) }
+{
     match BufWriter::new(rt.alloc(), Piped::new(io::writer(rt))) {
         Ok(writer) => Ok(Watched::new(Coloured::new(
             writer,
@@ -74,10 +76,7 @@ fn standard_output<'a>(
 
 // Flushes what a mode printed that ended so. A flush that fails is a write that failed, and one that failed since nobody reads
 // any more ends the program in silence.
-fn concluded(
-    ended: Result<Ending, GiveUp>,
-    writer: Watched<Output<'_>>,
-) -> Result<Ending, GiveUp> {
+fn concluded(ended: Result<Ending, GiveUp>, writer: Watched<Output<'_>>) -> Result<Ending, GiveUp> {
     let mut writer = writer.into_inner();
     let flushed = writer.flush();
     match ended {
@@ -118,7 +117,9 @@ fn run_lines<R: Read + Drop>(
     reader: R,
     settings: &Settings<'_>,
     writer: &mut Watched<Output<'_>>,
-) -> Result<Ending, GiveUp> {
+) -> Result<Ending, GiveUp>
+    requires { writer.old.failed ≡ false }
+{
     let Ok(kept) = Kept::new(rt.alloc(), reader) else {
         return Err(GiveUp::Job(RunFault::Memory));
     };
@@ -139,7 +140,9 @@ fn serve_reader<R: Read + Drop>(
     reader: R,
     settings: &Settings<'_>,
     writer: &mut Watched<Output<'_>>,
-) -> Result<Ending, GiveUp> {
+) -> Result<Ending, GiveUp>
+    requires { writer.old.failed ≡ false }
+{
     if settings.is_as_it_comes() && is_at_terminal(rt, settings) {
         return run_at_terminal(rt, reader, settings, writer);
     }
@@ -174,7 +177,9 @@ fn serve(
     rt: &HostRuntime,
     settings: &Settings<'_>,
     writer: &mut Watched<Output<'_>>,
-) -> Result<Ending, GiveUp> {
+) -> Result<Ending, GiveUp>
+    requires { writer.old.failed ≡ false }
+{
     if let Mode::Random(_) = settings.mode {
         return serve_reader(rt, io::empty(), settings, writer);
     }

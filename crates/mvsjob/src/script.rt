@@ -1,6 +1,6 @@
 //! How scripts and outputs are read: the one way for all that the program does with a script that is whole.
 
-ghost use Rattle.std.specs.Prelude.{◌≡◌, ◌≤◌, ◌<◌, IfOk, IfSome, IsErrOf, length};
+ghost use Rattle.std.specs.Prelude.{◌≡◌, ◌≤◌, IfOk, IfSome, length, take};
 ghost use Rattle.mvs_job.specs.Exchanging.{IsRest};
 ghost use Rattle.mvs_model.specs.Numbers.{most_script_bytes};
 
@@ -23,7 +23,9 @@ fn read_fault(error: &io::Error) -> GiveUp {
 }
 
 // Reads the bytes that a reader has, up to a number.
-fn bytes_of<R: Read + Drop>(alloc: Global, reader: R, most: u64) -> Result<Vec<u8>, GiveUp> {
+fn bytes_of<R: Read + Drop>(alloc: Global, reader: R, most: u64) -> Result<Vec<u8>, GiveUp>
+    ensures { IfOk result (λ bytes. IfSome (R.remaining reader) (λ xs. bytes.items ≡ take most xs)) }
+{
     let mut bytes = Vec::new(alloc);
     match reader.take(most).read_to_end(&mut bytes) {
         Ok(_) => Ok(bytes),

@@ -1,6 +1,6 @@
 //! Serves a script that was read whole: what each mode does with it.
 
-ghost use Rattle.std.specs.Prelude.{◌≡◌, ◌≤◌, IsTrue, false, length};
+ghost use Rattle.std.specs.Prelude.{◌≡◌, ◌≤◌, IsTrue, None, false, length};
 ghost use Rattle.mvs_model.specs.Numbers.{most_script_bytes};
 ghost use Rattle.mvsjob.specs.Served.{Explains, IsFaultOf, Judges, Pages, RunsStrictly};
 
@@ -30,7 +30,10 @@ pub struct Served<'a> {
 
 impl<'a> Served<'a> {
     /// Returns what a mode did that has no line to report.
-    pub fn of(ending: Ending) -> Served<'a> {
+    pub fn of(ending: Ending) -> Served<'a>
+        ensures ending { result.ending ≡ ending }
+        ensures faulty { result.faulty ≡ None }
+    {
         Served {
             ending,
             faulty: None,

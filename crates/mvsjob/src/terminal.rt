@@ -1,5 +1,7 @@
 //! A job at a terminal: a faulty line is reported and left out, and the job goes on.
 
+ghost use Rattle.std.specs.Prelude.{◌≡◌, false};
+
 use crate::choices::Settings;
 use crate::ending::{Ending, GiveUp};
 use crate::faultless::{Listens, run_faultless};
@@ -51,7 +53,9 @@ pub fn run_at_terminal<R: Read + Drop>(
     reader: R,
     settings: &Settings<'_>,
     writer: &mut Watched<Output<'_>>,
-) -> Result<Ending, GiveUp> {
+) -> Result<Ending, GiveUp>
+    requires { writer.old.failed ≡ false }
+{
     let prompter = Prompter {
         rt,
         name: settings.file,
