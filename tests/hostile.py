@@ -20,6 +20,9 @@ from cases import each, seeds, whole
 CASES = 20_000
 MOST_BYTES = 16_777_215
 CUT = [f"example {name}.job" for name in ("first", "contents", "pools", "steps")]
+MODES = ("--explain", "--json", "--json --explain", "--page", "--strict", "--interactive", "--check", "--blank", "--ask", "--assemble")
+MODES += ("--judge OUTPUT", "--place high", "--random 7 --lines 40", "--random 7 --lines 40 --profile tasks", "--help", "--version")
+OF_MODES = ("example pools.job", "script storage_a_run_is_joined_across_pages.job")
 CUT += ["script storage_a_run_is_joined_across_pages.job"]
 FED = ("lists.job", "pool_parts.job", "report_given_and_shared.job", "job_two_steps.job")
 NO_STATEMENT = "-:16777216:1: JS09: the script has no statement\n"
@@ -100,6 +103,26 @@ def each_failing(failing, script):
             if not gave_up and (kind != "alloc" or (status, out, err) != well):
                 return False
     return counts["alloc"] > 0 and counts["read"] > 0 and counts["write"] > 0
+
+
+def mode_failing(failing, scripts, mode):
+    """Each allocation, read and write refused in turn in a mode: the program gives up and says so, and what it has printed is a
+    front of what it prints, or it ends as it does without the refusal: a hint may be missing on standard error then."""
+    output = f"{failing.folder}/output{os.getpid()}"
+    for script in scripts:
+        Path(output).write_bytes(failing.run(script)[1].replace(b"RC 0", b"RC 4", 1))
+        words = mode.replace("OUTPUT", output).split()
+        well = failing.run(script, *words)
+        counts = failing.counted(partial(failing.run, script, *words))
+        for kind, count in (counts | {"none": counts["write"]}).items():
+            for k in range(1, count + 1):
+                status, out, err = failing.run(script, *words, FAIL=f"{kind}:{k}")
+                gave_up = status == 16 and err.endswith(SAYS[kind]) and well[1].startswith(out)
+                if not gave_up and (kind != "alloc" or (status, out) != well[:2]):
+                    return False
+        if counts["alloc"] == 0 or counts["write"] == 0:
+            return False
+    return True
 
 
 def reads_failing(failing, script):
@@ -215,6 +238,8 @@ def groups(program, cases, examples):
         return each(partial(holds, failing), seeds(CASES), str, chunksize=50)
 
     yield "each call failing", over(each_failing, scripts)
+    modes = [scripts[name] for name in OF_MODES]
+    yield "each call failing, in each mode", lambda: each(partial(mode_failing, Failing(program), modes), MODES, str)()
     yield "each read failing, byte by byte", over(reads_failing, cuts)
     yield "each write failing, line by line", each(partial(writes_failing, failing), fed)
     yield "in pieces", over(in_pieces, scripts)

@@ -67,7 +67,7 @@ def cases(checkout):
     status, out, err, begun = checkout.shell(f'./run "{script}"')
     yield "a script", (status, out, begun) == (8, script.read_text(), True)
     yield "how long it takes", len(err.splitlines()) == 1 and "usually takes" in err
-    for command, why in {"./run <&-": "read failed", "./run < .": "is a directory", f'./run "{script}" >&-': "write failed"}.items():
+    for command, why in {"./run <&-": "read failed", "./run < .": "read failed\n    standard input: is a directory", f'./run "{script}" >&-': "write failed"}.items():
         status, out, err, begun = checkout.shell(command)
         yield command.replace(str(TOP), ""), (status, out, begun) == (16, "", False) and err.endswith(f"mvsjob: {why}\n")
     status, out, err, _ = checkout.shell("./run --unknown")

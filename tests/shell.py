@@ -32,13 +32,13 @@ def interrupted(program, script):
 
 def inputs(program, folder):
     printed = FIRST.with_suffix(".out").read_text()
-    yield "no such file", shell(program, '"$MVSJOB" nowhere.job') == (16, "", "mvsjob: nowhere.job: no such file\n")
+    yield "no such file", shell(program, '"$MVSJOB" nowhere.job') == (16, "", "mvsjob: cannot open script\n    nowhere.job: no such file\n")
     locked = Path(folder) / "locked.job"
     locked.write_text("")
     locked.chmod(0)
-    denied = (16, "", f"mvsjob: {locked}: permission denied\n")
+    denied = (16, "", f"mvsjob: cannot open script\n    {locked}: permission denied\n")
     yield "no permission", Lacking("a user other than root") if os.geteuid() == 0 else shell(program, f'"$MVSJOB" {locked}') == denied
-    yield "a folder", shell(program, f'"$MVSJOB" {folder}') == (16, "", f"mvsjob: {folder}: is a directory\n")
+    yield "a folder", shell(program, f'"$MVSJOB" {folder}') == (16, "", f"mvsjob: read failed\n    {folder}: is a directory\n")
     yield "closed input", shell(program, '"$MVSJOB" <&-') == (16, "", "mvsjob: read failed\n")
     yield "an empty script", shell(program, '"$MVSJOB" /dev/null') == (12, "1 JS09\nJOB FAULT RC 12\n", "/dev/null:1:1: JS09: the script has no statement\n")
     status, out, err = shell(program, '"$MVSJOB" "$MVSJOB"')

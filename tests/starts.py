@@ -50,13 +50,13 @@ def cases(folder):
     for words, address in PLACED.items():
         status, out, err = shell(f'"$RUN" {words}', cwd=folder, stdin=ONE_AREA.encode())
         yield f"settings_always_refuses, {words}", (status, err) == (0, "") and f"3 JOB AT {address}\n" in out
-    yield "a file that is named as an option", shell('"$RUN" -- --help', cwd=folder) == (16, "", "mvsjob: --help: no such file\n")
+    yield "a file that is named as an option", shell('"$RUN" -- --help', cwd=folder) == (16, "", "mvsjob: cannot open script\n    --help: no such file\n")
     yield "a dash", shell('"$RUN" -', stdin=FIRST.read_bytes()) == (0, printed, "")
     yield "another folder", shell('"$RUN" first.job', cwd=FIRST.parent) == (0, printed, "")
     yield "a link", shell(f'"{link}" "$FIRST"', cwd=folder) == (0, printed, "")
-    yield "no such file", shell('"$RUN" nowhere.job') == (16, "", "mvsjob: nowhere.job: no such file\n")
-    yield "a folder", shell(f'"$RUN" "{folder}"') == (16, "", f"mvsjob: {folder}: is a directory\n")
-    yield "a folder that is checked", shell(f'"$RUN" --check "{folder}"') == (16, "", f"mvsjob: {folder}: is a directory\n")
+    yield "no such file", shell('"$RUN" nowhere.job') == (16, "", "mvsjob: cannot open script\n    nowhere.job: no such file\n")
+    yield "a folder", shell(f'"$RUN" "{folder}"') == (16, "", f"mvsjob: read failed\n    {folder}: is a directory\n")
+    yield "a folder that is checked", shell(f'"$RUN" --check "{folder}"') == (16, "", f"mvsjob: read failed\n    {folder}: is a directory\n")
     yield "no script", shell('"$RUN" /dev/null') == (12, NO_SCRIPT, "/dev/null:1:1: JS09: the script has no statement\n")
     yield "a closed pipe", shell('yes "JOB REGION BELOW=1" | head -99999 | "$RUN" | head -1; echo ${PIPESTATUS[2]}') == (0, f"{BEGUN}141\n", "")
     yield "closed input", shell('"$RUN" <&-') == (16, "", "mvsjob: read failed\n")

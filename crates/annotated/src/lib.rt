@@ -1,36 +1,75 @@
-//! Scripts that say, behind their statements, what is printed for them: `STATEMENT => TEXT / TEXT`.
+//! Scripts with the answers that are expected of their statements: `STATEMENT => TEXT / TEXT`.
 //!
-//! A text stands without the number of the line and the task of the statement. A last line `* STEP ENDED RC n` or
-//! `* JOB FAULT RC 12` says the last line that is printed.
+//! A text has neither the number of the line nor the task of the statement. A last line `* STEP ENDED RC n` or
+//! `* JOB FAULT RC 12` is the last line that is expected. A script is bytes: its lines end at X'0A', as those of a run.
 #![tactic(auto)]
 
 mod difference;
+mod lines;
 mod printed;
 
-pub use difference::write_differences;
+pub use difference::{Comparison, write_differences};
+use lines::{ARROW, end_of, parted_at, statement_of, without_end};
 use std::io::{self, Write};
 
-/// What stands between a statement and the texts that it prints.
-pub(crate) const ARROW: &str = " => ";
+// Writes a line with its end.
+fn write_line<W: Write>(writer: &mut W, line: &[u8]) -> io::Result<()> {
+    writer.write_all(line)?;
+    writer.write_all(b"\n")
+}
 
-/// Writes the statements of a script, without what stands behind them.
-pub fn write_statements<W: Write>(writer: &mut W, script: &str) -> io::Result<()> {
-    for line in script.lines() {
-        match line.split_once(ARROW) {
-            Some((statement, _)) => writeln!(writer, "{statement}")?,
-            None => writeln!(writer, "{line}")?,
+/// Writes the statements of a script, without the answers after them. A line with a byte that no script may have is written whole.
+pub fn write_statements<W: Write>(writer: &mut W, script: &[u8]) -> io::Result<()> {
+    let mut is_first = true;
+    for line in script.split(|byte| *byte == b'\n') {
+        if !is_first {
+            writer.write_all(b"\n")?;
         }
+        writer.write_all(statement_of(line))?;
+        is_first = false;
     }
     Ok(())
 }
 
-/// Writes a script with `?` in place of the texts behind its statements.
-pub fn write_blank<W: Write>(writer: &mut W, script: &str) -> io::Result<()> {
-    for line in script.lines() {
-        match line.split_once(ARROW) {
-            Some((statement, _)) => writeln!(writer, "{statement}{ARROW}?")?,
-            None => writeln!(writer, "{line}")?,
+/// Returns the statement in the line of a number, without the answers after it; an empty one where the script has no such line.
+pub fn statement_at(script: &[u8], line_number: u32) -> &[u8] {
+    let mut number = 0u32;
+    for line in script.split(|byte| *byte == b'\n') {
+        number = number.saturating_add(1);
+        if number == line_number {
+            return statement_of(line);
         }
     }
+    &[]
+}
+
+/// Writes a script with `?` in place of each answer.
+pub fn write_blank<W: Write>(writer: &mut W, script: &[u8]) -> io::Result<()> {
+    if script.is_empty() {
+        return Ok(());
+    }
+    for line in without_end(script).split(|byte| *byte == b'\n') {
+        let (statement, answer) = parted_at(line, ARROW);
+        writer.write_all(statement)?;
+        if answer.is_some() {
+            writer.write_all(ARROW)?;
+            writer.write_all(b"?")?;
+        }
+        writer.write_all(b"\n")?;
+    }
     Ok(())
+}
+
+/// Returns whether a script has an answer of the line of a number, or of the end of the job.
+pub fn has_answer(script: &[u8], line_number: u32) -> bool {
+    let mut number = 0u32;
+    let mut last: &[u8] = b"";
+    for line in without_end(script).split(|byte| *byte == b'\n') {
+        number = number.saturating_add(1);
+        if number == line_number && parted_at(line, ARROW).1.is_some() {
+            return true;
+        }
+        last = line;
+    }
+    end_of(last).is_some()
 }

@@ -14,15 +14,14 @@ fn ends_step(line: &str) -> bool {
     line.starts_with("STEP ENDED ")
 }
 
-/// Where the printed lines of the statement of a line end that begin at a place. The end of a step goes with the REGION
-/// statement behind it.
-pub fn end_of_answers(lines: &[&str], from: usize, number: u32) -> usize
-    requires { from ≤ length lines.now }
-    ensures { (from ≤ result) × (result ≤ length lines.now) }
+/// Returns the number of printed lines that begin a list and belong to the statement of a line. The end of a step belongs to the
+/// REGION statement after it.
+pub fn end_of_answers(lines: &[&str], number: u32) -> usize
+    ensures { result ≤ length lines.now }
 {
-    let mut end = match &lines[from..] {
-        [first, second, ..] if ends_step(first) && is_of(second, number) => from + 1,
-        _ => from,
+    let mut end = match lines {
+        [first, second, ..] if ends_step(first) && is_of(second, number) => 1,
+        _ => 0,
     };
     while end < lines.len() && is_of(lines[end], number) {
         end += 1;
@@ -30,17 +29,17 @@ pub fn end_of_answers(lines: &[&str], from: usize, number: u32) -> usize
     end
 }
 
-/// What a printed line says, without the number of its line and the task of its statement.
-pub fn text<'a>(line: &'a str, task: &str) -> &'a str {
+/// Returns the text of a printed line, without the number of its line and the task of its statement.
+pub fn text<'a>(line: &'a str, task: &[u8]) -> &'a str {
     if ends_step(line) {
         return line;
     }
-    let said = match line.split_once(' ') {
-        Some((_, said)) => said,
+    let numbered = match line.split_once(' ') {
+        Some((_, text)) => text,
         None => line,
     };
-    match said.split_once(' ') {
-        Some((of, text)) if of == task => text,
-        _ => said,
+    match numbered.split_once(' ') {
+        Some((of, text)) if of.as_bytes() == task => text,
+        _ => numbered,
     }
 }

@@ -20,6 +20,24 @@ impl fmt::Display for Plain<'_> {
     }
 }
 
+/// The name of a file, with a point for each control character.
+#[derive(Clone, Copy)]
+pub struct PlainName<'a>(pub &'a str);
+
+impl fmt::Display for PlainName<'_> {
+    fn fmt<W: fmt::Write>(&self, f: &mut fmt::Formatter<W>) -> fmt::Result {
+        for character in self.0.chars() {
+            let shown = if character.is_control() {
+                '.'
+            } else {
+                character
+            };
+            write!(f, "{shown}")?;
+        }
+        Ok(())
+    }
+}
+
 /// Some words, with another word before the last one.
 #[derive(Clone, Copy)]
 pub struct Among<'a>(pub &'a [&'a str], pub &'a str);

@@ -1,11 +1,14 @@
 //! Why no JSON is written.
 
 use std::alloc::AllocError;
+use thiserror::Error;
 
-/// Memory was wanting, or a write failed.
-#[derive(Clone, Copy, Debug, PartialEq, Eq)]
+/// Memory was refused, or a write failed.
+#[derive(Clone, Copy, Debug, PartialEq, Eq, Error)]
 pub enum JsonFault {
+    #[error("out of memory")]
     Memory,
+    #[error("write failed")]
     Write,
 }
 

@@ -1,5 +1,5 @@
 -- What the words of the command line say, the program's name first. (this project's choice)
-use Rattle.std.specs.Prelude.{◌≡◌, ◌≢◌, List, [], ◌∷◌, codes, map, Option, Some, None, true}
+use Rattle.std.specs.Prelude.{◌≡◌, ◌≢◌, ◌<◌, ◌≤◌, ◌^◌, ℕ, List, [], ◌∷◌, codes, map, Option, Some, None, true}
 use Rattle.clap.specs.Words.{App, Kinds, Text, fault_of, first_of, matches_of, new_app, new_rule, takes, with_rule}
 use Rattle.clap.specs.Simple.{on_top}
 use Rattle.clap.specs.Walk.{Rule}
@@ -7,7 +7,11 @@ use Rattle.clap.specs.declared.builder.action.ArgAction.TheVariants.{SetTrue}
 use Rattle.clap.specs.declared.builder.value_parser.ValueParser.{ValueParser}
 use Rattle.clap.specs.declared.builder.value_parser.ValueParser.TheVariants.{Names, NonEmptyString, Unsigned}
 use Rattle.mvsjob.specs.declared.choices.Color.{Color}
+use Rattle.mvsjob.specs.declared.choices.Recipe.{Recipe}
+use Rattle.random_script.specs.declared.Profile.{Profile}
+use Rattle.random_script.specs.declared.Profile.TheVariants.{Tasks, Pools, Tidy, Faults, Storage}
 use Rattle.mvsjob.specs.declared.choices.Color.TheVariants.{Auto, Always, Never}
+use Rattle.std.specs.Str.Parse.{IsNumeral, digits_value, without_leading_plus}
 use Rattle.mvsjob.specs.declared.choices.Mode.{Mode}
 use Rattle.mvsjob.specs.declared.choices.Mode.TheVariants.{Run, Check, Judge, Blank, Ask, Assemble, Random}
 
@@ -80,11 +84,30 @@ command ps =
 abbrev pub assigned : Parsers → List Text → Text → Option Text
 assigned ps words name = first_of name (matches_of (command ps) words)
 
+-- A text spells a number.
+abbrev pub IsNumber : Text → ℕ → Type 0
+IsNumber text n = IsNumeral 10 (without_leading_plus text) × (digits_value 10 (without_leading_plus text) ≡ n)
+
+-- A random script is of the profile that `--profile` names, and of storage where it names none.
+pub record IsProfile (said : Option Text) (profile : Profile) : Type 0 where
+  pub tasks : said ≡ Some (codes "tasks") → profile ≡ Tasks
+  pub pools : said ≢ Some (codes "tasks") → said ≡ Some (codes "pools") → profile ≡ Pools
+  pub tidy : said ≢ Some (codes "tasks") → said ≢ Some (codes "pools") → said ≡ Some (codes "tidy") → profile ≡ Tidy
+  pub faults : said ≢ Some (codes "tasks") → said ≢ Some (codes "pools") → said ≢ Some (codes "tidy") → said ≡ Some (codes "faults") → profile ≡ Faults
+  pub storage : said ≢ Some (codes "tasks") → said ≢ Some (codes "pools") → said ≢ Some (codes "tidy") → said ≢ Some (codes "faults") → profile ≡ Storage
+
+-- It has the seed that `--random` has, and the lines that `--lines` has, or 100.
+pub record IsRecipe (random lines profile : Option Text) (recipe : Recipe) : Type 0 where
+  pub seed : (text : Text) (n : ℕ) → random ≡ Some text → IsNumber text n → n < 2 ^ 64 → recipe.seed ≡ n
+  pub count : (text : Text) (n : ℕ) → lines ≡ Some text → IsNumber text n → n ≤ 1000000 → recipe.lines ≡ n
+  pub usual : lines ≡ None → recipe.lines ≡ 100
+  pub made : IsProfile profile recipe.profile
+
 -- A script is made where `--random` has a seed; else an output is judged where `--judge` names one; else the answers of the script
 -- are compared where `--check` is said, or left out where `--blank` is, or questions are put in where `--ask` is, or
 -- it is written as a program where `--assemble` is; else it is run.
-pub record IsMode (random judge check blank ask assemble : Option Text) (mode : Mode) : Type 0 where
-  pub makes : (seed : Text) → random ≡ Some seed → (recipe : _) × (mode ≡ Random recipe)
+pub record IsMode (random lines profile judge check blank ask assemble : Option Text) (mode : Mode) : Type 0 where
+  pub makes : (seed : Text) → random ≡ Some seed → (recipe : Recipe) × (mode ≡ Random recipe) × IsRecipe random lines profile recipe
   pub judges : (output : Text) → random ≡ None → judge ≡ Some output → mode ≡ Judge
   pub checks : random ≡ None → judge ≡ None → check ≡ Some (codes "true") → mode ≡ Check
   pub blanks : random ≡ None → judge ≡ None → check ≢ Some (codes "true") → blank ≡ Some (codes "true") → mode ≡ Blank

@@ -1,107 +1,122 @@
-//! What the program does with a script besides running it: its answers are compared, or left out; questions are put in; or a random
-//! one is made.
+//! Compares the answers of a script with those of its run, leaves them out, or puts questions in.
 
 use crate::choices::{Mode, Settings};
-use crate::ending::{Ending, GiveUp, Unread};
-use crate::faulty::first_faulty;
-use crate::tell;
-use annotated::{write_blank, write_differences, write_statements};
+use crate::ending::{Ending, GiveUp};
+use crate::faulty::{Faulty, first_faulty};
+use crate::front::front_of;
+use crate::served::Served;
+use crate::through::Through;
+use annotated::{has_answer, statement_at, write_blank, write_differences, write_statements};
+use diagnosis::PlainName;
 use judge::write_asking;
 use mvs_job::{RunFault, Told, run_job};
 use mvs_model::outcome::Outcome;
 use mvs_model::watched::Watched;
-use random_script::{RandomFault, write_script};
-use std::fs;
-use std::io::{self, BufWriter, ErrorKind, Write};
+use std::alloc::Global;
+use std::io::{self, Write};
 
-// Why a script cannot be taken into memory.
-fn give_up(error: &io::Error) -> GiveUp {
-    match error.kind() {
-        ErrorKind::OutOfMemory => GiveUp::Job(RunFault::Memory),
-        ErrorKind::InvalidData => GiveUp::NoText,
-        kind => GiveUp::Script(Unread::from(kind)),
-    }
-}
-
-// The script as a text.
-pub(crate) fn script(rt: &HostRuntime, settings: &Settings<'_>) -> Result<String, GiveUp> {
-    let read = if settings.file == "-" {
-        io::read_to_string(rt.alloc(), rt.stdin())
-    } else {
-        fs::read_to_string(rt, settings.file)
+// Runs the statements of a script. Returns what the run printed, and how it ended.
+fn printed(
+    alloc: Global,
+    statements: &[u8],
+    settings: &Settings<'_>,
+) -> Result<(String, Outcome), GiveUp> {
+    let mut reader = Watched::new(statements);
+    let mut writer = Watched::new(Vec::new(alloc));
+    let told = Told::nothing(alloc);
+    let outcome = match run_job(alloc, &mut reader, &mut writer, settings.placement, told) {
+        Ok(outcome) => outcome,
+        // A vector that takes no byte has no memory for it.
+        Err(RunFault::Write) => return Err(GiveUp::Job(RunFault::Memory)),
+        Err(fault) => return Err(GiveUp::Job(fault)),
     };
-    read.map_err(|error| give_up(&error))
-}
-
-// What a run of the script's statements prints. A faulty one, which ends it, is told.
-fn printed(rt: &HostRuntime, script: &str, settings: &Settings<'_>) -> Result<String, GiveUp> {
-    let mut statements = Vec::new(rt.alloc());
-    write_statements(&mut statements, script).map_err(|_| RunFault::Memory)?;
-    let mut reader = Watched::new(statements.as_slice());
-    let mut writer = Watched::new(Vec::new(rt.alloc()));
-    let told = Told::nothing(rt.alloc());
-    let outcome = run_job(
-        rt.alloc(),
-        &mut reader,
-        &mut writer,
-        settings.placement,
-        told,
-    )?;
-    if outcome == Outcome::ScriptFault {
-        tell(rt, settings.file, &first_faulty(&statements, 1, true));
+    match String::from_utf8(writer.into_inner()) {
+        Ok(printed) => Ok((printed, outcome)),
+        Err(_) => Err(GiveUp::Job(RunFault::Write)),
     }
-    String::from_utf8(writer.into_inner()).map_err(|_| GiveUp::NoText)
 }
 
-/// Runs the script, and compares its answers with those that it says.
-pub fn check_answers(rt: &HostRuntime, settings: &Settings<'_>) -> Result<Ending, GiveUp> {
-    let script = script(rt, settings)?;
-    let printed = printed(rt, &script, settings)?;
-    let mut lines = Vec::new(rt.alloc());
+// Returns the lines of what was printed.
+fn lines_of(alloc: Global, printed: &str) -> Result<Vec<&str>, GiveUp> {
+    let mut lines = Vec::new(alloc);
     for line in printed.lines() {
         lines.push(line).map_err(|_| RunFault::Memory)?;
     }
-    match write_differences(&mut io::writer(rt), settings.file, &script, &lines) {
-        Ok(differs) => Ok(Ending::Checked { differs }),
-        Err(_) => Err(GiveUp::Job(RunFault::Write)),
-    }
+    Ok(lines)
 }
 
-// Writes the script without its answers, or with questions, or a random one.
-fn write_to<W: Write>(
-    rt: &HostRuntime,
+// Writes where the answers of a script differ from what was printed, and returns how the program ends.
+fn compare<W: Write>(
     writer: &mut W,
-    settings: &Settings<'_>,
-) -> Result<(), GiveUp> {
-    let Mode::Random(recipe) = settings.mode else {
-        let script = script(rt, settings)?;
-        let written = match settings.mode {
-            Mode::Ask => write_asking(writer, &script),
-            _ => write_blank(writer, &script),
-        };
-        return written.map_err(|_| GiveUp::Job(RunFault::Write));
-    };
-    match write_script(
-        rt.alloc(),
-        writer,
-        recipe.seed,
-        recipe.lines,
-        recipe.profile,
-    ) {
-        Ok(()) => Ok(()),
-        Err(RandomFault::Memory) => Err(GiveUp::Job(RunFault::Memory)),
-        Err(RandomFault::Write) => Err(GiveUp::Job(RunFault::Write)),
+    name: &str,
+    script: &[u8],
+    printed: &[&str],
+    is_fault_answered: bool,
+) -> io::Result<Ending> {
+    let found = write_differences(writer, name, script, printed)?;
+    if !found.has_answers {
+        writeln!(writer, "{}: no answers to compare", PlainName(name))?;
+        return Ok(Ending::Checked { differs: true });
+    }
+    if found.differs || is_fault_answered {
+        return Ok(Ending::Checked {
+            differs: found.differs,
+        });
+    }
+    Ok(Ending::Ran(Outcome::ScriptFault))
+}
+
+// Returns a faulty line of the statements of a script as a line of the script.
+fn in_script<'a>(script: &'a [u8], faulty: &Faulty<'_>) -> Faulty<'a> {
+    Faulty {
+        number: faulty.number,
+        line: statement_at(script, faulty.number),
+        fault: faulty.fault,
     }
 }
 
-/// Writes the script without its answers, or with questions, or a random one.
-pub fn write_made(rt: &HostRuntime, settings: &Settings<'_>) -> Result<Ending, GiveUp> {
-    let Ok(mut writer) = BufWriter::new(rt.alloc(), io::writer(rt)) else {
-        return Err(GiveUp::Job(RunFault::Memory));
+/// Runs a script, and compares its answers with those that it expects. A script that ends with a fault that it does not expect
+/// ends the program as a run does, and one without answers differs.
+pub fn check_answers<'a, W: Write>(
+    alloc: Global,
+    settings: &Settings<'_>,
+    script: &'a [u8],
+    writer: &mut Watched<W>,
+) -> Result<Served<'a>, GiveUp> {
+    let mut statements = Vec::new(alloc);
+    write_statements(&mut statements, script).map_err(|_| RunFault::Memory)?;
+    let (printed, outcome) = printed(alloc, &statements, settings)?;
+    let lines = lines_of(alloc, &printed)?;
+    let faulty = match outcome {
+        Outcome::ScriptFault => Some(in_script(script, &first_faulty(&statements, 1, true))),
+        Outcome::Clean | Outcome::SomeAbend => None,
     };
-    write_to(rt, &mut writer, settings)?;
-    match writer.flush() {
-        Ok(()) => Ok(Ending::Printed),
-        Err(_) => Err(GiveUp::Job(RunFault::Write)),
+    let is_answered = match &faulty {
+        Some(faulty) => has_answer(script, faulty.number),
+        None => true,
+    };
+    let mut writer = Through::new(writer);
+    match compare(&mut writer, settings.file, script, &lines, is_answered) {
+        Ok(ending) => Ok(Served { ending, faulty }),
+        Err(error) => Err(GiveUp::of_write(error.kind())),
+    }
+}
+
+/// Writes a script without its answers, or with questions. It ends at a byte that no script may have.
+pub fn write_front<'a, W: Write>(
+    mode: Mode,
+    script: &'a [u8],
+    writer: &mut Watched<W>,
+) -> Result<Served<'a>, GiveUp> {
+    let front = front_of(script);
+    let mut writer = Through::new(writer);
+    let written = if mode == Mode::Ask {
+        write_asking(&mut writer, front.text)
+    } else {
+        write_blank(&mut writer, front.text.as_bytes())
+    };
+    match written {
+        Ok(()) => Ok(Served::of_front(front.faulty)),
+        Err(error) => Err(GiveUp::of_write(error.kind())),
     }
 }

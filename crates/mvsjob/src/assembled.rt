@@ -1,32 +1,32 @@
 //! Writes the script as a program for the assembler.
 
-use crate::answers::script;
-use crate::choices::Settings;
 use crate::ending::{Ending, GiveUp};
 use crate::faulty::first_faulty;
-use crate::tell;
+use crate::front::front_of;
+use crate::kept::is_silent;
+use crate::served::Served;
+use crate::through::Through;
 use assembler_program::{ProgramFault, write_program};
 use mvs_job::RunFault;
-use mvs_model::outcome::Outcome;
-use std::io::{self, BufWriter, Write};
+use mvs_model::watched::Watched;
+use std::alloc::Global;
+use std::io::Write;
 
-/// Writes the script as a program for the assembler. A faulty line, which ends it, is told.
-pub fn write_assembled(rt: &HostRuntime, settings: &Settings<'_>) -> Result<Ending, GiveUp> {
-    let script = script(rt, settings)?;
-    let Ok(mut writer) = BufWriter::new(rt.alloc(), io::writer(rt)) else {
-        return Err(GiveUp::Job(RunFault::Memory));
-    };
-    let is_whole = match write_program(rt.alloc(), &mut writer, &script) {
-        Ok(is_whole) => is_whole,
-        Err(ProgramFault::Memory) => return Err(GiveUp::Job(RunFault::Memory)),
-        Err(ProgramFault::Write) => return Err(GiveUp::Job(RunFault::Write)),
-    };
-    if writer.flush().is_err() {
-        return Err(GiveUp::Job(RunFault::Write));
+/// Writes a script as a program for the assembler. It ends at a line with a fault. Of a script without a statement nothing is
+/// written.
+pub fn write_assembled<'a, W: Write>(
+    alloc: Global,
+    script: &'a [u8],
+    writer: &mut Watched<W>,
+) -> Result<Served<'a>, GiveUp> {
+    if is_silent(script) {
+        return Ok(Served::of_fault(first_faulty(script, 1, true)));
     }
-    if is_whole {
-        return Ok(Ending::Printed);
+    let front = front_of(script);
+    match write_program(alloc, Through::new(writer), front.text) {
+        Ok(true) if front.faulty.is_none() => Ok(Served::of(Ending::Printed)),
+        Ok(_) => Ok(Served::of_fault(first_faulty(script, 1, true))),
+        Err(ProgramFault::Memory) => Err(GiveUp::Job(RunFault::Memory)),
+        Err(ProgramFault::Write) => Err(GiveUp::Job(RunFault::Write)),
     }
-    tell(rt, settings.file, &first_faulty(script.as_bytes(), 1, true));
-    Ok(Ending::Ran(Outcome::ScriptFault))
 }

@@ -20,6 +20,15 @@ pub enum Color {
     Never,
 }
 
+/// Why two options have no meaning together.
+#[derive(Clone, Copy, Debug, PartialEq, Eq)]
+pub enum Apart {
+    /// The first cannot be used with the second.
+    Excludes(&'static str, &'static str),
+    /// The first can be used with the second only.
+    Needs(&'static str, &'static str),
+}
+
 /// What is to be done.
 #[derive(Clone, Copy, Debug, PartialEq, Eq)]
 pub enum Mode {
@@ -60,4 +69,18 @@ pub struct Settings<'a> {
     /// Whether a run asks for its lines, and goes on without those that have a fault.
     pub interactive: bool,
     pub color: Color,
+    /// Two options that have no meaning together, if there are such.
+    pub apart: Option<Apart>,
+}
+
+impl Settings<'_> {
+    /// Returns whether answers of a run are printed, and not lines of JSON, a page or what other modes print.
+    pub fn is_answers(&self) -> bool {
+        self.mode == Mode::Run && !self.json && !self.page
+    }
+
+    /// Returns whether each line of the script runs before the next one is read.
+    pub fn is_as_it_comes(&self) -> bool {
+        self.is_answers() && !self.explains && !self.strict
+    }
 }

@@ -1,4 +1,4 @@
-//! What may help where a line of a script was not served: the line that makes what there is not, or a name that is near.
+//! What may help where a line of a script was not executed: the line that makes what is missing, or a name that is near.
 
 use diagnosis::{Clue, edits_between};
 use job_script::parted::parted;
@@ -6,7 +6,10 @@ use job_script::read_line;
 use mvs_job::Job;
 use mvs_model::line::{Line, Location, Statement, Written};
 use mvs_model::name::Name;
-use std::alloc::Global;
+use std::alloc::{AllocError, Global};
+
+/// The most names that are compared with one that is missing.
+const MOST_NEAR: usize = 64;
 
 /// What a line lacks: an active task, or a name that is set.
 #[derive(Clone, Copy)]
@@ -15,7 +18,32 @@ pub enum Lacked {
     Name(Name),
 }
 
-// The task that a statement is to begin.
+/// Names and the lines that are to make them.
+#[derive(Drop)]
+struct Made {
+    /// In the order of the lines.
+    by_line: Vec<(Name, u32)>,
+    /// In the order of the names, and for each name of the lines.
+    by_name: Vec<(Name, u32)>,
+}
+
+/// What the lines of a script are to make.
+#[derive(Drop)]
+pub struct Makers {
+    tasks: Made,
+    names: Made,
+    /// The lines that begin a step.
+    steps: Vec<u32>,
+}
+
+/// The lines of a step: the first, and the one after the last.
+#[derive(Clone, Copy)]
+struct Step {
+    begin: u32,
+    end: u32,
+}
+
+// Returns the task that a statement is to begin.
 fn begun(task: &Name, statement: &Statement) -> Option<Name> {
     match statement {
         Statement::Region { .. } => Some(*task),
@@ -24,7 +52,7 @@ fn begun(task: &Name, statement: &Statement) -> Option<Name> {
     }
 }
 
-// The names that a statement is to set.
+// Returns the names that a statement is to set.
 fn set_by(statement: &Statement) -> &[Name] {
     match statement {
         Statement::Request(Written::Obtain { area, .. }) => std::slice::from_ref(area),
@@ -34,155 +62,170 @@ fn set_by(statement: &Statement) -> &[Name] {
     }
 }
 
+impl Made {
+    fn new(alloc: Global) -> Made {
+        Made {
+            by_line: Vec::new(alloc),
+            by_name: Vec::new(alloc),
+        }
+    }
+
+    // Puts the names in order, once all are there.
+    fn sort(&mut self) -> Result<(), AllocError> {
+        self.by_name.extend_from_slice(&self.by_line)?;
+        self.by_name.sort_unstable();
+        Ok(())
+    }
+
+    // Returns the line of an entry in the order of the names, if it makes a name in a step.
+    fn line_in(&self, at: usize, name: Name, step: Step) -> Option<u32> {
+        match self.by_name.get(at) {
+            Some((other, line)) if *other == name && step.begin <= *line && *line < step.end => {
+                Some(*line)
+            }
+            _ => None,
+        }
+    }
+
+    // Returns the last line before a line of a step that makes a name, or else the first one after it.
+    fn clue(&self, name: Name, line_number: u32, step: Step) -> Clue {
+        let first = self
+            .by_name
+            .partition_point(|made| *made < (name, line_number));
+        if let Some(before) = first.checked_sub(1) {
+            if let Some(line) = self.line_in(before, name, step) {
+                return Clue::Before(line);
+            }
+        }
+        let behind = self
+            .by_name
+            .partition_point(|made| *made <= (name, line_number));
+        match self.line_in(behind, name, step) {
+            Some(line) => Clue::Behind(line),
+            None => Clue::Nothing,
+        }
+    }
+
+    // Returns the last names that the lines of a step before a line are to make.
+    fn last_before(&self, line_number: u32, step: Step) -> &[(Name, u32)] {
+        let from = self.by_line.partition_point(|made| made.1 < step.begin);
+        let to = self.by_line.partition_point(|made| made.1 < line_number);
+        let first = from.max(to.saturating_sub(MOST_NEAR));
+        self.by_line.get(first..to).unwrap_or(&[])
+    }
+}
+
 impl Lacked {
-    // Whether a statement is to make it.
-    fn is_made_by(&self, task: &Name, statement: &Statement) -> bool {
+    fn name(&self) -> Name {
         match self {
-            Lacked::Task(name) => begun(task, statement) == Some(*name),
-            Lacked::Name(name) => set_by(statement).contains(name),
+            Lacked::Task(name) | Lacked::Name(name) => *name,
         }
     }
 
-    // The text of its name.
-    fn text(&self) -> &[u8] {
+    // Returns whether a job has such a name.
+    fn is_there(&self, job: &Job, name: &Name) -> bool {
         match self {
-            Lacked::Task(name) | Lacked::Name(name) => name.text(),
+            Lacked::Task(_) => job.is_active(name),
+            Lacked::Name(_) => job.place_of(name).is_some(),
         }
+    }
+
+    // Returns the nearest of some names that a job has.
+    fn nearest(&self, alloc: Global, job: &Job, names: &[(Name, u32)]) -> Option<Name> {
+        let mut nearest: Option<(usize, Name)> = None;
+        for (name, _) in names {
+            if !self.is_there(job, name) {
+                continue;
+            }
+            match (
+                edits_between(alloc, self.name().text(), name.text()),
+                &nearest,
+            ) {
+                (Some(edits), Some((least, _))) if edits >= *least => {}
+                (Some(edits), _) => nearest = Some((edits, *name)),
+                (None, _) => {}
+            }
+        }
+        nearest.map(|(_, name)| name)
     }
 }
 
-// A search for what may help a line, over the lines of its script.
-#[derive(Drop)]
-struct Search<'a> {
-    alloc: Global,
-    job: &'a Job,
-    lacked: Lacked,
-    line_number: u32,
-    before: Option<u32>,
-    behind: Option<u32>,
-    /// The nearest name of those that the line could have, and how many edits lead to it.
-    near: Option<(usize, Name)>,
-}
-
-impl Search<'_> {
-    // Takes a name where it is nearer than those before.
-    fn offer(&mut self, name: &Name) {
-        let Some(edits) = edits_between(self.alloc, self.lacked.text(), name.text()) else {
-            return;
-        };
-        if let Some((nearest, _)) = &self.near {
-            if *nearest <= edits {
-                return;
-            }
-        }
-        self.near = Some((edits, *name));
-    }
-
-    // Takes the names of a statement that the line could have.
-    fn offer_of(&mut self, task: &Name, statement: &Statement) {
-        match &self.lacked {
-            Lacked::Task(_) => {
-                let name = begun(task, statement).unwrap_or(*task);
-                if self.job.is_active(&name) {
-                    self.offer(&name);
-                }
-            }
-            Lacked::Name(_) => {
-                for name in set_by(statement) {
-                    if self.job.place_of(name).is_some() {
-                        self.offer(name);
-                    }
-                }
-            }
-        }
-    }
-
-    // Sees a statement before the line, or that of the line.
-    fn see_before(&mut self, number: u32, task: &Name, statement: &Statement) {
+impl Makers {
+    // Adds what the statement of a line is to make.
+    fn add(
+        &mut self,
+        line_number: u32,
+        task: &Name,
+        statement: &Statement,
+    ) -> Result<(), AllocError> {
         if matches!(statement, Statement::Region { .. }) {
-            self.before = None;
-            self.near = None;
+            self.steps.push(line_number)?;
         }
-        if number < self.line_number {
-            if self.lacked.is_made_by(task, statement) {
-                self.before = Some(number);
+        if let Some(name) = begun(task, statement) {
+            self.tasks.by_line.push((name, line_number))?;
+        }
+        for name in set_by(statement) {
+            self.names.by_line.push((*name, line_number))?;
+        }
+        Ok(())
+    }
+
+    /// Returns what the lines of a script are to make. Fails only if memory is exhausted.
+    pub fn of(alloc: Global, script: &[u8]) -> Result<Makers, AllocError> {
+        let mut makers = Makers {
+            tasks: Made::new(alloc),
+            names: Made::new(alloc),
+            steps: Vec::new(alloc),
+        };
+        let mut read = Line::Nothing;
+        let mut line_number = 0u32;
+        for line in script.split(|byte| *byte == b'\n') {
+            line_number = line_number.saturating_add(1);
+            if read_line(line, false, &mut read).is_err() {
+                continue;
             }
-            self.offer_of(task, statement);
+            if let Line::Statement(task, statement) = &read {
+                makers.add(line_number, task, statement)?;
+            }
         }
+        makers.tasks.sort()?;
+        makers.names.sort()?;
+        Ok(makers)
     }
 
-    // Sees a statement behind the line. Answers whether the step goes on and nothing was found.
-    fn see_behind(&mut self, number: u32, task: &Name, statement: &Statement) -> bool {
-        if matches!(statement, Statement::Region { .. }) {
-            return false;
-        }
-        if self.lacked.is_made_by(task, statement) {
-            self.behind = Some(number);
-            return false;
-        }
-        true
-    }
-
-    // Sees a line. Answers whether more lines may help.
-    fn see(&mut self, number: u32, line: &[u8], read: &mut Line) -> bool {
-        let Ok(()) = read_line(line, false, read) else {
-            return true;
+    // Returns the step of a line.
+    fn step_of(&self, line_number: u32) -> Step {
+        let next = self.steps.partition_point(|begin| *begin <= line_number);
+        let begin = match next.checked_sub(1) {
+            Some(at) => self.steps.get(at).copied().unwrap_or(0),
+            None => 0,
         };
-        let Line::Statement(task, statement) = &*read else {
-            return true;
-        };
-        if number <= self.line_number {
-            self.see_before(number, task, statement);
-            return true;
+        Step {
+            begin,
+            end: self.steps.get(next).copied().unwrap_or(u32::MAX),
         }
-        self.before.is_none() && self.see_behind(number, task, statement)
     }
 
-    // What was found.
-    fn clue(&self) -> Clue {
-        if let Some(number) = self.before {
-            return Clue::Before(number);
+    /// Returns what may help a line that lacks a task or a name. Of the names that are near, the last 64 that its step makes are
+    /// looked at; where memory is refused none is found.
+    pub fn clue(&self, alloc: Global, job: &Job, line_number: u32, lacked: Lacked) -> Clue {
+        let step = self.step_of(line_number);
+        let made = match lacked {
+            Lacked::Task(_) => &self.tasks,
+            Lacked::Name(_) => &self.names,
+        };
+        let clue = made.clue(lacked.name(), line_number, step);
+        if !matches!(clue, Clue::Nothing) {
+            return clue;
         }
-        if let Some(number) = self.behind {
-            return Clue::Behind(number);
-        }
-        match &self.near {
-            Some((_, name)) => Clue::Meant(*name),
+        match lacked.nearest(alloc, job, made.last_before(line_number, step)) {
+            Some(name) => Clue::Meant(name),
             None => Clue::Nothing,
         }
     }
 }
 
-/// What may help a line of this number in a step. Memory is taken for the search of a near name alone, which finds none where it
-/// is refused.
-pub fn clue_of(alloc: Global, job: &Job, script: &[u8], line_number: u32, lacked: Lacked) -> Clue {
-    let mut search = Search {
-        alloc,
-        job,
-        lacked,
-        line_number,
-        before: None,
-        behind: None,
-        near: None,
-    };
-    let mut read = Line::Nothing;
-    let mut number = 1u32;
-    let mut rest = script;
-    'lines: while !rest.is_empty() {
-        let (line, more) = parted(rest, b'\n');
-        if !search.see(number, line, &mut read) {
-            break 'lines;
-        }
-        number = number.saturating_add(1);
-        match more {
-            None => break 'lines,
-            Some(next) => rest = next,
-        }
-    }
-    search.clue()
-}
-
-// The name of a location that is not set.
+// Returns the name of a location that is not set.
 fn unset_in(job: &Job, location: &Location) -> Option<Name> {
     match location {
         Location::Named(name, _) if job.place_of(name).is_none() => Some(*name),
@@ -190,7 +233,7 @@ fn unset_in(job: &Job, location: &Location) -> Option<Name> {
     }
 }
 
-// The first name of some locations that is not set.
+// Returns the first name of some locations that is not set.
 fn unset_among(job: &Job, locations: &[Location]) -> Option<Name> {
     for location in locations {
         if let Some(name) = unset_in(job, location) {
@@ -200,7 +243,7 @@ fn unset_among(job: &Job, locations: &[Location]) -> Option<Name> {
     None
 }
 
-/// The first name that a statement looks up and that is not set.
+/// Returns the first name that a statement looks up and that is not set.
 pub fn unset(job: &Job, statement: &Statement) -> Option<Name> {
     let Statement::Request(written) = statement else {
         return match statement {

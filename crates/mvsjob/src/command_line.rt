@@ -1,13 +1,13 @@
 //! The words of the command line, which `clap` reads.
 
-ghost use Rattle.std.specs.Prelude.{◌≡◌, ◌↔◌, ◌⊎◌, [], Some, IfOk, IfErr, IsTrue, codes, map, string_bytes};
+ghost use Rattle.std.specs.Prelude.{◌≡◌, ◌↔◌, ◌⊎◌, ◌<◌, ◌≤◌, ◌^◌, ℕ, [], None, Some, IfOk, IfErr, IsTrue, codes, map, string_bytes};
 ghost use Rattle.std.specs.Option.{unwrap_or};
-ghost use Rattle.clap.specs.Words.{IsAmong, Kinds, app_of, first_value, found_of, kind_of, new_app, new_rule, with_rule};
+ghost use Rattle.clap.specs.Words.{IsAmong, Kinds, Text, app_of, first_value, found_of, kind_of, new_app, new_rule, with_rule};
 ghost use Rattle.clap.specs.declared.error.kind.ErrorKind.TheVariants.{OutOfMemory};
 ghost use Rattle.clap.specs.declared.builder.value_parser.ValueParser.{ValueParser as Parser};
-ghost use Rattle.mvsjob.specs.CommandLine.{AreParsers, FindsWrong, IsColor, IsMode, IsOneOf, IsTaken, Parsers, answers_app, assigned, colors, command, flag_rule, judging_app, places, profiles, random_app, telling_app, value_rule, versioned};
+ghost use Rattle.mvsjob.specs.CommandLine.{AreParsers, FindsWrong, IsColor, IsMode, IsNumber, IsOneOf, IsProfile, IsRecipe, IsTaken, Parsers, answers_app, assigned, colors, command, flag_rule, judging_app, places, profiles, random_app, telling_app, value_rule, versioned};
 
-use crate::choices::{Color, Mode, Recipe, Settings};
+use crate::choices::{Apart, Color, Mode, Recipe, Settings};
 use clap::builder::ValueParser;
 use clap::{Arg, ArgAction, ArgMatches, Command};
 use mvs_model::want::Placement;
@@ -65,6 +65,107 @@ static PLACES: [&str; 2] = ["low", "high"];
 
 /// The values of the option `--profile`.
 static PROFILES: [&str; 5] = ["storage", "tasks", "pools", "tidy", "faults"];
+
+/// An option, and the options that have no meaning with it.
+type Excluding = (&'static str, &'static [&'static str]);
+
+/// The options that have no meaning together.
+static EXCLUDING: [Excluding; 10] = [
+    (
+        "random",
+        &[
+            "FILE",
+            "judge",
+            "check",
+            "blank",
+            "ask",
+            "assemble",
+            "explain",
+            "json",
+            "page",
+            "strict",
+            "interactive",
+            "place",
+            "color",
+        ],
+    ),
+    (
+        "judge",
+        &[
+            "check",
+            "blank",
+            "ask",
+            "assemble",
+            "explain",
+            "json",
+            "page",
+            "strict",
+            "interactive",
+            "place",
+            "color",
+        ],
+    ),
+    (
+        "check",
+        &[
+            "blank",
+            "ask",
+            "assemble",
+            "explain",
+            "json",
+            "page",
+            "strict",
+            "interactive",
+            "color",
+        ],
+    ),
+    (
+        "blank",
+        &[
+            "ask",
+            "assemble",
+            "explain",
+            "json",
+            "page",
+            "strict",
+            "interactive",
+            "place",
+            "color",
+        ],
+    ),
+    (
+        "ask",
+        &[
+            "assemble",
+            "explain",
+            "json",
+            "page",
+            "strict",
+            "interactive",
+            "place",
+            "color",
+        ],
+    ),
+    (
+        "assemble",
+        &[
+            "explain",
+            "json",
+            "page",
+            "strict",
+            "interactive",
+            "place",
+            "color",
+        ],
+    ),
+    ("json", &["page", "strict", "interactive", "color"]),
+    ("page", &["strict", "interactive", "color"]),
+    ("strict", &["explain", "interactive"]),
+    ("interactive", &["explain"]),
+];
+
+/// The options that have a meaning with `--random` only.
+static OF_RANDOM: [&str; 2] = ["lines", "profile"];
 
 // The command without its words: its name, its version, and what the help says around them.
 fn titled<'a>(alloc: Global) -> Command<'a>
@@ -340,29 +441,89 @@ fn color(matches: &ArgMatches<'_>) -> Color
     }
 }
 
-// What a random script is made of.
-fn profile(matches: &ArgMatches<'_>) -> Profile {
-    match matches.get_str("profile") {
-        Some(name) if name == "tasks" => Profile::Tasks,
-        Some(name) if name == "pools" => Profile::Pools,
-        Some(name) if name == "tidy" => Profile::Tidy,
-        Some(name) if name == "faults" => Profile::Faults,
-        _ => Profile::Storage,
+// Returns what a random script is made of.
+fn profile(matches: &ArgMatches<'_>) -> Profile
+    ensures { IsProfile (first_value (found_of matches.now) (codes "profile")) result }
+{
+    if says(matches, "profile", "tasks") {
+        Profile::Tasks
+    } else if says(matches, "profile", "pools") {
+        Profile::Pools
+    } else if says(matches, "profile", "tidy") {
+        Profile::Tidy
+    } else if says(matches, "profile", "faults") {
+        Profile::Faults
+    } else {
+        Profile::Storage
     }
 }
 
-// The random script that is asked for.
-fn recipe(matches: &ArgMatches<'_>) -> Recipe {
+// Returns the number of an option, or another number where it has none.
+fn number_of(matches: &ArgMatches<'_>, name: &str, usual: u64) -> u64
+    ensures number { (text : Text) (n : ℕ) → first_value (found_of matches.now) name.now ≡ Some text
+        → IsNumber text n → n < 2 ^ 64 → result ≡ n }
+    ensures usual { first_value (found_of matches.now) name.now ≡ None → result ≡ usual }
+{
+    match matches.get_str(name) {
+        Some(text) => text.parse::<u64>().unwrap_or(usual),
+        None => usual,
+    }
+}
+
+// Returns a number of lines; the most that there may be where it is larger.
+fn lines_of(number: u64) -> u32
+    ensures { number ≤ 1000000 → result ≡ number }
+{
+    if number <= 1_000_000 {
+        number as u32
+    } else {
+        1_000_000
+    }
+}
+
+// Returns the random script that is asked for.
+fn recipe(matches: &ArgMatches<'_>) -> Recipe
+    ensures { IsRecipe (first_value (found_of matches.now) (codes "random"))
+        (first_value (found_of matches.now) (codes "lines"))
+        (first_value (found_of matches.now) (codes "profile")) result }
+{
     Recipe {
-        seed: matches.get_one::<u64>("random").unwrap_or(0),
-        lines: matches.get_one::<u32>("lines").unwrap_or(100),
+        seed: number_of(matches, "random", 0),
+        lines: lines_of(number_of(matches, "lines", 100)),
         profile: profile(matches),
     }
+}
+
+// Returns whether an option is there; one without a value is, where it is set.
+fn is_given(matches: &ArgMatches<'_>, name: &str) -> bool {
+    match matches.get_str(name) {
+        Some(value) => value != "false",
+        None => false,
+    }
+}
+
+// Returns the first two options that have no meaning together, if there are such.
+fn apart(matches: &ArgMatches<'_>) -> Option<Apart> {
+    for (one, others) in EXCLUDING {
+        for other in others {
+            if is_given(matches, one) && is_given(matches, other) {
+                return Some(Apart::Excludes(one, other));
+            }
+        }
+    }
+    for one in OF_RANDOM {
+        if is_given(matches, one) && !is_given(matches, "random") {
+            return Some(Apart::Needs(one, "random"));
+        }
+    }
+    None
 }
 
 // What is to be done.
 fn mode(matches: &ArgMatches<'_>) -> Mode
     ensures { IsMode (first_value (found_of matches.now) (codes "random"))
+        (first_value (found_of matches.now) (codes "lines"))
+        (first_value (found_of matches.now) (codes "profile"))
         (first_value (found_of matches.now) (codes "judge"))
         (first_value (found_of matches.now) (codes "check"))
         (first_value (found_of matches.now) (codes "blank"))
@@ -407,6 +568,8 @@ pub fn settings<'a>(alloc: Global, words: &'a [String]) -> Result<Settings<'a>, 
         × (s.judged.now
         ≡ unwrap_or (assigned ps (map string_bytes words.entry.now) (codes "judge")) [])
         × IsMode (assigned ps (map string_bytes words.entry.now) (codes "random"))
+        (assigned ps (map string_bytes words.entry.now) (codes "lines"))
+        (assigned ps (map string_bytes words.entry.now) (codes "profile"))
         (assigned ps (map string_bytes words.entry.now) (codes "judge"))
         (assigned ps (map string_bytes words.entry.now) (codes "check"))
         (assigned ps (map string_bytes words.entry.now) (codes "blank"))
@@ -446,5 +609,6 @@ pub fn settings<'a>(alloc: Global, words: &'a [String]) -> Result<Settings<'a>, 
         strict: is_set(&matches, "strict"),
         interactive: is_set(&matches, "interactive"),
         color: color(&matches),
+        apart: apart(&matches),
     })
 }

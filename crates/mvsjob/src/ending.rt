@@ -1,46 +1,75 @@
-//! How the program ends: its exit status, and what standard error says.
+//! How the program ends: its exit status, and what standard error has.
 
 ghost use Rattle.std.specs.Prelude.{◌≡◌};
 ghost use Rattle.std.specs.Option.{option_map};
-ghost use Rattle.mvsjob.specs.Endings.{status_of, strict_ending, text_of};
+ghost use Rattle.mvsjob.specs.Endings.{cause_of, gave_up, strict_ending, status_of, text_of};
 
-use event_json::JsonFault;
+use judge::Finding;
 use mvs_job::{RunFault, Stop, StrictEnd};
 use mvs_model::outcome::Outcome;
 use std::io::ErrorKind;
+use thiserror::Error;
 
-/// Why a script cannot be read.
-#[derive(Clone, Copy, Debug, PartialEq, Eq)]
-pub enum Unread {
+/// Why a file cannot be read.
+#[derive(Clone, Copy, Debug, PartialEq, Eq, Error)]
+pub enum Cause {
+    #[error("no such file")]
     Missing,
+    #[error("permission denied")]
     Forbidden,
+    #[error("is a directory")]
     Directory,
+    /// Its name is not UTF-8.
+    #[error("the name is not UTF-8")]
+    Unnamed,
+    /// It has more bytes than are read.
+    #[error("more than 268,435,455 bytes")]
+    TooLong,
+    #[error("cannot be opened or read")]
     Other,
 }
 
-impl From<ErrorKind> for Unread {
-    fn from(kind: ErrorKind) -> Unread {
-        match kind {
-            ErrorKind::NotFound => Unread::Missing,
-            ErrorKind::PermissionDenied => Unread::Forbidden,
-            ErrorKind::IsADirectory => Unread::Directory,
-            _ => Unread::Other,
+impl Cause {
+    /// Returns the text of a cause, in lower case and without a full stop.
+    pub fn text(self) -> &'static str
+        ensures { result.now ≡ cause_of self }
+    {
+        match self {
+            Cause::Missing => "no such file",
+            Cause::Forbidden => "permission denied",
+            Cause::Directory => "is a directory",
+            Cause::Unnamed => "the name is not UTF-8",
+            Cause::TooLong => "more than 268,435,455 bytes",
+            Cause::Other => "cannot be opened or read",
         }
     }
 }
 
-/// Why the program gives up.
-#[derive(Clone, Copy, Debug, PartialEq, Eq)]
+impl From<ErrorKind> for Cause {
+    fn from(kind: ErrorKind) -> Cause {
+        match kind {
+            ErrorKind::NotFound => Cause::Missing,
+            ErrorKind::PermissionDenied => Cause::Forbidden,
+            ErrorKind::IsADirectory => Cause::Directory,
+            _ => Cause::Other,
+        }
+    }
+}
+
+/// Why the program stops before its work is done.
+#[derive(Clone, Copy, Debug, PartialEq, Eq, Error)]
 pub enum GiveUp {
-    /// There is no such file, or it cannot be read.
-    Script(Unread),
-    /// The script is no text.
-    NoText,
-    /// The output that is to be judged cannot be read as a text.
-    Output,
+    /// The script cannot be opened, or is a directory.
+    #[error("cannot open script: {0}")]
+    Script(Cause),
+    /// The output that is to be judged cannot be read.
+    #[error("cannot read output: {0}")]
+    Output(Cause),
     /// Nobody reads what is written.
+    #[error("the pipe is closed")]
     Pipe,
-    /// The job gave up, or a call around it failed as one of a job does.
+    /// The job stopped, or a call around it failed as one of a job does.
+    #[error("{0}")]
     Job(RunFault),
 }
 
@@ -50,20 +79,22 @@ impl From<RunFault> for GiveUp {
     }
 }
 
-impl From<JsonFault> for GiveUp {
-    fn from(fault: JsonFault) -> GiveUp {
-        GiveUp::Job(match fault {
-            JsonFault::Memory => RunFault::Memory,
-            JsonFault::Write => RunFault::Write,
-        })
-    }
-}
-
-impl From<Stop> for GiveUp {
-    fn from(stop: Stop) -> GiveUp {
+impl GiveUp {
+    /// Returns why the program stops where a job stops.
+    pub fn of(stop: Stop) -> GiveUp
+        ensures { result ≡ gave_up stop }
+    {
         match stop {
             Stop::Write => GiveUp::Job(RunFault::Write),
             Stop::Memory => GiveUp::Job(RunFault::Memory),
+        }
+    }
+
+    /// Returns why the program stops at a write that failed: for want of memory, or since the writer failed.
+    pub fn of_write(kind: ErrorKind) -> GiveUp {
+        match kind {
+            ErrorKind::OutOfMemory => GiveUp::Job(RunFault::Memory),
+            _ => GiveUp::Job(RunFault::Write),
         }
     }
 }
@@ -73,22 +104,22 @@ impl From<Stop> for GiveUp {
 pub enum Ending {
     /// The job ended so.
     Ran(Outcome),
-    /// With `--strict`: no task abended, and some line was not served.
+    /// With `--strict`: no task abended, and some line was not executed.
     NotServed,
-    /// The help, the version or the script that the words asked for was printed.
+    /// The help, the version or the script that was asked for was printed.
     Printed,
-    /// The answers of a run were compared with those that the script says, and one differs, or none.
+    /// The answers of a run were compared with those that the script expects: one differs, or there is none, or all are the same.
     Checked { differs: bool },
-    /// An output was judged, and it was accepted or refused, or this is not decided.
-    Judged { accepted: bool, refused: bool },
-    /// The words were refused, and `clap` has said why.
+    /// An output was judged.
+    Judged(Finding),
+    /// The options were refused, and standard error has why.
     Refused,
-    /// The program gave up, or could not begin.
+    /// The program stopped before its work was done.
     GaveUp(GiveUp),
 }
 
 impl Ending {
-    /// How a strict run ends.
+    /// Returns how a strict run ends.
     pub fn of_strict(end: StrictEnd) -> Ending
         ensures { result ≡ strict_ending end.outcome end.all_served }
     {
@@ -98,16 +129,16 @@ impl Ending {
         }
     }
 
-    /// The exit status. This project's choice.
+    /// Returns the exit status. This project's choice.
     pub fn status(self) -> u8
         ensures { result ≡ status_of self }
     {
         match self {
             Ending::Ran(Outcome::Clean) | Ending::Printed => 0,
             Ending::Checked { differs } => differs as u8,
-            Ending::Judged { accepted: true, .. } => 0,
-            Ending::Judged { refused: true, .. } => 1,
-            Ending::Judged { .. } => 2,
+            Ending::Judged(Finding::Accepted) => 0,
+            Ending::Judged(Finding::Refused) => 1,
+            Ending::Judged(Finding::Undecided(_)) => 2,
             Ending::NotServed => 4,
             Ending::Ran(Outcome::SomeAbend) => 8,
             Ending::Ran(Outcome::ScriptFault) => 12,
@@ -116,32 +147,22 @@ impl Ending {
         }
     }
 
-    /// Whether what standard error says is said of the script.
-    pub fn is_of_script(self) -> bool {
-        matches!(
-            self,
-            Ending::GaveUp(GiveUp::Script(_)) | Ending::GaveUp(GiveUp::NoText)
-        )
-    }
-
-    /// What standard error says behind the names of the program and of the script, if the program gave up. This project's choice.
+    /// Returns what standard error has after the name of the program, if the program stopped before its work was done. This
+    /// project's choice.
     pub fn text(self) -> Option<&'static str>
         ensures { option_map (λ text. text.now) result ≡ text_of self }
     {
         match self {
-            Ending::GaveUp(GiveUp::Script(Unread::Missing)) => Some("no such file"),
-            Ending::GaveUp(GiveUp::Script(Unread::Forbidden)) => Some("permission denied"),
-            Ending::GaveUp(GiveUp::Script(Unread::Directory)) => Some("is a directory"),
-            Ending::GaveUp(GiveUp::Script(Unread::Other)) => Some("cannot open script"),
-            Ending::GaveUp(GiveUp::NoText) => Some("script is no text"),
-            Ending::GaveUp(GiveUp::Output) => Some("cannot read output"),
+            Ending::GaveUp(GiveUp::Script(Cause::Directory)) => Some(RunFault::Read.text()),
+            Ending::GaveUp(GiveUp::Script(_)) => Some("cannot open script"),
+            Ending::GaveUp(GiveUp::Output(_)) => Some("cannot read output"),
             Ending::GaveUp(GiveUp::Job(fault)) => Some(fault.text()),
             Ending::GaveUp(GiveUp::Pipe)
             | Ending::Ran(_)
             | Ending::NotServed
             | Ending::Printed
             | Ending::Checked { .. }
-            | Ending::Judged { .. }
+            | Ending::Judged(_)
             | Ending::Refused => None,
         }
     }

@@ -1,32 +1,40 @@
 //! Runs the script, and prints what it tells as lines of JSON.
 
 use crate::choices::Settings;
-use crate::ending::GiveUp;
-use crate::explained::script;
-use crate::faulty::faulty_in;
-use crate::piped::Piped;
-use crate::tell;
-use event_json::{ScriptLine, write_end, write_line};
+use crate::ending::{Ending, GiveUp};
+use crate::faulty::first_faulty;
+use crate::served::Served;
+use crate::through::Through;
+use event_json::{JsonFault, ScriptLine, write_end, write_line};
 use job_script::parted::parted;
 use mvs_job::{LineTold, RunFault, Session, Why};
 use mvs_model::outcome::Outcome;
-use std::io::{self, BufWriter, Write};
+use mvs_model::watched::Watched;
+use std::alloc::Global;
+use std::io::Write;
 
-// Tells a session a line, and writes what it told. Answers whether the job goes on.
+// Returns why the program stops where no line of JSON was written.
+fn give_up(fault: JsonFault) -> GiveUp {
+    GiveUp::Job(match fault {
+        JsonFault::Memory => RunFault::Memory,
+        JsonFault::Write => RunFault::Write,
+    })
+}
+
+// Executes a line in a session, and writes its events. Returns whether the job goes on.
 fn write_told<W: Write>(
-    rt: &HostRuntime,
+    alloc: Global,
     writer: &mut W,
     session: &mut Session,
     bytes: &[u8],
-    explains: bool,
+    why: Option<&mut Why>,
 ) -> Result<bool, GiveUp> {
     if !session.takes_line() {
         return Err(GiveUp::Job(RunFault::ReadTooLong));
     }
-    let reason = if explains {
-        Why::new().reason(session.walk(), bytes)
-    } else {
-        None
+    let reason = match why {
+        Some(why) => why.reason(session.walk(), bytes),
+        None => None,
     };
     let line = ScriptLine {
         number: session.walk().number(),
@@ -35,25 +43,31 @@ fn write_told<W: Write>(
     };
     match session.line(bytes) {
         Ok(told) => {
-            write_line(rt.alloc(), writer, &line, session.walk(), &told)?;
+            write_line(alloc, writer, &line, session.walk(), &told).map_err(give_up)?;
             Ok(!matches!(told, LineTold::Faulted(_)))
         }
         Err(_) => Err(GiveUp::Job(RunFault::Memory)),
     }
 }
 
-// Writes what a script tells.
+// Writes the events of a script.
 fn write_script<W: Write>(
-    rt: &HostRuntime,
+    alloc: Global,
     writer: &mut W,
     script: &[u8],
     settings: &Settings<'_>,
 ) -> Result<Outcome, GiveUp> {
-    let mut session = Session::new(rt.alloc(), settings.placement);
+    let mut session = Session::new(alloc, settings.placement);
+    let mut why = Why::new();
     let mut rest = script;
     'lines: while !rest.is_empty() {
         let (bytes, more) = parted(rest, b'\n');
-        if !write_told(rt, writer, &mut session, bytes, settings.explains)? {
+        let asked = if settings.explains {
+            Some(&mut why)
+        } else {
+            None
+        };
+        if !write_told(alloc, writer, &mut session, bytes, asked)? {
             return Ok(Outcome::ScriptFault);
         }
         match more {
@@ -66,29 +80,21 @@ fn write_script<W: Write>(
     }
     let number = session.walk().number();
     let closing = session.close();
-    write_end(rt.alloc(), writer, number, closing.ended)?;
+    write_end(alloc, writer, number, closing.ended).map_err(give_up)?;
     Ok(closing.outcome)
 }
 
-/// Runs the script that the words name, which is read whole before, and prints its events.
-pub fn run_json(rt: &HostRuntime, settings: &Settings<'_>) -> Result<Outcome, GiveUp> {
-    let script = script(rt, settings)?;
-    let Ok(mut writer) = BufWriter::new(rt.alloc(), Piped::new(io::writer(rt))) else {
-        return Err(GiveUp::Job(RunFault::Memory));
-    };
-    let ended = write_script(rt, &mut writer, &script, settings);
-    let flushed = writer.flush();
-    match ended {
-        Ok(outcome) if flushed.is_ok() => {
-            if outcome == Outcome::ScriptFault {
-                tell(rt, settings.file, &faulty_in(&script));
-            }
-            Ok(outcome)
-        }
-        Ok(_) | Err(GiveUp::Job(RunFault::Write)) if writer.get_ref().is_closed() => {
-            Err(GiveUp::Pipe)
-        }
-        Ok(_) => Err(GiveUp::Job(RunFault::Write)),
+/// Runs a script, and prints its events.
+pub fn run_json<'a, W: Write>(
+    alloc: Global,
+    settings: &Settings<'_>,
+    script: &'a [u8],
+    writer: &mut Watched<W>,
+) -> Result<Served<'a>, GiveUp> {
+    let mut writer = Through::new(writer);
+    match write_script(alloc, &mut writer, script, settings) {
+        Ok(Outcome::ScriptFault) => Ok(Served::of_fault(first_faulty(script, 1, true))),
+        Ok(outcome) => Ok(Served::of(Ending::Ran(outcome))),
         Err(why) => Err(why),
     }
 }

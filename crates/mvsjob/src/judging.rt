@@ -1,24 +1,22 @@
 //! Judges the output of another program.
 
-use crate::answers::script;
-use crate::choices::Settings;
+ghost use Rattle.std.specs.Prelude.{◌≡◌, ◌∷◌, ◌++◌, ℕ, List, IfOk};
+ghost use Rattle.mvsjob.specs.Served.{Judges, word_of};
+
+use crate::difference::write_difference;
 use crate::ending::{Ending, GiveUp};
-use judge::{Finding, Judgement, judge, write_difference};
+use crate::served::Served;
+use job_script::write_all;
+use judge::{Finding, Judgement, judge};
 use mvs_job::RunFault;
-use std::io::{self, ErrorKind, Write};
-use std::{fs, str};
+use mvs_model::watched::Watched;
+use std::alloc::{AllocError, Global};
+use std::io::Write;
 
-// The output that is judged.
-fn output(rt: &HostRuntime, settings: &Settings<'_>) -> Result<String, GiveUp> {
-    match fs::read_to_string(rt, settings.judged) {
-        Ok(output) => Ok(output),
-        Err(error) if error.kind() == ErrorKind::OutOfMemory => Err(GiveUp::Job(RunFault::Memory)),
-        Err(_) => Err(GiveUp::Output),
-    }
-}
-
-// The word for what was found.
-fn word_for(finding: Finding) -> &'static str {
+// Returns the word for what was found.
+fn word_for(finding: Finding) -> &'static str
+    ensures { result.now ≡ word_of finding }
+{
     match finding {
         Finding::Accepted => "ACCEPTED",
         Finding::Refused => "REFUSED",
@@ -26,38 +24,61 @@ fn word_for(finding: Finding) -> &'static str {
     }
 }
 
-// Writes what was found, and where the output differs.
-fn write_judgement<W: Write>(
+// Writes where an output differs from what a run prints.
+fn write_details<W: Write>(
     writer: &mut W,
     judgement: &Judgement,
-    output: &str,
-) -> io::Result<()> {
-    writeln!(writer, "{}", word_for(judgement.finding))?;
+    output: &[u8],
+) -> std::io::Result<()> {
     if judgement.finding == Finding::Accepted {
         return Ok(());
     }
-    if let Ok(text) = str::from_utf8(&judgement.text) {
-        write_difference(writer, output, text)?;
-    }
+    write_difference(writer, output, &judgement.text)?;
     match judgement.finding {
         Finding::Undecided(line) => writeln!(
             writer,
-            "line {line} of the script may be granted places that no WHERE right behind it asks for, or is a list that may be refused"
+            "line {line} of the script may be granted places that no WHERE right after it asks for, or is a list that may be refused"
         ),
-        _ => Ok(()),
+        Finding::Accepted | Finding::Refused => Ok(()),
     }
 }
 
-/// Judges the output, and says what was found.
-pub fn judge_output(rt: &HostRuntime, settings: &Settings<'_>) -> Result<Ending, GiveUp> {
-    let script = script(rt, settings)?;
-    let output = output(rt, settings)?;
-    let judgement = judge(rt.alloc(), script.as_bytes(), output.as_bytes())?;
-    match write_judgement(&mut io::writer(rt), &judgement, &output) {
-        Ok(()) => Ok(Ending::Judged {
-            accepted: judgement.finding == Finding::Accepted,
-            refused: judgement.finding == Finding::Refused,
-        }),
-        Err(_) => Err(GiveUp::Job(RunFault::Write)),
-    }
+// Returns what is printed of a judgement: the word, and then the details.
+fn report_of(alloc: Global, judgement: &Judgement, output: &[u8]) -> Result<Vec<u8>, AllocError>
+    ensures { IfOk result
+        (λ report. (details : List ℕ) × (report.items
+        ≡ word_of judgement.now.finding ++ 10 ∷ details)) }
+{
+    let mut details = Vec::new(alloc);
+    let Ok(()) = write_details(&mut details, judgement, output) else {
+        return Err(AllocError);
+    };
+    let mut report = Vec::new(alloc);
+    report.extend_from_slice(word_for(judgement.finding).as_bytes())?;
+    report.push(b'\n')?;
+    report.extend_from_slice(&details)?;
+    Ok(report)
+}
+
+/// Judges an output, and prints what was found in one write.
+pub fn judge_output<'a, W: Write>(
+    alloc: Global,
+    script: &'a [u8],
+    output: &[u8],
+    writer: &mut Watched<W>,
+) -> Result<Served<'a>, GiveUp>
+    ensures { Judges (W.contents writer.old.inner) (W.contents writer.new.inner) script.now
+        output.now result }
+{
+    let judgement = match judge(alloc, script, output) {
+        Ok(judgement) => judgement,
+        Err(fault) => return Err(GiveUp::Job(fault)),
+    };
+    let Ok(report) = report_of(alloc, &judgement, output) else {
+        return Err(GiveUp::Job(RunFault::Memory));
+    };
+    let Ok(()) = write_all(writer, &report) else {
+        return Err(GiveUp::Job(RunFault::Write));
+    };
+    Ok(Served::of(Ending::Judged(judgement.finding)))
 }

@@ -1,25 +1,26 @@
 //! A reader that keeps the lines of its latest read, so that a faulty one can be told.
 
-ghost use Rattle.std.specs.Prelude.{◌≤◌, length};
+ghost use Rattle.std.specs.Prelude.{◌≡◌, ◌≤◌, IfOk, length};
 
 use crate::faulty::{Faulty, first_faulty};
 use job_script::parted::parted;
 use job_script::read_line;
 use mvs_model::line::Line;
+use std::alloc::{AllocError, Global};
 use std::io::{self, ErrorKind, Read};
 
 /// How many bytes are kept: those of a read of a job, and of a line that began before it.
 const ROOM: usize = 66_048;
 
 /// What a reader has told since the begin of the line in which its latest read began. The lines before had no fault, since a job
-/// reads nothing behind one.
+/// reads nothing after one.
 #[derive(Drop)]
 struct Lines {
-    bytes: [u8; ROOM],
-    len: usize,
+    /// On the heap, and never more than the room that was taken when the reader was made.
+    bytes: Vec<u8>,
     /// The number of the first line that is kept.
     number: u32,
-    /// Whether no statement stood before it.
+    /// Whether no statement came before it.
     first: bool,
 }
 
@@ -32,8 +33,8 @@ pub struct Kept<R> {
     is_directory: bool,
 }
 
-// Whether no line of a text is a statement.
-fn is_silent(text: &[u8]) -> bool {
+/// Returns whether no line of a text is a statement.
+pub fn is_silent(text: &[u8]) -> bool {
     let mut read = Line::Nothing;
     let mut rest = text;
     'lines: loop {
@@ -58,8 +59,8 @@ fn ended_in_block(block: &[u8]) -> u8 {
     lines
 }
 
-// How many lines of a text have ended.
-fn ended_lines(text: &[u8]) -> u32 {
+/// Returns the number of lines of a text that have ended.
+pub fn ended_lines(text: &[u8]) -> u32 {
     let mut lines = 0u32;
     for block in text.chunks(240) {
         lines = lines.wrapping_add(u32::from(ended_in_block(block)));
@@ -67,8 +68,8 @@ fn ended_lines(text: &[u8]) -> u32 {
     lines
 }
 
-// Where the last of them ends.
-fn ended(text: &[u8]) -> usize
+/// Returns where the last line that has ended ends.
+pub fn ended(text: &[u8]) -> usize
     ensures { result ≤ length text.now }
 {
     for i in (0..text.len()).rev() {
@@ -80,50 +81,50 @@ fn ended(text: &[u8]) -> usize
 }
 
 impl Lines {
-    fn new() -> Lines {
-        Lines {
-            bytes: [0; ROOM],
-            len: 0,
+    fn new(alloc: Global) -> Result<Lines, AllocError> {
+        Ok(Lines {
+            bytes: Vec::with_capacity(alloc, ROOM)?,
             number: 1,
             first: true,
-        }
+        })
     }
 
     // Lets go of the lines that have ended.
     fn let_go(&mut self) {
-        let len = self.len.min(ROOM);
-        let from = ended(&self.bytes[..len]);
+        let from = ended(&self.bytes);
         let lines = ended_lines(&self.bytes[..from]);
         self.number = self.number.saturating_add(lines);
         if self.first {
             self.first = is_silent(&self.bytes[..from]);
         }
+        let len = self.bytes.len();
         for i in from..len {
             self.bytes[i - from] = self.bytes[i];
         }
-        self.len = len - from;
+        self.bytes.truncate(len - from);
     }
 
     // Keeps what was told, as far as there is room.
     fn keep(&mut self, told: &[u8]) {
-        let len = self.len.min(ROOM);
-        let count = told.len().min(ROOM - len);
-        self.bytes[len..len + count].copy_from_slice(&told[..count]);
-        self.len = len + count;
+        let count = told.len().min(ROOM.saturating_sub(self.bytes.len()));
+        let _ = self.bytes.extend_from_slice(&told[..count]);
     }
 
     fn faulty(&self) -> Faulty<'_> {
-        first_faulty(&self.bytes[..self.len.min(ROOM)], self.number, self.first)
+        first_faulty(&self.bytes, self.number, self.first)
     }
 }
 
-impl<R> Kept<R> {
-    pub fn new(inner: R) -> Kept<R> {
-        Kept {
+impl<R: Drop> Kept<R> {
+    /// Makes a reader of which nothing was read. Fails only if memory is exhausted.
+    pub fn new(alloc: Global, inner: R) -> Result<Kept<R>, AllocError>
+        ensures { IfOk result (λ kept. kept.inner ≡ inner) }
+    {
+        Ok(Kept {
+            lines: Lines::new(alloc)?,
             inner,
-            lines: Lines::new(),
             is_directory: false,
-        }
+        })
     }
 
     /// The line whose fault has ended a job.

@@ -1,7 +1,7 @@
 //! Simulates the virtual storage services that an unauthorized program of MVS uses in its own region.
 #![tactic(auto)]
 
-ghost use Rattle.std.specs.Prelude.{◌≡◌};
+ghost use Rattle.std.specs.Prelude.{◌≡◌, false, IfOk};
 ghost use Rattle.std.specs.Process.{exit_status};
 ghost use Rattle.mvsjob.specs.Endings.{status_of};
 
@@ -11,116 +11,195 @@ mod choices;
 mod clues;
 mod coloured;
 mod command_line;
+mod difference;
 mod ending;
-mod explained;
 mod faultless;
 mod faulty;
+mod front;
 mod json;
 mod judging;
 mod kept;
-mod paged;
 mod piped;
+mod script;
+mod served;
+mod streamed;
 mod strict;
 mod terminal;
+mod through;
 
-use answers::{check_answers, write_made};
-use assembled::write_assembled;
-use choices::{Mode, Settings};
+use choices::{Apart, Mode, Settings};
 use coloured::{Coloured, is_coloured};
 use command_line::{names_files, settings};
-use diagnosis::diagnose;
-use ending::{Ending, GiveUp, Unread};
-use explained::run_explained;
+use diagnosis::{PlainName, diagnose};
+use ending::{Cause, Ending, GiveUp};
 use faulty::Faulty;
-use json::run_json;
-use judging::judge_output;
 use kept::Kept;
-use mvs_job::{RunFault, Told, run_job};
+use mvs_job::RunFault;
 use mvs_model::outcome::Outcome;
 use mvs_model::watched::Watched;
-use paged::run_paged;
 use piped::Piped;
+use script::{read_output, read_script};
+use served::serve_script;
 use std::env;
 use std::fs::File;
 use std::io::{self, BufWriter, ErrorKind, Read, Write};
 use std::process::ExitCode;
-use strict::run_strict;
+use streamed::run_streamed;
+use strict::Teller;
 use terminal::{is_at_terminal, run_at_terminal};
 
-// Tells a faulty line on standard error. A failure to do so changes nothing.
+// Reports a faulty line on standard error. A failure to do so changes nothing.
 pub(crate) fn tell(rt: &HostRuntime, name: &str, faulty: &Faulty<'_>) {
     let diagnosis = diagnose(rt.alloc(), faulty.line, faulty.fault);
+    let name = PlainName(name);
     let _ = eprint!(rt; "{name}:{}:{diagnosis}", faulty.number);
 }
 
-type Output<'a> = Coloured<BufWriter<Piped<io::Printer<'a, HostRuntime>>>>;
+/// Where all that a mode prints goes.
+pub(crate) type Output<'a> = Coloured<BufWriter<Piped<io::Printer<'a, HostRuntime>>>>;
 
-// The writer of what a job prints.
-pub(crate) fn opened<'a>(
+// Opens standard output.
+fn standard_output<'a>(
     rt: &'a HostRuntime,
     settings: &Settings<'_>,
-) -> Result<Output<'a>, GiveUp> {
+) -> Result<Watched<Output<'a>>, GiveUp>
+    ensures { IfOk result (λ writer. writer.failed ≡ false) }
+{
     match BufWriter::new(rt.alloc(), Piped::new(io::writer(rt))) {
-        Ok(writer) => Ok(Coloured::new(writer, is_coloured(rt, settings.color))),
+        Ok(writer) => Ok(Watched::new(Coloured::new(
+            writer,
+            settings.is_answers() && is_coloured(rt, settings.color),
+        ))),
         Err(_) => Err(GiveUp::Job(RunFault::Memory)),
     }
 }
 
-// Flushes what a job printed that ended so, and whose reader is a directory or not. A flush that fails is a write that failed.
-pub(crate) fn concluded(
-    ended: Result<Outcome, RunFault>,
-    mut writer: Output<'_>,
-    is_directory: bool,
-) -> Result<Outcome, GiveUp> {
+// Flushes what a mode printed that ended so. A flush that fails is a write that failed, and one that failed since nobody reads
+// any more ends the program in silence.
+fn concluded(ended: Result<Ending, GiveUp>, writer: Watched<Output<'_>>) -> Result<Ending, GiveUp> {
+    let mut writer = writer.into_inner();
     let flushed = writer.flush();
     match ended {
-        Ok(outcome) if flushed.is_ok() => Ok(outcome),
-        Ok(_) | Err(RunFault::Write) if writer.get_ref().get_ref().is_closed() => Err(GiveUp::Pipe),
+        Ok(ending) if flushed.is_ok() => Ok(ending),
+        Ok(_) | Err(GiveUp::Job(RunFault::Write)) if writer.get_ref().get_ref().is_closed() => {
+            Err(GiveUp::Pipe)
+        }
         Ok(_) => Err(GiveUp::Job(RunFault::Write)),
-        Err(RunFault::Read) if is_directory => Err(GiveUp::Script(Unread::Directory)),
+        Err(why) => Err(why),
+    }
+}
+
+// Passes on how a job ended whose reader is a directory or not, and reports the line that ended it, if one did.
+pub(crate) fn passed_on(
+    rt: &HostRuntime,
+    settings: &Settings<'_>,
+    writer: &mut Watched<Output<'_>>,
+    ended: Result<Outcome, RunFault>,
+    is_directory: bool,
+    faulty: &Faulty<'_>,
+) -> Result<Ending, GiveUp> {
+    match ended {
+        Ok(Outcome::ScriptFault) => {
+            if writer.flush().is_ok() {
+                tell(rt, settings.file, faulty);
+            }
+            Ok(Ending::Ran(Outcome::ScriptFault))
+        }
+        Ok(outcome) => Ok(Ending::Ran(outcome)),
+        Err(RunFault::Read) if is_directory => Err(GiveUp::Script(Cause::Directory)),
         Err(fault) => Err(GiveUp::Job(fault)),
     }
 }
 
-// Runs the script that a reader tells, and tells the line that ended it, if one did.
-fn run_from<R: Read + Drop>(
+// Runs the script that a reader has as it comes.
+fn run_lines<R: Read + Drop>(
     rt: &HostRuntime,
     reader: R,
     settings: &Settings<'_>,
-) -> Result<Outcome, GiveUp> {
-    if is_at_terminal(rt, settings) {
-        return run_at_terminal(rt, reader, settings);
-    }
-    let mut reader = Watched::new(Kept::new(reader));
-    let mut writer = Watched::new(opened(rt, settings)?);
-    let told = Told::nothing(rt.alloc());
-    let ended = run_job(
-        rt.alloc(),
-        &mut reader,
-        &mut writer,
-        settings.placement,
-        told,
-    );
-    let kept = reader.into_inner();
-    let outcome = concluded(ended, writer.into_inner(), kept.is_directory())?;
-    if outcome == Outcome::ScriptFault {
-        tell(rt, settings.file, &kept.faulty());
-    }
-    Ok(outcome)
+    writer: &mut Watched<Output<'_>>,
+) -> Result<Ending, GiveUp>
+    requires { writer.old.failed ≡ false }
+{
+    let Ok(kept) = Kept::new(rt.alloc(), reader) else {
+        return Err(GiveUp::Job(RunFault::Memory));
+    };
+    let ran = run_streamed(rt.alloc(), kept, writer, settings.placement);
+    passed_on(
+        rt,
+        settings,
+        writer,
+        ran.ended,
+        ran.reader.is_directory(),
+        &ran.reader.faulty(),
+    )
 }
 
-// Runs the script that the words name.
-fn run_named(rt: &HostRuntime, settings: &Settings<'_>) -> Result<Outcome, GiveUp> {
+// Serves the script that a reader has.
+fn serve_reader<R: Read + Drop>(
+    rt: &HostRuntime,
+    reader: R,
+    settings: &Settings<'_>,
+    writer: &mut Watched<Output<'_>>,
+) -> Result<Ending, GiveUp>
+    requires { writer.old.failed ≡ false }
+{
+    if settings.is_as_it_comes() && is_at_terminal(rt, settings) {
+        return run_at_terminal(rt, reader, settings, writer);
+    }
+    if settings.is_as_it_comes() {
+        return run_lines(rt, reader, settings, writer);
+    }
+    let script = read_script(rt.alloc(), reader)?;
+    let output = judged(rt, settings)?;
+    let mut teller = Teller::new(rt, settings.file, &script);
+    let served = serve_script(rt.alloc(), settings, &script, &output, writer, &mut teller)?;
+    if let Some(faulty) = &served.faulty {
+        if writer.flush().is_ok() {
+            tell(rt, settings.file, faulty);
+        }
+    }
+    Ok(served.ending)
+}
+
+// Reads the output that is judged; there is none without `--judge`.
+fn judged(rt: &HostRuntime, settings: &Settings<'_>) -> Result<Vec<u8>, GiveUp> {
+    if settings.mode != Mode::Judge {
+        return Ok(Vec::new(rt.alloc()));
+    }
+    match File::open(rt, settings.judged) {
+        Ok(output) => read_output(rt.alloc(), output),
+        Err(error) => Err(GiveUp::Output(Cause::from(error.kind()))),
+    }
+}
+
+// Opens the script, and does what the settings ask for.
+fn serve(
+    rt: &HostRuntime,
+    settings: &Settings<'_>,
+    writer: &mut Watched<Output<'_>>,
+) -> Result<Ending, GiveUp>
+    requires { writer.old.failed ≡ false }
+{
+    if let Mode::Random(_) = settings.mode {
+        return serve_reader(rt, io::empty(), settings, writer);
+    }
     if settings.file == "-" {
-        return run_from(rt, rt.stdin(), settings);
+        return serve_reader(rt, rt.stdin(), settings, writer);
     }
     match File::open(rt, settings.file) {
-        Ok(script) => run_from(rt, script, settings),
-        Err(error) => Err(GiveUp::Script(Unread::from(error.kind()))),
+        Ok(script) => serve_reader(rt, script, settings, writer),
+        Err(error) => Err(GiveUp::Script(Cause::from(error.kind()))),
     }
 }
 
-// Prints what `clap` says of the words, and that one FILE is taken where there are more.
+// Does what the settings ask for, and ends standard output.
+fn serve_and_flush(rt: &HostRuntime, settings: &Settings<'_>) -> Result<Ending, GiveUp> {
+    let mut writer = standard_output(rt, settings)?;
+    let ended = serve(rt, settings, &mut writer);
+    concluded(ended, writer)
+}
+
+// Prints what `clap` has to say of the words, and that one FILE is taken where there are more.
 fn explain(rt: &HostRuntime, words: &[String], error: &clap::Error) -> Result<Ending, GiveUp> {
     let kind = error.kind();
     if kind == clap::error::ErrorKind::OutOfMemory {
@@ -132,11 +211,12 @@ fn explain(rt: &HostRuntime, words: &[String], error: &clap::Error) -> Result<En
     match error.print(rt) {
         Ok(()) if error.use_stderr() => Ok(Ending::Refused),
         Ok(()) => Ok(Ending::Printed),
-        Err(_) => Err(GiveUp::Job(RunFault::Write)),
+        Err(error) if error.kind() == ErrorKind::BrokenPipe => Err(GiveUp::Pipe),
+        Err(error) => Err(GiveUp::of_write(error.kind())),
     }
 }
 
-// The words of the command line, the program's name first. A word that is no text names no file that can be opened.
+// Returns the words of the command line, the program's name first. A word that is not UTF-8 names no file that can be opened.
 fn words(rt: &HostRuntime) -> Result<Vec<String>, GiveUp> {
     let mut words = Vec::new(rt.alloc());
     match env::args(rt) {
@@ -147,52 +227,67 @@ fn words(rt: &HostRuntime) -> Result<Vec<String>, GiveUp> {
             Ok(words)
         }
         Err(error) if error.kind() == ErrorKind::OutOfMemory => Err(GiveUp::Job(RunFault::Memory)),
-        Err(_) => Err(GiveUp::Script(Unread::Other)),
+        Err(_) => Err(GiveUp::Script(Cause::Unnamed)),
     }
 }
 
-// Does what the words ask for.
-fn serve(rt: &HostRuntime, settings: &Settings<'_>) -> Result<Ending, GiveUp> {
-    match settings.mode {
-        Mode::Run if settings.json => Ok(Ending::Ran(run_json(rt, settings)?)),
-        Mode::Run if settings.page => Ok(Ending::Ran(run_paged(rt, settings)?)),
-        Mode::Run if settings.explains => Ok(Ending::Ran(run_explained(rt, settings)?)),
-        Mode::Run if settings.strict => run_strict(rt, settings),
-        Mode::Run => Ok(Ending::Ran(run_named(rt, settings)?)),
-        Mode::Check => check_answers(rt, settings),
-        Mode::Judge => judge_output(rt, settings),
-        Mode::Assemble => write_assembled(rt, settings),
-        Mode::Blank | Mode::Ask | Mode::Random(_) => write_made(rt, settings),
-    }
-}
-
-// Says why the program gave up, if it did. A failure to say so changes nothing.
-fn finish(rt: &HostRuntime, name: &str, ending: Ending) -> ExitCode
+// Says why the program stopped before its work was done, if it did. A failure to say so changes nothing.
+fn finish(rt: &HostRuntime, file: &str, judged: &str, ending: Ending) -> ExitCode
     ensures { exit_status result ≡ status_of ending }
 {
     if let Some(text) = ending.text() {
-        let _ = if ending.is_of_script() && name != "-" {
-            eprintln!(rt; "mvsjob: {name}: {text}")
-        } else {
-            eprintln!(rt; "mvsjob: {text}")
-        };
+        let _ = eprintln!(rt; "mvsjob: {text}");
+    }
+    if let Ending::GaveUp(GiveUp::Script(cause)) = ending {
+        let file = PlainName(if file == "-" { "standard input" } else { file });
+        let _ = eprintln!(rt; "    {file}: {}", cause.text());
+    }
+    if let Ending::GaveUp(GiveUp::Output(cause)) = ending {
+        let _ = eprintln!(rt; "    {}: {}", PlainName(judged), cause.text());
     }
     ExitCode::from(ending.status())
+}
+
+// Returns how an option is written, which may be FILE.
+fn written<'a>(rt: &HostRuntime, option: &'a str) -> Result<String, GiveUp> {
+    let dashes = if option == "FILE" { "" } else { "--" };
+    format!(in rt.alloc(); "{dashes}{option}").map_err(|_| GiveUp::Job(RunFault::Memory))
+}
+
+// Refuses options that have no meaning together, as `clap` refuses others. A failure to say so changes nothing.
+fn refuse(rt: &HostRuntime, apart: Apart) -> Result<Ending, GiveUp> {
+    let _ = match apart {
+        Apart::Excludes(one, other) => {
+            let (one, other) = (written(rt, one)?, written(rt, other)?);
+            eprintln!(rt; "error: the argument '{one}' cannot be used with '{other}'")
+        }
+        Apart::Needs(one, other) => {
+            let (one, other) = (written(rt, one)?, written(rt, other)?);
+            eprintln!(rt; "error: the argument '{one}' can only be used with '{other}'")
+        }
+    };
+    let _ = eprintln!(rt; "\nFor more information, try '--help'.");
+    Ok(Ending::Refused)
 }
 
 // Does what the words ask for, and ends.
 fn serve_words(rt: &HostRuntime, words: &[String]) -> ExitCode {
     match settings(rt.alloc(), words) {
         Ok(settings) => {
-            let ending = serve(rt, &settings);
+            let ended = match settings.apart {
+                Some(apart) => refuse(rt, apart),
+                None => serve_and_flush(rt, &settings),
+            };
             finish(
                 rt,
                 settings.file,
-                ending.unwrap_or_else(|why| Ending::GaveUp(why)),
+                settings.judged,
+                ended.unwrap_or_else(|why| Ending::GaveUp(why)),
             )
         }
         Err(error) => finish(
             rt,
+            "-",
             "-",
             explain(rt, words, &error).unwrap_or_else(|why| Ending::GaveUp(why)),
         ),
@@ -203,6 +298,6 @@ fn serve_words(rt: &HostRuntime, words: &[String]) -> ExitCode {
 fn main(rt: HostRuntime) -> ExitCode {
     match words(&rt) {
         Ok(words) => serve_words(&rt, &words),
-        Err(why) => finish(&rt, "-", Ending::GaveUp(why)),
+        Err(why) => finish(&rt, "FILE", "-", Ending::GaveUp(why)),
     }
 }

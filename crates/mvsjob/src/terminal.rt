@@ -1,15 +1,17 @@
-//! A job at a terminal: a faulty line is told and left out, and the job goes on.
+//! A job at a terminal: a faulty line is reported and left out, and the job goes on.
+
+ghost use Rattle.std.specs.Prelude.{◌≡◌, false};
 
 use crate::choices::Settings;
+use crate::ending::{Ending, GiveUp};
 use crate::faultless::{Listens, run_faultless};
 use crate::faulty::Faulty;
-use crate::{GiveUp, concluded, opened, tell};
+use crate::{Output, passed_on, tell};
 use mvs_model::line::Fault;
-use mvs_model::outcome::Outcome;
 use mvs_model::watched::Watched;
 use std::io::{IsTerminal, Read};
 
-// Asks for lines on standard error, and tells those that have a fault.
+// Asks for lines on standard error, and reports those that have a fault.
 #[derive(Drop)]
 struct Prompter<'a> {
     rt: &'a HostRuntime,
@@ -39,33 +41,32 @@ impl Listens for Prompter<'_> {
     }
 }
 
-/// Whether somebody types the script and sees what is printed.
+/// Returns whether somebody types the script and sees what is printed.
 pub fn is_at_terminal(rt: &HostRuntime, settings: &Settings<'_>) -> bool {
     settings.interactive
         || settings.file == "-" && rt.stdin().is_terminal() && rt.stdout().is_terminal()
 }
 
-/// Runs the lines that a reader tells as they come, but for those that have a fault.
+/// Runs the lines that a reader has as they come, but for those that have a fault.
 pub fn run_at_terminal<R: Read + Drop>(
     rt: &HostRuntime,
     reader: R,
     settings: &Settings<'_>,
-) -> Result<Outcome, GiveUp> {
-    let mut writer = Watched::new(opened(rt, settings)?);
+    writer: &mut Watched<Output<'_>>,
+) -> Result<Ending, GiveUp>
+    requires { writer.old.failed ≡ false }
+{
     let prompter = Prompter {
         rt,
         name: settings.file,
     };
-    let end = run_faultless(
-        rt.alloc(),
-        reader,
-        prompter,
-        &mut writer,
-        settings.placement,
-    );
-    let outcome = concluded(end.ended, writer.into_inner(), end.is_directory)?;
-    if outcome == Outcome::ScriptFault {
-        tell(rt, settings.file, &Faulty::behind(end.number));
-    }
-    Ok(outcome)
+    let end = run_faultless(rt.alloc(), reader, prompter, writer, settings.placement);
+    passed_on(
+        rt,
+        settings,
+        writer,
+        end.ended,
+        end.is_directory,
+        &Faulty::behind(end.number),
+    )
 }

@@ -6,6 +6,7 @@ mod script;
 use crate::script::{Stop, Sum, write_script};
 use assembler_source::{NoName, find_requests};
 use clap::{Arg, Command};
+use diagnosis::PlainName;
 use std::env;
 use std::fs::File;
 use std::io::{self, BufWriter, ErrorKind, Read, Write};
@@ -26,7 +27,7 @@ const VERSION: &str = "1.0.0";
 const MOST_BYTES: u64 = 1 << 26;
 
 /// Why no script is written.
-#[derive(Clone, Copy)]
+#[derive(Clone, Copy, Debug, PartialEq, Eq)]
 enum GiveUp {
     Missing,
     Forbidden,
@@ -36,6 +37,8 @@ enum GiveUp {
     Memory,
     NoName,
     Write,
+    /// Nobody reads what is written.
+    Pipe,
     /// The words were refused, or the help was printed: with this status.
     Words(u8),
 }
@@ -52,7 +55,7 @@ impl GiveUp {
             GiveUp::Memory => Some("out of memory"),
             GiveUp::NoName => Some("no name is left for a program"),
             GiveUp::Write => Some("write failed"),
-            GiveUp::Words(_) => None,
+            GiveUp::Pipe | GiveUp::Words(_) => None,
         }
     }
 
@@ -60,7 +63,14 @@ impl GiveUp {
     fn status(self) -> u8 {
         match self {
             GiveUp::Words(status) => status,
-            _ => 2,
+            GiveUp::Pipe => 141,
+            GiveUp::Missing
+            | GiveUp::Forbidden
+            | GiveUp::Directory
+            | GiveUp::Read
+            | GiveUp::TooLong
+            | GiveUp::Memory
+            | GiveUp::Write => 2,
         }
     }
 }
@@ -91,6 +101,7 @@ impl From<Stop> for GiveUp {
         match stop {
             Stop::Memory => GiveUp::Memory,
             Stop::Write => GiveUp::Write,
+            Stop::Pipe => GiveUp::Pipe,
         }
     }
 }
@@ -126,7 +137,7 @@ fn convert(rt: &HostRuntime, name: &str) -> Result<Sum, GiveUp> {
     let sum = write_script(rt.alloc(), &mut writer, &requests)?;
     match writer.flush() {
         Ok(()) => Ok(sum),
-        Err(_) => Err(GiveUp::Write),
+        Err(error) => Err(GiveUp::from(Stop::from(error.kind()))),
     }
 }
 
@@ -147,7 +158,7 @@ fn refuse(rt: &HostRuntime, error: &clap::Error) -> GiveUp {
     match error.print(rt) {
         Ok(()) if error.use_stderr() => GiveUp::Words(2),
         Ok(()) => GiveUp::Words(0),
-        Err(_) => GiveUp::Write,
+        Err(error) => GiveUp::from(Stop::from(error.kind())),
     }
 }
 
@@ -169,12 +180,13 @@ fn named<'a>(rt: &HostRuntime, words: &'a [String]) -> Result<&'a str, clap::Err
 fn finish(rt: &HostRuntime, name: &str, ended: Result<Sum, GiveUp>) -> ExitCode {
     match ended {
         Ok(Sum { said, open }) => {
+            let name = PlainName(name);
             let _ = eprintln!(rt; "mvsjob-asm: {name}: {said} said, {open} open");
             ExitCode::from(if said > 0 { 0 } else { 1 })
         }
         Err(why) => {
             if let Some(text) = why.text() {
-                let _ = eprintln!(rt; "mvsjob-asm: {name}: {text}");
+                let _ = eprintln!(rt; "mvsjob-asm: {}: {text}", PlainName(name));
             }
             ExitCode::from(why.status())
         }

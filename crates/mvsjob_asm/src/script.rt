@@ -4,7 +4,8 @@ use assembler_source::{Found, Requests, Saying};
 use job_script::read_line;
 use mvs_model::line::Line;
 use std::alloc::{AllocError, Global};
-use std::io::Write;
+use std::io::{ErrorKind, Write};
+use thiserror::Error;
 
 /// The most characters of a line of a script.
 const LONGEST: usize = 255;
@@ -20,10 +21,25 @@ pub struct Sum {
 }
 
 /// Why a script was not written to its end.
-#[derive(Clone, Copy)]
+#[derive(Clone, Copy, Debug, PartialEq, Eq, Error)]
 pub enum Stop {
+    #[error("out of memory")]
     Memory,
+    #[error("write failed")]
     Write,
+    /// Nobody reads what is written.
+    #[error("the pipe is closed")]
+    Pipe,
+}
+
+impl From<ErrorKind> for Stop {
+    fn from(kind: ErrorKind) -> Stop {
+        match kind {
+            ErrorKind::OutOfMemory => Stop::Memory,
+            ErrorKind::BrokenPipe => Stop::Pipe,
+            _ => Stop::Write,
+        }
+    }
 }
 
 impl From<AllocError> for Stop {
@@ -77,7 +93,7 @@ fn line_of(alloc: Global, found: &Found) -> Result<(String, bool), AllocError> {
 
 // Writes a line.
 fn put<W: Write>(writer: &mut W, line: &str) -> Result<(), Stop> {
-    writeln!(writer, "{line}").map_err(|_| Stop::Write)
+    writeln!(writer, "{line}").map_err(|error| Stop::from(error.kind()))
 }
 
 /// Writes the script of some requests: a line for each, of which those that begin with `*?` stay open.

@@ -9,6 +9,7 @@ mod requests;
 use maker::Maker;
 use std::alloc::{AllocError, Global};
 use std::io::Write;
+use thiserror::Error;
 
 /// What a script is mostly made of.
 #[derive(Clone, Copy, Debug, PartialEq, Eq)]
@@ -26,9 +27,11 @@ pub enum Profile {
 }
 
 /// Why a script was not written to its end.
-#[derive(Clone, Copy, Debug, PartialEq, Eq)]
+#[derive(Clone, Copy, Debug, PartialEq, Eq, Error)]
 pub enum RandomFault {
+    #[error("out of memory")]
     Memory,
+    #[error("write failed")]
     Write,
 }
 

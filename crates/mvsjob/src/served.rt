@@ -1,0 +1,216 @@
+//! Serves a script that was read whole: what each mode does with it.
+
+ghost use Rattle.std.specs.Prelude.{◌≡◌, ◌≤◌, IsTrue, None, false, length};
+ghost use Rattle.mvs_model.specs.Numbers.{most_script_bytes};
+ghost use Rattle.mvsjob.specs.Served.{Explains, IsFaultOf, Judges, Pages, RunsStrictly};
+
+use crate::answers::{check_answers, write_front};
+use crate::assembled::write_assembled;
+use crate::choices::{Mode, Recipe, Settings};
+use crate::ending::{Ending, GiveUp};
+use crate::faulty::{Faulty, faulty_in};
+use crate::json::run_json;
+use crate::judging::judge_output;
+use crate::through::Through;
+use mvs_job::{Hears, RunFault, explain_script, run_strictly};
+use mvs_model::outcome::Outcome;
+use mvs_model::want::Placement;
+use mvs_model::watched::Watched;
+use page::{FRAME, write_page};
+use random_script::{RandomFault, write_script};
+use std::alloc::Global;
+use std::io::Write;
+
+/// What a mode did with a script: how the program ends, and the line to report, if one has a fault.
+#[derive(Drop)]
+pub struct Served<'a> {
+    pub ending: Ending,
+    pub faulty: Option<Faulty<'a>>,
+}
+
+impl<'a> Served<'a> {
+    /// Returns what a mode did that has no line to report.
+    pub fn of(ending: Ending) -> Served<'a>
+        ensures ending { result.ending ≡ ending }
+        ensures faulty { result.faulty ≡ None }
+    {
+        Served {
+            ending,
+            faulty: None,
+        }
+    }
+
+    /// Returns what a mode did that a fault ended.
+    pub fn of_fault(faulty: Faulty<'a>) -> Served<'a> {
+        Served {
+            ending: Ending::Ran(Outcome::ScriptFault),
+            faulty: Some(faulty),
+        }
+    }
+
+    /// Returns what a mode did that wrote the front of a script up to a line, if that one has a fault.
+    pub fn of_front(faulty: Option<Faulty<'a>>) -> Served<'a> {
+        match faulty {
+            Some(faulty) => Served::of_fault(faulty),
+            None => Served::of(Ending::Printed),
+        }
+    }
+}
+
+// Returns the line whose fault ended a run of a script, if one did.
+fn fault_of(script: &[u8], outcome: Outcome) -> Option<Faulty<'_>>
+    requires { length script.now ≤ most_script_bytes }
+    ensures { IsFaultOf script.now outcome result }
+{
+    match outcome {
+        Outcome::Clean | Outcome::SomeAbend => None,
+        Outcome::ScriptFault => Some(faulty_in(script)),
+    }
+}
+
+// Explains a run.
+fn explain<'a, W: Write>(
+    alloc: Global,
+    script: &'a [u8],
+    writer: &mut Watched<W>,
+    placement: Placement,
+) -> Result<Served<'a>, GiveUp>
+    requires { length script.now ≤ most_script_bytes }
+    ensures { Explains (W.contents writer.old.inner) (W.contents writer.new.inner) script.now
+        result }
+{
+    match explain_script(alloc, script, writer, placement) {
+        Ok(outcome) => Ok(Served {
+            ending: Ending::Ran(outcome),
+            faulty: fault_of(script, outcome),
+        }),
+        Err(stop) => Err(GiveUp::of(stop)),
+    }
+}
+
+// Writes a run as a page.
+fn page<'a, W: Write>(
+    alloc: Global,
+    script: &'a [u8],
+    writer: &mut Watched<W>,
+    placement: Placement,
+) -> Result<Served<'a>, GiveUp>
+    requires { length script.now ≤ most_script_bytes }
+    ensures { Pages (W.contents writer.old.inner) (W.contents writer.new.inner) FRAME.now
+        script.now result }
+{
+    match write_page(alloc, FRAME.as_bytes(), script, writer, placement) {
+        Ok(outcome) => Ok(Served {
+            ending: Ending::Ran(outcome),
+            faulty: fault_of(script, outcome),
+        }),
+        Err(stop) => Err(GiveUp::of(stop)),
+    }
+}
+
+// Runs a script, and has someone hear of each line that was not executed.
+fn run_strict<'a, W: Write, H: Hears>(
+    alloc: Global,
+    script: &'a [u8],
+    writer: &mut Watched<W>,
+    placement: Placement,
+    hearer: &mut H,
+) -> Result<Served<'a>, GiveUp>
+    requires { length script.now ≤ most_script_bytes }
+    ensures { RunsStrictly (W.contents writer.old.inner) (W.contents writer.new.inner) script.now
+        result }
+{
+    match run_strictly(alloc, script, writer, placement, hearer) {
+        Ok(end) => Ok(Served {
+            ending: Ending::of_strict(end),
+            faulty: fault_of(script, end.outcome),
+        }),
+        Err(stop) => Err(GiveUp::of(stop)),
+    }
+}
+
+// Writes a random script.
+fn write_random<W: Write>(
+    alloc: Global,
+    writer: &mut Watched<W>,
+    recipe: Recipe,
+) -> Result<Served<'static>, GiveUp> {
+    let mut writer = Through::new(writer);
+    let Recipe {
+        seed,
+        lines,
+        profile,
+    } = recipe;
+    match write_script(alloc, &mut writer, seed, lines, profile) {
+        Ok(()) => Ok(Served::of(Ending::Printed)),
+        Err(RandomFault::Memory) => Err(GiveUp::Job(RunFault::Memory)),
+        Err(RandomFault::Write) => Err(GiveUp::Job(RunFault::Write)),
+    }
+}
+
+// Runs a script as the settings have it.
+fn run<'a, W: Write, H: Hears>(
+    alloc: Global,
+    settings: &Settings<'_>,
+    script: &'a [u8],
+    writer: &mut Watched<W>,
+    hearer: &mut H,
+) -> Result<Served<'a>, GiveUp>
+    requires { length script.now ≤ most_script_bytes }
+    ensures page { settings.now.json ≡ false → IsTrue settings.now.page
+        → Pages (W.contents writer.old.inner) (W.contents writer.new.inner) FRAME.now script.now
+        result }
+    ensures explain { settings.now.json ≡ false → settings.now.page ≡ false
+        → IsTrue settings.now.explains
+        → Explains (W.contents writer.old.inner) (W.contents writer.new.inner) script.now result }
+    ensures strict { settings.now.json ≡ false → settings.now.page ≡ false
+        → settings.now.explains ≡ false
+        → RunsStrictly (W.contents writer.old.inner) (W.contents writer.new.inner) script.now
+        result }
+{
+    let placement = settings.placement;
+    if settings.json {
+        run_json(alloc, settings, script, writer)
+    } else if settings.page {
+        page(alloc, script, writer, placement)
+    } else if settings.explains {
+        explain(alloc, script, writer, placement)
+    } else {
+        run_strict(alloc, script, writer, placement, hearer)
+    }
+}
+
+/// Serves a script that was read whole, and the output that is judged, as the settings have it.
+pub fn serve_script<'a, W: Write, H: Hears>(
+    alloc: Global,
+    settings: &Settings<'_>,
+    script: &'a [u8],
+    output: &[u8],
+    writer: &mut Watched<W>,
+    hearer: &mut H,
+) -> Result<Served<'a>, GiveUp>
+    requires { length script.now ≤ most_script_bytes }
+    ensures page { settings.now.mode ≡ Mode.Run → settings.now.json ≡ false
+        → IsTrue settings.now.page
+        → Pages (W.contents writer.old.inner) (W.contents writer.new.inner) FRAME.now script.now
+        result }
+    ensures explain { settings.now.mode ≡ Mode.Run → settings.now.json ≡ false
+        → settings.now.page ≡ false → IsTrue settings.now.explains
+        → Explains (W.contents writer.old.inner) (W.contents writer.new.inner) script.now result }
+    ensures strict { settings.now.mode ≡ Mode.Run → settings.now.json ≡ false
+        → settings.now.page ≡ false → settings.now.explains ≡ false
+        → RunsStrictly (W.contents writer.old.inner) (W.contents writer.new.inner) script.now
+        result }
+    ensures judge { settings.now.mode ≡ Mode.Judge
+        → Judges (W.contents writer.old.inner) (W.contents writer.new.inner) script.now output.now
+        result }
+{
+    match settings.mode {
+        Mode::Run => run(alloc, settings, script, writer, hearer),
+        Mode::Check => check_answers(alloc, settings, script, writer),
+        Mode::Judge => judge_output(alloc, script, output, writer),
+        Mode::Blank | Mode::Ask => write_front(settings.mode, script, writer),
+        Mode::Assemble => write_assembled(alloc, script, writer),
+        Mode::Random(recipe) => write_random(alloc, writer, recipe),
+    }
+}

@@ -1,0 +1,52 @@
+//! Runs a script as it comes.
+
+ghost use Rattle.std.specs.Prelude.{◌≡◌, false, IfErr, IfOk};
+ghost use Rattle.mvs_model.specs.Memory.{IsPrintingBefore};
+ghost use Rattle.mvs_model.specs.Runs.{IsPrinting, IsPrintingFront};
+ghost use Rattle.mvsjob.specs.Faultless.{Writes};
+
+use crate::kept::Kept;
+use mvs_job::{RunFault, Told, run_job};
+use mvs_model::outcome::Outcome;
+use mvs_model::want::Placement;
+use mvs_model::watched::Watched;
+use std::alloc::Global;
+use std::io::{Read, Write};
+
+/// How a job ended, and its reader, which keeps the lines of its last read.
+#[derive(Drop)]
+pub struct Streamed<R> {
+    pub ended: Result<Outcome, RunFault>,
+    pub reader: Kept<R>,
+}
+
+/// Runs the script that a reader has, each line before the next one is read.
+pub fn run_streamed<R: Read + Drop, W: Write>(
+    alloc: Global,
+    reader: Kept<R>,
+    writer: &mut Watched<W>,
+    placement: Placement,
+) -> Streamed<R>
+    requires { writer.old.failed ≡ false }
+    // What is written is the printing of a run of the script.
+    ensures ok { IfOk result.ended
+        (λ outcome. Writes (R.remaining reader.inner)
+        (W.contents writer.old.inner) (W.contents writer.new.inner)
+        (λ script written. IsPrinting script written outcome)) }
+    // Else it is a front of such a printing; for want of memory the whole printing before the reply to a statement that takes some.
+    ensures fault { IfErr result.ended
+        (λ fault. Writes (R.remaining reader.inner)
+        (W.contents writer.old.inner) (W.contents writer.new.inner)
+        (λ script written. IsPrintingFront script written)) }
+    ensures memory { IfErr result.ended
+        (λ fault. fault ≡ RunFault.Memory → Writes (R.remaining reader.inner)
+        (W.contents writer.old.inner) (W.contents writer.new.inner)
+        (λ script written. IsPrintingBefore script written)) }
+{
+    let mut reader = Watched::new(reader);
+    let ended = run_job(alloc, &mut reader, writer, placement, Told::nothing(alloc));
+    Streamed {
+        ended,
+        reader: reader.into_inner(),
+    }
+}

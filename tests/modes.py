@@ -1,0 +1,164 @@
+"""What all modes have in common: how they read a script, how they end at a closed pipe, and which options go together."""
+
+import os
+import subprocess
+import tempfile
+import time
+from pathlib import Path
+
+import annotated
+
+TOP = Path(__file__).resolve().parent.parent
+REGION = b"JOB REGION BELOW=1\n"
+SCRIPT = REGION + b"JOB GETMAIN R,LV=8,A=X\nJOB WHERE X => AT 00006000\n"
+PRINTED = b"1 JOB REGION BELOW 1 ABOVE 0\n2 JOB RC 0\n3 JOB AT 00006000\nSTEP ENDED RC 0\n"
+MOST_BYTES = 16_777_215
+OF_SCRIPT = ("", "--explain", "--json", "--page", "--strict", "--interactive", "--check", "--blank", "--ask", "--assemble", "--judge OUTPUT")
+FOREIGN = {"X'0D'": b"* from Windows\r\n", "no UTF-8": b"* pr\xfcfung\n", "an escape": b"* \x1b[2J\n"}
+# What these print depends on where areas lie: the first shows the lowest place, and the others ask for addresses or fill a region.
+SHOW_PLACES = {"storage_areas_lie_low.job", "place_lengths_at_their_ends.job", "pool_above_and_below.job", "pool_cell_across_pages.job"}
+SHOW_PLACES |= {"pool_in_a_given_subpool.job", "pool_parts.job", "statements_with_all_their_operands.job"}
+LINES_NOT_SERVED = 64_000
+APART = (
+    "--random 1 FILE",
+    "--random 1 --place high",
+    "--random 1 --check",
+    "--lines 5",
+    "--profile tasks",
+    "--judge OUTPUT --place high",
+    "--check --blank",
+    "--check --color never",
+    "--ask --explain",
+    "--assemble --json",
+    "--blank --strict",
+    "--json --page",
+    "--json --strict",
+    "--page --interactive",
+    "--strict --explain",
+    "--strict --interactive",
+    "--interactive --explain",
+)
+TOGETHER = ("--json --explain", "--page --explain", "--strict --place high", "--explain --color never", "--check --place low", "--interactive --color never")
+
+
+class Modes:
+    def __init__(self, program, folder):
+        self.program, self.output = program, Path(folder) / "output"
+        self.output.write_bytes(PRINTED)
+
+    def words(self, mode):
+        return [str(self.output) if word == "OUTPUT" else word for word in mode.split()]
+
+    def run(self, mode, script, **how):
+        ran = subprocess.run([self.program, *self.words(mode)], input=script, capture_output=True, timeout=120, **how)
+        return ran.returncode, ran.stdout, ran.stderr.decode()
+
+    def is_foreign(self, mode, line):
+        """Whether a line that no script may have is the fault of each mode."""
+        script = REGION + line + SCRIPT.removeprefix(REGION)
+        status, out, err = self.run(mode, script)
+        if mode.startswith("--judge"):
+            self.output.write_bytes(b"1 JOB REGION BELOW 1 ABOVE 0\n2 JS02\nJOB FAULT RC 12\n")
+            accepted = self.run(mode, script)
+            self.output.write_bytes(PRINTED)
+            return accepted == (0, b"ACCEPTED\n", "")
+        wanted = {"--check": 1, "--interactive": 0}.get(mode, 12)
+        return status == wanted and "-:2:" in err and ": JS02: " in err and b"\x1b" not in out
+
+    def is_too_long(self, mode):
+        status, out, err = self.run(mode, b"\n" * (MOST_BYTES + 1))
+        return (status, err.splitlines()[-1:]) == (16, ["mvsjob: script too long"])
+
+    def has_no_input(self, mode):
+        ran = subprocess.run(["sh", "-c", 'exec "$@" <&-', "sh", self.program, *self.words(mode)], capture_output=True, timeout=60)
+        return ran.returncode == 16 and ran.stderr.decode().endswith("mvsjob: read failed\n")
+
+    def ends_at_closed_pipe(self, words, script):
+        """Whether the program ends in silence when nobody reads what it prints."""
+        ours, theirs = os.pipe()
+        os.close(ours)
+        try:
+            ran = subprocess.run([self.program, *words], input=script, stdout=theirs, stderr=subprocess.PIPE, timeout=60)
+        finally:
+            os.close(theirs)
+        return (ran.returncode, ran.stderr) == (141, b"")
+
+
+def reading(modes):
+    for mode in OF_SCRIPT:
+        for name, line in FOREIGN.items():
+            yield f"{name}, {mode}", modes.is_foreign(mode, line)
+        yield f"too long, {mode}", None if mode == "--interactive" else modes.is_too_long(mode)
+        yield f"no input, {mode}", modes.has_no_input(mode)
+
+
+def pipes(modes):
+    for mode in OF_SCRIPT:
+        if mode != "--interactive":
+            yield f"a closed pipe, {mode}", modes.ends_at_closed_pipe(modes.words(mode), SCRIPT.replace(b"00006000", b"00006008"))
+    for words in ("--random 7 --lines 1000", "--help", "--version"):
+        yield f"a closed pipe, {words}", modes.ends_at_closed_pipe(words.split(), b"")
+
+
+def checks(modes):
+    yield "a check of nothing", modes.run("--check", b"") == (1, b"-: no answers to compare\n", "-:1:1: JS09: the script has no statement\n")
+    yield "a check without answers", modes.run("--check", REGION) == (1, b"-: no answers to compare\n", "")
+    status, out, err = modes.run("--check", b"JOB REGION BELOW=1 => REGION BELOW 1 ABOVE 0\nJOB FOO\n")
+    yield "a fault that no answer names", (status, out) == (12, b"") and "-:2:5: JS03" in err
+    status, out, err = modes.run("--check", b"JOB REGION BELOW=1 => REGION BELOW 1 ABOVE 0\nJOB FOO => JS03\n")
+    yield "a fault that is named", (status, out) == (0, b"")
+    status, out, err = modes.run("--check", b"JOB REGION BELOW=1 => \x1b]0;x\x07\n")
+    yield "an answer with an escape", status == 1 and b"\x1b" not in out and "\x1b" not in err
+    yield "a program without a statement", modes.run("--assemble", b"* nothing\n") == (12, b"", "-:2:1: JS09: the script has no statement\n")
+
+
+def judgements(modes):
+    of = lambda printed: (modes.output.write_bytes(printed), modes.run("--judge OUTPUT", SCRIPT))[1]
+    yield "an output that is accepted", of(PRINTED) == (0, b"ACCEPTED\n", "")
+    carriage = b"REFUSED\nline 1 of the output ends with X'0D0A'; a run ends it with X'0A'\n"
+    yield "an output from Windows", of(PRINTED.replace(b"\n", b"\r\n")) == (1, carriage, "")
+    unended = b"REFUSED\nline 4 of the output, the last one, has no end; a run ends it with X'0A'\n"
+    yield "an output without its last end", of(PRINTED[:-1]) == (1, unended, "")
+    status, out, _ = of(PRINTED.replace(b"AT", b"\x1b[31mAT"))
+    yield "an output with an escape", status == 1 and b".[31mAT" in out and b"\x1b" not in out
+    modes.output.write_bytes(PRINTED)
+
+
+def options(modes):
+    for words in APART:
+        status, out, err = modes.run(words.replace("FILE", "a.job"), SCRIPT)
+        yield words, (status, out) == (16, b"") and err.startswith("error: the argument '") and "cannot be used with" in err + err.replace("can only be used with", "cannot be used with")
+    for words in TOGETHER:
+        yield words, modes.run(words, SCRIPT)[0] == 0
+
+
+def unserved(modes):
+    script = REGION + b"JOB WHERE NOSUCH\n" * LINES_NOT_SERVED
+    begin = time.monotonic()
+    status, _, err = modes.run("--strict", script)
+    # Each line once more over the whole script would take a minute.
+    yield f"{LINES_NOT_SERVED} lines that are not executed", status == 4 and err.count("NO NAME") == LINES_NOT_SERVED and time.monotonic() - begin < 20
+
+
+def names(modes):
+    status, _, err = modes.run("no\x1b[2Jsuch.job", b"")
+    yield "a name with an escape", (status, err) == (16, "mvsjob: cannot open script\n    no.[2Jsuch.job: no such file\n")
+    ran = subprocess.run([modes.program, b"pr\xfcfung.job"], capture_output=True, timeout=60)
+    yield "a name that is not UTF-8", (ran.returncode, ran.stderr) == (16, b"mvsjob: cannot open script\n    FILE: the name is not UTF-8\n")
+    yield "an output that is not there", modes.run("--judge nowhere", SCRIPT) == (16, b"", "mvsjob: cannot read output\n    nowhere: no such file\n")
+
+
+def placed_high(program):
+    """Each annotated script prints the same with both placements, but for those that show where areas lie, and those that name a
+    placement."""
+    for case in annotated.all_scripts():
+        if case.name not in SHOW_PLACES and not case.words:
+            ran = subprocess.run([program, "--place", "high"], input=case.script(), capture_output=True, text=True, timeout=60)
+            yield f"{case.name} placed high", ran.stdout.splitlines() == case.printed()
+
+
+def results(program):
+    with tempfile.TemporaryDirectory() as folder:
+        modes = Modes(program, folder)
+        groups = (reading, pipes, checks, judgements, options, unserved, names)
+        return [case for group in groups for case in group(modes)] + list(placed_high(program))
