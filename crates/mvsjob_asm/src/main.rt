@@ -70,6 +70,7 @@ impl GiveUp {
             | GiveUp::Read
             | GiveUp::TooLong
             | GiveUp::Memory
+            | GiveUp::NoName
             | GiveUp::Write => 2,
         }
     }
