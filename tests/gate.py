@@ -143,10 +143,11 @@ def tests_fail(folder):
     shutil.copy(made / "mvsjob", made / "mvsjob.by-rattle")
     yield "no such group", run("script")[0] == 1
     cases = sorted((folder / "tests/scripts").glob("*.job"))
-    wanted = cases[0].read_text()
-    cases[0].write_text(wanted.replace("STEP ENDED RC 0", "STEP ENDED RC 8").replace(" => RC 0", " => RC 4"))
+    answered = next(path for path in cases if " => RC 0\n" in path.read_text())
+    wanted = answered.read_text()
+    answered.write_text(wanted.replace(" => RC 0\n", " => RC 4\n", 1))
     yield "a wrong answer", run("scripts")[0] == 1
-    cases[0].write_text(wanted)
+    answered.write_text(wanted)
     for path in cases[24:]:
         path.unlink()
     status, printed = run("scripts")
