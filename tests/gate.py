@@ -120,7 +120,8 @@ def planted_wrong_bodies(folder):
     status, printed = called(folder / "tools/wrong_bodies", "boundary_loc")
     for name in planted:
         line = next((line for line in printed.splitlines() if line.startswith(f"boundary_loc/{name}: ")), "")
-        yield f"wrong body {name}", status == 1 and line != "" and ": refused on " not in line.partition(", and not on")[0] + ", and not on" * (name == "other_goal")
+        is_refused = ": refused on " in line and ", and not on " not in line
+        yield f"wrong body {name}", status == 1 and line != "" and not is_refused
     yield "wrong bodies count", last(printed).endswith(f" {len(planted)} not refused")
 
 
