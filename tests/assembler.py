@@ -301,11 +301,11 @@ def judged(program):
 
 
 def many_names():
-    """Whether each of 100,000 areas has a name of its own."""
-    source = "PROG CSECT\n" + "".join(f" GETMAIN RU,LV=8,A=({number})\n" for number in range(100_000))
+    """Whether each of 20,000 areas has a name of its own."""
+    source = "PROG CSECT\n" + "".join(f" GETMAIN RU,LV=8,A=({number})\n" for number in range(20_000))
     script, err, status = convert(source.encode())
     names = re.findall(r"(?m)^PROG GETMAIN RU,LV=8,A=(\S+)", script)
-    yield "each is said", len(names) == 100_000 and summed(script, err, status)
+    yield "each is said", len(names) == 20_000 and summed(script, err, status)
     yield "no name twice", len(set(names)) == len(names) and all(re.fullmatch("[A-Z@#$][A-Z0-9@#$]{0,7}", name) for name in names)
 
 

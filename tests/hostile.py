@@ -229,7 +229,7 @@ def groups(program, cases, examples):
     scripts = {f"example {path.name}": path.read_bytes() for path in examples}
     scripts |= {f"script {case.name}": case.script().encode() for case in cases}
     fed = [case for case in cases if case.name in FED]
-    cuts = {name: scripts[name] for name in CUT}
+    cuts = {name: scripts[name] for name in CUT if name in scripts}
 
     def over(holds, texts):
         return each(partial(of_text, holds, failing), texts.items(), lambda named: named[0])
