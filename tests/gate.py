@@ -94,6 +94,7 @@ def copied(folder):
 
 def plants(folder):
     """A run without a plant, and one with three edits that show nothing."""
+    copied(folder)
     status, printed = called(folder / "tools/ci")
     yield "two crates", status == 0 and last(printed).endswith(" 0 failed")
     planted = {"stale": STALE, "no_code": NO_CODE, "renamed": RENAMED}
@@ -105,24 +106,6 @@ def plants(folder):
     yield "planted edits count", last(printed).endswith(" 3 failed")
     for name in planted:
         (folder / f"crates/boundary_loc/must-fail/{name}.edit").unlink()
-
-
-def planted_wrong_bodies(folder):
-    """Wrong bodies that show nothing, and one that names a goal on which it is not refused."""
-    wrong = folder / "crates/boundary_loc/wrong"
-    wrong.mkdir(exist_ok=True)
-    other = (folder / "crates/boundary_loc/must-fail/boundary_checked_at_start.edit").read_text()
-    other = "".join(line for line in other.splitlines(True) if not line.startswith("# refused")) + "# refused: another\n"
-    same = "file: src/lib.rt\nold:     number / unit * unit\nnew:     (number / unit) * unit\n# refused: returns\n"
-    planted = {"stale": STALE, "no_code": NO_CODE, "renamed": RENAMED, "other_goal": other, "same": same}
-    for name, text in planted.items():
-        (wrong / f"{name}.edit").write_text(text)
-    status, printed = called(folder / "tools/wrong_bodies", "boundary_loc")
-    for name in planted:
-        line = next((line for line in printed.splitlines() if line.startswith(f"boundary_loc/{name}: ")), "")
-        is_refused = ": refused on " in line and ", and not on " not in line
-        yield f"wrong body {name}", status == 1 and line != "" and not is_refused
-    yield "wrong bodies count", last(printed).endswith(f" {len(planted)} not refused")
 
 
 # ---- tests/run
@@ -162,10 +145,9 @@ def main():
     found = []
     with tempfile.TemporaryDirectory(prefix="gate-") as name:
         room = Path(name)
-        for part, folder in ((stand_ins, room / "stand_in"), (tests_fail, room / "tests"), (plants, None), (planted_wrong_bodies, None)):
+        for part, folder in ((stand_ins, room / "stand_in"), (tests_fail, room / "tests"), (plants, room / "crates")):
             try:
-                crates = room / "crates"
-                for case, well in part(folder or (crates if crates.exists() else copied(crates))):
+                for case, well in part(folder):
                     print(f"gate: {case}: {'passed' if well else 'FAILED'}", flush=True)
                     found.append(well)
             except (OSError, IndexError) as error:

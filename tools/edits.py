@@ -1,6 +1,6 @@
 """Changes of a crate's text that the prover has to refuse or to prove, and the checks that try them.
 
-An edit (crates/NAME/must-fail/X.edit or crates/NAME/wrong/X.edit) and a control (crates/NAME/controls/X.control) have a line
+An edit (crates/NAME/must-fail/X.edit) and a control (crates/NAME/controls/X.control) have a line
 `file: PATH` and pairs of lines `old: TEXT` and `new: TEXT`. A line `# refused: GOALS` of an edit names the goals on which the prover
 has to refuse it, separated by commas: a goal of the function that the edit changes, or `FUNCTION: GOAL` for one of another function.
 A clause that has a name is named by it; any other goal is named as the prover names it.

@@ -14,7 +14,7 @@ use Rattle.mvs_job.specs.declared.run.RunFault.{RunFault}
 use Rattle.mvs_job.specs.declared.run.RunFault.TheVariants as fault
 use Rattle.mvs_job.specs.Explaining.{WritesExplained}
 use Rattle.mvs_job.specs.Streams.{PrintedUpTo}
-use Rattle.mvs_job.specs.Strict.{PrintsStrictly}
+use Rattle.mvs_job.specs.Strict.{HearsFront, PrintsStrictly, Skipped}
 use Rattle.page.specs.Pages.{WritesPage, WritesShown}
 use Rattle.mvsjob.specs.declared.ending.Ending.TheVariants.{Ran, Judged}
 use Rattle.mvsjob.specs.declared.ending.GiveUp.{GiveUp}
@@ -45,11 +45,11 @@ Explains before after script result = (ended : Result Outcome Stop) × WritesExp
 abbrev pub Pages : Option (List ℕ) → Option (List ℕ) → List ℕ → List ℕ → Result Served GiveUp → Type 0
 Pages before after frame script result = (ended : Result Outcome Stop) × WritesPage before after frame script ended × EndsAs script ended result
 
--- Its run is printed, and it is found out whether each line was executed.
-abbrev pub RunsStrictly : Option (List ℕ) → Option (List ℕ) → List ℕ → Result Served GiveUp → Type 0
-RunsStrictly before after script (Ok served) =
-    (outcome : Outcome) × (all : Bool) × PrintsStrictly before after script outcome all × (served.ending ≡ strict_ending outcome all) × IsFaultOf script outcome served.faulty
-RunsStrictly before after script (Err why) = (stop : Stop) × (why ≡ gave_up stop) × PrintedUpTo stop before after script
+-- Its run is printed, and someone hears of the lines that were not executed: of just these, or if the run stops of those of some first lines.
+abbrev pub RunsStrictly : Option (List ℕ) → Option (List ℕ) → Option (List Skipped) → Option (List Skipped) → List ℕ → Result Served GiveUp → Type 0
+RunsStrictly before after heard heard' script (Ok served) =
+    (outcome : Outcome) × (all : Bool) × PrintsStrictly before after heard heard' script outcome all × (served.ending ≡ strict_ending outcome all) × IsFaultOf script outcome served.faulty
+RunsStrictly before after heard heard' script (Err why) = (stop : Stop) × (why ≡ gave_up stop) × PrintedUpTo stop before after script × HearsFront heard heard' script
 
 -- the word for a finding
 abbrev pub word_of : Finding → List ℕ
@@ -60,6 +60,6 @@ word_of (finding.Undecided line) = codes "UNDECIDED"
 -- The word for what is found of an output is written as a line, with details after it.
 abbrev pub Judges : Option (List ℕ) → Option (List ℕ) → List ℕ → List ℕ → Result Served GiveUp → Type 0
 Judges before after script output (Ok served) =
-    (found : Finding) × (outcome : Outcome) × (details : List ℕ) × IsFound script output outcome found × Appends before after (word_of found ++ 10 ∷ details)
+    (found : Finding) × (text : List ℕ) × (outcome : Outcome) × (details : List ℕ) × IsFound script output text outcome found × Appends before after (word_of found ++ 10 ∷ details)
     × (served.ending ≡ Judged found) × (served.faulty ≡ None)
 Judges before after script output (Err why) = (fault : RunFault) × (why ≡ Job fault)

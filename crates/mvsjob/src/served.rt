@@ -117,8 +117,8 @@ fn run_strict<'a, W: Write, H: Hears>(
     hearer: &mut H,
 ) -> Result<Served<'a>, GiveUp>
     requires { length script.now ≤ most_script_bytes }
-    ensures { RunsStrictly (W.contents writer.old.inner) (W.contents writer.new.inner) script.now
-        result }
+    ensures { RunsStrictly (W.contents writer.old.inner) (W.contents writer.new.inner)
+        (H.heard hearer.old) (H.heard hearer.new) script.now result }
 {
     match run_strictly(alloc, script, writer, placement, hearer) {
         Ok(end) => Ok(Served {
@@ -165,8 +165,8 @@ fn run<'a, W: Write, H: Hears>(
         → Explains (W.contents writer.old.inner) (W.contents writer.new.inner) script.now result }
     ensures strict { settings.now.json ≡ false → settings.now.page ≡ false
         → settings.now.explains ≡ false
-        → RunsStrictly (W.contents writer.old.inner) (W.contents writer.new.inner) script.now
-        result }
+        → RunsStrictly (W.contents writer.old.inner) (W.contents writer.new.inner)
+        (H.heard hearer.old) (H.heard hearer.new) script.now result }
 {
     let placement = settings.placement;
     if settings.json {
@@ -199,8 +199,8 @@ pub fn serve_script<'a, W: Write, H: Hears>(
         → Explains (W.contents writer.old.inner) (W.contents writer.new.inner) script.now result }
     ensures strict { settings.now.mode ≡ Mode.Run → settings.now.json ≡ false
         → settings.now.page ≡ false → settings.now.explains ≡ false
-        → RunsStrictly (W.contents writer.old.inner) (W.contents writer.new.inner) script.now
-        result }
+        → RunsStrictly (W.contents writer.old.inner) (W.contents writer.new.inner)
+        (H.heard hearer.old) (H.heard hearer.new) script.now result }
     ensures judge { settings.now.mode ≡ Mode.Judge
         → Judges (W.contents writer.old.inner) (W.contents writer.new.inner) script.now output.now
         result }

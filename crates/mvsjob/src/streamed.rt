@@ -1,9 +1,10 @@
 //! Runs a script as it comes.
 
-ghost use Rattle.std.specs.Prelude.{◌≡◌, false, IfErr, IfOk};
+ghost use Rattle.std.specs.Prelude.{◌≡◌, ◌<◌, ◌≤◌, ◌+◌, ◌⊎◌, false, length, take, IfErr, IfOk};
 ghost use Rattle.mvs_model.specs.Memory.{IsPrintingBefore};
-ghost use Rattle.mvs_model.specs.Runs.{IsPrinting, IsPrintingFront};
-ghost use Rattle.mvsjob.specs.Faultless.{Writes};
+ghost use Rattle.mvs_model.specs.Numbers.{most_script_bytes};
+ghost use Rattle.mvs_model.specs.Runs.{IsAnswered, IsPrinting, IsPrintingFront};
+ghost use Rattle.mvsjob.specs.Faultless.{Writes, WritesPart};
 
 use crate::kept::Kept;
 use mvs_job::{RunFault, Told, run_job};
@@ -35,13 +36,21 @@ pub fn run_streamed<R: Read + Drop, W: Write>(
         (λ script written. IsPrinting script written outcome)) }
     // Else it is a front of such a printing; for want of memory the whole printing before the reply to a statement that takes some.
     ensures fault { IfErr result.ended
-        (λ fault. Writes (R.remaining reader.inner)
+        (λ fault. WritesPart (R.remaining reader.inner)
         (W.contents writer.old.inner) (W.contents writer.new.inner)
-        (λ script written. IsPrintingFront script written)) }
+        (λ consumed script written. (length consumed ≤ most_script_bytes + 1)
+        × IsPrintingFront script written
+        × (fault ≡ RunFault.ReadTooLong → most_script_bytes < length consumed))) }
     ensures memory { IfErr result.ended
         (λ fault. fault ≡ RunFault.Memory → Writes (R.remaining reader.inner)
         (W.contents writer.old.inner) (W.contents writer.new.inner)
         (λ script written. IsPrintingBefore script written)) }
+    // Before a read that failed, and before the byte that is too many, all lines that have ended are answered.
+    ensures answered { IfErr result.ended
+        (λ fault. (fault ≡ RunFault.Read) ⊎ (fault ≡ RunFault.ReadTooLong)
+        → WritesPart (R.remaining reader.inner)
+        (W.contents writer.old.inner) (W.contents writer.new.inner)
+        (λ consumed script written. IsAnswered (take most_script_bytes consumed) written)) }
 {
     let mut reader = Watched::new(reader);
     let ended = run_job(alloc, &mut reader, writer, placement, Told::nothing(alloc));
