@@ -67,8 +67,10 @@ def stand_ins(folder):
     fails = lambda found: found[0] == 1 and not last(found[1]).endswith(" 0 failed")  # noqa: E731
     yield "a refusal", of_stand_in(folder, REFUSED + WELL, 0) == (0, REFUSED + WELL)
     yield "a refusal of an earlier run", of_stand_in(folder, KEPT + REFUSED + WELL, 0) == (0, KEPT + REFUSED + WELL)
-    for name, said in {"a bad edit": BAD, "a misplaced edit": REFUSED + MISPLACED, "a limit": AT_LIMIT, "a name in a proof": BY_NAME}.items():
+    for name, said in {"a bad edit": BAD, "a misplaced edit": REFUSED + MISPLACED}.items():
         yield name, fails(of_stand_in(folder, said + WELL, 0))
+    for name, said in {"a limit": AT_LIMIT, "a name in a proof": BY_NAME}.items():
+        yield f"{name} is printed", "ci: must-fail toy/one.edit: it shows nothing of a contract" in of_stand_in(folder, said + WELL, 0)[1]
     yield "an edit without a refusal", fails(of_stand_in(folder, REFUSED + WELL, 0, ("one.edit", "two.edit")))
     yield "a refusal without an edit", fails(of_stand_in(folder, REFUSED + WELL, 0, ()))
     yield "a status that is not 0", fails(of_stand_in(folder, REFUSED + WELL, 2))
@@ -77,7 +79,7 @@ def stand_ins(folder):
     yield "a failure of rt", fails(of_stand_in(folder, REFUSED + "1 passed, 1 failed\n", 1))
 
 
-# ---- tools/ci and tools/wrong_bodies over two crates
+# ---- tools/ci over two crates
 
 
 def copied(folder):
@@ -103,7 +105,7 @@ def plants(folder):
     status, printed = called(folder / "tools/ci")
     for name in planted:
         yield f"planted {name}", status == 1 and f"ci: must-fail boundary_loc/{name}.edit: " in printed
-    yield "planted edits count", last(printed).endswith(" 3 failed")
+    yield "planted edits count", last(printed).endswith(" 2 failed")
     for name in planted:
         (folder / f"crates/boundary_loc/must-fail/{name}.edit").unlink()
 
