@@ -239,7 +239,7 @@ def groups(program, cases, examples):
 
     yield "each call failing", over(each_failing, scripts)
     modes = [scripts[name] for name in OF_MODES]
-    yield "each call failing, in each mode", lambda: each(partial(mode_failing, Failing(program), modes), MODES, str)()
+    yield "each call failing, in each mode", each(partial(mode_failing, failing, modes), MODES, str)
     yield "each read failing, byte by byte", over(reads_failing, cuts)
     yield "each write failing, line by line", each(partial(writes_failing, failing), fed)
     yield "in pieces", over(in_pieces, scripts)
