@@ -100,9 +100,10 @@ pub(crate) fn passed_on(
 ) -> Result<Ending, GiveUp> {
     match ended {
         Ok(Outcome::ScriptFault) => {
-            if writer.flush().is_ok() {
-                tell(rt, settings.file, faulty);
+            if writer.flush().is_err() {
+                return Err(GiveUp::Job(RunFault::Write));
             }
+            tell(rt, settings.file, faulty);
             Ok(Ending::Ran(Outcome::ScriptFault))
         }
         Ok(outcome) => Ok(Ending::Ran(outcome)),
@@ -154,9 +155,10 @@ fn serve_reader<R: Read + Drop>(
     let mut teller = Teller::new(rt, settings.file, &script);
     let served = serve_script(rt.alloc(), settings, &script, &output, writer, &mut teller)?;
     if let Some(faulty) = &served.faulty {
-        if writer.flush().is_ok() {
-            tell(rt, settings.file, faulty);
+        if writer.flush().is_err() {
+            return Err(GiveUp::Job(RunFault::Write));
         }
+        tell(rt, settings.file, faulty);
     }
     Ok(served.ending)
 }
