@@ -238,7 +238,7 @@ def groups(program, cases, examples):
         return each(partial(holds, failing), seeds(CASES), str, chunksize=50)
 
     yield "each call failing", over(each_failing, scripts)
-    modes = [scripts[name] for name in OF_MODES]
+    modes = [scripts[name] for name in OF_MODES if name in scripts]
     yield "each call failing, in each mode", each(partial(mode_failing, failing, modes), MODES, str)
     yield "each read failing, byte by byte", over(reads_failing, cuts)
     yield "each write failing, line by line", each(partial(writes_failing, failing), fed)
