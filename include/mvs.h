@@ -1,20 +1,24 @@
 /* mvs.h: the virtual storage services of an MVS program's own region, for C and C++.
  *
- * A session is a job that is told its statements one by one: mvs_line serves a statement and tells what it was answered as an
- * mvs_event; mvs_text prints the same as text. mvs_request serves a request that is given by values, without a text, and mvs_list
- * one for a list of areas. mvs_run runs a whole script in one call.
+ * A session executes the statements of a job one by one. mvs_line executes a statement that is given as text, and mvs_request a
+ * request that is given as a struct; each returns the reply as an mvs_event. mvs_text prints the reply of a line as mvsjob prints it.
+ * mvs_run executes a whole script in one call.
  *
- * Each function answers for every input that meets the rules below; none of them ends the program, and none keeps a pointer.
+ * Each function returns for every input that follows the rules below. None of them ends the program, and none keeps a pointer.
  *
  * The caller's part, which nothing checks:
- *  - A pointer is not null, not even for 0 bytes. What it points to is aligned and initialised, also what is only written, and
- *    is the call's own while the call runs: what one argument points to overlaps no other, but for bytes that are only read.
- *  - A length is at most that of the memory behind the pointer, and below 2^63.
- *  - An mvs_session begins as MVS_SESSION_INIT, and is then written by these functions alone. It may be moved; of its copies
- *    only one is used, for a copy that is used beside the other, or after mvs_free, is a use after free.
- *  - One call at a time has a session, and a session stays on the thread that began it. Sessions share nothing.
- *  - malloc, realloc and free come from one allocator, whose blocks are aligned as C says. No call comes from a signal
- *    handler, nor from the forked child of a program with threads.
+ *  - A pointer is not null, except where a function says so. What it points to is aligned and initialised, even if it is only
+ *    written. While the call runs, only the call uses it, and two arguments overlap only if both are only read.
+ *  - A length is at most that of the memory at the pointer, and below 2^63. A bool is 0 or 1.
+ *  - An mvs_session begins as MVS_SESSION_INIT, and only these functions write it. You may move it. Use only one of its copies:
+ *    to use another one, or one after mvs_free, is a use after free.
+ *  - One call at a time uses a session. The next call may come from another thread, if the end of the one happens before the
+ *    beginning of the other: a lock, a join or the like is between them. Sessions share nothing.
+ *  - malloc, realloc and free come from one allocator, whose blocks are aligned as C requires. No call comes from a signal handler,
+ *    nor from the forked child of a program with threads.
+ *
+ * The caller checks one thing: a struct that begins with `size` has the size that the caller was compiled with, as in MVS_EVENT_INIT.
+ * Another size is refused, so that a program and a library of two versions never read past the end of a struct.
  */
 #ifndef MVS_H
 #define MVS_H
@@ -22,140 +26,195 @@
 #include <stdbool.h>
 #include <stddef.h>
 #include <stdint.h>
+#include <string.h>
+
+/* The version of these calls. A program runs with a library if the thousands agree and the library's version is not less. */
+#define MVS_VERSION 2000
+
+/* What comes before each declaration of a function of the library. In libmvs.a these are hidden: a plugin that contains it does not
+ * export them. */
+#ifndef MVS_API
+#define MVS_API
+#endif
 
 #ifdef __cplusplus
 extern "C" {
 #endif
 
-/* What a call answers. */
-enum {
-    MVS_OK = 0,
-    MVS_SOME_ABEND = 8,    /* mvs_end, mvs_run: the job has ended, and some task had abended */
-    MVS_SCRIPT_FAULT = 12, /* mvs_line, mvs_end, mvs_run: the script has a fault, and the job is over */
-    MVS_NO_MEMORY = 16,    /* malloc refused. Of mvs_line: the job is over. Of the others: all is as it was */
-    MVS_NO_SESSION = 20,   /* there is no session; nothing is done */
-    MVS_OVER = 24,         /* the job is over; of mvs_line also: it has had 4,294,967,294 lines; nothing is done */
-    MVS_TOO_SMALL = 32,    /* the buffer has no room for all, and stays as it was; how many bytes it needs is told */
-    MVS_NO_ACCESS = 36,    /* no step runs, there is no byte, or one of them may not be read and written (0C4) */
-    MVS_NO_MORE = 40,      /* there is no more of what was asked for */
-    MVS_TOO_LONG = 44,     /* mvs_run: the script has more than 16,777,215 bytes */
-    MVS_NO_REQUEST = 52,   /* mvs_request, mvs_list: a name or a number is out of its range; nothing is done */
-    MVS_NO_STEP_RUNS = 56  /* mvs_request, mvs_list: no step runs; nothing is done */
-};
+/* What a call returns. */
+typedef enum mvs_status {
+    MVS_STATUS_OK = 0,
+    MVS_STATUS_SOME_ABEND = 8,    /* mvs_end, mvs_run: the job has ended, and some task abended */
+    MVS_STATUS_SCRIPT_FAULT = 12, /* the line or the script has a fault. Of mvs_line, mvs_end, mvs_run: the job has ended */
+    MVS_STATUS_NO_MEMORY = 16,    /* memory is exhausted. Of a line or a step: the job has ended. Of the others: nothing changes */
+    MVS_STATUS_NO_SESSION = 20,   /* there is no session; nothing changes */
+    MVS_STATUS_OVER = 24,         /* the job has ended; of a line also: there were 4,294,967,294 lines; nothing changes */
+    MVS_STATUS_TOO_SMALL = 32,    /* the buffer is too small and does not change; the size that is needed is returned */
+    MVS_STATUS_NO_ACCESS = 36,    /* no step runs, no byte is named, or one of them cannot be accessed (0C4) */
+    MVS_STATUS_NO_MORE = 40,      /* there is no further one */
+    MVS_STATUS_TOO_LONG = 44,     /* mvs_run: the script has more than 16,777,215 bytes */
+    MVS_STATUS_NO_TASK = 48,      /* mvs_subpool: no task of this name is active */
+    MVS_STATUS_NO_REQUEST = 52,   /* mvs_request, mvs_list: a field is out of range; event.code is its offset */
+    MVS_STATUS_NO_STEP = 56,      /* mvs_request, mvs_list: no step runs; nothing changes */
+    MVS_STATUS_NO_PLACE = 60,     /* mvs_new, mvs_run: the place is none of mvs_place; nothing changes */
+    MVS_STATUS_WRONG_SIZE = 64    /* the size field of a struct is not its size; nothing changes */
+} mvs_status;
 
-/* What an event tells. What is not named is 0, and the task blank. */
-enum {
-    MVS_NOTHING = 0,     /* a blank line or a comment */
-    MVS_STEP_BEGAN = 1,  /* REGION: a step has begun; task: its job step task; ended: how the one before ended */
-    MVS_NOT_RUN = 2,     /* the task is not active */
-    MVS_NO_NAME = 3,     /* a name in the statement is not set */
-    MVS_AT = 4,          /* WHERE: address */
-    MVS_RC_0 = 5,        /* return code 0 */
-    MVS_GRANTED = 6,     /* return code 0 of a variable request: length; of an obtain by values: address, length */
-    MVS_RC_4 = 7,        /* return code 4 */
-    MVS_CELL = 8,        /* CPOOL GET: a cell is taken; by values: address, length */
-    MVS_NO_CELL = 9,     /* CPOOL GET: there is none */
-    MVS_ATTACHED = 10,
-    MVS_ENDED = 11,
-    MVS_DONE = 12,       /* bytes were written; by values: or read */
-    MVS_DATA = 13,       /* SHOW in a line: address, length; mvs_read reads the bytes */
-    MVS_ABENDED = 14,    /* code: the completion code; mvs_fallen names the tasks that ended too */
-    MVS_SUBPOOLS = 15,   /* REPORT SP; mvs_subpool tells its lines */
-    MVS_MAP = 16,        /* REPORT MAP; mvs_map tells its lines */
-    MVS_FAULT = 17,      /* the line has a fault, JS01 to JS09; code: 1 to 9 */
-    MVS_STOPPED = 18,    /* memory was wanting for the line; ended: where that was a REGION statement */
-    MVS_JOB_ENDED = 19   /* mvs_end; ended: how the last step ended; none where there was no step */
-};
+/* What an event reports. The fields that are not named are 0, and the task is blank. */
+typedef enum mvs_event_kind {
+    MVS_EVENT_NOTHING = 1,     /* a blank line or a comment */
+    MVS_EVENT_STEP_BEGAN = 2,  /* REGION: a step has begun; task: its job step task; ended: how the step before it ended */
+    MVS_EVENT_NOT_RUN = 3,     /* the task is not active; nothing was done */
+    MVS_EVENT_NO_NAME = 4,     /* a name in the statement is not set; nothing was done */
+    MVS_EVENT_AT = 5,          /* WHERE: address */
+    MVS_EVENT_RC_0 = 6,        /* return code 0 */
+    MVS_EVENT_GRANTED = 7,     /* return code 0 of a variable request: length; of an obtain by mvs_request: address, length */
+    MVS_EVENT_RC_4 = 8,        /* return code 4 */
+    MVS_EVENT_CELL = 9,        /* CPOOL GET: a cell is allocated; by mvs_request: address, length */
+    MVS_EVENT_NO_CELL = 10,    /* CPOOL GET: no cell is free */
+    MVS_EVENT_ATTACHED = 11,
+    MVS_EVENT_ENDED = 12,      /* RETURN: the task has ended */
+    MVS_EVENT_DONE = 13,       /* bytes were written; by mvs_request: or can be read */
+    MVS_EVENT_DATA = 14,       /* SHOW in a line: address, length; mvs_read reads the bytes */
+    MVS_EVENT_ABENDED = 15,    /* code: the completion code; mvs_fallen returns the tasks that ended with this one */
+    MVS_EVENT_SUBPOOLS = 16,   /* REPORT SP; mvs_subpool returns its lines */
+    MVS_EVENT_MAP = 17,        /* REPORT MAP; mvs_map returns its lines */
+    MVS_EVENT_FAULT = 18,      /* the line has a fault, JS01 to JS09; code: 1 to 9 */
+    MVS_EVENT_STOPPED = 19,    /* memory is exhausted; of a REGION statement, ended: how the step before it ended */
+    MVS_EVENT_JOB_ENDED = 20,  /* mvs_end; ended: how the last step ended */
+    MVS_EVENT_REFUSED = 21     /* MVS_STATUS_NO_REQUEST; code: the offset in mvs_ask of a field that is out of range */
+} mvs_event_kind;
 
 /* How a step ended. */
-enum { MVS_NO_STEP = 0, MVS_WITHOUT_ABEND = 1, MVS_WITH_ABEND = 2 };
+typedef enum mvs_step_end {
+    MVS_STEP_NONE = 0,    /* there was no step */
+    MVS_STEP_CLEAN = 1,   /* no task of it abended */
+    MVS_STEP_ABENDED = 2
+} mvs_step_end;
 
-/* A completion code has 24 bits: a system code in the upper twelve, as X'80A000' for 80A, or else a user code. */
+/* A completion code has 24 bits: a system code in the upper twelve, as X'80A000' for 80A, or a user code in the lower twelve. */
 #define MVS_SYSTEM_CODE(code) ((uint32_t)(code) >> 12)
 #define MVS_USER_CODE(code) ((uint32_t)(code) & 0xFFFu)
 
 typedef struct mvs_event {
-    uint32_t kind;
+    uint32_t size;
+    uint32_t kind; /* mvs_event_kind */
     uint32_t code;
     uint32_t address;
     uint32_t length;
-    uint32_t ended;
+    uint32_t ended; /* mvs_step_end */
     uint8_t task[8]; /* padded with blanks */
 } mvs_event;
 
-/* What is asked for, and of an mvs_ask which fields it reads beside kind and task. */
-enum {
-    MVS_OBTAIN = 0,         /* form, subpool, length, least, boundary, within, location */
-    MVS_RELEASE = 1,        /* form, subpool, address, length */
-    MVS_RELEASE_WHOLE = 2,  /* form, subpool */
-    MVS_POOL_BUILD = 3,     /* name, subpool, length, primary, secondary, location */
-    MVS_POOL_GET = 4,       /* name, conditional */
-    MVS_POOL_FREE = 5,      /* name, address */
-    MVS_POOL_DELETE = 6,    /* name */
-    MVS_ATTACH = 7,         /* name, given_.., shared_.., keeps_zero, above */
-    MVS_RETURN = 8,
-    MVS_ABEND = 9,          /* code */
-    MVS_SHOW = 10,          /* address, length, up to 4,096: whether the bytes may be read */
-    MVS_MOVE = 11           /* address, source, length, up to 65,536 */
-};
+#define MVS_EVENT_INIT { sizeof(mvs_event), 0, 0, 0, 0, 0, {0} }
 
-/* The forms of GETMAIN and FREEMAIN, and STORAGE with COND=NO and COND=YES; LC and LU are those of mvs_list. */
-enum {
-    MVS_R = 0, MVS_RC = 1, MVS_RU = 2, MVS_VRC = 3, MVS_VRU = 4, MVS_EC = 5, MVS_EU = 6, MVS_VC = 7, MVS_VU = 8,
-    MVS_STORAGE = 9, MVS_STORAGE_CONDITIONAL = 10, MVS_LC = 11, MVS_LU = 12
-};
+/* The kinds of requests, and which fields of mvs_ask each one reads beside size, kind and task. */
+typedef enum mvs_ask_kind {
+    MVS_ASK_OBTAIN = 1,        /* form, subpool, length, least, boundary, within, location */
+    MVS_ASK_RELEASE = 2,       /* form, subpool, length, address */
+    MVS_ASK_RELEASE_WHOLE = 3, /* form, subpool */
+    MVS_ASK_POOL_BUILD = 4,    /* subpool, length, location, primary, secondary, name */
+    MVS_ASK_POOL_GET = 5,      /* conditional, name */
+    MVS_ASK_POOL_FREE = 6,     /* address, name */
+    MVS_ASK_POOL_DELETE = 7,   /* name */
+    MVS_ASK_ATTACH = 8,        /* keeps_zero, above, given_.., shared_.., name */
+    MVS_ASK_RETURN = 9,
+    MVS_ASK_ABEND = 10,        /* code */
+    MVS_ASK_SHOW = 11,         /* length, 1 to 4,096, address: whether the bytes can be accessed */
+    MVS_ASK_MOVE = 12          /* length, 1 to 65,536, address, source */
+} mvs_ask_kind;
 
-/* LOC=. */
-enum { MVS_LOC_RES = 0, MVS_LOC_BELOW = 1, MVS_LOC_ANY = 2 };
+/* The forms of GETMAIN and FREEMAIN, and STORAGE with COND=NO and COND=YES.
+ *
+ * Obtain: LC and LU with mvs_list only. VRC, VRU, VC and VU need a least length; STORAGE may have one; the others have none. R, EC,
+ * EU, VC and VU have no location and no boundary within, and their boundary is a doubleword or a page.
+ * Release: VRC and VRU release nothing. EC, EU, VC and VU do not release a whole subpool. */
+typedef enum mvs_form {
+    MVS_FORM_R = 1,
+    MVS_FORM_RC = 2,
+    MVS_FORM_RU = 3,
+    MVS_FORM_VRC = 4,
+    MVS_FORM_VRU = 5,
+    MVS_FORM_EC = 6,
+    MVS_FORM_EU = 7,
+    MVS_FORM_VC = 8,
+    MVS_FORM_VU = 9,
+    MVS_FORM_STORAGE = 10,
+    MVS_FORM_STORAGE_CONDITIONAL = 11,
+    MVS_FORM_LC = 12,
+    MVS_FORM_LU = 13
+} mvs_form;
 
-/* A request by values. What is 0 is as where a statement leaves the operand out. A name is padded with blanks or zero bytes, and
- * ends before the first of them. */
+/* LOC=. 0 is as in a statement without LOC. */
+typedef enum mvs_location { MVS_LOCATION_RES = 0, MVS_LOCATION_BELOW = 1, MVS_LOCATION_ANY = 2 } mvs_location;
+
+/* A request. A field that is 0 is as an operand that is omitted, and a field that the kind does not read is ignored. A name is padded
+ * with blanks or zero bytes, and ends before the first of them. It has the letters of a name in a script: A to Z, 0 to 9, @, # and $,
+ * and does not begin with a digit. */
 typedef struct mvs_ask {
-    uint32_t kind;
-    uint32_t form;
-    uint32_t subpool;
-    uint32_t length;    /* in bytes: of a variable obtain the greatest; of a pool those of a cell */
-    uint32_t least;     /* the least length of a variable obtain; 0: the same */
-    uint32_t boundary;  /* STARTBDY: a power of two, 3 to 31; 0: 3 */
-    uint32_t within;    /* CONTBDY: the same; 0: none */
-    uint32_t location;
-    uint32_t address;
-    uint32_t source;    /* where MVS_MOVE reads */
-    uint32_t primary;   /* how many cells the first part of a pool has */
-    uint32_t secondary; /* and each further part; 0: the same */
+    uint32_t size;
+    uint32_t kind;      /* mvs_ask_kind */
+    uint32_t form;      /* mvs_form */
+    uint32_t subpool;   /* 0 to 255 */
+    uint32_t length;    /* in bytes, 1 to 2,147,483,647; of a variable obtain the greatest; of a pool that of a cell, 4 to 65,536 */
+    uint32_t least;     /* the least length of a variable obtain, at most length */
+    uint32_t boundary;  /* the area begins on a multiple of 2 to this power, 3 to 31: STARTBDY, and BNDRY is 3 or 12; 0: 3 */
+    uint32_t within;    /* CONTBDY: the area crosses no multiple of 2 to this power, 3 to 31; 0: none */
+    uint32_t location;  /* mvs_location */
+    uint32_t address;   /* 31 bits, without the addressing mode */
+    uint32_t source;    /* where MVS_ASK_MOVE reads */
+    uint32_t primary;   /* the number of cells in the first part of a pool, 1 to 65,536 */
+    uint32_t secondary; /* and in each further part; 0: the same */
     uint32_t code;      /* a user completion code, 0 to 4095 */
-    bool conditional;   /* of MVS_POOL_GET */
-    bool keeps_zero;    /* SZERO=NO */
-    bool above;         /* RES=ABOVE of a subtask */
-    uint64_t given_low, given_high;   /* GSPV, GSPL: a bit for each number, 1 to 63 and 64 to 127 */
-    uint64_t shared_low, shared_high; /* SHSPV, SHSPL */
-    uint8_t task[8];
+    bool conditional;   /* MVS_ASK_POOL_GET: COND */
+    bool keeps_zero;    /* MVS_ASK_ATTACH: SZERO=NO */
+    bool above;         /* MVS_ASK_ATTACH: RES=ABOVE */
+    uint64_t given_low; /* GSPV, GSPL: a bit for each subpool number, 1 to 63 and 64 to 127 */
+    uint64_t given_high;
+    uint64_t shared_low; /* SHSPV, SHSPL */
+    uint64_t shared_high;
+    uint8_t task[8];    /* the task that makes the request */
     uint8_t name[8];    /* of a pool or a subtask */
 } mvs_ask;
 
-/* An area of a list: of a request its length, and where it lies if it is released; then what was granted. */
+/* An area of a list: its length, and its address if it is released; after a request that obtains, what was granted. */
 typedef struct mvs_area {
     uint32_t address;
     uint32_t length;
 } mvs_area;
 
-/* A subpool number that a task has: whether the task owns the subpool, and the bytes that this holds outside and inside of cell
- * pools. */
+/* A subpool number that a task has: whether the task owns the subpool, and the bytes in it, outside and inside of cell pools. */
 typedef struct mvs_subpool_line {
+    uint32_t size;
     uint32_t number;
     bool owned;
     uint32_t plain;
     uint32_t pool;
 } mvs_subpool_line;
 
-/* Pages that follow one another and are assigned alike: to no subpool, or to that which the owner has under the number. */
+#define MVS_SUBPOOL_LINE_INIT { sizeof(mvs_subpool_line), 0, false, 0, 0 }
+
+/* Adjacent pages that are assigned alike: to no subpool, or to the one that the owner has under this number. */
 typedef struct mvs_map_run {
+    uint32_t size;
     uint32_t address;
     uint32_t length;
     bool assigned;
     uint32_t number;
     uint8_t owner[8]; /* padded with blanks */
 } mvs_map_run;
+
+#define MVS_MAP_RUN_INIT { sizeof(mvs_map_run), 0, 0, false, 0, {0} }
+
+/* What REGION begins: the pages of a step, and its job step task. */
+typedef struct mvs_region {
+    uint32_t size;
+    uint32_t below;     /* pages below 16 megabytes, 1 to 2048 */
+    uint32_t above;     /* pages above, 0 to 8192 */
+    uint8_t fill;       /* the byte that new areas and cells are filled with */
+    bool resides_above; /* RES=ABOVE of the job step task */
+    uint8_t task[8];
+} mvs_region;
 
 /* A session, or none. */
 typedef struct mvs_session {
@@ -164,63 +223,183 @@ typedef struct mvs_session {
 
 #define MVS_SESSION_INIT { NULL }
 
-/* Which of the places that fit is taken: the lowest or the highest. Any other number is MVS_HIGH too. The machine allows each such
- * place, so no proof says that this one is taken: it is tested. */
-enum { MVS_LOW = 0, MVS_HIGH = 1 };
+/* Which of the places that fit is used: the lowest or the highest. The machine allows each place that fits, so no proof says which
+ * one is used: tests do. */
+typedef enum mvs_place { MVS_PLACE_LOW = 1, MVS_PLACE_HIGH = 2 } mvs_place;
 
-/* Begins a session, and frees the one that was there. MVS_OK, or MVS_NO_MEMORY. */
-uint32_t mvs_new(mvs_session *session, uint32_t place);
+/* Returns the version of the library, as MVS_VERSION is that of the header. */
+MVS_API uint32_t mvs_version(void);
 
-/* Tells the session its next line, which is given without its end: length bytes. *event is what it was answered.
- * MVS_OK, MVS_SCRIPT_FAULT or MVS_NO_MEMORY; or MVS_NO_SESSION or MVS_OVER, and then *event is as it was. */
-uint32_t mvs_line(mvs_session *session, const uint8_t *line, size_t length, mvs_event *event);
+/* Begins a session, and frees the one that was there. MVS_STATUS_OK; MVS_STATUS_NO_PLACE or MVS_STATUS_NO_MEMORY, and then the
+ * session stays. */
+MVS_API uint32_t mvs_new(mvs_session *session, uint32_t place);
 
-/* Serves a request of a task, as a line does that asks for the same; it has no number and sets no name, and mvs_text has nothing to
- * print of it. *event is what it was answered. MVS_OK; or MVS_NO_REQUEST, MVS_NO_STEP_RUNS, MVS_NO_SESSION or MVS_OVER, and then
- * *event is as it was. */
-uint32_t mvs_request(mvs_session *session, const mvs_ask *ask, mvs_event *event);
+/* Executes a line of length bytes, given without its newline. *event is the reply. MVS_STATUS_OK, MVS_STATUS_SCRIPT_FAULT or
+ * MVS_STATUS_NO_MEMORY; MVS_STATUS_WRONG_SIZE, MVS_STATUS_NO_SESSION or MVS_STATUS_OVER, and then *event does not change. */
+MVS_API uint32_t mvs_line(mvs_session *session, const char *line, size_t length, mvs_event *event);
 
-/* Serves a request for count areas, 1 to 16, as mvs_request does: MVS_OBTAIN reads form, subpool and boundary of the request and
- * the lengths of the areas, MVS_RELEASE form, subpool and the areas. Where all are granted, which is MVS_RC_0, the areas say where
- * they lie and how long they are; else they are as they were. */
-uint32_t mvs_list(mvs_session *session, const mvs_ask *ask, mvs_area *areas, size_t count, mvs_event *event);
+/* Does the same, except that a line with a fault changes nothing but *event: it has no line number, and the job continues. */
+MVS_API uint32_t mvs_try(mvs_session *session, const char *line, size_t length, mvs_event *event);
 
-/* Tells the session that there are no more lines. MVS_OK, MVS_SOME_ABEND, or MVS_SCRIPT_FAULT where no step was begun; or
- * MVS_NO_SESSION or MVS_OVER, and then *event is as it was. */
-uint32_t mvs_end(mvs_session *session, mvs_event *event);
+/* Begins a step, and ends the one before, as mvs_try does with the line of the REGION statement:
+ * TASK REGION BELOW=..,ABOVE=..,FILL=..,RES=.. MVS_STATUS_WRONG_SIZE is of *region too. */
+MVS_API uint32_t mvs_begin(mvs_session *session, const mvs_region *region, mvs_event *event);
 
-/* Prints what was told last to the front of a buffer of room bytes, as mvsjob prints it: lines that end with X'0A'. *wanted is the
- * length of the text. MVS_OK; MVS_TOO_SMALL; MVS_NO_SESSION or MVS_NO_MEMORY, and then *wanted is as it was. The session does
- * not change, so the text can be had again. */
-uint32_t mvs_text(mvs_session *session, uint8_t *out, size_t room, size_t *wanted);
+/* Executes a request of a task, as a line does that makes the same request. It has no line number, sets no name, and mvs_text prints
+ * nothing of it. *event is the reply. MVS_STATUS_OK; MVS_STATUS_NO_REQUEST, and then *event is MVS_EVENT_REFUSED and nothing else
+ * changes; MVS_STATUS_NO_STEP, MVS_STATUS_WRONG_SIZE (of *event), MVS_STATUS_NO_SESSION or MVS_STATUS_OVER, and then *event does
+ * not change. The code of MVS_EVENT_REFUSED is the offset of the first field that is out of range, of size, task, kind, and then those
+ * that the kind reads, in the order above. A size of *ask that is wrong is refused so too. */
+MVS_API uint32_t mvs_request(mvs_session *session, const mvs_ask *ask, mvs_event *event);
 
-/* Copies the length bytes from an address on, at least one. MVS_OK; MVS_NO_ACCESS or MVS_NO_SESSION, and then the buffer is
- * as it was. */
-uint32_t mvs_read(mvs_session *session, uint32_t address, uint8_t *out, size_t length);
+/* Executes a request for a list of count areas, 1 to 16, as mvs_request does. MVS_ASK_OBTAIN reads form, subpool, boundary (of a
+ * doubleword or a page) and the lengths of the areas; MVS_ASK_RELEASE reads form, subpool and the areas. If all are granted, which is
+ * MVS_EVENT_RC_0, each area has its address and its length; else the areas do not change. If their number or one of them is out of
+ * range, the code of MVS_EVENT_REFUSED is sizeof(mvs_ask). */
+MVS_API uint32_t mvs_list(mvs_session *session, const mvs_ask *ask, mvs_area *areas, size_t count, mvs_event *event);
 
-/* Writes length bytes, at least one, over those from an address on. MVS_OK; MVS_NO_ACCESS, MVS_NO_SESSION or MVS_OVER, and then all
- * is as it was. The text of what was told last is gone. */
-uint32_t mvs_write(mvs_session *session, uint32_t address, const uint8_t *bytes, size_t length);
+/* Ends the job: there are no more lines. MVS_STATUS_OK, MVS_STATUS_SOME_ABEND, or MVS_STATUS_SCRIPT_FAULT if there was no step;
+ * MVS_STATUS_WRONG_SIZE, MVS_STATUS_NO_SESSION or MVS_STATUS_OVER, and then *event does not change. The storage, subpools and pages of
+ * the last step can be read until mvs_free. */
+MVS_API uint32_t mvs_end(mvs_session *session, mvs_event *event);
 
-/* Tells the name, padded with blanks, of the task of this index, from 0 on, among those that ended with the one that abended,
- * where the last request that was made abended: of a line or by values; a line that makes no request changes nothing of this. MVS_OK; MVS_NO_MORE or MVS_NO_SESSION, and then the name is as it was. */
-uint32_t mvs_fallen(mvs_session *session, size_t index, uint8_t name[8]);
+/* Prints the reply to the last line to the front of a buffer of room bytes, as mvsjob prints it: lines that end with X'0A'. *wanted is
+ * the length of the text. MVS_STATUS_OK; MVS_STATUS_TOO_SMALL; MVS_STATUS_NO_SESSION or MVS_STATUS_NO_MEMORY, and then *wanted does not
+ * change. The session does not change, so you can repeat the call. The buffer of mvs_text may be null if room is 0; that of
+ * mvs_text_into, the function of the library that it calls, may not. */
+MVS_API uint32_t mvs_text_into(mvs_session *session, char *out, size_t room, size_t *wanted);
 
-/* Tells of the first subpool number at or after one that a task has. The task's name has length bytes, 1 to 8, and no blank. MVS_OK;
- * MVS_NO_MORE, also where there is no such task, or MVS_NO_SESSION, and then *line is as it was. */
-uint32_t mvs_subpool(mvs_session *session, const uint8_t *task, size_t length, uint8_t from, mvs_subpool_line *line);
+/* Copies length bytes, at least one, from an address on. MVS_STATUS_OK; MVS_STATUS_NO_ACCESS or MVS_STATUS_NO_SESSION, and then the
+ * buffer does not change. */
+MVS_API uint32_t mvs_read(mvs_session *session, uint32_t address, uint8_t *out, size_t length);
 
-/* Tells of the first run of pages that begins at or after an address. MVS_OK; MVS_NO_MORE or MVS_NO_SESSION, and then *run is as
- * it was. */
-uint32_t mvs_map(mvs_session *session, uint32_t from, mvs_map_run *run);
+/* Writes length bytes, at least one, from an address on. MVS_STATUS_OK; MVS_STATUS_NO_ACCESS, MVS_STATUS_NO_SESSION or MVS_STATUS_OVER,
+ * and then nothing changes. The text of the last line is lost. */
+MVS_API uint32_t mvs_write(mvs_session *session, uint32_t address, const uint8_t *bytes, size_t length);
 
-/* Frees a session, if there is one; then there is none. */
-void mvs_free(mvs_session *session);
+/* Returns the name, padded with blanks, of one of the tasks that ended with the one that abended, by its index from 0 on. These are
+ * those of the last request, of a line or by values; a line that makes no request changes nothing here. MVS_STATUS_OK;
+ * MVS_STATUS_NO_MORE or MVS_STATUS_NO_SESSION, and then the name does not change. */
+MVS_API uint32_t mvs_fallen(mvs_session *session, size_t index, uint8_t name[8]);
 
-/* Runs a whole script of length bytes, and prints to the front of a buffer of room bytes. *wanted is the length of what is
- * printed. MVS_OK, MVS_SOME_ABEND or MVS_SCRIPT_FAULT; MVS_TOO_SMALL; MVS_NO_MEMORY or MVS_TOO_LONG, and then the
- * buffer and *wanted are as they were. While it runs it keeps what is printed in memory of its own. */
-uint32_t mvs_run(uint32_t place, const uint8_t *script, size_t length, uint8_t *out, size_t room, size_t *wanted);
+/* Returns the first subpool number, from `from` on, that a task has. The name is as in mvs_ask. MVS_STATUS_OK; MVS_STATUS_NO_TASK,
+ * MVS_STATUS_NO_MORE, MVS_STATUS_WRONG_SIZE or MVS_STATUS_NO_SESSION, and then *line does not change. */
+MVS_API uint32_t mvs_subpool(mvs_session *session, const uint8_t task[8], uint8_t from, mvs_subpool_line *line);
+
+/* Returns the first run of pages that begins at or after an address. MVS_STATUS_OK; MVS_STATUS_NO_MORE, MVS_STATUS_WRONG_SIZE or
+ * MVS_STATUS_NO_SESSION, and then *run does not change. */
+MVS_API uint32_t mvs_map(mvs_session *session, uint32_t from, mvs_map_run *run);
+
+/* Frees a session, if there is one; then there is none. The pointer of mvs_free may be null; that of mvs_free_session, the function of
+ * the library that it calls, may not. */
+MVS_API void mvs_free_session(mvs_session *session);
+
+/* Runs a whole script of length bytes, and prints to the front of a buffer of room bytes. *wanted is the length of what is printed.
+ * MVS_STATUS_OK, MVS_STATUS_SOME_ABEND or MVS_STATUS_SCRIPT_FAULT; MVS_STATUS_TOO_SMALL; MVS_STATUS_NO_MEMORY, MVS_STATUS_TOO_LONG or
+ * MVS_STATUS_NO_PLACE, and then the buffer and *wanted do not change. The whole text is in memory while it runs. The buffer of
+ * mvs_run may be null if room is 0; that of mvs_run_into, the function of the library that it calls, may not. */
+MVS_API uint32_t mvs_run_into(uint32_t place, const char *script, size_t length, char *out, size_t room, size_t *wanted);
+
+static inline uint32_t mvs_text(mvs_session *session, char *out, size_t room, size_t *wanted) {
+    char none = 0;
+    return mvs_text_into(session, out ? out : &none, out ? room : 0, wanted);
+}
+
+static inline uint32_t mvs_run(uint32_t place, const char *script, size_t length, char *out, size_t room, size_t *wanted) {
+    char none = 0;
+    return mvs_run_into(place, script, length, out ? out : &none, out ? room : 0, wanted);
+}
+
+static inline void mvs_free(mvs_session *session) {
+    if (session) mvs_free_session(session);
+}
+
+/* Executes a line that ends with a zero byte, as mvs_try does. */
+static inline uint32_t mvs_execute(mvs_session *session, const char *line, mvs_event *event) {
+    return mvs_try(session, line, strlen(line), event);
+}
+
+/* Copies a name into a field of mvs_ask: at most 8 bytes, padded with blanks. */
+static inline void mvs_name(uint8_t field[8], const char *name) {
+    size_t i;
+    memset(field, ' ', 8);
+    for (i = 0; i < 8 && name[i]; i++) field[i] = (uint8_t)name[i];
+}
+
+/* Returns the name of a status, as "NO_ACCESS", or "?". */
+static inline const char *mvs_status_name(uint32_t status) {
+    switch (status) {
+    case MVS_STATUS_OK: return "OK";
+    case MVS_STATUS_SOME_ABEND: return "SOME_ABEND";
+    case MVS_STATUS_SCRIPT_FAULT: return "SCRIPT_FAULT";
+    case MVS_STATUS_NO_MEMORY: return "NO_MEMORY";
+    case MVS_STATUS_NO_SESSION: return "NO_SESSION";
+    case MVS_STATUS_OVER: return "OVER";
+    case MVS_STATUS_TOO_SMALL: return "TOO_SMALL";
+    case MVS_STATUS_NO_ACCESS: return "NO_ACCESS";
+    case MVS_STATUS_NO_MORE: return "NO_MORE";
+    case MVS_STATUS_TOO_LONG: return "TOO_LONG";
+    case MVS_STATUS_NO_TASK: return "NO_TASK";
+    case MVS_STATUS_NO_REQUEST: return "NO_REQUEST";
+    case MVS_STATUS_NO_STEP: return "NO_STEP";
+    case MVS_STATUS_NO_PLACE: return "NO_PLACE";
+    case MVS_STATUS_WRONG_SIZE: return "WRONG_SIZE";
+    default: return "?";
+    }
+}
+
+/* Returns the name of the kind of an event, as "GRANTED", or "?". */
+static inline const char *mvs_event_name(uint32_t kind) {
+    switch (kind) {
+    case MVS_EVENT_NOTHING: return "NOTHING";
+    case MVS_EVENT_STEP_BEGAN: return "STEP_BEGAN";
+    case MVS_EVENT_NOT_RUN: return "NOT_RUN";
+    case MVS_EVENT_NO_NAME: return "NO_NAME";
+    case MVS_EVENT_AT: return "AT";
+    case MVS_EVENT_RC_0: return "RC_0";
+    case MVS_EVENT_GRANTED: return "GRANTED";
+    case MVS_EVENT_RC_4: return "RC_4";
+    case MVS_EVENT_CELL: return "CELL";
+    case MVS_EVENT_NO_CELL: return "NO_CELL";
+    case MVS_EVENT_ATTACHED: return "ATTACHED";
+    case MVS_EVENT_ENDED: return "ENDED";
+    case MVS_EVENT_DONE: return "DONE";
+    case MVS_EVENT_DATA: return "DATA";
+    case MVS_EVENT_ABENDED: return "ABENDED";
+    case MVS_EVENT_SUBPOOLS: return "SUBPOOLS";
+    case MVS_EVENT_MAP: return "MAP";
+    case MVS_EVENT_FAULT: return "FAULT";
+    case MVS_EVENT_STOPPED: return "STOPPED";
+    case MVS_EVENT_JOB_ENDED: return "JOB_ENDED";
+    case MVS_EVENT_REFUSED: return "REFUSED";
+    default: return "?";
+    }
+}
+
+/* Returns the name of the field of mvs_ask at an offset, as the code of MVS_EVENT_REFUSED has it; "areas" for those of a list; or "?". */
+static inline const char *mvs_field_name(uint32_t offset) {
+    switch (offset) {
+    case offsetof(mvs_ask, size): return "size";
+    case offsetof(mvs_ask, kind): return "kind";
+    case offsetof(mvs_ask, form): return "form";
+    case offsetof(mvs_ask, subpool): return "subpool";
+    case offsetof(mvs_ask, length): return "length";
+    case offsetof(mvs_ask, least): return "least";
+    case offsetof(mvs_ask, boundary): return "boundary";
+    case offsetof(mvs_ask, within): return "within";
+    case offsetof(mvs_ask, location): return "location";
+    case offsetof(mvs_ask, address): return "address";
+    case offsetof(mvs_ask, source): return "source";
+    case offsetof(mvs_ask, primary): return "primary";
+    case offsetof(mvs_ask, secondary): return "secondary";
+    case offsetof(mvs_ask, code): return "code";
+    case offsetof(mvs_ask, given_low): return "given and shared subpools";
+    case offsetof(mvs_ask, task): return "task";
+    case offsetof(mvs_ask, name): return "name";
+    case sizeof(mvs_ask): return "areas";
+    default: return "?";
+    }
+}
 
 #ifdef __cplusplus
 }

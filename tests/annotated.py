@@ -1,8 +1,8 @@
-"""The scripts of tests/scripts: each statement with what it prints behind it.
+"""The scripts of tests/scripts: each statement is followed by what it prints.
 
-Behind ` => ` stand the texts that a statement prints, parted by ` / `. Each is printed behind the line's number and the
-statement's task, but for a fault and a task that ended with another, which have the number alone, and the end of a step,
-which stands alone. A first line `* --place high ..` is also the words of the command line. The last line is a comment, the
+` => ` is followed by the texts that a statement prints, separated by ` / `. Each is printed after the line's number and the
+statement's task. A fault and a task that ended with another have only the number, and the end of a step has neither.
+A first line `* --place high ..` has the options of the command line too. The last line is a comment, the
 last line that is printed, and no part of the script.
 """
 
@@ -38,8 +38,10 @@ class Annotated:
     def script(self):
         return "".join(f"{statement}\n" for statement in self.statements)
 
-    def printed(self):
-        return [line for k, said in enumerate(self.lines, 1) for line in printed(k, said)] + [self.end]
+    def printed(self, others=()):
+        """What is printed, where some lines, by their numbers, are answered otherwise than the script says."""
+        lines = [f"{self.statements[k - 1]} => {others[k]}" if k in others else said for k, said in enumerate(self.lines, 1)]
+        return [line for k, said in enumerate(lines, 1) for line in printed(k, said)] + [self.end]
 
 
 def all_scripts():

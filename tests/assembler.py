@@ -1,9 +1,11 @@
 """Assembler source to script, and script to assembler program.
 
-The sources of tests/assembler beside the scripts that were written for them by hand, and the same as listings; random sources, made
-of statements that are known; damaged ones; and the programs that `--assemble` prints, read by hlasm.py.
+The sources of tests/assembler beside the scripts that were written for them by hand, and the same as listings; the programs of
+tests/assembler/programs, each with the options and the leak that its first comment names; random sources, made of statements that are
+known; damaged ones; and the programs that `--assemble` prints, read by hlasm.py.
 """
 
+import json
 import random
 import re
 import subprocess
@@ -14,34 +16,42 @@ from pathlib import Path
 import hlasm
 import hlasm_run
 import random_scripts
-from cases import each, seeds, whole
+from cases import IS_LONG, each, seeds, whole
 
 TOP = Path(__file__).resolve().parent.parent
 CONVERTER = TOP / "crates/mvsjob_asm/out/mvsjob_asm"
 SOURCES = sorted((TOP / "tests/assembler").glob("*.asm"))
+PROGRAMS = sorted((TOP / "tests/assembler/programs").glob("*.asm")) + sorted((TOP / "tests/assembler/programs").glob("*.lst"))
+DAMAGED = 100_000 if IS_LONG else 2_000
 HEAD = "  Loc  Object Code    Addr1 Addr2  Stmt   Source Statement                              HLASM R6.0"
 
 
-def convert(source):
+def convert(source, *options, folder=None):
     """The script of a source, what is summed up of it, and the exit status."""
-    ran = subprocess.run([CONVERTER], input=source, capture_output=True, timeout=600)
+    ran = subprocess.run([CONVERTER, *options], input=source, cwd=folder, capture_output=True, timeout=600)
     return ran.stdout.decode(), ran.stderr.decode(), ran.returncode
 
 
+def lines_of(script):
+    """The lines of a script without the comment on its region; of statements without their remarks."""
+    return [line if line.startswith("*?") else line.split("    ")[0] for line in script.splitlines() if not line.startswith("* ")]
+
+
 def without_remarks(script):
-    """The lines of a script: statements without their remarks, comments without the number of the source's line."""
-    return [re.sub(r"^\*\? \d+", "*?", line) if line.startswith("*?") else line.split("    ")[0] for line in script.splitlines()]
+    """The lines of a script: statements without their remarks, comments without the numbers of the source's lines."""
+    return [re.sub(r"^\*\? \d+|(?<=line )\d+", "N", line) if line.startswith("*?") else line for line in lines_of(script)]
 
 
 def summed(script, err, status):
     """Whether what is summed up of a script is what it has."""
-    opened = sum(line.startswith("*?") for line in script.splitlines())
-    said = len(script.splitlines()) - opened - 1
-    return err == f"mvsjob-asm: -: {said} said, {opened} open\n" and status == (0 if said else 1)
+    lines = lines_of(script)
+    opened = sum(line.startswith("*?") for line in lines)
+    said = len(lines) - opened - 1
+    return err == f"mvsjob-asm: -: {said} statements written, {opened} lines need attention\n" and status == (0 if said else 1)
 
 
 def as_listing(source):
-    """The listing of a source: a page after some lines, a macro expansion behind each macro, no number before continued lines."""
+    """The listing of a source: a page after some lines, a macro expansion after each macro, no number before continued lines."""
     lines, number, continued = ["                       External Symbol Dictionary                     Page    1"], 0, False
     for place, line in enumerate(source.splitlines()):
         if place % 17 == 0:
@@ -59,8 +69,7 @@ def as_listing(source):
 def is_said(program, path):
     """Whether the script of a source is the one beside it, and a script that runs."""
     script, err, status = convert(path.read_bytes())
-    expected = path.with_suffix(".job").read_text()
-    same = [line if line.startswith("*?") else line.split("    ")[0] for line in script.splitlines()] == expected.splitlines()
+    same = lines_of(script) == path.with_suffix(".job").read_text().splitlines()
     return same and summed(script, err, status) and is_script(program, script)
 
 
@@ -69,6 +78,83 @@ def is_said_of_listing(path):
     # A name that was made of the number of a line is made of that of a statement.
     unnumbered = lambda lines: [re.sub(r"(AREA|CELL|POOL)\d+", r"\1", line) for line in lines]  # noqa: E731
     return unnumbered(without_remarks(script)) == unnumbered(without_remarks(path.with_suffix(".job").read_text()))
+
+
+def head(path, word):
+    """What the first comment of a program says after a word."""
+    found = re.search(rf"\b{word} +(\S.*?) *\*?$", path.read_text(), re.M)
+    return found[1].split()
+
+
+class Leaks:
+    """The areas, cells and pools that a script obtains and does not release, by their names, with their lengths; of a pool 0."""
+
+    def __init__(self):
+        self.held = {}
+
+    def release(self, names):
+        for name in names:
+            self.held.pop(name, None)
+
+    def names(self, keys, *words):
+        return [name for word in words for name in keys.get(word, "").strip("()").split(",") if name]
+
+    def take(self, statement):
+        """Takes the statement of a task. Subpools but 0 are those of the whole step here, since each script gives or shares them."""
+        words = statement.split(" ", 2)
+        task, operation, operands = words[0], words[1], words[2] if len(words) > 2 else ""
+        parts = re.split(r",(?![^(]*\))", operands)
+        keys = dict(part.split("=", 1) for part in parts if "=" in part)
+        form, subpool = parts[0], (task if keys.get("SP", "0") == "0" else "", keys.get("SP", "0"))
+        if operation == "GETMAIN" or (operation, form) == ("STORAGE", "OBTAIN"):
+            lengths = self.names(keys, "LV", "LENGTH", "LA")
+            for name, length in zip(self.names(keys, "A", "ADDR"), lengths):
+                self.held[name] = subpool, (int(length) + 7) // 8 * 8
+        elif operation == "FREEMAIN" or operation == "STORAGE":
+            named = self.names(keys, "A", "ADDR")
+            self.release(named or [name for name, (where, _) in self.held.items() if where == subpool])
+        elif (operation, form) == ("CPOOL", "BUILD"):
+            self.held[keys["CPID"]] = ("pool", keys["CPID"]), 0
+        elif (operation, form) == ("CPOOL", "GET"):
+            self.held[keys["CELL"]] = ("cell", keys["CPID"]), 0
+        elif (operation, form) == ("CPOOL", "FREE"):
+            self.release([keys["CELL"]])
+        elif (operation, form) == ("CPOOL", "DELETE"):
+            self.release([name for name, (where, _) in self.held.items() if where[1] == keys["CPID"] and where[0] in ("pool", "cell")])
+
+
+def leaks(statements):
+    found = Leaks()
+    for statement in statements[1:]:
+        found.take(statement)
+    return {name: length for name, (_, length) in found.held.items()}
+
+
+def reported(program, statements):
+    """The bytes of areas that the tasks of a script own where they return, as REPORT says, and whether the script runs well."""
+    lines = [line for statement in statements for line in ([statement.split()[0] + " REPORT SP"] if statement.endswith(" RETURN") else []) + [statement]]
+    ran = subprocess.run([program], input="\n".join(lines) + "\n", capture_output=True, text=True, timeout=600)
+    held = re.findall(r"(?m)^\d+ \S+ SP \d+ OWNED PLAIN (\d+)", ran.stdout)
+    bad = re.search(r"ABEND|NO NAME|NOT RUN|FAULT|RC 4", ran.stdout)
+    return sum(map(int, held)), bad is None and ran.returncode == 0
+
+
+def is_marked(line, source):
+    """Whether a line that needs attention shows a source."""
+    return re.fullmatch(r"\*\? (\w+:)?\d+: .*", line) is not None and line.endswith(f": {source}")
+
+
+def is_program_said(program, path):
+    """Whether the script of a program is the one beside it, runs, and leaks what the program says."""
+    script, _, status = convert(path.read_bytes(), *head(path, "OPTIONS"), folder=path.parent)
+    lines, expected = lines_of(script), path.with_suffix(".job").read_text().splitlines()
+    same = len(lines) == len(expected) and all(
+        is_marked(line, wanted.removeprefix("*? ")) if wanted.startswith("*?") else line == wanted for line, wanted in zip(lines, expected)
+    )
+    statements = [line for line in lines if not line.startswith("*?")]
+    lost = leaks(statements)
+    held, well = reported(program, statements)
+    return same and status == 0 and well and sorted(lost) == sorted(head(path, "LEAK")) and held == sum(lost.values())
 
 
 def is_script(program, script):
@@ -113,7 +199,7 @@ class Source:
         return str(value)
 
     def write(self, operation, operands):
-        """A macro, some of whose operands go on in further lines with remarks."""
+        """A macro, some of whose operands continue in further lines with remarks."""
         label, self.free = self.label("LB") if self.dice.randrange(4) == 0 else "", list(range(2, 13))
         line = f"{label:8} {operation:5} "
         for place, operand in enumerate(operands):
@@ -201,14 +287,14 @@ class Source:
 def is_random_said(program, seed):
     source = Source(seed).grow(12)
     script, err, status = convert(source.text().encode())
-    expected = ["PROG REGION BELOW=2048,ABOVE=8192"] + [f"PROG {said}" for said in source.said]
+    expected = ["PROG REGION BELOW=2048,ABOVE=8192"] + [f"PROG {said}" for said in source.said] + ["PROG RETURN"]
     return without_remarks(script) == expected and summed(script, err, status) and is_script(program, script)
 
 
 def damaged(seed):
     """A source or a listing with bytes changed, lines left out, and others doubled."""
     dice = random.Random(seed)
-    text = dice.choice(SOURCES).read_text() if seed % 2 else Source(seed).grow(8).text()
+    text = dice.choice(SOURCES + PROGRAMS).read_text() if seed % 2 else Source(seed).grow(8).text()
     data = bytearray((as_listing(text) if seed % 3 == 0 else text).encode())
     for _ in range(dice.randrange(1, 40)):
         at = dice.randrange(len(data))
@@ -226,9 +312,179 @@ def damaged(seed):
     return bytes(data)
 
 
+def random_options(dice, source):
+    """Some options, with labels of the source."""
+    labels = re.findall(rb"(?m)^([A-Z][A-Z0-9]{0,7}) ", source) or [b"NONE"]
+    pick = lambda: dice.choice(labels).decode()  # noqa: E731
+    options = []
+    if dice.randrange(2):
+        options += ["--path", ",".join(pick() for _ in range(dice.randrange(1, 6)))]
+    if dice.randrange(3) == 0:
+        loops = re.findall(rb" (?:BCT|B|J|JCT) +(?:\d+,)?([A-Z][A-Z0-9]{0,7})", source)
+        options += [word for loop in loops[:2] for word in ("--repeat", f"{loop.decode()}={dice.randrange(1, 20)}")]
+    if dice.randrange(2):
+        options += ["--schedule", dice.choice(("attach", "end"))]
+    return options
+
+
 def is_damaged_read(program, seed):
-    script, err, status = convert(damaged(seed))
+    source = damaged(seed)
+    dice = random.Random(-seed)
+    options = random_options(dice, source) if dice.randrange(2) else []
+    script, err, status = convert(source, *options)
+    if status == 2 and options:
+        return re.fullmatch(r"mvsjob-asm: -: --(path|repeat): no .*\n", err) is not None and script == ""
     return summed(script, err, status) and is_script(program, script)
+
+
+REFUSED = [
+    (["--region", "4"], "invalid value '4' for '--region'"),
+    (["--region", "64M"], "a script has at most 8M,32M"),
+    (["--region", "0K,4M"], "invalid value '0K,4M' for '--region'"),
+    (["--region", "4M,64M"], "invalid value '4M,64M' for '--region'"),
+    (["--repeat", "LOOP"], "expected LABEL=N"),
+    (["--repeat", "LOOP=0"], "expected LABEL=N"),
+    (["--repeat", "NOWHERE=2"], "--repeat: no loop with requests begins at NOWHERE"),
+    (["--path", "LOOP,NOWHERE"], "--path: no statement has the label or number NOWHERE"),
+    (["--schedule", "later"], "invalid value 'later' for '--schedule"),
+]
+REGIONS = [
+    ("4M", 1024, 8192),
+    ("640K,4M", 160, 1024),
+    ("5K", 2, 8192),
+    ("0M", 2048, 8192),
+    ("20M", 2048, 8192),
+    ("1m,0k", 256, 0),
+]
+
+
+def of_options():
+    """The options on a source with a loop: what they refuse, and what they write."""
+    source = (TOP / "tests/assembler/pools.asm").read_bytes()
+    plain, _, _ = convert(source)
+    for options, expected in REFUSED:
+        script, err, status = convert(source, *options)
+        yield " ".join(options), script == "" and expected in err and status == 2
+    for size, below, above in REGIONS:
+        script, _, _ = convert(source, "--region", size)
+        comment, statement = script.splitlines()[:2]
+        said = comment == f"* REGION={size}: {below} pages below 16 megabytes, {above} above."
+        yield size, said and statement == f"POOLS REGION BELOW={below},ABOVE={above},RES=ABOVE" and script.splitlines()[2:] == plain.splitlines()[2:]
+    yield "no --region", plain.startswith("* No --region: the largest is assumed, 2048 pages below 16 megabytes and 8192 above, ")
+    many = lines_of(convert(source, "--repeat", "LOOP=50")[0])
+    cells = [line.split("CELL=")[1] for line in many if "CPID=SMALL,CELL=" in line and "GET" in line]
+    yield "50 names", len(set(cells)) == 50 and not any("LOOP" in line for line in many)
+    objects = [json.loads(line) for line in convert(source, "--json")[0].splitlines()]
+    statements = [f"{one['task']} {one['statement']}" for one in objects[:-1] if "statement" in one]
+    yield "--json", statements == [line for line in lines_of(plain) if not line.startswith("*?")]
+    yield "--json, what is open", [one["attention"] for one in objects[:-1] if "attention" in one] == [
+        re.fullmatch(r"\*\? \d+: (.*): " + re.escape(one["source"]), line)[1]
+        for line, one in zip((line for line in lines_of(plain) if line.startswith("*?")), (one for one in objects[:-1] if "attention" in one))
+    ]
+    yield "--json, the sum", objects[-1] == {"statements": len(statements) - 1, "attention": len(objects) - 1 - len(statements)}
+
+
+SHOWN = """PROG     CSECT
+         BAL   14,SUB
+         LTR   15,15
+         BNZ   BAD
+         BAL   14,SUB
+         BR    14
+BAD      GETMAIN R,LV=16
+         ABEND 12
+SUB      LR    9,14
+         GETMAIN R,LV=8
+         BR    9
+"""
+
+
+def of_paths():
+    """A routine that is called twice, on each of two paths and without one."""
+    begin = "PROG REGION BELOW=2048,ABOVE=8192"
+    source = SHOWN.encode()
+    yield "the short path", lines_of(convert(source, "--path", "BAD")[0]) == [begin, "PROG GETMAIN R,LV=8,A=AREA10", "PROG GETMAIN R,LV=16,A=AREA7", "PROG ABEND 12"]
+    twice = [begin, "PROG GETMAIN R,LV=8,A=AREA10", "PROG GETMAIN R,LV=8,A=AREA102"]
+    yield "the long path", lines_of(convert(source, "--path", "SUB")[0]) == [*twice, "PROG RETURN"]
+    script = lines_of(convert(source)[0])
+    yield "no path", script == [
+        *twice[:2],
+        "*? 4: a branch, on to line 5 or to BAD in line 7: BNZ BAD",
+        twice[2],
+        "*? 6: a path of the task ends here: BR 14",
+        "PROG GETMAIN R,LV=16,A=AREA7",
+        "PROG ABEND 12",
+    ]
+
+
+def of_help():
+    """The help beside its copy, and each option in the other places that name it."""
+    shown = subprocess.run([CONVERTER, "--help"], capture_output=True, text=True, timeout=600).stdout
+    kept = (TOP / "tools/help-asm.txt").read_text()
+    yield "tools/help-asm.txt", shown.replace(f"Usage: {CONVERTER.name} ", "Usage: mvsjob-asm ") == kept
+    with tempfile.TemporaryDirectory() as folder:
+        subprocess.run([TOP / "tools/manual", folder, "mvsjob-asm.1"], check=True)
+        page = (Path(folder) / "mvsjob-asm.1").read_text().replace("\\-", "-")
+    places = {
+        "mvsjob-asm.1": page,
+        "bash": completion("bash"),
+        "zsh": completion("zsh"),
+        "fish": re.sub(r" -l ([a-z]+)", r" --\1", completion("fish")),
+        "CHANGELOG.md": (TOP / "CHANGELOG.md").read_text() + "--help --version",
+        "FROM-ASSEMBLER.md": (TOP / "docs/FROM-ASSEMBLER.md").read_text() + "--help --version",
+    }
+    for option in sorted(set(re.findall(r"--[a-z]+", kept.split("\n\n")[3]))):
+        for place, text in places.items():
+            yield f"{option} in {place}", option in text
+
+
+def completion(shell):
+    return subprocess.check_output([TOP / "tools/completion", shell, "mvsjob-asm"], text=True)
+
+
+def completed(*words):
+    """What bash completes of some words after the name of the converter."""
+    lines = ['eval "$1"', "shift", 'COMP_WORDS=(mvsjob-asm "$@") COMP_CWORD=$#', "_mvsjob_asm 2> /dev/null", 'printf "%s\\n" "${COMPREPLY[@]}"']
+    command = ["bash", "--norc", "--noprofile", "-c", "\n".join(lines), "bash", completion("bash"), *words]
+    return sorted(subprocess.run(command, cwd=TOP / "examples", capture_output=True, text=True, timeout=600).stdout.split())
+
+
+def of_completion():
+    yield "an option", completed("--sch") == ["--schedule"]
+    yield "its values", completed("--schedule", "") == ["attach", "end"]
+    yield "its value after =", completed("--schedule", "=", "e") == ["end"]
+    yield "a source", completed("orders") == ["orders.asm"]
+    yield "a folder", completed("-I", "r") == ["rust"]
+
+
+def run_script(program, script):
+    return subprocess.run([program], input=script, capture_output=True, text=True, timeout=600).stdout
+
+
+def of_document(program):
+    """The walk of docs/FROM-ASSEMBLER.md: its commands on its source write what it shows, and find the leak and the fix."""
+    blocks = re.findall(r"(?ms)^```(?:sh)?\n(.*?)^```$", (TOP / "docs/FROM-ASSEMBLER.md").read_text())
+    source, _, summary, script, command, path, replaced, report, fix = blocks[:9]
+    options = command.split()[1:-1]
+    yield "the source", source == (TOP / "examples/orders.asm").read_text()
+    with tempfile.TemporaryDirectory() as folder:
+        file = Path(folder) / "orders.asm"
+        file.write_text(source)
+        ran = subprocess.run([CONVERTER, file.name], cwd=folder, capture_output=True, text=True, timeout=600)
+        yield "the script", ran.stdout == script and ran.stderr == summary
+        converted = lambda: subprocess.run([CONVERTER, *options, file.name], cwd=folder, capture_output=True, text=True, timeout=600).stdout  # noqa: E731
+        yield "one path", converted() == path
+        lines, begun = path.splitlines(), iter(replaced.splitlines())
+        lines = [next(begun) if line.startswith("*?") else line for line in lines]
+        lines.insert(-1, "ORDERS REPORT SP")
+        yield "the leak", report in run_script(program, "\n".join(lines) + "\n")
+        numbered = source.splitlines()
+        numbered[17] = fix.rstrip("\n")
+        file.write_text("\n".join(numbered) + "\n")
+        lines, begun = converted().splitlines(), iter(replaced.splitlines())
+        lines = [next(begun) if line.startswith("*?") else line for line in lines]
+        lines.insert(-1, "ORDERS REPORT SP")
+        printed = run_script(program, "\n".join(lines) + "\n")
+        yield "the fix", "ORDERS ENDED" in printed and not re.search(r"PLAIN [1-9]|ABEND", printed)
 
 
 def is_assembled(program, path):
@@ -301,11 +557,11 @@ def judged(program):
 
 
 def many_names():
-    """Whether each of 20,000 areas has a name of its own."""
-    source = "PROG CSECT\n" + "".join(f" GETMAIN RU,LV=8,A=({number})\n" for number in range(20_000))
+    """Whether each of 100,000 areas has a name of its own."""
+    source = "PROG CSECT\n" + "".join(f" GETMAIN RU,LV=8,A=({number})\n" for number in range(100_000))
     script, err, status = convert(source.encode())
     names = re.findall(r"(?m)^PROG GETMAIN RU,LV=8,A=(\S+)", script)
-    yield "each is said", len(names) == 20_000 and summed(script, err, status)
+    yield "each is written", len(names) == 100_000 and summed(script, err, status)
     yield "no name twice", len(set(names)) == len(names) and all(re.fullmatch("[A-Z@#$][A-Z0-9@#$]{0,7}", name) for name in names)
 
 
@@ -314,8 +570,14 @@ def groups(program):
     yield "assembler sources", each(partial(is_said, program), SOURCES)
     yield "assembler listings", each(is_said_of_listing, SOURCES)
     yield "many assembler names", whole(many_names)
+    yield "assembler programs", each(partial(is_program_said, program), PROGRAMS)
+    yield "assembler options", whole(of_options)
+    yield "assembler paths", whole(of_paths)
+    yield "assembler help", whole(of_help)
+    yield "assembler completion", whole(of_completion)
+    yield "assembler walk", whole(of_document, program)
     yield "random assembler sources", each(partial(is_random_said, program), seeds(300), str, chunksize=10)
-    yield "damaged assembler sources", each(partial(is_damaged_read, program), seeds(600), str, chunksize=10)
+    yield "damaged assembler sources", each(partial(is_damaged_read, program), range(DAMAGED), str, chunksize=20)
     yield "assembled", each(partial(is_assembled, program), scripts)
     yield "assembled random scripts", each(partial(is_random_assembled, program), range(80), str, chunksize=10)
     yield "assembled and run", each(partial(is_example_written, program), sorted((TOP / "examples").glob("*.job")))

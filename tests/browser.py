@@ -1,4 +1,4 @@
-"""A browser without a window, told what to do over a pipe: Chromium (Debian's package `chromium`) and its DevTools protocol."""
+"""A browser without a window, controlled over a pipe: Chromium (Debian's package `chromium`) and its DevTools protocol."""
 
 import itertools
 import json
@@ -52,7 +52,7 @@ class Browser:
         self.folder.cleanup()
 
     def message(self):
-        """The next message; what it tells of errors and of loading is kept."""
+        """The next message; what it reports of errors and of loading is kept."""
         while b"\0" not in self.kept:
             if not select.select([self.back], [], [], PATIENCE)[0]:
                 raise TimeoutError("the browser says nothing")

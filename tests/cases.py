@@ -1,4 +1,4 @@
-"""What a group of cases is, how large one of random scripts is, and what stands for a case that was not tried."""
+"""What a group of cases is, how large one of random scripts is, and how a case that was not tried is marked."""
 
 import sys
 import time
@@ -14,7 +14,7 @@ def seeds(count):
 
 
 class Lacking(str):
-    """Stands for whether a case passed, where the machine lacks the tool of this name, so that it was not tried."""
+    """The result of a case that was not tried, since the machine lacks the tool of this name."""
 
 
 @dataclass

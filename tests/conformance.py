@@ -1,9 +1,9 @@
 """The judge, on what the plain machine prints with places and cells of its own.
 
-What it prints for a script of conformance/scripts or a random one, with a WHERE behind each request for areas or a cell, is accepted with each of
+What it prints for a script of conformance/scripts or a random one, with a WHERE after each request for areas or a cell, is accepted with each of
 its placements, and never refused; so is what it prints for a random script of cell pools, where it takes the cells of each part upwards
-or its parts lie where the judge would put them; what a wrong variant prints is refused, on some script; and where a byte
-is another one that tells no address, it is refused, or left open where it may be: at a list, or behind a line that no answer tells all of.
+or its parts are where the judge would put them; what a wrong variant prints is refused, on some script; and where a byte
+is changed outside of an address, it is refused, or not decided where that is possible: at a list, or after a line whose places no answer shows.
 A random script has the same bytes for ever.
 """
 
@@ -52,18 +52,18 @@ def judged(program, script, printed):
 
 
 def is_told(script, placement):
-    """Whether answers tell all places that matter: those of no part of a pool, and of no list that is refused by chance."""
+    """Whether answers show all places that matter: there is no part of a pool without one, and no list that is refused by chance."""
     return placement == "low" or " CPOOL " not in script and (placement != "random" or " GETMAIN L" not in script)
 
 
 def is_judged(program, script, placement, seed):
-    """Whether the plain machine's printing is accepted, where its answers tell all places."""
+    """Whether the plain machine's printing is accepted, where its answers show all places."""
     verdict = judged(program, script, plain_emulator.run(script, placement, None, seed))
     return verdict == ACCEPTED or verdict == UNDECIDED and not is_told(script, placement)
 
 
 def of_corpus(program, case):
-    """Whether the plain machine's printing of a script is accepted, and the one that stands beside it is the program's."""
+    """Whether the plain machine's printing of a script is accepted, and the stored one is the program's."""
     path, placement = case
     script, expected = path.read_text(), path.with_suffix(".out")
     if expected.exists():
@@ -87,7 +87,7 @@ def of_seed(program, seed):
 def of_cells(program, seed):
     """Whether the plain machine's printings of a random script of pools are accepted, with its placements and orders of cells.
 
-    All are accepted of which answers tell where each part begins, or whose parts lie where the judge puts them; none is refused.
+    A printing is accepted if its answers show where each part begins, or if its parts are where the judge puts them. None is refused.
     """
     script = asked(program, pool_scripts.pool_script(seed))
     for placement in PLACEMENTS:
@@ -132,7 +132,7 @@ def may_find(script, printed, other):
 
 
 def of_change(program, seed):
-    """Whether a printing is refused of which a byte, the last line or its last newline is another one, or is left open where it may."""
+    """Whether a printing is refused if a byte, the last line or its last newline is changed, or is not decided where that is possible."""
     dice = random.Random(seed)
     script = random_script(program, seed)
     printed = plain_emulator.run(script, "page")

@@ -36,7 +36,7 @@ def called(program, script, *words):
 
 
 def as_known(program, path):
-    """Whether a script prints with reasons what stands beside it, and without them what it prints without the word."""
+    """Whether a script prints the stored text with reasons, and without them what it prints without the option."""
     script = path.read_bytes()
     plain, explained = called(program, script), called(program, script, "--explain")
     return explained[0] == path.with_suffix(".why").read_bytes() and (unstarred(explained[0]), *explained[1:]) == plain
@@ -52,7 +52,7 @@ def same_bytes(program, seed):
 
 
 def as_plain(program, seed):
-    """Whether the facts behind what is granted in a random script, and the names in what is refused, are those of the plain machine."""
+    """Whether the facts after what is granted in a random script, and the names in what is refused, are those of the plain machine."""
     placement = "high" if seed % 2 else "low"
     profile = PROFILES[seed % 4]
     script = called(program, b"", "--random", str(seed), "--lines", "60", "--profile", profile)[0]
@@ -62,7 +62,7 @@ def as_plain(program, seed):
 
 
 def as_wanting(program, seed):
-    """Whether the reasons for want of a place in a random script are those of the plain machine."""
+    """Whether the reasons for shortages of storage in a random script are those of the plain machine."""
     placement = "high" if seed % 2 else "low"
     kind = ("storage", "pools", "anything")[seed % 3]
     script = getattr(random_scripts, kind)(seed, False).text()
@@ -76,7 +76,7 @@ def starred():
 
 
 def rows():
-    """The texts of docs/EXPLAIN.md, as patterns: a word between underscores stands for what is filled in."""
+    """The texts of docs/EXPLAIN.md, as patterns: a word between underscores is a place to fill in."""
     texts = re.findall(r"^\|[^|]*\| `(\* [^`]*)` \|$", (TOP / "docs/EXPLAIN.md").read_text(), re.M)
     return {text: re.compile(re.sub(r"_[a-z]+_", ".+", re.escape(text).replace(r"\_", "_"))) for text in texts}
 

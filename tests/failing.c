@@ -1,4 +1,4 @@
-/* Stands before the C library's malloc, realloc, read and write, and lets one of them fail, or move few bytes.
+/* Replaces the C library's malloc, realloc, read and write, and lets one of them fail, or move few bytes.
  *
  * FAIL=alloc:N, read:N or write:N: the Nth call of this kind fails. FAIL=none:N: the Nth write takes no byte.
  * PIECES=K: a read or write of several bytes moves 1 to K bytes, by turns.
@@ -68,7 +68,7 @@ ssize_t read(int fd, void *to, size_t len) {
     return next_read(fd, to, piece(len));
 }
 
-/* Standard error is left alone: the program says there why it gave up. */
+/* Standard error is not touched: the program prints there why it stopped. */
 ssize_t write(int fd, const void *from, size_t len) {
     if (fd != 2) {
         if (fails(WRITE)) return errno = EIO, -1;

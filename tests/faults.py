@@ -4,7 +4,7 @@ import subprocess
 
 REGION = "JOB REGION BELOW=1\n"
 
-# Behind a REGION statement.
+# After a REGION statement.
 SECOND = {
     "JS01": [256 * " ", 256 * "*", 256 * "\0", 1000 * "J"],
     "JS02": [

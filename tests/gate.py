@@ -1,15 +1,18 @@
 #!/usr/bin/env python3
 """gate.py: the gate itself. In a copy of some of the repository each plant makes it fail, and without a plant it passes.
 
-`tools/ci`: over a copy of two small crates, as `rt ci` proves them and tries their edits; and over a command that stands for `rt` and prints what
-that would print. `tests/run`: over a copy of the tests and the program. Last line: 'N passed, M failed'.
+`tools/ci`: over a copy of two small crates, as `rt ci` proves them and tries their edits; and over a command in the role of `rt`, which prints what
+that would print. `tools/wrong_bodies`: over the same copy. `tests/run`: over a copy of the tests and the program. Last line: 'N passed, M failed'.
 """
 
 import os
+import re
 import shutil
 import subprocess
 import sys
 import tempfile
+from concurrent.futures import ThreadPoolExecutor
+from functools import partial
 from pathlib import Path
 
 TOP = Path(__file__).resolve().parent.parent
@@ -25,6 +28,38 @@ RENAMED = (
     "old:     let at = last_start(last, want.start(), want.within(), len);\n"
     "new:     let at = last_start(far, want.start(), want.within(), len);\n"
 )
+# Wrong bodies and a control, each with what tools/wrong_bodies has to print of it.
+PLANTED = {
+    "wrong/proved.edit": (
+        "file: src/lib.rt\nold:     Some(Place::new(addr, len))\nnew:     let place = Place::new(addr, len); Some(place)\n# refused: returns\n",
+        "boundary_loc/proved: not refused: it is proved with this change",
+    ),
+    "wrong/no_line.edit": (
+        "file: src/lib.rt\nold:     bound - addr % bound\nnew:     bound\n",
+        "boundary_loc/no_line: it has no line `# refused:`, and is refused on returns",
+    ),
+    "wrong/another_goal.edit": (
+        "file: src/lib.rt\nold:     number / unit * unit\nnew:     number / unit * unit / 2\n# refused: nothing\n",
+        "boundary_loc/another_goal: refused on returns, and not on nothing",
+    ),
+    "wrong/no_code.edit": (NO_CODE + "# refused: returns\n", "boundary_loc/no_code: bad edit: "),
+    "wrong/stale.edit": (STALE + "# refused: returns\n", "boundary_loc/stale: bad edit: "),
+    "wrong/renamed.edit": (RENAMED + "# refused: returns\n", "boundary_loc/renamed: refused only because a proof file names what it takes away"),
+    "wrong/deep/one.edit": (STALE, "crates/boundary_loc/wrong/deep/one.edit: it is not in the folder itself"),
+    "controls/no_line.control": (
+        "file: src/lib.rt\nold:     bound - addr % bound\nnew:     bound - addr % bound / 2\n",
+        "boundary_loc/no_line: the control is refused, so its wrong body shows nothing",
+    ),
+    "controls/alone.control": (STALE, "boundary_loc/alone.control: it is beside no wrong body of the same place"),
+}
+# A group of two cases, one of which needs a tool that is missing.
+LACKS = """from cases import Lacking
+
+
+def results(program):
+    yield "tried", True
+    yield "not tried", Lacking("a tool of this name")
+"""
 STAND_IN = '#!/bin/sh\ncat "$(dirname "$0")/said"\nexit $(cat "$(dirname "$0")/status")\n'
 REFUSED = "rt: must-fail toy/one.edit: refused, as it must be: note: src/lib.rt:1:1: it is not proved\n"
 AT_LIMIT = "rt: must-fail toy/one.edit: refused, as it must be (only by a limit of the prover, which gave no verdict): error\n"
@@ -44,7 +79,7 @@ def last(printed):
     return printed.splitlines()[-1] if printed else ""
 
 
-# ---- tools/ci over what stands for rt
+# ---- tools/ci over a command in the role of rt
 
 
 def of_stand_in(folder, said, status, edits=("one.edit",)):
@@ -52,7 +87,8 @@ def of_stand_in(folder, said, status, edits=("one.edit",)):
     shutil.rmtree(folder, ignore_errors=True)
     for name in ("tools", "crates/toy/must-fail", "bin"):
         (folder / name).mkdir(parents=True)
-    shutil.copy(TOP / "tools/ci", folder / "tools")
+    for name in ("ci", "edits.py", "libraries.py"):
+        shutil.copy(TOP / "tools" / name, folder / "tools")
     for name in edits:
         (folder / "crates/toy/must-fail" / name).write_text(STALE)
     (folder / "bin/rt").write_text(STAND_IN)
@@ -67,10 +103,9 @@ def stand_ins(folder):
     fails = lambda found: found[0] == 1 and not last(found[1]).endswith(" 0 failed")  # noqa: E731
     yield "a refusal", of_stand_in(folder, REFUSED + WELL, 0) == (0, REFUSED + WELL)
     yield "a refusal of an earlier run", of_stand_in(folder, KEPT + REFUSED + WELL, 0) == (0, KEPT + REFUSED + WELL)
-    for name, said in {"a bad edit": BAD, "a misplaced edit": REFUSED + MISPLACED}.items():
+    shows_nothing = {"a bad edit": BAD, "a misplaced edit": REFUSED + MISPLACED, "a limit": AT_LIMIT, "a name in a proof": BY_NAME}
+    for name, said in shows_nothing.items():
         yield name, fails(of_stand_in(folder, said + WELL, 0))
-    for name, said in {"a limit": AT_LIMIT, "a name in a proof": BY_NAME}.items():
-        yield f"{name} is printed", "ci: must-fail toy/one.edit: it shows nothing of a contract" in of_stand_in(folder, said + WELL, 0)[1]
     yield "an edit without a refusal", fails(of_stand_in(folder, REFUSED + WELL, 0, ("one.edit", "two.edit")))
     yield "a refusal without an edit", fails(of_stand_in(folder, REFUSED + WELL, 0, ()))
     yield "a status that is not 0", fails(of_stand_in(folder, REFUSED + WELL, 2))
@@ -79,35 +114,45 @@ def stand_ins(folder):
     yield "a failure of rt", fails(of_stand_in(folder, REFUSED + "1 passed, 1 failed\n", 1))
 
 
-# ---- tools/ci over two crates
+# ---- tools/ci and tools/wrong_bodies over two crates
 
 
 def copied(folder):
-    """A copy of the repository with the small crates alone."""
+    """A copy of the repository with only the small crates."""
     for name in ("tools", *(f"crates/{crate}" for crate in CRATES)):
         shutil.copytree(TOP / name, folder / name, ignore=shutil.ignore_patterns("out"))
     lines = (TOP / "crates.txt").read_text().splitlines()
     (folder / "crates.txt").write_text("".join(f"{line}\n" for line in lines if line.split(":")[0] in CRATES))
     shutil.copy(TOP / "HANDLES", folder)
-    for edit in (folder / "crates/mvs_model").glob("*/*.edit"):
-        edit.unlink()
+    for change in (*(folder / "crates/mvs_model").glob("*/*.edit"), *(folder / "crates/mvs_model").glob("*/*.control")):
+        change.unlink()
     return folder
 
 
-def plants(folder):
-    """A run without a plant, and one with three edits that show nothing."""
+def planted_edits(folder):
+    """Edits of must-fail/ that show nothing."""
     copied(folder)
-    status, printed = called(folder / "tools/ci")
-    yield "two crates", status == 0 and last(printed).endswith(" 0 failed")
     planted = {"stale": STALE, "no_code": NO_CODE, "renamed": RENAMED}
     for name, text in planted.items():
         (folder / f"crates/boundary_loc/must-fail/{name}.edit").write_text(text)
     status, printed = called(folder / "tools/ci")
     for name in planted:
         yield f"planted {name}", status == 1 and f"ci: must-fail boundary_loc/{name}.edit: " in printed
-    yield "planted edits count", last(printed).endswith(" 2 failed")
-    for name in planted:
-        (folder / f"crates/boundary_loc/must-fail/{name}.edit").unlink()
+    yield "planted edits count", last(printed).endswith(" 3 failed")
+
+
+def planted_wrong_bodies(folder):
+    """A run without a plant, and one of tools/wrong_bodies over the libraries that it has left."""
+    copied(folder)
+    status, printed = called(folder / "tools/ci")
+    yield "two crates", status == 0 and last(printed).endswith(" 0 failed")
+    for name, (text, _) in PLANTED.items():
+        path = folder / "crates/boundary_loc" / name
+        path.parent.mkdir(parents=True, exist_ok=True)
+        path.write_text(text)
+    status, printed = called(folder / "tools/wrong_bodies")
+    for name, (_, said) in PLANTED.items():
+        yield f"planted {name}", status == 1 and said in printed
 
 
 # ---- tests/run
@@ -138,23 +183,34 @@ def tests_fail(folder):
         path.unlink()
     status, printed = run("scripts")
     yield "case files are missing", status == 1 and f"24 cases, and tests/counts has {len(cases)}" in printed
+    counts = folder / "tests/counts"
+    counts.write_text(re.sub(r"(?m)^\d+ strict$", "2 strict", counts.read_text()))
+    (folder / "tests/strict.py").write_text(LACKS)
+    status, printed = run("strict")
+    told = "\nnot tried: 1 cases, for want of a tool of this name\n1 passed, 0 failed\n"
+    yield "a tool is missing", status == 0 and printed.endswith(told)
     (made / "mvsjob").unlink()
     (made / "mvsjob.by-rattle").unlink()
     yield "no program", last(run("scripts")[1]) == "0 passed, 1 failed"
 
 
+PARTS = (stand_ins, tests_fail, planted_edits, planted_wrong_bodies)
+
+
+def tried(room, part):
+    try:
+        return list(part(room / part.__name__))
+    except (OSError, IndexError) as error:
+        return [(f"{part.__name__}: {error}", False)]
+
+
 def main():
     found = []
-    with tempfile.TemporaryDirectory(prefix="gate-") as name:
-        room = Path(name)
-        for part, folder in ((stand_ins, room / "stand_in"), (tests_fail, room / "tests"), (plants, room / "crates")):
-            try:
-                for case, well in part(folder):
-                    print(f"gate: {case}: {'passed' if well else 'FAILED'}", flush=True)
-                    found.append(well)
-            except (OSError, IndexError) as error:
-                print(f"gate: {part.__name__}: {error}")
-                found.append(False)
+    with tempfile.TemporaryDirectory(prefix="gate-") as name, ThreadPoolExecutor(len(PARTS)) as pool:
+        for cases in pool.map(partial(tried, Path(name)), PARTS):
+            for case, well in cases:
+                print(f"gate: {case}: {'passed' if well else 'FAILED'}", flush=True)
+                found.append(well)
     print(f"{sum(found)} passed, {len(found) - sum(found)} failed")
     return 1 if not all(found) else 0
 

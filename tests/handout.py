@@ -10,7 +10,7 @@ PREFIX = "JOB REGION BELOW=1\nJOB GETMAIN RU,LV=8,A=X\n"
 
 
 def blocks():
-    """The code blocks of the document that have `=>`, each a list of lines, and the text that stands before each."""
+    """The code blocks of the document that have `=>`, each a list of lines, and the text before each."""
     text = (TOP / "docs/SCRIPT.md").read_text()
     for match in re.finditer(r"^```\n(.*?)^```\n", text, re.M | re.S):
         if "=>" in match[1]:
@@ -24,7 +24,7 @@ def parted(line):
 
 
 def wanted(number, statement, said):
-    """The lines that a statement prints, by what stands behind its `=>`; None where the document shows them elsewhere."""
+    """The lines that a statement prints, by the text after its `=>`; None where the document shows them elsewhere."""
     if said.endswith("lines:"):
         return None
     task = statement.split(" ")[0]
@@ -35,7 +35,7 @@ def wanted(number, statement, said):
 
 
 def as_written(run, lines):
-    """Whether a whole script prints what stands behind its lines."""
+    """Whether a whole script prints the texts after its lines."""
     printed = run("\n".join(lines) + "\n")
     for number, line in enumerate(lines, 1):
         statement, said = parted(line)
@@ -45,7 +45,7 @@ def as_written(run, lines):
 
 
 def alone(run, line):
-    """Whether a line prints what stands behind it, as the third line of a script or as its first."""
+    """Whether a line prints the text after it, as the third line of a script or as its first."""
     statement, said = parted(line)
     number, before = (1, "") if " REGION " in statement else (3, PREFIX)
     printed = run(before + line + "\n")

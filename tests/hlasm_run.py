@@ -1,7 +1,7 @@
 """Runs a program that `--assemble` prints, against the plain machine, and answers what it writes by WTO.
 
-Storage of the program, registers, instructions and tasks are simulated here, without a system: letters stand as in ASCII, and the macros
-ask the machine. A task runs until it waits or ends, and the last one that was begun goes first, so only the program's ECBs keep the order.
+Storage of the program, registers, instructions and tasks are simulated here, without a system: letters are those of ASCII, and the macros
+ask the machine. A task runs until it waits or ends, and the last one that was begun runs first, so only the program's ECBs keep the order.
 """
 
 import re
@@ -83,7 +83,7 @@ class Image:
 
 
 class Task:
-    """A task: where it stands, its registers, the ECBs that it waits for, and what is done at its end."""
+    """A task: its next instruction, its registers, the ECBs that it waits for, and what is done at its end."""
 
     def __init__(self, name, at, save, mother=None, ecb=None):
         self.name, self.at, self.registers, self.cc = name, at, [0] * 16, 0
@@ -517,7 +517,7 @@ def signed(number):
 
 
 def run(job, scripts_steps, high=False):
-    """What the programs of a job write, of whose script each step has a card (job step task, pages below and above, fill, residence)."""
+    """What the programs of a job write. Each step of its script has a card (job step task, pages below and above, fill, residence)."""
     printed = []
     for cards, (task, below, above, fill, resides_above) in zip(hlasm.programs(job), scripts_steps):
         image = Image(hlasm.Program(cards, []).statements)

@@ -1,6 +1,6 @@
-"""Want of memory, failing reads and writes, few bytes a call, cut and damaged scripts.
+"""Too little memory, failing reads and writes, few bytes a call, cut and damaged scripts.
 
-What a program that gives up has printed is asked for to its end: all that the lines print that had ended before.
+A program that stops with an error has printed all that the lines before print.
 """
 
 import functools
@@ -73,7 +73,7 @@ class Failing:
 
 
 def front(whole, lines):
-    """What the first lines of a script print, of all that it prints. The end of a step goes with the line behind it."""
+    """What the first lines of a script print, of all that it prints. The end of a step belongs to the line after it."""
     printed, ends = [], []
     for line in whole.decode().splitlines(True):
         if line.startswith(("STEP ENDED", "JOB FAULT")):
@@ -86,7 +86,7 @@ def front(whole, lines):
 
 
 def each_failing(failing, script):
-    """Each allocation, read and write refused in turn: the program gives up and says so, and has printed a front. For want
+    """Each allocation, read and write refused in turn: the program stops and reports it, and has printed a front. For lack
     of memory it is all that comes before a reply; at a read that fails it is what the lines printed."""
     well, lines = failing.run(script), script.count(b"\n")
     counts = failing.counted(partial(failing.run, script))
@@ -106,7 +106,7 @@ def each_failing(failing, script):
 
 
 def mode_failing(failing, scripts, mode):
-    """Each allocation, read and write refused in turn in a mode: the program gives up and says so, and what it has printed is a
+    """Each allocation, read and write refused in turn in a mode: the program stops and reports it, and what it has printed is a
     front of what it prints, or it ends as it does without the refusal: a hint may be missing on standard error then."""
     output = f"{failing.folder}/output{os.getpid()}"
     for script in scripts:
@@ -136,7 +136,7 @@ def reads_failing(failing, script):
 
 
 def writes_failing(failing, case):
-    """It is told line by line, and one write fails: what the lines before print had come."""
+    """It gets a script line by line, and one write fails: what the lines before print had come."""
     names = {"LD_PRELOAD": failing.library}
     whole = "".join(f"{line}\n" for line in case.printed()).encode()
     count = failing.counted(lambda **more: session.line_by_line(failing.program, case, **names, **more))["write"]
@@ -169,7 +169,7 @@ def cut(failing, script):
 
 
 def is_sound(failing, script, seed):
-    """Whatever the bytes are: the last line goes with the status, standard error tells a fault alone, and few bytes a call
+    """Whatever the bytes are: the last line agrees with the status, standard error reports only a fault, and few bytes a call
     print the same."""
     status, out, err = failing.run(script)
     last = out.decode().splitlines()[-1]

@@ -1,4 +1,4 @@
-"""`--interactive`, and a run from a terminal to a terminal: a line with a fault is told and left out, and the job goes on.
+"""`--interactive`, and a run from a terminal to a terminal: a line with a fault is reported and skipped, and the job continues.
 
 Scripts with faulty lines among their statements print what the plain machine prints of the scripts without them. The faulty lines
 are those that were worked out by hand (faults.py).
@@ -27,8 +27,8 @@ TYPED = [
     "JOB RETURN",
 ]
 ASKED = (
-    "1> -:1:5: JS09: the first statement is REGION\n",
-    "1> 2> -:2:5: JS03: GETMIAN: no operation\n    JOB GETMIAN R,LV=8,A=X\n        ^^^^^^^ did you mean GETMAIN?\n2> 3> 4> -:4:256: JS01: a line has at most 255 bytes\n",
+    "1> -:1:5: JS09: the first statement must be REGION\n",
+    "1> 2> -:2:5: JS03: unknown operation GETMIAN\n    JOB GETMIAN R,LV=8,A=X\n        ^^^^^^^ did you mean GETMAIN?\n2> 3> 4> -:4:256: JS01: a line has at most 255 bytes\n",
     "4> 5> \n",
 )
 PRINTED = f"1 {BEGUN}\n3 JOB NO NAME\n4 JOB ENDED\nSTEP ENDED RC 0\n"
@@ -62,7 +62,7 @@ def leaves_out(program, kind, seed):
 
 
 def is_asked(said):
-    """Whether standard error asks for the lines, and tells those that have a fault."""
+    """Whether standard error asks for the lines, and reports those that have a fault."""
     at = 0
     for text in ASKED:
         at = said.find(text, at)
@@ -113,7 +113,7 @@ def typed(program, *words):
     steps = [
         ("JOB REGION BELOW=1\n", f"1 {BEGUN}\n2> "),
         ("JOB GETMAIN RC,LV=4097,A=X\n", "2 JOB RC 4\n3> "),
-        ("JOB GETMIAN R\n", "-:3:5: JS03: GETMIAN: no operation\n    JOB GETMIAN R\n        ^^^^^^^ did you mean GETMAIN?\n3> "),
+        ("JOB GETMIAN R\n", "-:3:5: JS03: unknown operation GETMIAN\n    JOB GETMIAN R\n        ^^^^^^^ did you mean GETMAIN?\n3> "),
         ("\n", "4> "),
         ("JOB RETURN\n", "4 JOB ENDED\n5> "),
         ("\x04", "\nSTEP ENDED RC 0\n"),
@@ -129,7 +129,7 @@ def typed(program, *words):
 
 
 def left(program):
-    """A terminal at which nothing is typed, and one that goes away."""
+    """A terminal at which nothing is typed, and one that is closed."""
     terminal = Terminal(program)
     try:
         terminal.read("1> ")

@@ -47,7 +47,7 @@ def texts(event):
 
 
 def printed(event):
-    """The lines that stand for an event."""
+    """The lines that an event is printed as."""
     if event["event"] == "step_ended":
         return [f"STEP ENDED RC {event['return_code']}"]
     if event["event"] == "fault":

@@ -1,15 +1,22 @@
 """The lessons, and the rules that they show.
 
-Each lesson is a sheet (`lessons/NN_name.md`) and a solution (`lessons/NN_name.job`), in which ` => ` and the answers stand
-behind the statements that the sheet asks for, as in tests/scripts. The sheet has the same script, with `?` for each answer.
+Each lesson is a sheet (`lessons/NN_name.md`) and a solution (`lessons/NN_name.job`), in which ` => ` and the answers
+follow the statements that the sheet asks for, as in tests/scripts. The sheet has the same script, with `?` for each answer.
+Its task is a script with right answers and wrong statements (`lessons/tasks/NN_name.job`); `lessons/answers/NN_name.md` has a solution.
 Each rule of docs/RULES.md is shown by an example or a lesson that is there and says so.
+The commands of each sheet are run as a student types them. All answers are compared with those of the plain machine too.
 """
 
+import os
 import re
+import shutil
 import subprocess
+import tempfile
 from pathlib import Path
 
 import annotated
+import plain_emulator
+import what_if
 
 TOP = Path(__file__).resolve().parent.parent
 FOLDER = TOP / "lessons"
@@ -32,7 +39,7 @@ def is_answered(program, path):
 
 
 def is_told(program, path):
-    """Whether an answer of a solution that is another one is told, with its line, and nothing else is."""
+    """Whether a wrong answer of a solution is reported, with its line, and nothing else is."""
     lines = path.read_text().splitlines()
     number = next(k for k, line in enumerate(lines, 1) if " => " in line)
     statement, _, texts = lines[number - 1].partition(" => ")
@@ -51,8 +58,111 @@ def is_asked(program, path):
     return blank(program, text) == wanted and f"```\n{wanted}```\n" in path.with_suffix(".md").read_text()
 
 
+def answered(text):
+    """The answers of a script."""
+    return re.findall(r"(?m) => (.*)$", text)
+
+
+def is_plain(text):
+    """Whether the plain machine gives the answers of a script, the ends of steps left out."""
+    lines = [re.sub(r" +=> ", " => ", line) for line in text.splitlines()]
+    printed = plain_emulator.run("".join(f"{line.partition(' => ')[0]}\n" for line in lines)).splitlines()
+    asked = [str(k) for k, line in enumerate(lines, 1) if " => " in line]
+    wanted = [reply for k, line in enumerate(lines, 1) for reply in annotated.printed(k, line) if not reply.startswith("STEP")]
+    return bool(asked) and [reply for reply in printed if reply.split(" ")[0] in asked] == wanted
+
+
+class Desk:
+    """A student's folder, with the lessons and the program."""
+
+    def __init__(self, folder, program):
+        self.folder = folder
+        (folder / "bin").mkdir()
+        (folder / "bin/mvsjob").symlink_to(Path(program).resolve())
+        shutil.copytree(FOLDER, folder / "lessons")
+
+    def typed(self, command):
+        """What a command prints, and its exit status."""
+        env = os.environ | {"PATH": f"{self.folder}/bin:{os.environ['PATH']}"}
+        ran = subprocess.run(["bash", "-c", command], cwd=self.folder, env=env, capture_output=True, text=True)
+        return ran.stdout, ran.returncode
+
+
+def commands(path):
+    """The commands of a sheet: those that copy and check the script, and those that copy and check the task."""
+    return [block.strip() for block in re.findall(r"(?ms)^```sh\n(.*?)^```$", path.read_text())]
+
+
+def is_predicted(desk, path):
+    """Whether a student's right answers pass, and a wrong one and a missing one do not, by the commands of the sheet."""
+    copy, check, *_ = commands(path.with_suffix(".md"))
+    mine, right = desk.folder / "my.job", answered(path.read_text())
+    begun = desk.typed(copy) == ("", 0) and answered(mine.read_text()) == ["?"] * len(right)
+    asked, left = mine.read_text(), desk.typed(check)
+    replies = iter(right)
+    solved = re.sub(r"(?m) => \?$", lambda _: f" => {next(replies)}", asked)
+    mine.write_text(solved.replace(f" => {right[0]}\n", " => NOTHING\n", 1))
+    wrong = desk.typed(check)
+    mine.write_text(solved)
+    return begun and (len(left[0].splitlines()), left[1]) == (len(right), 1) and wrong[1] == 1 and desk.typed(check) == ("", 0)
+
+
+def is_task(desk, path):
+    """Whether the task of a sheet is not solved, and the solution among the answers has its texts and passes, by the commands of the sheet."""
+    _, _, copy, check = commands(path.with_suffix(".md"))
+    task = (FOLDER / "tasks" / path.name).read_text()
+    solution = re.search(r"(?s)\*\*Task\.\*\*.*?```\n(.*?)```\n", answers_of(path))[1]
+    begun = f"```\n{task}```\n" in path.with_suffix(".md").read_text() and desk.typed(copy) == ("", 0) and desk.typed(check)[1] == 1
+    (desk.folder / "task.job").write_text(solution)
+    graded = desk.typed(f"lessons/grade lessons/tasks/{path.name} task.job")[1] == 0
+    return begun and graded and is_plain(solution) and desk.typed(check) == ("", 0)
+
+
+def answers_of(path):
+    return (FOLDER / "answers" / path.with_suffix(".md").name).read_text()
+
+
+def numbered(text, head):
+    """The numbers of the list after a heading."""
+    return re.findall(r"(?m)^(\d)\. ", re.search(rf"(?s)\*\*{head}\*\*\n\n(.*?)\n\n", text)[1])
+
+
+def is_apart(path):
+    """Whether a sheet has no answers, and its answers are those to its questions."""
+    sheet = path.with_suffix(".md").read_text()
+    questions = numbered(sheet, "Questions")
+    return "Answers" not in sheet and "What it shows" not in sheet and numbered(answers_of(path), "Answers") == questions and 3 <= len(questions) <= 5
+
+
+def grades(desk):
+    """What lessons/grade prints of a class: right answers, a `?` that is left, and another script. lessons/TEACHING.md shows it."""
+    lesson, task = "lessons/42_leak.job", "lessons/tasks/42_leak.job"
+    right, asked = (desk.folder / lesson).read_text(), (desk.folder / task).read_text()
+    handed_in = {
+        "anna/my.job": right,
+        "ben/my.job": right.replace("=> ABEND S878", "=> ?").replace("=> RC 4", "=> RC 0"),
+        "carl/my.job": right.replace("BELOW=1", "BELOW=2"),
+        "anna/task.job": asked.replace("W RETURN", "W FREEMAIN RU,LV=3000,A=BUF\nW RETURN", 1),
+        "ben/task.job": asked,
+        "dora/task.job": asked.replace("W RETURN", "W FREEMAIN RU,LV=3000,A=BUF\nW RETURN", 1) + "GETMAIN\n",
+        "carl/task.job": asked.replace("PLAIN 0", "PLAIN 3000"),
+    }
+    for name, text in handed_in.items():
+        (desk.folder / name).parent.mkdir(exist_ok=True)
+        (desk.folder / name).write_text(text)
+    guide = (FOLDER / "TEACHING.md").read_text()
+    of_lesson, of_task = re.search(r"(?m)^```\n(lessons/grade .*)\n(lessons/grade .*)\n```$", guide).groups()
+    shown = re.search(r"(?ms)^```\n(anna/.*?)^```$", guide)[1]
+    graded = "anna/task.job: 3 of 3 right\nben/task.job: 1 of 3 right; not lines 5 7\ncarl/task.job: not a copy: other answers\n"
+    graded += "dora/task.job: a statement has a fault\n"
+    yield "grade, a lesson", desk.typed(of_lesson) == (shown, 1)
+    yield "grade, a task", desk.typed(of_task) == (graded, 1)
+    yield "grade, all right", desk.typed(f"lessons/grade {lesson} anna/my.job") == ("anna/my.job: 5 of 5 right\n", 0)
+    yield "grade, no such lesson", desk.typed("lessons/grade lessons/99.job anna/my.job") == ("", 16)
+
+
 def rules():
-    """Each rule: its number, and the example or lesson that stands beside it."""
+    """Each rule: its number, and the example or lesson beside it."""
     for line in (TOP / "docs/RULES.md").read_text().splitlines():
         cells = [cell.strip() for cell in line.split("|")]
         if len(cells) == 7 and cells[1].isdigit():
@@ -84,6 +194,16 @@ def results(program):
         yield path.name, is_answered(program, path)
         yield f"{path.name}, an answer changed", is_told(program, path)
         yield f"{path.stem}.md", is_asked(program, path)
+        yield f"{path.stem}.md, its answers apart", is_apart(path)
+        yield f"{path.name}, by the plain machine", is_plain(path.read_text())
+    with tempfile.TemporaryDirectory() as name:
+        desk = Desk(Path(name), program)
+        for path in solutions():
+            yield f"{path.stem}.md, as a student", is_predicted(desk, path)
+            yield f"{path.stem}.md, its task", is_task(desk, path)
+        yield from grades(desk)
+    yield from what_if.results(program)
+    yield "a task for each lesson", [path.name for path in solutions()] == sorted(path.name for path in FOLDER.glob("tasks/*.job"))
     for case in annotated.all_scripts():
         yield f"{case.name} checked", differences(program, case.text, *case.words) == ("", 0)
     found = list(rules())

@@ -5,72 +5,79 @@
 #include <string.h>
 
 static mvs_session session = MVS_SESSION_INIT;
-static mvs_event event;
+static mvs_event event = MVS_EVENT_INIT;
+
+/* A name in a field of its own. */
+static const uint8_t *named(const char *name) {
+    static uint8_t field[8];
+    mvs_name(field, name);
+    return field;
+}
 
 static uint32_t line(const char *text) {
-    return mvs_line(&session, (const uint8_t *)text, strlen(text), &event);
+    return mvs_line(&session, text, strlen(text), &event);
 }
 
 static uint32_t answered(const char *text) {
-    return line(text) == MVS_OK ? event.kind : 0xFFFFFFFFu;
+    return line(text) == MVS_STATUS_OK ? event.kind : 0xFFFFFFFFu;
 }
 
 /* Each call without a session. */
 static int without_session(void) {
-    uint8_t out[8] = {7}, name[8] = {7};
+    uint8_t bytes[8] = {7}, name[8] = {7};
+    char out[8] = {7};
     size_t wanted = 7;
-    mvs_subpool_line subpool = {7, true, 7, 7};
-    mvs_map_run run = {7, 7, true, 7, {7}};
+    mvs_subpool_line subpool = MVS_SUBPOOL_LINE_INIT;
+    mvs_map_run run = MVS_MAP_RUN_INIT;
     mvs_area area = {7, 7};
     mvs_ask ask;
-    event.kind = 77;
-    if (line("JOB REGION BELOW=1") != MVS_NO_SESSION || event.kind != 77) return 1;
-    if (mvs_end(&session, &event) != MVS_NO_SESSION || event.kind != 77) return 2;
-    if (mvs_text(&session, out, 8, &wanted) != MVS_NO_SESSION || wanted != 7) return 3;
-    if (mvs_read(&session, 0, out, 8) != MVS_NO_SESSION || out[0] != 7) return 4;
-    if (mvs_fallen(&session, 0, name) != MVS_NO_SESSION || name[0] != 7) return 5;
-    if (mvs_subpool(&session, (const uint8_t *)"JOB", 3, 0, &subpool) != MVS_NO_SESSION || subpool.plain != 7) return 6;
-    if (mvs_map(&session, 0, &run) != MVS_NO_SESSION || run.number != 7) return 7;
+    event.kind = 77, subpool.plain = 7, run.number = 7;
+    if (line("JOB REGION BELOW=1") != MVS_STATUS_NO_SESSION || event.kind != 77) return 1;
+    if (mvs_end(&session, &event) != MVS_STATUS_NO_SESSION || event.kind != 77) return 2;
+    if (mvs_text(&session, out, 8, &wanted) != MVS_STATUS_NO_SESSION || wanted != 7) return 3;
+    if (mvs_read(&session, 0, bytes, 8) != MVS_STATUS_NO_SESSION || bytes[0] != 7) return 4;
+    if (mvs_fallen(&session, 0, name) != MVS_STATUS_NO_SESSION || name[0] != 7) return 5;
+    if (mvs_subpool(&session, named("JOB"), 0, &subpool) != MVS_STATUS_NO_SESSION || subpool.plain != 7) return 6;
+    if (mvs_map(&session, 0, &run) != MVS_STATUS_NO_SESSION || run.number != 7) return 7;
     memset(&ask, 0, sizeof ask);
-    if (mvs_list(&session, &ask, &area, 1, &event) != MVS_NO_SESSION || event.kind != 77 || area.address != 7) return 8;
+    ask.size = sizeof ask;
+    if (mvs_list(&session, &ask, &area, 1, &event) != MVS_STATUS_NO_SESSION || event.kind != 77 || area.address != 7) return 8;
     mvs_free(&session);
     return 0;
 }
 
-/* The events of a step, and what they lend. */
+/* The events of a step, and what they borrow. */
 static int events(void) {
     uint8_t bytes[4] = {0}, name[8] = {0};
-    mvs_subpool_line subpool;
-    mvs_map_run run;
+    mvs_subpool_line subpool = MVS_SUBPOOL_LINE_INIT;
+    mvs_map_run run = MVS_MAP_RUN_INIT;
     uint32_t area;
-    memset(&subpool, 0, sizeof subpool);
-    memset(&run, 0, sizeof run);
-    if (mvs_new(&session, MVS_HIGH) != MVS_OK || mvs_new(&session, MVS_LOW) != MVS_OK) return 10;
-    if (mvs_read(&session, 0x6000, bytes, 1) != MVS_NO_ACCESS || mvs_map(&session, 0, &run) != MVS_NO_MORE) return 11;
-    if (answered("") != MVS_NOTHING || answered("* a comment") != MVS_NOTHING) return 12;
-    if (answered("JOB REGION BELOW=2,ABOVE=1") != MVS_STEP_BEGAN || event.ended != MVS_NO_STEP) return 13;
+    if (mvs_new(&session, MVS_PLACE_HIGH) != MVS_STATUS_OK || mvs_new(&session, MVS_PLACE_LOW) != MVS_STATUS_OK) return 10;
+    if (mvs_read(&session, 0x6000, bytes, 1) != MVS_STATUS_NO_ACCESS || mvs_map(&session, 0, &run) != MVS_STATUS_NO_MORE) return 11;
+    if (answered("") != MVS_EVENT_NOTHING || answered("* a comment") != MVS_EVENT_NOTHING) return 12;
+    if (answered("JOB REGION BELOW=2,ABOVE=1") != MVS_EVENT_STEP_BEGAN || event.ended != MVS_STEP_NONE) return 13;
     if (memcmp(event.task, "JOB     ", 8) != 0) return 14;
-    if (answered("JOB GETMAIN RC,LV=16,SP=2,A=X") != MVS_RC_0 || answered("JOB WHERE X") != MVS_AT) return 15;
+    if (answered("JOB GETMAIN RC,LV=16,SP=2,A=X") != MVS_EVENT_RC_0 || answered("JOB WHERE X") != MVS_EVENT_AT) return 15;
     area = event.address;
-    if (answered("JOB WHERE Y") != MVS_NO_NAME || answered("SUB RETURN") != MVS_NOT_RUN) return 16;
-    if (answered("JOB PUT X,X'C1C2C3C4'") != MVS_DONE || answered("JOB SHOW X,4") != MVS_DATA) return 17;
+    if (answered("JOB WHERE Y") != MVS_EVENT_NO_NAME || answered("SUB RETURN") != MVS_EVENT_NOT_RUN) return 16;
+    if (answered("JOB PUT X,X'C1C2C3C4'") != MVS_EVENT_DONE || answered("JOB SHOW X,4") != MVS_EVENT_DATA) return 17;
     if (event.address != area || event.length != 4) return 18;
-    if (mvs_read(&session, area, bytes, 4) != MVS_OK || memcmp(bytes, "\xC1\xC2\xC3\xC4", 4) != 0) return 19;
-    if (mvs_read(&session, area + 14, bytes, 4) != MVS_NO_ACCESS || bytes[0] != 0xC1) return 20;
-    if (mvs_read(&session, area, bytes, 0) != MVS_NO_ACCESS || mvs_read(&session, 0x80000000u, bytes, 1) != MVS_NO_ACCESS) return 21;
-    if (mvs_subpool(&session, (const uint8_t *)"JOB", 3, 1, &subpool) != MVS_OK) return 22;
+    if (mvs_read(&session, area, bytes, 4) != MVS_STATUS_OK || memcmp(bytes, "\xC1\xC2\xC3\xC4", 4) != 0) return 19;
+    if (mvs_read(&session, area + 14, bytes, 4) != MVS_STATUS_NO_ACCESS || bytes[0] != 0xC1) return 20;
+    if (mvs_read(&session, area, bytes, 0) != MVS_STATUS_NO_ACCESS || mvs_read(&session, 0x80000000u, bytes, 1) != MVS_STATUS_NO_ACCESS) return 21;
+    if (mvs_subpool(&session, named("JOB"), 1, &subpool) != MVS_STATUS_OK) return 22;
     if (subpool.number != 2 || !subpool.owned || subpool.plain != 16 || subpool.pool != 0) return 23;
-    if (mvs_subpool(&session, (const uint8_t *)"JOB", 3, 3, &subpool) != MVS_NO_MORE) return 24;
-    if (mvs_subpool(&session, (const uint8_t *)"A NAME", 6, 0, &subpool) != MVS_NO_MORE || subpool.number != 2) return 25;
-    if (mvs_map(&session, 0, &run) != MVS_OK || !run.assigned || run.number != 2 || run.length != 4096) return 26;
+    if (mvs_subpool(&session, named("JOB"), 3, &subpool) != MVS_STATUS_NO_MORE) return 24;
+    if (mvs_subpool(&session, named("9NAME"), 0, &subpool) != MVS_STATUS_NO_TASK || subpool.number != 2) return 25;
+    if (mvs_map(&session, 0, &run) != MVS_STATUS_OK || !run.assigned || run.number != 2 || run.length != 4096) return 26;
     if (run.address != (area & ~4095u) || memcmp(run.owner, "JOB     ", 8) != 0) return 27;
-    if (mvs_map(&session, run.address + 1, &run) != MVS_OK || run.assigned || run.length != 4096) return 28;
-    if (mvs_map(&session, 0x80000000u, &run) != MVS_NO_MORE) return 29;
-    if (answered("JOB ATTACH TASK=SUB") != MVS_ATTACHED || answered("SUB ATTACH TASK=SUB2") != MVS_ATTACHED) return 30;
-    if (answered("SUB ABEND 7") != MVS_ABENDED || event.code != 7 || MVS_USER_CODE(event.code) != 7) return 31;
-    if (mvs_fallen(&session, 0, name) != MVS_OK || memcmp(name, "SUB2    ", 8) != 0) return 32;
-    if (mvs_fallen(&session, 1, name) != MVS_NO_MORE) return 33;
-    if (answered("JOB GETMAIN R,LV=8000000,A=Z") != MVS_ABENDED || MVS_SYSTEM_CODE(event.code) != 0x80A) return 34;
+    if (mvs_map(&session, run.address + 1, &run) != MVS_STATUS_OK || run.assigned || run.length != 4096) return 28;
+    if (mvs_map(&session, 0x80000000u, &run) != MVS_STATUS_NO_MORE) return 29;
+    if (answered("JOB ATTACH TASK=SUB") != MVS_EVENT_ATTACHED || answered("SUB ATTACH TASK=SUB2") != MVS_EVENT_ATTACHED) return 30;
+    if (answered("SUB ABEND 7") != MVS_EVENT_ABENDED || event.code != 7 || MVS_USER_CODE(event.code) != 7) return 31;
+    if (mvs_fallen(&session, 0, name) != MVS_STATUS_OK || memcmp(name, "SUB2    ", 8) != 0) return 32;
+    if (mvs_fallen(&session, 1, name) != MVS_STATUS_NO_MORE) return 33;
+    if (answered("JOB GETMAIN R,LV=8000000,A=Z") != MVS_EVENT_ABENDED || MVS_SYSTEM_CODE(event.code) != 0x80A) return 34;
     return 0;
 }
 
@@ -78,144 +85,346 @@ static int events(void) {
 static mvs_ask asked(uint32_t kind, const char *task) {
     mvs_ask ask;
     memset(&ask, 0, sizeof ask);
+    ask.size = sizeof ask;
     ask.kind = kind;
+    ask.form = MVS_FORM_R;
     memcpy(ask.task, task, strlen(task));
     return ask;
 }
 
 static uint32_t requested(mvs_ask ask) {
     uint32_t status = mvs_request(&session, &ask, &event);
-    return status == MVS_OK ? event.kind : 1000 + status;
+    return status == MVS_STATUS_OK ? event.kind : 1000 + status;
+}
+
+/* Whether a request is refused for the field of this name. */
+static bool refused(mvs_ask ask, const char *field) {
+    if (mvs_request(&session, &ask, &event) != MVS_STATUS_NO_REQUEST || event.kind != MVS_EVENT_REFUSED) return false;
+    return strcmp(mvs_field_name(event.code), field) == 0 && event.size == sizeof event;
+}
+
+static bool list_refused(mvs_ask ask, mvs_area *areas, size_t count, const char *field) {
+    if (mvs_list(&session, &ask, areas, count, &event) != MVS_STATUS_NO_REQUEST || event.kind != MVS_EVENT_REFUSED) return false;
+    return strcmp(mvs_field_name(event.code), field) == 0;
 }
 
 /* Storage by values. */
 static int areas(void) {
     uint8_t bytes[4] = {1, 2, 3, 4}, read[4] = {0};
-    mvs_ask obtain = asked(MVS_OBTAIN, "JOB"), release = asked(MVS_RELEASE, "JOB"), show = asked(MVS_SHOW, "JOB"), copy = asked(MVS_MOVE, "JOB");
-    if (requested(obtain) != 1000 + MVS_NO_SESSION || mvs_write(&session, 0x6000, bytes, 4) != MVS_NO_SESSION) return 70;
-    if (mvs_new(&session, MVS_LOW) != MVS_OK) return 71;
+    mvs_ask obtain = asked(MVS_ASK_OBTAIN, "JOB"), release = asked(MVS_ASK_RELEASE, "JOB"), show = asked(MVS_ASK_SHOW, "JOB"), copy = asked(MVS_ASK_MOVE, "JOB");
+    if (requested(obtain) != 1000 + MVS_STATUS_NO_SESSION || mvs_write(&session, 0x6000, bytes, 4) != MVS_STATUS_NO_SESSION) return 70;
+    if (mvs_new(&session, MVS_PLACE_LOW) != MVS_STATUS_OK) return 71;
     obtain.length = 20;
-    if (requested(obtain) != 1000 + MVS_NO_STEP_RUNS || mvs_write(&session, 0x6000, bytes, 4) != MVS_NO_ACCESS) return 72;
-    if (answered("JOB REGION BELOW=2") != MVS_STEP_BEGAN) return 73;
-    if (requested(obtain) != MVS_GRANTED || event.address != 0x6000 || event.length != 24 || memcmp(event.task, "JOB     ", 8) != 0) return 74;
-    if (mvs_write(&session, 0x6002, bytes, 4) != MVS_OK || mvs_read(&session, 0x6002, read, 4) != MVS_OK || memcmp(read, bytes, 4) != 0) return 75;
-    if (mvs_write(&session, 0x6016, bytes, 4) != MVS_NO_ACCESS || mvs_write(&session, 0x6000, bytes, 0) != MVS_NO_ACCESS) return 76;
+    if (requested(obtain) != 1000 + MVS_STATUS_NO_STEP || mvs_write(&session, 0x6000, bytes, 4) != MVS_STATUS_NO_ACCESS) return 72;
+    if (answered("JOB REGION BELOW=2") != MVS_EVENT_STEP_BEGAN) return 73;
+    if (requested(obtain) != MVS_EVENT_GRANTED || event.address != 0x6000 || event.length != 24 || memcmp(event.task, "JOB     ", 8) != 0) return 74;
+    if (mvs_write(&session, 0x6002, bytes, 4) != MVS_STATUS_OK || mvs_read(&session, 0x6002, read, 4) != MVS_STATUS_OK || memcmp(read, bytes, 4) != 0) return 75;
+    if (mvs_write(&session, 0x6016, bytes, 4) != MVS_STATUS_NO_ACCESS || mvs_write(&session, 0x6000, bytes, 0) != MVS_STATUS_NO_ACCESS) return 76;
     copy.address = 0x6010, copy.source = 0x6002, copy.length = 4;
-    if (requested(copy) != MVS_DONE || mvs_read(&session, 0x6010, read, 4) != MVS_OK || memcmp(read, bytes, 4) != 0) return 77;
+    if (requested(copy) != MVS_EVENT_DONE || mvs_read(&session, 0x6010, read, 4) != MVS_STATUS_OK || memcmp(read, bytes, 4) != 0) return 77;
     show.address = 0x6014, show.length = 4;
-    if (requested(show) != MVS_DONE) return 78;
-    release.address = 0x6000, release.length = 32, release.form = MVS_RC;
-    if (requested(release) != MVS_RC_4) return 79;
+    if (requested(show) != MVS_EVENT_DONE) return 78;
+    release.address = 0x6000, release.length = 32, release.form = MVS_FORM_RC;
+    if (requested(release) != MVS_EVENT_RC_4) return 79;
     release.length = 20;
-    if (requested(release) != MVS_RC_0 || mvs_write(&session, 0x6000, bytes, 4) != MVS_NO_ACCESS) return 80;
-    obtain.form = MVS_VRC, obtain.length = 8192, obtain.least = 8, obtain.within = 12, obtain.subpool = 131;
-    if (requested(obtain) != MVS_GRANTED || event.length != 4096) return 81;
-    obtain.least = 9000;
-    if (requested(obtain) != 1000 + MVS_NO_REQUEST || event.kind != MVS_GRANTED) return 82;
-    obtain.least = 0, obtain.subpool = 256;
-    if (requested(obtain) != 1000 + MVS_NO_REQUEST) return 83;
-    obtain.subpool = 0, obtain.boundary = 2;
-    if (requested(obtain) != 1000 + MVS_NO_REQUEST) return 84;
-    obtain.boundary = 0, obtain.task[0] = 0;
-    if (requested(obtain) != 1000 + MVS_NO_REQUEST) return 85;
-    obtain.task[0] = 'X';
-    if (requested(obtain) != MVS_NOT_RUN) return 86;
-    release = asked(MVS_RELEASE_WHOLE, "JOB"), release.subpool = 131, release.form = MVS_STORAGE_CONDITIONAL;
-    if (requested(release) != MVS_RC_0 || requested(asked(12, "JOB")) != 1000 + MVS_NO_REQUEST) return 87;
+    if (requested(release) != MVS_EVENT_RC_0 || mvs_write(&session, 0x6000, bytes, 4) != MVS_STATUS_NO_ACCESS) return 80;
+    obtain.form = MVS_FORM_VRC, obtain.length = 8192, obtain.least = 8, obtain.within = 12, obtain.subpool = 131;
+    if (requested(obtain) != MVS_EVENT_GRANTED || event.length != 4096) return 81;
+    obtain.task[0] = 'X', obtain.subpool = 0;
+    if (requested(obtain) != MVS_EVENT_NOT_RUN) return 86;
+    release = asked(MVS_ASK_RELEASE_WHOLE, "JOB"), release.subpool = 131, release.form = MVS_FORM_STORAGE_CONDITIONAL;
+    if (requested(release) != MVS_EVENT_RC_0) return 87;
     return 0;
 }
 
-/* Lists by values, behind areas. */
+/* What each form of an obtain takes: whether a least length is needed, whether it may be left out, and whether LOC, STARTBDY and
+ * CONTBDY may be there; and whether the form releases an area, and a whole subpool. The rows are those of the manual's macros. */
+static const struct form_row { uint32_t form; bool needs_least, takes_least, is_located, releases, releases_whole; } form_rows[] = {
+    {MVS_FORM_R, false, false, false, true, true},
+    {MVS_FORM_RC, false, false, true, true, true},
+    {MVS_FORM_RU, false, false, true, true, true},
+    {MVS_FORM_VRC, true, true, true, false, false},
+    {MVS_FORM_VRU, true, true, true, false, false},
+    {MVS_FORM_EC, false, false, false, true, false},
+    {MVS_FORM_EU, false, false, false, true, false},
+    {MVS_FORM_VC, true, true, false, true, false},
+    {MVS_FORM_VU, true, true, false, true, false},
+    {MVS_FORM_STORAGE, false, true, true, true, true},
+    {MVS_FORM_STORAGE_CONDITIONAL, false, true, true, true, true},
+};
+
+/* Each combination of a form with a field, of a task that is not active: the request is one or is refused for that field. */
+static int form_fields(const struct form_row *row) {
+    mvs_ask ask = asked(MVS_ASK_OBTAIN, "X"), it;
+    ask.form = row->form, ask.length = 100;
+    it = ask;
+    if (row->needs_least ? !refused(it, "least") : requested(it) != MVS_EVENT_NOT_RUN) return 1;
+    it.least = 101;
+    if (!refused(it, "least")) return 2;
+    it.least = 100;
+    if (row->takes_least ? requested(it) != MVS_EVENT_NOT_RUN : !refused(it, "least")) return 3;
+    if (row->needs_least) ask.least = 1;
+    it = ask, it.boundary = 3;
+    if (requested(it) != MVS_EVENT_NOT_RUN) return 4;
+    it.boundary = 12;
+    if (requested(it) != MVS_EVENT_NOT_RUN) return 5;
+    it.boundary = 13;
+    if (row->is_located ? requested(it) != MVS_EVENT_NOT_RUN : !refused(it, "boundary")) return 6;
+    it.boundary = 2;
+    if (!refused(it, "boundary")) return 7;
+    it.boundary = 32;
+    if (!refused(it, "boundary")) return 8;
+    it = ask, it.within = 12;
+    if (row->is_located ? requested(it) != MVS_EVENT_NOT_RUN : !refused(it, "within")) return 9;
+    it.within = 32;
+    if (!refused(it, "within")) return 10;
+    it = ask, it.location = MVS_LOCATION_ANY;
+    if (row->is_located ? requested(it) != MVS_EVENT_NOT_RUN : !refused(it, "location")) return 11;
+    it.location = 3;
+    if (!refused(it, "location")) return 12;
+    it = ask, it.kind = MVS_ASK_RELEASE, it.least = 7;
+    if (row->releases ? requested(it) != MVS_EVENT_NOT_RUN : !refused(it, "form")) return 13;
+    it.kind = MVS_ASK_RELEASE_WHOLE;
+    if (row->releases_whole ? requested(it) != MVS_EVENT_NOT_RUN : !refused(it, "form")) return 14;
+    return 0;
+}
+
+/* The fields of each kind at the ends of their ranges. */
+static int fields(void) {
+    mvs_ask obtain = asked(MVS_ASK_OBTAIN, "X"), release = asked(MVS_ASK_RELEASE, "X"), pool = asked(MVS_ASK_POOL_BUILD, "X");
+    mvs_ask show = asked(MVS_ASK_SHOW, "X"), attach = asked(MVS_ASK_ATTACH, "X"), it;
+    size_t i;
+    if (mvs_new(&session, MVS_PLACE_LOW) != MVS_STATUS_OK || answered("JOB REGION BELOW=2") != MVS_EVENT_STEP_BEGAN) return 130;
+    for (i = 0; i < sizeof form_rows / sizeof form_rows[0]; i++)
+        if (form_fields(&form_rows[i])) return 131;
+    if (!refused(obtain, "length")) return 132;
+    obtain.length = 0x80000000u;
+    if (!refused(obtain, "length")) return 133;
+    obtain.length = 0x7FFFFFFF, it = obtain, it.subpool = 256;
+    if (requested(obtain) != MVS_EVENT_NOT_RUN || !refused(it, "subpool")) return 134;
+    it = obtain, it.form = 0;
+    if (!refused(it, "form")) return 135;
+    it.form = MVS_FORM_LC;
+    if (!refused(it, "form")) return 136;
+    it.kind = 0;
+    if (!refused(it, "kind")) return 137;
+    it.kind = 13;
+    if (!refused(it, "kind")) return 138;
+    it.task[0] = 0;
+    if (!refused(it, "task")) return 139;
+    it.task[0] = '9';
+    if (!refused(it, "task")) return 140;
+    it.task[0] = 'a';
+    if (!refused(it, "task")) return 141;
+    it.size = sizeof it - 8;
+    if (!refused(it, "size")) return 142;
+    release.length = 0x80000000u;
+    if (!refused(release, "length")) return 143;
+    release.length = 0x7FFFFFFF, release.address = 0x80000000u;
+    if (!refused(release, "address")) return 144;
+    release.address = 0x7FFFFFFF;
+    if (requested(release) != MVS_EVENT_NOT_RUN) return 145;
+    pool.length = 3, pool.primary = 0, pool.secondary = 65537, pool.location = 3;
+    if (!refused(pool, "length")) return 146;
+    pool.length = 65536;
+    if (!refused(pool, "location")) return 147;
+    pool.location = MVS_LOCATION_ANY;
+    if (!refused(pool, "primary")) return 148;
+    pool.primary = 1;
+    if (!refused(pool, "secondary")) return 149;
+    pool.secondary = 0;
+    if (!refused(pool, "name")) return 150;
+    mvs_name(pool.name, "A\nB");
+    if (!refused(pool, "name")) return 151;
+    mvs_name(pool.name, "@1#$ABCD");
+    if (requested(pool) != MVS_EVENT_NOT_RUN) return 152;
+    show.length = 4097;
+    if (!refused(show, "length")) return 153;
+    show.kind = MVS_ASK_MOVE, show.source = 0x80000000u;
+    if (!refused(show, "source")) return 154;
+    attach.given_low = 1;
+    if (!refused(attach, "given and shared subpools")) return 155;
+    attach.given_low = 2, attach.shared_low = 2;
+    if (!refused(attach, "given and shared subpools")) return 156;
+    it = asked(MVS_ASK_ABEND, "X"), it.code = 4096;
+    if (!refused(it, "code")) return 157;
+    return 0;
+}
+
+/* Structs of another size, numbers of no place, and names of numbers. */
+static int surface(void) {
+    mvs_event small = MVS_EVENT_INIT;
+    mvs_subpool_line subpool = MVS_SUBPOOL_LINE_INIT;
+    mvs_map_run run = MVS_MAP_RUN_INIT;
+    mvs_ask ask = asked(MVS_ASK_RETURN, "JOB");
+    mvs_area area = {7, 8};
+    size_t wanted = 7;
+    char out[8];
+    small.size -= 4, subpool.size += 4, run.size = 0;
+    if (mvs_version() != MVS_VERSION || sizeof(mvs_event) != 32 || sizeof(mvs_ask) != 112) return 160;
+    if (mvs_line(&session, "JOB RETURN", 10, &small) != MVS_STATUS_WRONG_SIZE || small.kind != 0) return 161;
+    if (mvs_try(&session, "JOB RETURN", 10, &small) != MVS_STATUS_WRONG_SIZE || small.kind != 0) return 162;
+    if (mvs_request(&session, &ask, &small) != MVS_STATUS_WRONG_SIZE || small.kind != 0) return 163;
+    if (mvs_list(&session, &ask, &area, 1, &small) != MVS_STATUS_WRONG_SIZE || small.kind != 0) return 164;
+    if (mvs_end(&session, &small) != MVS_STATUS_WRONG_SIZE || small.kind != 0) return 165;
+    if (mvs_subpool(&session, named("JOB"), 0, &subpool) != MVS_STATUS_WRONG_SIZE || subpool.number != 0) return 166;
+    if (mvs_map(&session, 0, &run) != MVS_STATUS_WRONG_SIZE || run.length != 0) return 167;
+    if (mvs_new(&session, 0) != MVS_STATUS_NO_PLACE || mvs_new(&session, 3) != MVS_STATUS_NO_PLACE) return 168;
+    if (mvs_run(0, "", 0, out, 8, &wanted) != MVS_STATUS_NO_PLACE || wanted != 7) return 169;
+    if (mvs_run(MVS_PLACE_LOW, "", 0, NULL, 0, &wanted) != MVS_STATUS_TOO_SMALL || wanted != 23) return 170;
+    if (strcmp(mvs_status_name(MVS_STATUS_NO_TASK), "NO_TASK") || strcmp(mvs_status_name(1), "?")) return 171;
+    if (strcmp(mvs_event_name(MVS_EVENT_GRANTED), "GRANTED") || strcmp(mvs_event_name(0), "?")) return 172;
+    if (requested(ask) != MVS_EVENT_ENDED || mvs_subpool(&session, named("JOB"), 0, &subpool) != MVS_STATUS_WRONG_SIZE) return 173;
+    subpool.size = sizeof subpool;
+    if (mvs_subpool(&session, named("JOB"), 0, &subpool) != MVS_STATUS_NO_TASK) return 174;
+    mvs_free(&session);
+    mvs_free(NULL);
+    return 0;
+}
+
+/* A step that is begun by values. */
+static int begun(void) {
+    mvs_region region;
+    uint8_t byte = 0;
+    char out[64];
+    size_t wanted = 0;
+    mvs_ask obtain = asked(MVS_ASK_OBTAIN, "BATCH");
+    memset(&region, 0, sizeof region);
+    region.size = sizeof region - 1, region.below = 3, region.above = 2, region.fill = 0xC1, region.resides_above = true;
+    mvs_name(region.task, "BATCH");
+    if (mvs_begin(&session, &region, &event) != MVS_STATUS_WRONG_SIZE) return 200;
+    region.size = sizeof region, event.size--;
+    if (mvs_begin(&session, &region, &event) != MVS_STATUS_WRONG_SIZE) return 201;
+    event.size++;
+    if (mvs_begin(&session, &region, &event) != MVS_STATUS_NO_SESSION || mvs_new(&session, MVS_PLACE_LOW) != MVS_STATUS_OK) return 202;
+    if (mvs_begin(&session, &region, &event) != MVS_STATUS_OK || event.kind != MVS_EVENT_STEP_BEGAN || memcmp(event.task, "BATCH   ", 8) != 0) return 203;
+    if (mvs_text(&session, out, 64, &wanted) != MVS_STATUS_OK || memcmp(out, "1 BATCH REGION BELOW 3 ABOVE 2\n", wanted) != 0) return 204;
+    obtain.form = MVS_FORM_RU, obtain.length = 8;
+    if (requested(obtain) != MVS_EVENT_GRANTED || event.address != 0x1000000) return 205;
+    if (mvs_read(&session, event.address, &byte, 1) != MVS_STATUS_OK || byte != 0xC1) return 206;
+    region.below = 2049;
+    if (mvs_begin(&session, &region, &event) != MVS_STATUS_SCRIPT_FAULT || event.code != 6) return 207;
+    region.below = 1, region.resides_above = false, region.task[0] = 0;
+    if (mvs_begin(&session, &region, &event) != MVS_STATUS_SCRIPT_FAULT || event.code != 3) return 208;
+    region.task[0] = 'B';
+    if (mvs_begin(&session, &region, &event) != MVS_STATUS_OK || event.ended != MVS_STEP_CLEAN) return 209;
+    if (requested(obtain) != MVS_EVENT_GRANTED || event.address != 0x6000) return 210;
+    mvs_free(&session);
+    return 0;
+}
+
+/* A line with a fault that is tried changes nothing. */
+static int tried(void) {
+    char out[64];
+    size_t wanted = 7;
+    if (mvs_execute(&session, "", &event) != MVS_STATUS_NO_SESSION || mvs_new(&session, MVS_PLACE_LOW) != MVS_STATUS_OK) return 180;
+    if (mvs_execute(&session, "JOB RETURN", &event) != MVS_STATUS_SCRIPT_FAULT || event.kind != MVS_EVENT_FAULT || event.code != 9) return 181;
+    if (mvs_execute(&session, "JOB REGION BELOW=1\n", &event) != MVS_STATUS_SCRIPT_FAULT || event.code != 2) return 182;
+    if (mvs_execute(&session, "JOB REGION BELOW=1", &event) != MVS_STATUS_OK || event.kind != MVS_EVENT_STEP_BEGAN) return 183;
+    if (mvs_text(&session, NULL, 0, &wanted) != MVS_STATUS_TOO_SMALL || wanted != 29) return 184;
+    if (mvs_text(&session, out, 64, &wanted) != MVS_STATUS_OK || memcmp(out, "1 JOB REGION BELOW 1 ABOVE 0\n", 29) != 0) return 185;
+    if (mvs_execute(&session, "JOB GETMIAN R,LV=8,A=X", &event) != MVS_STATUS_SCRIPT_FAULT || event.code != 3) return 186;
+    if (mvs_text(&session, out, 64, &wanted) != MVS_STATUS_OK || wanted != 29) return 187;
+    if (mvs_execute(&session, "JOB GETMAIN R,LV=8,A=X", &event) != MVS_STATUS_OK || event.kind != MVS_EVENT_RC_0) return 188;
+    if (mvs_text(&session, out, 64, &wanted) != MVS_STATUS_OK || memcmp(out, "2 JOB RC 0\n", 11) != 0) return 189;
+    if (mvs_end(&session, &event) != MVS_STATUS_OK || mvs_execute(&session, "JOB RETURN", &event) != MVS_STATUS_OVER) return 190;
+    mvs_free(&session);
+    return 0;
+}
+
+/* Lists by values, after areas. */
 static int lists(void) {
-    mvs_ask list = asked(MVS_OBTAIN, "JOB");
+    mvs_ask list = asked(MVS_ASK_OBTAIN, "JOB");
     mvs_area two[2] = {{7, 20}, {7, 8}}, long_list[17];
     size_t i;
     for (i = 0; i < 17; i++) long_list[i].address = 7, long_list[i].length = 8;
     list.subpool = 9;
-    if (mvs_list(&session, &list, two, 2, &event) != MVS_NO_REQUEST || two[0].address != 7) return 110;
-    list.form = MVS_LC;
-    if (mvs_list(&session, &list, two, 0, &event) != MVS_NO_REQUEST) return 111;
-    if (mvs_list(&session, &list, long_list, 17, &event) != MVS_NO_REQUEST || long_list[0].address != 7) return 112;
-    if (mvs_list(&session, &list, two, 2, &event) != MVS_OK || event.kind != MVS_RC_0 || two[0].length != 24 || two[1].length != 8) return 113;
+    if (!list_refused(list, two, 2, "form") || two[0].address != 7) return 110;
+    list.form = MVS_FORM_LC;
+    if (!list_refused(list, two, 0, "areas")) return 111;
+    if (!list_refused(list, long_list, 17, "areas") || long_list[0].address != 7) return 112;
+    if (mvs_list(&session, &list, two, 2, &event) != MVS_STATUS_OK || event.kind != MVS_EVENT_RC_0 || two[0].length != 24 || two[1].length != 8) return 113;
     if (two[0].address % 8 || two[1].address % 8 || two[0].address == two[1].address) return 114;
-    list.kind = MVS_RELEASE;
-    if (mvs_list(&session, &list, two, 2, &event) != MVS_OK || event.kind != MVS_RC_0) return 115;
-    if (mvs_list(&session, &list, two, 2, &event) != MVS_OK || event.kind != MVS_RC_4) return 116;
-    list.kind = MVS_OBTAIN, two[0].address = two[1].address = 7, two[1].length = 0x7FFFFFFF;
-    if (mvs_list(&session, &list, two, 2, &event) != MVS_OK || event.kind != MVS_RC_4 || two[0].address != 7 || two[0].length != 24) return 117;
+    list.kind = MVS_ASK_RELEASE;
+    if (mvs_list(&session, &list, two, 2, &event) != MVS_STATUS_OK || event.kind != MVS_EVENT_RC_0) return 115;
+    if (mvs_list(&session, &list, two, 2, &event) != MVS_STATUS_OK || event.kind != MVS_EVENT_RC_4) return 116;
+    list.kind = MVS_ASK_OBTAIN, two[0].address = two[1].address = 7, two[1].length = 0x7FFFFFFF;
+    if (mvs_list(&session, &list, two, 2, &event) != MVS_STATUS_OK || event.kind != MVS_EVENT_RC_4 || two[0].address != 7 || two[0].length != 24) return 117;
     two[1].length = 0;
-    if (mvs_list(&session, &list, two, 2, &event) != MVS_NO_REQUEST) return 118;
-    list.kind = MVS_RELEASE_WHOLE;
-    if (mvs_list(&session, &list, long_list, 1, &event) != MVS_NO_REQUEST) return 119;
-    list.kind = MVS_OBTAIN, list.form = MVS_LU;
-    if (mvs_list(&session, &list, long_list, 16, &event) != MVS_OK || event.kind != MVS_RC_0 || long_list[15].address == 7 || long_list[16].address != 7) return 120;
+    if (!list_refused(list, two, 2, "areas")) return 118;
+    list.boundary = 13;
+    if (!list_refused(list, two, 2, "boundary")) return 121;
+    list.boundary = 0, list.kind = MVS_ASK_RELEASE_WHOLE;
+    if (!list_refused(list, long_list, 1, "kind")) return 119;
+    list.kind = MVS_ASK_OBTAIN, list.form = MVS_FORM_LU;
+    if (mvs_list(&session, &list, long_list, 16, &event) != MVS_STATUS_OK || event.kind != MVS_EVENT_RC_0 || long_list[15].address == 7 || long_list[16].address != 7) return 120;
     return 0;
 }
 
-/* Pools and tasks by values, behind lists. */
+/* Pools and tasks by values, after lists. */
 static int pools_and_tasks(void) {
     uint8_t name[8] = {0};
-    mvs_ask pool = asked(MVS_POOL_BUILD, "JOB"), attach = asked(MVS_ATTACH, "JOB");
+    mvs_ask pool = asked(MVS_ASK_POOL_BUILD, "JOB"), attach = asked(MVS_ASK_ATTACH, "JOB");
     memcpy(pool.name, "POOL    ", 8);
     pool.length = 12, pool.primary = 2;
-    if (requested(pool) != MVS_RC_0) return 90;
-    pool.kind = MVS_POOL_GET, pool.conditional = true;
-    if (requested(pool) != MVS_CELL || event.length != 12 || requested(pool) != MVS_CELL) return 91;
+    if (requested(pool) != MVS_EVENT_RC_0) return 90;
+    pool.kind = MVS_ASK_POOL_GET, pool.conditional = true;
+    if (requested(pool) != MVS_EVENT_CELL || event.length != 12 || requested(pool) != MVS_EVENT_CELL) return 91;
     pool.address = event.address;
-    if (requested(pool) != MVS_NO_CELL) return 92;
-    pool.kind = MVS_POOL_FREE;
-    if (requested(pool) != MVS_RC_0) return 93;
+    if (requested(pool) != MVS_EVENT_NO_CELL) return 92;
+    pool.kind = MVS_ASK_POOL_FREE;
+    if (requested(pool) != MVS_EVENT_RC_0) return 93;
     memcpy(attach.name, "SUB", 3);
     attach.given_low = 4, attach.shared_low = 4;
-    if (requested(attach) != 1000 + MVS_NO_REQUEST) return 94;
+    if (!refused(attach, "given and shared subpools")) return 94;
     attach.shared_low = 8;
-    if (requested(attach) != MVS_ATTACHED || answered("SUB REPORT SP") != MVS_SUBPOOLS) return 95;
+    if (requested(attach) != MVS_EVENT_ATTACHED || answered("SUB REPORT SP") != MVS_EVENT_SUBPOOLS) return 95;
     memcpy(attach.task, "SUB", 3), memcpy(attach.name, "SUB2", 4);
-    if (requested(attach) != MVS_ATTACHED || requested(asked(MVS_RETURN, "SUB2")) != MVS_ENDED) return 96;
-    if (requested(attach) != MVS_ATTACHED) return 97;
-    attach = asked(MVS_ABEND, "SUB"), attach.code = 7;
-    if (requested(attach) != MVS_ABENDED || event.code != 7 || mvs_fallen(&session, 0, name) != MVS_OK || memcmp(name, "SUB2    ", 8) != 0) return 98;
-    pool.kind = MVS_POOL_DELETE;
-    if (requested(pool) != MVS_RC_0 || requested(pool) != MVS_ABENDED || event.code != 4002) return 99;
-    if (mvs_end(&session, &event) != MVS_SOME_ABEND || requested(attach) != 1000 + MVS_OVER || mvs_write(&session, 0x6000, name, 1) != MVS_OVER) return 100;
+    if (requested(attach) != MVS_EVENT_ATTACHED || requested(asked(MVS_ASK_RETURN, "SUB2")) != MVS_EVENT_ENDED) return 96;
+    if (requested(attach) != MVS_EVENT_ATTACHED) return 97;
+    attach = asked(MVS_ASK_ABEND, "SUB"), attach.code = 7;
+    if (requested(attach) != MVS_EVENT_ABENDED || event.code != 7 || mvs_fallen(&session, 0, name) != MVS_STATUS_OK || memcmp(name, "SUB2    ", 8) != 0) return 98;
+    pool.kind = MVS_ASK_POOL_DELETE;
+    if (requested(pool) != MVS_EVENT_RC_0 || requested(pool) != MVS_EVENT_ABENDED || event.code != 4002) return 99;
+    if (mvs_end(&session, &event) != MVS_STATUS_SOME_ABEND || requested(attach) != 1000 + MVS_STATUS_OVER || mvs_write(&session, 0x6000, name, 1) != MVS_STATUS_OVER) return 100;
     mvs_free(&session);
     return 0;
 }
 
 /* Text, and the end of a job. */
 static int text(void) {
-    uint8_t out[64] = {7};
+    char out[64] = {7};
     size_t wanted = 7;
-    if (line("JOB REGION BELOW=1") != MVS_OK || event.ended != MVS_WITH_ABEND) return 40;
-    if (mvs_text(&session, out, 0, &wanted) != MVS_TOO_SMALL || wanted != 46 || out[0] != 7) return 41;
-    if (mvs_text(&session, out, 45, &wanted) != MVS_TOO_SMALL || out[0] != 7) return 42;
-    if (mvs_text(&session, out, 64, &wanted) != MVS_OK || wanted != 46 || out[46] != 0) return 43;
+    if (line("JOB REGION BELOW=1") != MVS_STATUS_OK || event.ended != MVS_STEP_ABENDED) return 40;
+    if (mvs_text(&session, out, 0, &wanted) != MVS_STATUS_TOO_SMALL || wanted != 46 || out[0] != 7) return 41;
+    if (mvs_text(&session, out, 45, &wanted) != MVS_STATUS_TOO_SMALL || out[0] != 7) return 42;
+    if (mvs_text(&session, out, 64, &wanted) != MVS_STATUS_OK || wanted != 46 || out[46] != 0) return 43;
     if (memcmp(out, "STEP ENDED RC 8\n", 16) != 0) return 44;
-    if (line("JOB NO SUCH") != MVS_SCRIPT_FAULT || event.kind != MVS_FAULT || event.code != 3) return 45;
-    if (line("JOB REGION BELOW=1") != MVS_OVER || event.kind != MVS_FAULT || mvs_end(&session, &event) != MVS_OVER) return 46;
+    if (line("JOB NO SUCH") != MVS_STATUS_SCRIPT_FAULT || event.kind != MVS_EVENT_FAULT || event.code != 3) return 45;
+    if (line("JOB REGION BELOW=1") != MVS_STATUS_OVER || event.kind != MVS_EVENT_FAULT || mvs_end(&session, &event) != MVS_STATUS_OVER) return 46;
     mvs_free(&session);
     mvs_free(&session);
-    if (mvs_new(&session, MVS_LOW) != MVS_OK || line("JOB\n") != MVS_SCRIPT_FAULT || event.code != 2) return 47;
-    if (mvs_new(&session, MVS_LOW) != MVS_OK || line("JOB REGION BELOW=1") != MVS_OK) return 48;
-    if (mvs_end(&session, &event) != MVS_OK || event.kind != MVS_JOB_ENDED || event.ended != MVS_WITHOUT_ABEND) return 49;
-    if (mvs_text(&session, out, 64, &wanted) != MVS_OK || wanted != 16) return 50;
-    if (mvs_new(&session, MVS_LOW) != MVS_OK || mvs_end(&session, &event) != MVS_SCRIPT_FAULT) return 51;
+    if (mvs_new(&session, MVS_PLACE_LOW) != MVS_STATUS_OK || line("JOB\n") != MVS_STATUS_SCRIPT_FAULT || event.code != 2) return 47;
+    if (mvs_new(&session, MVS_PLACE_LOW) != MVS_STATUS_OK || line("JOB REGION BELOW=1") != MVS_STATUS_OK) return 48;
+    if (mvs_end(&session, &event) != MVS_STATUS_OK || event.kind != MVS_EVENT_JOB_ENDED || event.ended != MVS_STEP_CLEAN) return 49;
+    if (mvs_text(&session, out, 64, &wanted) != MVS_STATUS_OK || wanted != 16) return 50;
+    if (mvs_new(&session, MVS_PLACE_LOW) != MVS_STATUS_OK || mvs_end(&session, &event) != MVS_STATUS_SCRIPT_FAULT) return 51;
     mvs_free(&session);
     return 0;
 }
 
 static int whole(void) {
-    static const uint8_t script[] = "JOB REGION BELOW=1\n";
-    static uint8_t longest[16777216];
-    uint8_t out[64] = {0};
+    static const char script[] = "JOB REGION BELOW=1\n";
+    static char longest[16777216];
+    char out[64] = {0};
     size_t wanted = 7;
-    if (mvs_run(MVS_LOW, script, 19, out, 64, &wanted) != MVS_OK || wanted != 29 + 16) return 60;
+    if (mvs_run(MVS_PLACE_LOW, script, 19, out, 64, &wanted) != MVS_STATUS_OK || wanted != 29 + 16) return 60;
     out[0] = 7;
-    if (mvs_run(MVS_LOW, script, 18, out, 44, &wanted) != MVS_TOO_SMALL || wanted != 45 || out[0] != 7) return 61;
-    if (mvs_run(MVS_LOW, script, 0, out, 64, &wanted) != MVS_SCRIPT_FAULT || wanted == 0) return 62;
+    if (mvs_run(MVS_PLACE_LOW, script, 18, out, 44, &wanted) != MVS_STATUS_TOO_SMALL || wanted != 45 || out[0] != 7) return 61;
+    if (mvs_run(MVS_PLACE_LOW, script, 0, out, 64, &wanted) != MVS_STATUS_SCRIPT_FAULT || wanted == 0) return 62;
     memset(longest, '\n', sizeof longest);
     wanted = 7;
-    if (mvs_run(MVS_LOW, longest, sizeof longest, out, 64, &wanted) != MVS_TOO_LONG || wanted != 7) return 63;
+    if (mvs_run(MVS_PLACE_LOW, longest, sizeof longest, out, 64, &wanted) != MVS_STATUS_TOO_LONG || wanted != 7) return 63;
     return 0;
 }
 
@@ -227,5 +436,9 @@ int main(void) {
     if (!failed) failed = areas();
     if (!failed) failed = lists();
     if (!failed) failed = pools_and_tasks();
+    if (!failed) failed = fields();
+    if (!failed) failed = surface();
+    if (!failed) failed = tried();
+    if (!failed) failed = begun();
     return failed;
 }

@@ -1,4 +1,4 @@
-"""The library for C, C++ and Rust: what programs print and answer that are linked with it.
+"""The library for C, C++, Rust and Python: what programs print and return that are linked with it, statically or as a shared library.
 
 The archive is made by tools/library, which proves the crate again where `rt ci` has kept nothing of it. The cases of a compiler, of cargo
 or of valgrind that is not on the machine are not tried.
@@ -8,6 +8,7 @@ import os
 import re
 import shutil
 import subprocess
+import sys
 import tempfile
 from pathlib import Path
 
@@ -28,10 +29,21 @@ SVC 5: R15=00000000 R1=00006000 completion 000000
 SVC 4: R15=00000004 R1=00006000 completion 000000
 SVC 5: R15=00000004 R1=00006000 completion 000000
 """
+IN_CPLUSPLUS = """\
+region: OK, STEP_BEGAN 00000000 0
+obtain: OK, GRANTED 00006000 104
+attach: OK, ATTACHED 00000000 0
+write: OK, ? 00000000 0
+refused: location
+SUB has 0: 0 bytes
+SUB has 7: 104 bytes
+abend: OK, ABENDED 00000000 0
+SUB ended too
+"""
 
 
 def printed(words, path):
-    """Whether a program prints what stands beside an example, and ends with the status of the job."""
+    """Whether a program prints the stored output of an example, and ends with the status of the job."""
     wanted = path.with_suffix(".out").read_text()
     lines = wanted.splitlines()
     status = 12 if lines[-1:] == ["JOB FAULT RC 12"] else 8 if "STEP ENDED RC 8" in lines else 0
@@ -48,7 +60,7 @@ def exported(archive):
     """Whether the archive exports the functions of mvs.h and no other name, and each of them is declared there."""
     listed = subprocess.run(["nm", "-g", "--defined-only", archive], capture_output=True, text=True, check=True).stdout
     names = {line.split()[-1] for line in listed.splitlines() if len(line.split()) == 3}
-    declared = set(re.findall(r"^\w+ (mvs_\w+)\(", (TOP / "include/mvs.h").read_text(), re.MULTILINE))
+    declared = set(re.findall(r"^MVS_API \w+ (mvs_\w+)\(", (TOP / "include/mvs.h").read_text(), re.MULTILINE))
     return names == declared
 
 
@@ -89,29 +101,118 @@ def by_valgrind(program):
     return subprocess.run(words, capture_output=True, timeout=600).returncode == 0
 
 
-def by_cargo(archive, folder):
-    """What the example in Rust prints."""
+CARGO_CASES = ("tests", "documents", *(f"replay, {path.name}" for path in EXAMPLES))
+
+
+def by_cargo(folder):
+    """What the crates in Rust do: their tests, with the shared library too, their documents, and their example."""
     if not shutil.which("cargo"):
-        yield from lacking("cargo", [f"cargo, {path.name}" for path in EXAMPLES])
+        yield from lacking("cargo", [f"cargo, {name}" for name in CARGO_CASES])
         return
-    target = folder / "target"
-    env = os.environ | {"MVS_LIB": str(archive.parent), "CARGO_TARGET_DIR": str(target)}
-    words = ["cargo", "build", "--offline", "--quiet", "--manifest-path", TOP / "examples/rust/Cargo.toml"]
-    crate = folder / "rust"
-    shutil.copytree(TOP / "examples/rust", crate, ignore=shutil.ignore_patterns("target", "Cargo.lock"))
-    words[-1] = crate / "Cargo.toml"
-    subprocess.run(words, check=True, env=env)
+    crates = folder / "rust"
+    shutil.copytree(TOP / "bindings/rust", crates, ignore=shutil.ignore_patterns("target", "Cargo.lock"))
+    env = os.environ | {"MVS_LIB": str(folder), "CARGO_TARGET_DIR": str(folder / "target"), "RUSTFLAGS": "-Dwarnings", "RUSTDOCFLAGS": "-Dwarnings"}
+    cargo = lambda *words: subprocess.run(["cargo", *words, "--offline", "--quiet"], cwd=crates, env=env, capture_output=True)  # noqa: E731
+    yield "cargo, tests", cargo("test").returncode == 0
+    yield "cargo, documents", cargo("doc", "--no-deps").returncode == 0
+    cargo("build", "--examples")
     for path in EXAMPLES:
-        yield f"cargo, {path.name}", printed([target / "debug/mvs_replay"], path)
+        yield f"cargo, replay, {path.name}", printed([folder / "target/debug/examples/replay"], path)
+
+
+def in_python(folder):
+    """What the tests of the module in Python do, from its sources and from its wheel."""
+    words = [sys.executable, "-m", "unittest", "discover", "-s", str(TOP / "bindings/python/tests")]
+    env = os.environ | {"MVS_LIBRARY": str(folder / "libmvs.so.0"), "PYTHONPATH": str(TOP / "bindings/python/src"), "PYTHONDONTWRITEBYTECODE": "1"}
+    yield "Python, tests", subprocess.run(words, env=env, capture_output=True, timeout=600).returncode == 0
+    subprocess.run([TOP / "tools/wheel", folder / "libmvs.so.0", folder], check=True, capture_output=True)
+    wheel, unpacked = next(folder.glob("*.whl")), folder / "wheel"
+    pip = [sys.executable, "-m", "pip", "install", "--no-index", "--no-deps", "--no-compile", "--quiet", "--target", unpacked, wheel]
+    if subprocess.run([sys.executable, "-m", "pip", "--version"], capture_output=True).returncode:
+        yield "Python, wheel", Lacking("pip")
+        return
+    subprocess.run(pip, capture_output=True, timeout=600)
+    del env["MVS_LIBRARY"]
+    yield "Python, wheel", subprocess.run(words, env=env | {"PYTHONPATH": str(unpacked)}, capture_output=True, timeout=600).returncode == 0
 
 
 def in_cplusplus(archive, folder):
-    """Whether the library answers in a program of C++ as it does in one of C."""
+    """What the library does in programs of C++: as in C, and through mvs.hpp."""
     if not shutil.which("g++"):
-        return Lacking("g++")
+        yield from lacking("g++", ["C++, each answer", "C++, mvs.hpp"])
+        return
     words = ["g++", "-x", "c++", "-std=c++11", "-Wno-missing-field-initializers"]
     program = compiled(words, TOP / "tests/library.c", archive, folder / "c++")
-    return subprocess.run([program], timeout=600).returncode == 0
+    yield "C++, each answer", subprocess.run([program], timeout=600).returncode == 0
+    program = compiled(["g++", "-std=c++17", "-pedantic", *SANITIZED], TOP / "examples/cpp/session.cpp", archive, folder / "session")
+    ran = subprocess.run([program], capture_output=True, text=True, timeout=600)
+    yield "C++, mvs.hpp", (ran.returncode, ran.stdout, ran.stderr) == (0, IN_CPLUSPLUS, "")
+
+
+def shared(folder):
+    """What the shared library does in a program of C, and in Python."""
+    library = folder / "libmvs.so.0"
+    if shutil.which("gcc"):
+        program = compiled(["gcc", "-std=c99"], TOP / "tests/library.c", library, folder / "shared")
+        env = os.environ | {"LD_LIBRARY_PATH": str(folder)}
+        yield "shared, each answer", subprocess.run([program], env=env, timeout=600).returncode == 0
+    else:
+        yield "shared, each answer", Lacking("gcc")
+    listed = subprocess.run(["nm", "-D", "--defined-only", library], capture_output=True, text=True, check=True).stdout
+    yield "shared, versions", {line.split("@@")[-1] for line in listed.splitlines() if " T " in line} == {"MVS_0"}
+
+
+S390 = {"obtain": "2", "tree": "4"}
+
+
+def on_s390(archive, folder):
+    """Whether the S/390 programs print what the library prints of a script with the same requests."""
+    assembler, loader = shutil.which("s390x-linux-gnu-as"), shutil.which("s390x-linux-gnu-ld")
+    if not (assembler and loader and shutil.which("gcc") and Path("/usr/include/unicorn/unicorn.h").exists()):
+        yield from lacking("binutils-s390x-linux-gnu and libunicorn-dev", [f"S/390, {name}" for name in S390])
+        return
+    sources, machine = TOP / "examples/s390", folder / "run"
+    subprocess.run(["gcc", "-std=c99", *FLAGS, "-o", machine, sources / "run.c", archive, "-lunicorn"], check=True)
+    for name, pages in S390.items():
+        image = folder / f"{name}.bin"
+        subprocess.run([assembler, "-mesa", "-m31", "-o", folder / f"{name}.o", sources / f"{name}.s"], check=True)
+        subprocess.run([loader, "-m", "elf_s390", "-Ttext=0x900000", "--oformat=binary", "-o", image, folder / f"{name}.o"], check=True)
+        ran = subprocess.run([machine, image, pages], capture_output=True, text=True, timeout=600)
+        script = subprocess.run([folder / "gcc replay", "whole"], stdin=(sources / f"{name}.job").open(), capture_output=True, text=True)
+        yield f"S/390, {name}", script.stdout != "" and (ran.returncode, ran.stdout, ran.stderr) == (script.returncode, script.stdout, "")
+
+
+def agrees(archive, folder):
+    """Whether random requests by values have the replies of the same requests as lines."""
+    if not shutil.which("gcc"):
+        return Lacking("gcc")
+    program = compiled(["gcc", "-std=c99"], TOP / "tests/differential.c", archive, folder / "differential")
+    return subprocess.run([program, "1", "1000"], capture_output=True, timeout=600).returncode == 0
+
+
+def keeps_promises(archive, folder):
+    """Whether random calls keep what the header promises, and the sanitizers see nothing."""
+    if not shutil.which("gcc"):
+        return Lacking("gcc")
+    program = compiled(["gcc", "-std=c99", *SANITIZED], TOP / "tests/fuzz.c", archive, folder / "fuzz")
+    return subprocess.run([program, "1", "2000"], capture_output=True, timeout=600).returncode == 0
+
+
+def has_no_data(archive):
+    """Whether the archive has no data that calls could share: nothing that can be written but one byte, which nothing writes."""
+    listed = subprocess.run(["nm", archive], capture_output=True, text=True, check=True).stdout
+    return set(re.findall(r"(?m)^\w+ [bBdDcC] (.*)$", listed)) <= {"nothing"}
+
+
+def is_hidden(archive, folder):
+    """Whether a plugin that contains the archive exports nothing of it."""
+    if not shutil.which("gcc"):
+        return Lacking("gcc")
+    plugin = folder / "plugin.so"
+    words = ["gcc", "-std=c99", "-shared", "-fPIC", "-Dmain=replay", *FLAGS]
+    subprocess.run([*words, "-o", plugin, TOP / "examples/c/replay.c", archive], check=True)
+    listed = subprocess.run(["nm", "-D", "--defined-only", plugin], capture_output=True, text=True, check=True).stdout
+    return "replay" in listed and "mvs_" not in listed
 
 
 def results():
@@ -120,9 +221,12 @@ def results():
         folder = Path(name)
         subprocess.run([TOP / "tools/library", folder], check=True)
         archive = folder / "libmvs.a"
-        found = [("exported names", exported(archive))]
+        found = [("exported names", exported(archive)), ("no shared data", has_no_data(archive))]
         for compiler, words in BUILDS.items():
             found += by_compiler(compiler, words, archive, folder)
-        found.append(("C++, each answer", in_cplusplus(archive, folder)))
+        found += in_cplusplus(archive, folder)
         found.append(("valgrind", by_valgrind(folder / "gcc library")))
-        return found + list(by_cargo(archive, folder))
+        found.append(("values and lines", agrees(archive, folder)))
+        found.append(("random calls", keeps_promises(archive, folder)))
+        found.append(("hidden in a plugin", is_hidden(archive, folder)))
+        return [*found, *shared(folder), *on_s390(archive, folder), *in_python(folder), *by_cargo(folder)]

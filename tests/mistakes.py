@@ -9,7 +9,7 @@ CASES = Path(__file__).with_name("mistakes.txt")
 
 
 def tells(printed, said):
-    """Whether standard error tells the fault that standard output ends with, by its line and its code, and nothing else."""
+    """Whether standard error reports the fault that standard output ends with, by its line and its code, and nothing else."""
     lines = printed.splitlines()
     if lines[-1:] != ["JOB FAULT RC 12"]:
         return said == ""
@@ -29,13 +29,13 @@ def shown(line):
 
 
 def said(line, first, below):
-    """All that is said of a line."""
+    """All that is reported of a line."""
     column = int(first.split(":")[1])
     return f"-:{first}\n    {shown(line)}\n{' ' * (column + 3)}{below}\n"
 
 
 def cases():
-    """Each line, with all that is said of it and whether it is the second one of its script."""
+    """Each line, with all that is reported of it and whether it is the second one of its script."""
     for case in CASES.read_text().split("\n\n")[1:]:
         text, first, below = case.rstrip("\n").split("\n")
         line = written(text)
@@ -43,7 +43,7 @@ def cases():
 
 
 def of_line(program, line, expected, second):
-    """Whether the line is told as expected, and standard output has its code and the end alone."""
+    """Whether the line is reported as expected, and standard output has only its code and the end."""
     script = (REGION if second else b"") + line + b"\n"
     ran = subprocess.run([program], input=script, capture_output=True, timeout=600)
     code = expected.split(": ")[1]

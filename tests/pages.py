@@ -3,6 +3,7 @@
 The browser is Chromium: `apt-get install -y chromium` where it is missing.
 """
 
+import os
 import re
 import subprocess
 import tempfile
@@ -17,7 +18,7 @@ from cases import each, seeds, whole
 TOP = Path(__file__).resolve().parent.parent
 PAGE = 4096
 RANDOM_SCRIPTS = 200
-# At most so many times what the calibration page takes in the same browser: a page of 2,000 statements until it is open and for a
+# At most this many times what the calibration page takes in the same browser: a page of 2,000 statements until it is open and for a
 # step, and one of 10,240 pages until it is open.
 OPENS, STEPS, OPENS_LARGE = 12, 4, 4
 
@@ -65,7 +66,7 @@ def scripts():
 
 
 def statements(path):
-    """A script without the answers behind its statements."""
+    """A script without the answers after its statements."""
     return "".join(line.partition(" => ")[0] + "\n" for line in path.read_text().splitlines()).encode()
 
 
@@ -109,7 +110,7 @@ def reported(printed):
 
 
 def as_reported(view, statement):
-    """Whether the drawn pages of each subpool that a REPORT SP tells hold what it says. Pages that are drawn together have no number."""
+    """Whether the drawn pages of each subpool that a REPORT SP prints hold what it prints. Pages that are drawn together have no number."""
     drawn = view.tell(DRAWN)
     for subpool, held in reported(statement["printed"]).items():
         pages = [page for page in drawn if page["subpool"] == subpool]
@@ -123,7 +124,7 @@ STATE = """({at:document.getElementById("position").textContent.split(" ")[0]|0,
 
 
 def in_browser(view, path, count):
-    """Whether a page opens with a picture and without an error, agrees with its printing, and has each of so many statements reached by
+    """Whether a page opens with a picture and without an error, agrees with its printing, and has each of a number of statements reached by
     keys, with what REPORT printed drawn."""
     view.open(path)
     if view.tell('document.documentElement.className') != "on" or view.tell('!!document.getElementById("wrong")'):
@@ -187,7 +188,7 @@ TEXTS = """(function(){var found={};
 
 
 def legible(program, folder, view):
-    """Texts stand out from their ground, by the ratio that WCAG asks for, light and dark."""
+    """Texts differ from their ground, by the ratio that WCAG asks for, light and dark."""
     page = folder / "legible.html"
     page.write_bytes(called(program, (TOP / "examples/abend_tree.job").read_bytes(), "--page")[0])
     for scheme in ("light", "dark"):
@@ -204,12 +205,19 @@ def opened(view, page):
     return view.tell("(performance.getEntriesByType('navigation')[0].loadEventEnd)/1000")
 
 
+def compared(view, plain, page):
+    """How much longer a page takes to open than the calibration page, and its seconds: the best of five pairs, since a busy machine
+    may hold up either page."""
+    pairs = [(opened(view, plain), opened(view, page)) for _ in range(5)]
+    return min((took / base, took) for base, took in pairs)
+
+
 MOVES = """(function(){var took=[];for(var i=0;i<20;i++){var b=performance.now();
   dispatchEvent(new KeyboardEvent("keydown",{key:"ArrowRight"}));document.body.getBoundingClientRect();took.push(performance.now()-b)}
   took.sort(function(a,b){return a-b});return took[10]/1000})()"""
 
 
-# A page of 2,000 items, of which a script draws each again: by it the speed of the browser on this machine at this time is measured.
+# A page of 2,000 items, each of which a script draws again: it measures the speed of the browser on this machine at this time.
 CALIBRATION = """<!DOCTYPE html><meta charset="utf-8"><body>%s<svg id="now" width="900" height="900"></svg><script>
 var items=document.querySelectorAll("article"),now=document.getElementById("now");
 function draw(from,count){now.textContent="";for(var i=0;i<count;i++){
@@ -221,17 +229,17 @@ draw(0,2000);var at=0;addEventListener("keydown",function(){draw(++at,200)})</sc
 
 
 def quick(program, folder, view):
-    """Whether a page of 2,000 statements, and one of 10,240 pages, take at most so many times what the calibration page takes."""
+    """Whether a page of 2,000 statements, and one of 10,240 pages, take at most a number of times what the calibration page takes."""
     plain = folder / "calibration.html"
     plain.write_text(CALIBRATION)
-    opens = min(opened(view, plain) for _ in range(3))
+    opened(view, plain)
     steps = min(view.tell(MOVES) for _ in range(3))
     script = called(program, b"", "--random", "1", "--lines", "2000")[0]
     page = folder / "long.html"
     page.write_bytes(called(program, script, "--page")[0])
-    took = min(opened(view, page) for _ in range(3))
-    print(f"a page of 2,000 statements opens in {took:.2f} s, {took / opens:.1f} times the calibration page", flush=True)
-    yield "2,000 statements open", took < OPENS * opens and view.errors == []
+    times, took = compared(view, plain, page)
+    print(f"a page of 2,000 statements opens in {took:.2f} s, {times:.1f} times the calibration page", flush=True)
+    yield "2,000 statements open", times < OPENS and view.errors == []
     view.tell('dispatchEvent(new KeyboardEvent("keydown",{key:"End"}));for(var i=0;i<60;i++)dispatchEvent(new KeyboardEvent("keydown",{key:"PageUp"}))')
     move = min(view.tell(MOVES) for _ in range(3))
     print(f"a step takes {1000 * move:.1f} ms, {move / steps:.1f} times one of the calibration page", flush=True)
@@ -240,9 +248,9 @@ def quick(program, folder, view):
     lines += [f"JOB STORAGE OBTAIN,LENGTH={PAGE * 7},ADDR=A{k},SP={k % 100},LOC=31" for k in range(1000)]
     large = folder / "large.html"
     large.write_bytes(called(program, ("\n".join(lines) + "\n").encode(), "--page")[0])
-    took = min(opened(view, large) for _ in range(3))
-    print(f"10,240 pages open in {took:.2f} s, {took / opens:.1f} times the calibration page", flush=True)
-    yield "10,240 pages open", took < OPENS_LARGE * opens and view.errors == []
+    times, took = compared(view, plain, large)
+    print(f"10,240 pages open in {took:.2f} s, {times:.1f} times the calibration page", flush=True)
+    yield "10,240 pages open", times < OPENS_LARGE and view.errors == []
 
 
 MARKUP = b"""* </p><script>document.title="taken"</script><img src=x onerror=alert(1)>
@@ -261,6 +269,17 @@ def hostile(program, folder, view):
     view.open(page)
     inert = view.tell('document.title!=="taken"&&document.scripts.length===1&&document.images.length===0')
     yield "markup in a browser", inert and view.errors == [] and not view.tell('!!document.getElementById("wrong")') and shows(program, MARKUP)
+
+
+def named(program, folder, view):
+    """Pages whose file names are not ASCII, or not UTF-8."""
+    page = called(program, b"JOB REGION BELOW=1\n", "--page")[0]
+    for name, title in ((b"pr\xc3\xbcfung.html", "pr\u00fcfung"), (b"pr\xfcfung.html", "pr%FCfung")):
+        path = folder / os.fsdecode(name)
+        path.write_bytes(page)
+        view.open(path)
+        drawn = view.tell("document.documentElement.className") == "on" and view.errors == []
+        yield f"a page named {name}", drawn and view.tell("document.title") == title
 
 
 FIRST = b"JOB REGION BELOW=1\n"
@@ -307,4 +326,4 @@ def in_a_browser(program):
         return [("no browser: apt-get install -y chromium", False)]
     with tempfile.TemporaryDirectory() as name, browser.Browser() as view:
         folder = Path(name)
-        return [case for part in (drawn, without_script, legible, quick, hostile) for case in part(program, folder, view)]
+        return [case for part in (drawn, without_script, legible, quick, hostile, named) for case in part(program, folder, view)]

@@ -1,9 +1,9 @@
 #!/usr/bin/env python3
 """The plain machine as an emulator of its own: it reads a script from standard input and prints what it answers.
 
-`tests/plain_emulator.py [low|high|page|random] [WRONG]`: where areas lie, `page` for the highest doublewords in the lowest page,
-`random` for any place that serves; and one of the wrong variants of `WRONG`, each of which answers something that no machine of
-docs/MODEL.md answers. It knows scripts without faults, and lines with an operand that is empty.
+`tests/plain_emulator.py [low|high|page|random] [WRONG]`: where areas are, `page` for the highest doublewords in the lowest page,
+`random` for any place that serves; and one of the wrong variants of `WRONG`, each of which answers what no machine of
+docs/MODEL.md answers. Faults are those that conformance/readers/read_script.py finds.
 """
 
 import random
@@ -11,12 +11,10 @@ import re
 import sys
 from pathlib import Path
 
-sys.path.insert(0, str(Path(__file__).resolve().parent))
+HERE = Path(__file__).resolve().parent
+sys.path[:0] = [str(HERE), str(HERE.parent / "conformance/readers")]
 sys.dont_write_bytecode = True
 from plain_machine import Abend, Machine  # noqa: E402
-
-class Fault(Exception):
-    pass
 
 
 class Placed(Machine):
@@ -54,7 +52,7 @@ class SharedPages(Placed):
 
 
 class LowFill(Placed):
-    """An area is filled with X'FF' in place of the fill byte."""
+    """An area is filled with X'FF' instead of the fill byte."""
 
     def hold(self, place, subpool, is_pool):
         super().hold(place, subpool, is_pool)
@@ -63,7 +61,7 @@ class LowFill(Placed):
 
 
 class NoRounding(Placed):
-    """An area is a doubleword longer than is wanted."""
+    """An area is a doubleword longer than was requested."""
 
     def choose(self, subpool, most, least, *how):
         return super().choose(subpool, most + 8, least, *how)
@@ -124,7 +122,7 @@ class MovesUpwards(Placed):
 
 
 class OffByDoubleword(Placed):
-    """WHERE tells an address that is 4 too high."""
+    """WHERE prints an address that is 4 too high."""
 
     told_too_high = 4
 
@@ -176,19 +174,12 @@ def address(text):
 
 
 class Statement:
+    """A line without a fault: its operands as they are written."""
+
     def __init__(self, line):
-        words = line.split(" ")
-        words = [word for word in words if word]
-        if line.startswith(" ") or len(words) < 2:
-            raise Fault("JS03")
+        words = [word for word in line.split(" ") if word]
         self.task, self.operation, self.field = words[0], words[1], words[2] if len(words) > 2 else ""
-        if self.operation not in DOES:
-            raise Fault("JS03")
-        if self.operation == "RETURN":
-            self.field = ""
-        parts = operands(self.field) if self.field else []
-        if "" in parts or any(part.endswith("=") for part in parts):
-            raise Fault("JS04")
+        parts = operands(self.field) if self.field and self.operation != "RETURN" else []
         self.plain = [part for part in parts if not re.match(r"[A-Z]+=", part)]
         self.keys = dict(part.split("=", 1) for part in parts if re.match(r"[A-Z]+=", part))
 
@@ -328,29 +319,24 @@ def begin(kind, s):
 
 def answers(kind, lines):
     """The printed lines of a script."""
+    import read_script  # a copy of only the tests has no folder conformance
+
     machine = None
-    for number, line in enumerate(lines, 1):
-        if not line.strip(" ") or line.startswith("*"):
-            continue
-        try:
-            statement = Statement(line)
-            if machine is None and statement.operation != "REGION":
-                raise Fault("JS09")
-        except Fault as fault:
-            yield from (f"{number} {fault}", "JOB FAULT RC 12")
-            return
-        if statement.operation == "REGION":
-            if machine is not None:
-                yield f"STEP ENDED RC {8 if machine.some_abend else 0}"
-            machine = begin(kind, statement)
-            pages = [region.pages for region in machine.regions]
-            yield f"{number} {statement.task} REGION BELOW {pages[0]} ABOVE {pages[1]}"
-            continue
-        yield from (f"{number} {said}" for said in machine.says(statement.task, *DOES[statement.operation](machine, statement)))
-    if machine is None:
-        yield from (f"{len(lines) + 1} JS09", "JOB FAULT RC 12")
-    else:
-        yield f"STEP ENDED RC {8 if machine.some_abend else 0}"
+    try:
+        for found in read_script.read(line.encode("latin-1") for line in lines):
+            statement, number = Statement(lines[found.number - 1]), found.number
+            if statement.operation == "REGION":
+                if machine is not None:
+                    yield f"STEP ENDED RC {8 if machine.some_abend else 0}"
+                machine = begin(kind, statement)
+                pages = [region.pages for region in machine.regions]
+                yield f"{number} {statement.task} REGION BELOW {pages[0]} ABOVE {pages[1]}"
+                continue
+            yield from (f"{number} {said}" for said in machine.says(statement.task, *DOES[statement.operation](machine, statement)))
+    except read_script.Fault as fault:
+        yield from (str(fault), "JOB FAULT RC 12")
+        return
+    yield f"STEP ENDED RC {8 if machine.some_abend else 0}"
 
 
 def emulator(placement="low", wrong=None, seed=0, order="first"):

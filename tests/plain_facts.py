@@ -1,5 +1,5 @@
 """What requests did that were granted, and which names have the addresses of reasons in their places, as the plain machine has it:
-the lines of facts behind the answers of a script."""
+the lines of facts after the answers of a script."""
 
 import re
 from itertools import groupby
@@ -9,15 +9,15 @@ from plain_machine import part_length, round8
 
 PAGE_DOUBLEWORDS = 512
 FACTS = re.compile(
-    r"\* (\S+ is \d+ bytes at .*|No greater length .*|SP \d+ of \S+ is new\. .*|It lies in pages .*"
-    r"|\d+ pages? (is|are) taken .*|\d+ pages? holds? nothing .*|SP \d+ of \S+ holds nothing .*|\S+ is a cell of pool .*"
-    r"|Pool \S+ gets a part .*|\S+ owns SP .*|\S+ shares SP \d+ of .*|SP \d+ of \S+ stays: .*"
-    r"|[0-9A-F]{8} is [A-Z@#$][A-Z0-9@#$]*, \d+ bytes that .*|[0-9A-F]{8} lies \d+ bytes? into .*)"
+    r"\* (\S+ is \d+ bytes at .*|No greater length .*|SP \d+ of \S+ is new\. .*|It fits in pages .*"
+    r"|\d+ pages? (was|were) newly assigned.*|\d+ pages? became free.*|SP \d+ of \S+ is now empty.*|\S+ is a cell of pool .*"
+    r"|Pool \S+ has a new part .*|\S+ now owns SP .*|\S+ shares SP \d+ of .*|SP \d+ of \S+ remains: .*"
+    r"|[0-9A-F]{8} is [A-Z@#$][A-Z0-9@#$]*, \d+ bytes obtained .*|[0-9A-F]{8} is \d+ bytes? into .*)"
 )
 GRANTED = re.compile(r"RC 0( LENGTH \S+)?|CELL|ATTACHED")
 ADDRESSES = re.compile(
-    r"\* (?:([0-9A-F]{8}) (?:is free|is held|lies in pool|is not on)|The members .* the doubleword at ([0-9A-F]{8})"
-    r"|No taken cell .* begins at ([0-9A-F]{8})).*"
+    r"\* (?:([0-9A-F]{8}) (?:is free|is held|is in pool|is not on)|The members .* the doubleword at ([0-9A-F]{8})"
+    r"|No allocated cell .* begins at ([0-9A-F]{8})).*"
 )
 
 
@@ -39,7 +39,7 @@ def label(machine, subpool):
 
 
 class Watcher:
-    """A machine before a statement, as far as the facts of it need it."""
+    """A machine before a statement: what its facts need."""
 
     def __init__(self, machine, s):
         self.machine, self.s = machine, s
@@ -54,17 +54,17 @@ class Watcher:
         address, length = self.machine.names[name]
         said = f"{name} is {length} bytes at {address:08X} in {label(self.machine, self.machine.entry(self.s.task, self.s.number()))}"
         if least != most:
-            yield f"{said}, of {least} to {most} wanted. (rule 20)"
+            yield f"{said}, {least} to {most} requested. (rule 20)"
         elif length == most:
             yield f"{said}. (rule 24)"
         else:
-            yield f"{said}, {length - most} of them by rounding. (rule 3)"
+            yield f"{said}, {length - most} of them added by rounding. (rule 3)"
 
     def obtained(self, names, lengths):
         for name, (least, most) in zip(names, lengths):
             yield from self.area(name, least, most)
             if self.machine.names[name][1] < round8(most):
-                yield f"No greater length had a place; free pages before: {self.free[0]} below, {self.free[1]} above. (rule 20)"
+                yield f"No greater length fits; free pages before: {self.free[0]} below, {self.free[1]} above. (rule 20)"
         yield from self.new_subpool()
         yield self.taken()
 
@@ -75,13 +75,13 @@ class Watcher:
     def taken(self):
         n = sum(self.free) - sum(free_pages(self.machine))
         if n == 0:
-            return "It lies in pages that the subpool has. (rule 4)"
-        return pages(n, "is taken that held nothing. (rule 5)", "are taken that held nothing. (rule 5)")
+            return "It fits in pages that the subpool already has. (rule 4)"
+        return pages(n, "was newly assigned. (rule 5)", "were newly assigned. (rule 5)")
 
     def freed(self):
         n = sum(free_pages(self.machine)) - sum(self.free)
         if n:
-            yield pages(n, "holds nothing any more. (rule 5)", "hold nothing any more. (rule 5)")
+            yield pages(n, "became free. (rule 5)", "became free. (rule 5)")
 
     def part(self, name):
         pool = self.machine.pools[name]
@@ -89,7 +89,7 @@ class Watcher:
             address, count = pool.parts[-1]
             cells = "1 cell" if count == 1 else f"{count} cells"
             length = part_length(count, pool.size)
-            yield f"Pool {name} gets a part for {cells} of {pool.size} bytes: {length} bytes at {address:08X}. (rule 57)"
+            yield f"Pool {name} has a new part for {cells} of {pool.size} bytes: {length} bytes at {address:08X}. (rule 57)"
 
     def pool(self, form):
         name = self.s.keys["CPID"]
@@ -109,20 +109,20 @@ class Watcher:
         if "LV" not in self.s.keys and "LENGTH" not in self.s.keys and "A" not in self.s.keys:
             subpool = self.machine.entry(self.s.task, self.s.number())
             if subpool is not None:
-                yield f"{label(self.machine, subpool)} holds nothing any more, and stays. (rule 34)"
+                yield f"{label(self.machine, subpool)} is now empty. (rule 34)"
         yield from self.freed()
 
     def attached(self):
         name = self.s.keys["TASK"]
         for number, subpool in sorted(self.machine.tasks[name].table.items()):
             if self.machine.owner[subpool] == name:
-                yield f"{name} owns SP {number}, which {self.s.task} gave. (rule 43)"
+                yield f"{name} now owns SP {number}, given by {self.s.task}. (rule 43)"
             else:
                 yield f"{name} shares {label(self.machine, subpool)}. (rule 44)"
 
     def stays(self):
         """The subpools that an ended task had and that stay."""
-        return sorted(f"{name} stays: {self.s.task} shared it. (rule 53)" for name, owner in self.has.items() if owner in self.machine.tasks)
+        return sorted(f"{name} remains: {self.s.task} shared it. (rule 53)" for name, owner in self.has.items() if owner in self.machine.tasks)
 
     def facts(self, answer):
         """The facts of a statement that is answered so."""
@@ -144,7 +144,7 @@ class Watcher:
 
 
 def addresses(printed):
-    """The addresses that are told by the reasons in printed lines, by the numbers of the lines that are refused."""
+    """The addresses in the reasons of printed lines, by the numbers of the lines that are refused."""
     found, number = {}, None
     for line in printed.splitlines():
         reason = ADDRESSES.fullmatch(line)
@@ -169,14 +169,14 @@ def naming(machine, numbers, address):
         number, name = max(having)
         first, length = machine.names[name]
         if address == first:
-            yield f"{address:08X} is {name}, {length} bytes that line {number} obtained. (rule 37)"
+            yield f"{address:08X} is {name}, {length} bytes obtained in line {number}. (rule 37)"
         else:
             into = "1 byte" if address == first + 1 else f"{address - first} bytes"
-            yield f"{address:08X} lies {into} into {name}, {length} bytes at {first:08X} that line {number} obtained. (rule 37)"
+            yield f"{address:08X} is {into} into {name}, {length} bytes at {first:08X} obtained in line {number}. (rule 37)"
 
 
 def told(lines, placement, told_addresses):
-    """What a script without faults prints, with the lines of its facts, where its reasons tell these addresses."""
+    """What a script without faults prints, with the lines of its facts, where its reasons have these addresses."""
     machine, numbers = None, {}
     for number, line in enumerate(lines, 1):
         if not line.strip(" ") or line.startswith("*"):
@@ -202,5 +202,5 @@ def told(lines, placement, told_addresses):
 def without_reasons(printed):
     """The printed lines, but for those with an asterisk that are no fact; of what stays at an end the order does not count."""
     lines = [line for line in printed.splitlines() if not line.startswith("*") or FACTS.fullmatch(line)]
-    runs = (list(run) for _, run in groupby(lines, lambda line: " stays: " in line))
-    return [line for run in runs for line in (sorted(run) if " stays: " in run[0] else run)]
+    runs = (list(run) for _, run in groupby(lines, lambda line: " remains: " in line))
+    return [line for run in runs for line in (sorted(run) if " remains: " in run[0] else run)]

@@ -1,7 +1,7 @@
 """The storage machine of docs/MODEL.md once more, as plain as it can be: a list of doublewords, a list of bytes, dictionaries.
 
 The tests run scripts on it and on the program and compare what both print. It looks at every place one by one, keeps no
-free queues, no chains and no headers, and is written from the documents alone.
+free queues, no chains and no headers, and is written only from the documents.
 """
 
 from dataclasses import dataclass, field
@@ -46,7 +46,7 @@ class Region:
         return self.base + PAGE * self.pages
 
     def runs(self, subpool):
-        """The runs of addresses of which the subpool may take each doubleword."""
+        """The runs of addresses whose doublewords the subpool may take."""
         free = []
         for page in range(self.pages):
             held = self.holder[512 * page : 512 * page + 512]

@@ -1,9 +1,8 @@
-"""Why requests want a place, as the plain machine has it: the lines of these reasons behind the answers of a script."""
+"""Why requests get no storage, as the plain machine has it: the lines of these reasons after the answers of a script."""
 
 import re
 
 from plain_emulator import DOES, Placed, Statement, begin
-from plain_machine import round8
 
 PAGE_DOUBLEWORDS = 512
 EVERYTHING = 1 << 31
@@ -19,9 +18,9 @@ def free_runs(page):
 
 
 class Lacking(Placed):
-    """A machine that keeps what the last place that it had not was wanted for, and what room there was."""
+    """A machine that keeps the last request for which it had no place, and the room that there was."""
 
-    lack, alone, part, held = None, None, None, 0
+    lack, part, held = None, None, 0
 
     def room(self, subpool, start, within, either):
         longest = self.choose(subpool, EVERYTHING, 8, start, within, either)
@@ -36,16 +35,8 @@ class Lacking(Placed):
             self.lack = least, *self.room(subpool, start, within, either)
         return place
 
-    def members_alone(self, task, number, lengths, start):
-        """The first member of a list that has no place by itself, and what lacks."""
-        for k, length in enumerate(lengths, 1):
-            if self.choose(self.subpool(task, number)[0], round8(length), round8(length), start, None, False) is None:
-                return k, self.lack
-        return None
-
     def obtain_list(self, task, names, lengths, number=0, start=3, conditional=False):
-        self.valid(number, "804")
-        self.alone, self.held = self.members_alone(task, number, lengths, start), 0
+        self.held = 0
         return super().obtain_list(task, names, lengths, number, start, conditional)
 
     def grant_part(self, pool, count):
@@ -58,19 +49,17 @@ class Lacking(Placed):
 
 
 def texts(machine, s):
-    """What is said of a statement that wants a place."""
+    """The reason of a statement that gets no storage."""
     least, longest, room = machine.lack
     if s.operation == "CPOOL":
         cells, size = machine.part
-        yield f"* Pool {s.keys['CPID']}: no place for {cells} cells of {size} bytes; the longest has {longest} bytes{room} (rule 59)"
+        yield f"* Pool {s.keys['CPID']}: no room for {cells} cells of {size} bytes; the largest area that fits has {longest} bytes{room} (rule 59)"
     elif s.plain[0] not in ("LC", "LU"):
-        yield f"* {least} bytes wanted in SP {s.number()}, and at most {longest} have such a place{room} (rule 12)"
-    elif machine.alone:
-        member, (least, longest, room) = machine.alone
-        yield f"* Member {member} of the list wants {least} bytes, and at most {longest} have such a place{room} (rule 22)"
+        yield f"* {least} bytes requested in SP {s.number()}, but the largest area that fits has {longest} bytes{room} (rule 12)"
     else:
-        said = f"* Member {machine.held + 1} of the list wants {least} bytes, and behind those before it at most {longest}"
-        yield f"{said} have such a place{room} (rule 22)"
+        before = "after the members before it " if machine.held else ""
+        said = f"* Member {machine.held + 1} of the list requests {least} bytes, but {before}the largest area that fits has {longest} bytes"
+        yield f"{said}{room} (rule 22)"
 
 
 def kind(placement):
@@ -78,7 +67,7 @@ def kind(placement):
 
 
 def told(lines, placement):
-    """What a script without faults tells of places that are wanted."""
+    """What a script without faults prints of shortages."""
     machine = None
     for line in lines:
         if not line.strip(" ") or line.startswith("*"):
@@ -94,5 +83,5 @@ def told(lines, placement):
 
 
 def of(explained):
-    """The lines of an output with reasons that tell of places that are wanted."""
+    """The lines of an output with reasons that report shortages."""
     return [line for line in explained.splitlines() if SHORTAGE.fullmatch(line)]

@@ -46,7 +46,7 @@ def statement(dice, lines, cells, pools):
 
 
 def pool_script(seed, length=40):
-    """A script of about so many statements."""
+    """A script of about this many statements."""
     dice = random.Random(seed)
     lines, cells, pools = [f"JOB REGION BELOW={dice.choice((6, 9, 16))},ABOVE={dice.choice((0, 5))},FILL=5A"], [], []
     while len(lines) < length:

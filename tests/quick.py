@@ -1,6 +1,6 @@
 """How ./run behaves where there is no proved program: what it answers at once, and what it makes of the quick build.
 
-The kit is not asked: a small command `rt` stands for it, which notes its words, and copies its input or complains.
+The kit is not asked: a small command `rt` has its role, which notes its options, and copies its input or complains.
 """
 
 import os
@@ -34,7 +34,8 @@ class Checkout:
             (folder / name).mkdir(parents=True)
         (folder / "bin/rt").write_text(STAND_IN)
         (folder / "bin/rt").chmod(0o755)
-        shutil.copy(TOP / "run", folder)
+        for name in ("run", "x"):
+            shutil.copy(TOP / name, folder)
         shutil.copytree(TOP / "tools", folder / "tools")
         shutil.copy(TOP / "crates/mvsjob/src/command_line.rt", folder / "crates/mvsjob/src")
 

@@ -310,7 +310,7 @@ class Script:
         return self
 
     def go_on(self, weights, count):
-        """So many statements more, by which the job step task may well end."""
+        """This many further statements, at which the job step task may end."""
         self.spares = False
         return self.grow(weights, len(self.lines) + count)
 

@@ -1,4 +1,4 @@
-"""The lines of change of a page, replayed as docs/PAGE.md says them, beside the plain machine: behind each statement a reader of the
+"""The lines of change of a page, replayed as docs/PAGE.md describes them, beside the plain machine: after each statement a reader of the
 lines has to know of the step what that machine has, and of the statement what it read, wrote and ended."""
 
 import re
@@ -163,7 +163,7 @@ WRITTEN |= {"hh": ("[0-9A-F]{2}", 16), "mother": (f"-|{NAME}", None), "residence
 
 
 def pattern(form):
-    """A pattern for the lines of a form, where small letters stand for what is filled in, and the bases of its numbers."""
+    """A pattern for the lines of a form, where small letters are places to fill in, and the bases of its numbers."""
     filled = [WRITTEN.get(word, (NAME, None)) for word in re.findall(r"[a-z]+", form)]
     return re.compile(re.sub(r"[a-z]+", "(%s)", form) % tuple(text for text, _ in filled)), [base for _, base in filled]
 

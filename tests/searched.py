@@ -13,7 +13,7 @@ import plain_emulator
 from cases import each, seeds
 from conformance import ACCEPTED, REFUSED, UNDECIDED, asked, judged, judgement
 
-SCRIPTS = 3000  # of which 2,000 ask for their places
+SCRIPTS = 3000  # 2,000 of these ask for their places
 
 
 class Branch(Exception):
@@ -25,7 +25,7 @@ class Branch(Exception):
 
 
 class Searched(plain_emulator.Placed):
-    """The plain machine that makes the choices that it is told, and stops at the first that it is not told."""
+    """The plain machine that makes the choices that it is given, and stops at the first that is missing."""
 
     def copy(self, choices):
         """The same machine with other choices to make."""
@@ -72,7 +72,7 @@ class Searched(plain_emulator.Placed):
 
 
 def served(machine, line, choices=()):
-    """All machines behind a line, each with what it prints."""
+    """All machines after a line, each with what it prints."""
     other = machine.copy(choices)
     statement = plain_emulator.Statement(line)
     try:
@@ -85,7 +85,7 @@ def served(machine, line, choices=()):
 
 
 def printed_by(lines, printed):
-    """The machines that have printed an output up to behind some lines of one step without a fault, each with how much of it that is."""
+    """The machines that have printed an output up to the end of some lines of one step without a fault, each with how much of it that is."""
     first = plain_emulator.Statement(lines[0])
     machine = plain_emulator.begin(Searched, first)
     start = f"1 {first.task} REGION BELOW {machine.regions[0].pages} ABOVE {machine.regions[1].pages}\n"
@@ -203,14 +203,14 @@ def other_address(printed, dice):
 
 
 def is_asked_for(lines, k):
-    """Whether no place is left open at a line: it is granted none, or the lines behind it ask for each."""
+    """Whether each place of a line is decided: it is granted none, or the lines after it ask for each."""
     grant = re.match(r"(\w+) (?:GETMAIN|STORAGE OBTAIN).*,A(?:DDR)?=(\w+|\([\w,]+\))", lines[k])
     asks = [f"{grant[1]} WHERE {name}" for name in plain_emulator.items(grant[2])] if grant else []
     return "CPOOL" not in lines[k] and lines[k + 1 : k + 1 + len(asks)] == asks
 
 
 def is_open(script, printed, number):
-    """Whether some choice of places prints an output up to a line, and another one may be answered there otherwise than it goes on."""
+    """Whether some choice of places prints an output up to a line, and another choice may be answered there otherwise than it continues."""
     lines = script.splitlines()
     found = printed_by(lines[: number - 1], printed)
     if not is_asked_for(lines, number - 1):
@@ -231,7 +231,7 @@ def agrees(program, script, printed):
 
 
 def is_told(script):
-    """Whether all places are told: each is asked for, and none is a list's, which may be granted or refused."""
+    """Whether all places are known: each is asked for, and none is a list's, which may be granted or refused."""
     lines = script.splitlines()
     return "GETMAIN L" not in script and all(is_asked_for(lines, k) for k in range(len(lines)))
 

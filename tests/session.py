@@ -1,4 +1,4 @@
-"""The program at a pipe: it is told a line, and has to print what that line prints before it is told more."""
+"""The program at a pipe: it gets a line, and has to print what that line prints before it gets more."""
 
 import os
 import select
@@ -16,7 +16,7 @@ class Session:
         self.printed = b""
 
     def tell(self, text):
-        """Tells it a text; nothing where it has ended."""
+        """Sends it a text; nothing where it has ended."""
         try:
             for at in range(0, len(text), 65536):
                 self.run.stdin.write(text[at : at + 65536])
@@ -35,13 +35,13 @@ class Session:
         return self.printed.startswith(wanted)
 
     def end(self):
-        """Its exit status, all that it printed, and what it said on standard error."""
+        """Its exit status, all that it printed, and what it printed on standard error."""
         out, err = self.run.communicate(timeout=2 * PATIENCE)
         return self.run.returncode, self.printed + out, err.decode()
 
 
 def line_by_line(program, script, **names):
-    """Runs an annotated script line by line: how many lines printed what they should before the next was told, and the end."""
+    """Runs an annotated script line by line: how many lines printed what they should before the next was sent, and the end."""
     session, wanted, heard = Session(program, *script.words, **names), "", 0
     for k, statement in enumerate(script.statements):
         wanted += "".join(f"{line}\n" for line in annotated.printed(k + 1, script.lines[k]))

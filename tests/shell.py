@@ -5,6 +5,7 @@ import signal
 import subprocess
 import tempfile
 import time
+from functools import partial
 from pathlib import Path
 
 from cases import Lacking
@@ -21,8 +22,9 @@ def shell(program, command, stdin=None, **names):
 
 
 def interrupted(program, script):
-    """Whether SIGINT ends the program, with nothing more said."""
-    with subprocess.Popen([program], stdin=subprocess.PIPE, stdout=subprocess.DEVNULL, stderr=subprocess.PIPE) as run:
+    """Whether SIGINT ends the program, and it prints nothing more. A test in the background ignores that signal, so it is set anew."""
+    heed = partial(signal.signal, signal.SIGINT, signal.SIG_DFL)
+    with subprocess.Popen([program], stdin=subprocess.PIPE, stdout=subprocess.DEVNULL, stderr=subprocess.PIPE, preexec_fn=heed) as run:
         run.stdin.write(script)
         run.stdin.flush()
         time.sleep(0.2)
@@ -43,10 +45,10 @@ def inputs(program, folder):
     yield "an empty script", shell(program, '"$MVSJOB" /dev/null') == (12, "1 JS09\nJOB FAULT RC 12\n", "/dev/null:1:1: JS09: the script has no statement\n")
     status, out, err = shell(program, '"$MVSJOB" "$MVSJOB"')
     yield "the program as a script", (status, out) == (12, "1 JS01\nJOB FAULT RC 12\n") and err.endswith(":1:256: JS01: a line has at most 255 bytes; is the file a script?\n")
-    said = "-:1:1: JS02: X'00': a script has bytes X'20' to X'7E'\n    ....\n    ^ no byte of a text: is the file a script?\n"
+    said = "-:1:1: JS02: invalid byte X'00': only X'20' to X'7E' are allowed\n    ....\n    ^ not a byte of a text: is the file a script?\n"
     yield "bytes that are no text", shell(program, '"$MVSJOB"', stdin=bytes([0, 1, 2, 255])) == (12, "1 JS02\nJOB FAULT RC 12\n", said)
     checked = b"JOB REGION BELOW=1\nJOB GETMIAN R => RC 0\n"
-    said = "-:2:5: JS03: GETMIAN: no operation\n    JOB GETMIAN R\n        ^^^^^^^ did you mean GETMAIN?\n"
+    said = "-:2:5: JS03: unknown operation GETMIAN\n    JOB GETMIAN R\n        ^^^^^^^ did you mean GETMAIN?\n"
     yield "a fault that is checked", shell(program, '"$MVSJOB" --check', stdin=checked) == (1, "-:2: expected RC 0, got JS03\n", said)
     status, out, err = shell(program, '"$MVSJOB"', stdin=b"JOB" + bytes(300))
     yield "a long line of no text", (status, out, err) == (12, "1 JS01\nJOB FAULT RC 12\n", "-:1:256: JS01: a line has at most 255 bytes; is the file a script?\n")
@@ -74,7 +76,7 @@ def words(program):
         status, out, err = shell(program, f'"$MVSJOB" {said}')
         yield said, status == 16 and out == "" and err.startswith("error: ")
     status, out, err = shell(program, '"$MVSJOB" --place low a.job b.job')
-    yield "two files", status == 16 and out == "" and err.startswith("mvsjob: one FILE is taken, and several are named")
+    yield "two files", status == 16 and out == "" and err.startswith("mvsjob: expected one FILE, found several")
     status, out, err = shell(program, '"$MVSJOB" --place low a.job --plase')
     yield "one file and a wrong word", status == 16 and err.startswith("error: ")
     yield "--place=high", shell(program, '"$MVSJOB" --place=high "$FIRST"')[0] == 0

@@ -32,7 +32,7 @@ def shell(command, cwd=None, stdin=None, **names):
 
 
 def ends_at_a_fault():
-    """Whether the program ends behind a line that is too long, though more could be read."""
+    """Whether the program ends after a line that is too long, though more could be read."""
     with subprocess.Popen([TOP / "run"], stdin=subprocess.PIPE, stdout=subprocess.PIPE, stderr=subprocess.DEVNULL) as run:
         run.stdin.write(ONE_AREA.encode() + 256 * b"*")
         run.stdin.flush()
@@ -71,8 +71,9 @@ def cases(folder):
     status, out, err = shell('"$RUN"', stdin=BIG.encode())
     yield "much output", status == 0 and err == "" and len(out.splitlines()) == 300 * 128 + 3
     bare = Path(folder) / "bare"
-    bare.mkdir()
-    shutil.copy(TOP / "run", bare)
+    (bare / "tools").mkdir(parents=True)
+    for name in ("run", "x", "tools/run"):
+        shutil.copy(TOP / name, bare / name)
     status, out, err = shell("./run x.job", cwd=bare, PATH="/usr/bin:/bin")
     yield "no kit", status == 16 and out == "" and "rt" in err and len(err.splitlines()) == 1
     out, err = patient.communicate(timeout=600)

@@ -12,7 +12,7 @@ OVERLOOKED = (" NOT RUN", " NO NAME")
 
 
 def cases():
-    """Each script, and what is said of it."""
+    """Each script, and what is reported of it."""
     for case in CASES.read_text().split("\n\n")[1:]:
         script, _, said = f"{case.rstrip()}\n".partition("--\n")
         yield script, said
@@ -35,7 +35,7 @@ def is_told(program, script, said):
 
 
 def tells_each(program, path):
-    """Whether of a script just the lines are told that were not served, and standard output is the same."""
+    """Whether just the lines of a script that were not executed are reported, and standard output is the same."""
     script = path.read_text()
     status, printed, fault = called(program, script)
     strict, same, said = called(program, script, "--strict")

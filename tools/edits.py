@@ -1,8 +1,8 @@
 """Changes of a crate's text that the prover has to refuse or to prove, and the checks that try them.
 
-An edit (crates/NAME/must-fail/X.edit) and a control (crates/NAME/controls/X.control) have a line
-`file: PATH` and pairs of lines `old: TEXT` and `new: TEXT`. A line `# refused: GOALS` of an edit names the goals on which the prover
-has to refuse it, separated by commas: a goal of the function that the edit changes, or `FUNCTION: GOAL` for one of another function.
+A wrong body (crates/NAME/wrong/X.edit or crates/NAME/must-fail/X.edit) and a control (crates/NAME/controls/X.control) have a line
+`file: PATH` and pairs of lines `old: TEXT` and `new: TEXT`. A line `# refused: GOALS` of a wrong body names the goals on which the prover
+has to refuse it, separated by commas: a goal of the function that it changes, or `FUNCTION: GOAL` for a goal of another function.
 A clause that has a name is named by it; any other goal is named as the prover names it.
 
 All changes of a crate that can be made together are checked together, in one copy of the crate; each function has a verdict of its own.
@@ -12,16 +12,12 @@ import os
 import re
 import shutil
 import subprocess
-import sys
 import tempfile
-from concurrent.futures import ThreadPoolExecutor
+import time
 from pathlib import Path
 
-import libraries
 from libraries import PARTS
 
-TOP = Path(__file__).resolve().parent.parent
-NEED = 3_000_000_000  # bytes of memory that a check may take
 FUNCTION = r"^( *)(?:pub(?:\(.*?\))? )?(?:const )?(?:unsafe )?(?:extern \"C\" )?fn (\w+)"
 IMPL = r"^(?:unsafe )?impl\b(?:<.*?>(?= ))? (?:(?:\w+::)*(\w+)(?:<.*>)? for )?(?:&\S* )?(\w+)"
 HEADS = re.compile(f"{FUNCTION}|{IMPL}", re.M)
@@ -31,7 +27,7 @@ WAITS = re.compile(r"it calls `[^`]*`, which is not proved|wait for a callee's p
 
 
 class Change:
-    """An edit or a control: the file that it changes, its pairs of old and new texts, and the goals on which it has to be refused."""
+    """A wrong body or a control: the file that it changes, its pairs of old and new texts, and the goals on which it has to be refused."""
 
     def __init__(self, path):
         self.path, self.crate, self.name = path, path.parent.parent.name, path.stem
@@ -51,6 +47,9 @@ class Change:
                     self.goals.setdefault(function, set()).add(name)
         source = path.parent.parent / self.file
         self.original = source.read_text(encoding="utf-8") if self.file and source.is_file() else ""
+
+    def is_control(self):
+        return self.path.suffix == ".control"
 
     def place(self):
         return self.file, [old for old, _ in self.pairs]
@@ -106,26 +105,47 @@ class Verdicts:
     def paths(self, end):
         return [path for path in self.verdicts if path == end or path.endswith(f"::{end}")]
 
-    def are_proved(self, only):
-        """Whether all that was asked for is proved; `only` is whether a part of the crate was."""
+    def are_proved(self):
+        """Whether all that was asked for is proved: the whole crate, or a part of it."""
         last = self.lines[-1] if self.lines else ""
-        found = re.fullmatch(r"only=(\d+) proved=(\d+)", last) if only else None
+        found = re.fullmatch(r"only=(\d+) proved=(\d+)", last)
         return self.status == 0 and (found[1] == found[2] if found else last.startswith("logic=proved"))
+
+    def is_proved(self, change):
+        """Whether the functions that a change is in are proved."""
+        paths = [self.paths(end) for end in change.functions() or ()]
+        return bool(paths) and all(found and all(self.verdicts[path] == "proved" for path in found) for found in paths)
 
     def reached_the_prover(self):
         return bool(self.verdicts)
 
+    def first_error(self):
+        return next((line for line in self.lines if ": error" in line or "error[" in line), self.lines[-1] if self.lines else "no output")
+
     def errors(self, path):
         """The errors in the proof files of a function."""
-        folder = "/".join(path.split("::")[1:])
-        found = (re.match(rf"(?:\./)?proofs/{re.escape(folder)}/\w+\.antt:\d+:\d+: error: (.*)", line) for line in self.lines)
+        *parents, name = path.split("::")[1:]
+        folder = "/".join([*map(re.escape, parents), rf"\+?{re.escape(name)}"])  # a function of a cycle has a + before its name
+        found = (re.match(rf"(?:\./)?proofs/{folder}/\w+\.antt:\d+:\d+: error: (.*)", line) for line in self.lines)
         return [it[1] for it in found if it]
 
     def goals(self, path):
         """The goals of a function that are not proved, as an edit names them."""
         found = [it[1] for line in self.notes[path] for it in [re.match(r"note: src/\S+ it is not proved .*\(`([^`]+)`\)", line)] if it]
-        found += [it[1] for line in self.errors(path) for it in [re.match(r"`([^`]+)`: ", line)] if it and not NAMED.search(line)]
-        return {name_of(goal) for goal in found}
+        refused = [it[1] for line in self.errors(path) for it in [re.match(r"`([^`]+)`: ", line)] if it and not NAMED.search(line)]
+        resting = [goal for lemma, goals in self.resting(path) if lemma in refused for goal in goals]
+        return {name_of(goal) for goal in [*found, *refused, *resting]}
+
+    def unchecked(self, path):
+        """The goals of a function that were not checked, since a lemma that they cite is not proved."""
+        return {name_of(goal) for _, goals in self.resting(path) for goal in goals}
+
+    def resting(self, path):
+        """The lemmas that are not proved, each with the goals of the function that rest on it."""
+        for line in self.errors(path):
+            found = re.search(r"depends? on `([^`]+)`, which was (?:rejected|not admitted), (?:was|were) not checked: (.*)", line)
+            if found:
+                yield found[1], [name.partition(" (")[0] for name in re.split(", | and ", found[2]) if not name.endswith(" more")]
 
     def waits(self, path):
         """Whether some of the function's goals were not tried, since a function that it calls is not proved."""
@@ -143,38 +163,72 @@ def name_of(goal):
 
 
 class Bench:
-    """A crate, and a copy of it in which changes are checked, over what the checks before have kept."""
+    """A crate, and copies of it in which changes are checked, as many at a time as there are lanes for all crates.
 
-    def __init__(self, rtlib, made):
-        self.rtlib, self.made, self.folder, self.room = rtlib, made, Path(made.folder), None
+    Each check begins with the seed: what a check of the crate as it is has proved. The seed itself begins with what tools/ci has kept in $SEEDS,
+    or else with what `rt check` has."""
+
+    def __init__(self, rtlib, made, lanes):
+        self.rtlib, self.made, self.folder, self.lanes, self.room, self.seconds = rtlib, made, Path(made.folder), lanes, None, []
 
     def __enter__(self):
         self.room = tempfile.TemporaryDirectory(prefix="edits-")
-        if (self.folder / "out/incremental").is_dir():
-            shutil.copytree(self.folder / "out/incremental", f"{self.room.name}/kept")
+        kept = [Path(os.environ["SEEDS"], self.made.name)] if "SEEDS" in os.environ else []
+        kept = next((it for it in [*kept, self.folder / "out/incremental"] if it.is_dir()), None)
+        if kept is not None:
+            linked(kept, f"{self.room.name}/seed")
         return self
 
     def __exit__(self, *_):
         self.room.cleanup()
 
+    def seed(self, changes):
+        """Checks, with no change made, what the changes are in and what that calls."""
+        with self.lanes, tempfile.TemporaryDirectory(dir=self.room.name) as place:
+            return self.run(place, {}, asked_of(changes), f"{self.room.name}/seed")
+
     def check(self, changes):
         """Checks what the changes are in, and what that calls, with all of them made."""
-        room, texts, only = self.room.name, {}, set()
+        texts = {}
         for change in changes:
             texts[change.file] = change.applied(texts.get(change.file, change.original))
-            asked = change.asked()
-            only = None if asked is None or only is None else only | asked
+        with self.lanes, tempfile.TemporaryDirectory(dir=self.room.name) as place:
+            linked(f"{self.room.name}/seed", f"{place}/kept")
+            return self.run(place, texts, asked_of(changes), f"{place}/kept")
+
+    def run(self, place, texts, asked, kept):
+        room, begun = Path(place, "crate"), time.monotonic()
         for part in PARTS:
-            shutil.rmtree(f"{room}/{part}", ignore_errors=True)
             if (self.folder / part).is_dir():
-                shutil.copytree(self.folder / part, f"{room}/{part}")
+                shutil.copytree(self.folder / part, room / part)
         for file, text in texts.items():
-            Path(room, file).write_text(text, encoding="utf-8")
-        words = [*self.rtlib.guarded(), self.rtlib.RATTLE, "check", *self.made.words(["--jobs", "1"], keeps=False), "--incremental", "kept"]
-        words += [word for path in sorted(only or ()) for word in ("--only", path)]
+            (room / file).write_text(text, encoding="utf-8")
+        words = [*self.rtlib.guarded(), self.rtlib.RATTLE, "check", *self.made.words(["--jobs", "1"], keeps=False), "--incremental", kept]
+        words += [word for path in sorted(asked or ()) for word in ("--only", path)]
         how = {"stdin": subprocess.DEVNULL, "stdout": subprocess.PIPE, "stderr": subprocess.STDOUT}
         ran = subprocess.run(words, cwd=room, text=True, errors="replace", **how)
-        return Verdicts(ran.returncode, ran.stdout), bool(only)
+        self.seconds.append(time.monotonic() - begun)
+        return Verdicts(ran.returncode, ran.stdout)
+
+
+def asked_of(changes):
+    """The functions that a check of these changes has to read; None where it has to read the whole crate."""
+    asked = [change.asked() for change in changes]
+    return None if None in asked else set().union(*asked)
+
+
+def linked(folder, to):
+    """Copies what checks have kept, a proved module by a link: a check replaces such a file, and never writes into it."""
+
+    def copy(one, other):
+        try:
+            if one.endswith(".oantt"):
+                return os.link(one, other)
+        except OSError:
+            pass  # on another disk, say
+        return shutil.copy2(one, other)
+
+    shutil.copytree(folder, to, copy_function=copy)
 
 
 def together(changes, are_apart=lambda one, other: True):
@@ -188,48 +242,3 @@ def together(changes, are_apart=lambda one, other: True):
             texts[change.file] = text
             taken.append(change)
     return taken, left
-
-
-def lines_of(folder):
-    return sum(path.read_bytes().count(b"\n") for part in PARTS for path in Path(folder).glob(f"{part}/**/*.*"))
-
-
-def lanes():
-    """How many checks can run side by side."""
-    free = int(re.search(r"MemAvailable:\s+(\d+)", Path("/proc/meminfo").read_text())[1]) * 1024
-    return max(1, min(len(os.sched_getaffinity(0)), free // NEED))
-
-
-def main(tool, well, ill, lacking, changes_of, results):
-    """Tries the changes of the crates that the command line names, or of all.
-
-    `lacking` gives what is wrong with them as they are written, `changes_of` those of a crate's folder, and `results`, of a bench and these,
-    each change with whether it is well and what to print. The last line is 'N well, M ill'.
-    """
-    rtlib = libraries.kit()
-    if rtlib is None:
-        print(f"{tool}: no command rt: this needs the Rattle kit\n0 {well}, 1 {ill}")
-        return 1
-    rtlib.guarded()  # its first call is the main thread's
-    os.chdir(TOP)
-    names, counts = sys.argv[1:], {True: 0, False: 0}
-    crates = [it for it in rtlib.crates_below(str(TOP)) if it.name in names or not names]
-    crates = sorted((it for it in crates if changes_of(Path(it.folder))), key=lambda it: -lines_of(it.folder))
-    for wrong in [] if names else lacking():
-        print(wrong, flush=True)
-        counts[False] += 1
-    if not libraries.make_libraries(crates):
-        print(f"{tool}: the libraries below are not proved")
-        counts[False], crates = counts[False] + 1, []
-
-    def tried(crate):
-        with Bench(rtlib, crate) as bench:
-            return list(results(bench, changes_of(bench.folder)))
-
-    with ThreadPoolExecutor(lanes()) as pool:
-        for found in pool.map(tried, crates):
-            for change, is_well, said in found:
-                print(f"{change.crate}/{change.name}: {said}", flush=True)
-                counts[is_well] += 1
-    print(f"{counts[True]} {well}, {counts[False]} {ill}")
-    return 1 if counts[False] else 0

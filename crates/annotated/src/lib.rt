@@ -4,12 +4,19 @@
 //! `* JOB FAULT RC 12` is the last line that is expected. A script is bytes: its lines end at X'0A', as those of a run.
 #![tactic(auto)]
 
+ghost use Rattle.std.specs.Prelude.{◌≡◌};
+ghost use Rattle.job_script.specs.Writing.{Prints};
+ghost use Rattle.annotated.specs.Blank.{blank, blank_end};
+
 mod difference;
 mod lines;
 mod printed;
 
 pub use difference::{Comparison, write_differences};
+use job_script::parted::parted;
+use job_script::write_all;
 use lines::{ARROW, end_of, parted_at, statement_of, without_end};
+use mvs_model::watched::{Failed, Watched};
 use std::io::{self, Write};
 
 // Writes a line with its end.
@@ -43,19 +50,24 @@ pub fn statement_at(script: &[u8], line_number: u32) -> &[u8] {
     &[]
 }
 
-/// Writes a script with `?` in place of each answer.
-pub fn write_blank<W: Write>(writer: &mut W, script: &[u8]) -> io::Result<()> {
-    if script.is_empty() {
-        return Ok(());
-    }
-    for line in without_end(script).split(|byte| *byte == b'\n') {
-        let (statement, answer) = parted_at(line, ARROW);
-        writer.write_all(statement)?;
-        if answer.is_some() {
-            writer.write_all(ARROW)?;
-            writer.write_all(b"?")?;
-        }
-        writer.write_all(b"\n")?;
+// Returns what is written after the statement of a line, which has answers or not.
+fn blank_end(is_answered: bool) -> &'static [u8]
+    ensures { result.now ≡ blank_end is_answered }
+{
+    if is_answered { b" => ?\n" } else { b"\n" }
+}
+
+/// Writes a script with `?` in place of the answers of each line.
+pub fn write_blank<W: Write>(writer: &mut Watched<W>, script: &[u8]) -> Result<(), Failed>
+    ensures { Prints W.contents writer.old writer.new result (blank script.now) }
+{
+    let mut rest = script;
+    'lines: while !rest.is_empty() {
+        let (line, more) = parted(rest, b'\n');
+        let (statement, answers) = parted_at(line, ARROW);
+        write_all(writer, statement)?;
+        write_all(writer, blank_end(answers.is_some()))?;
+        rest = more.unwrap_or(&[]);
     }
     Ok(())
 }

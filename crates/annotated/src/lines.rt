@@ -1,5 +1,8 @@
 //! The lines of a script, and what they are made of.
 
+ghost use Rattle.std.specs.Option.{option_map};
+ghost use Rattle.annotated.specs.Blank.{IsPartedAt};
+
 use memchr::memmem;
 
 /// What is between a statement and its answers.
@@ -9,13 +12,13 @@ pub const ARROW: &[u8] = b" => ";
 pub const BETWEEN: &[u8] = b" / ";
 
 /// Returns what is before the first of these separators, and what is after it, if there is one.
-pub fn parted_at<'a>(text: &'a [u8], separator: &[u8]) -> (&'a [u8], Option<&'a [u8]>) {
+pub fn parted_at<'a>(text: &'a [u8], separator: &[u8]) -> (&'a [u8], Option<&'a [u8]>)
+    ensures { IsPartedAt separator.now text.now result.0.now
+        (option_map (λ after. after.now) result.1) }
+{
     match memmem::find(text, separator) {
         None => (text, None),
-        Some(at) => {
-            let behind = at.saturating_add(separator.len()).min(text.len());
-            (&text[..at.min(text.len())], Some(&text[behind..]))
-        }
+        Some(at) => (&text[..at], Some(&text[at + separator.len()..])),
     }
 }
 

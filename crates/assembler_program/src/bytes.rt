@@ -25,24 +25,34 @@ impl<W: Write> Writing<W> {
         let alloc = self.cards.alloc();
         let label = format!(in alloc; "X{}", entry.number)?;
         self.locate(2, to)?;
-        let count = bytes.len();
-        self.cards
-            .code("MVC", &format!(in alloc; "0({count},2),{label}")?)?;
+        let operands = format!(in alloc; "0({},2),{label}", bytes.len())?;
+        self.cards.code("MVC", &operands)?;
         self.cards.go("OKAY")?;
-        self.cards
-            .statement(&label, "DS", &format!(in alloc; "0XL{count}")?)?;
+        self.put_constant(&label, bytes)
+    }
+
+    // Constants that are some bytes, with their label.
+    fn put_constant(&mut self, label: &str, bytes: &[u8]) -> Result<(), ProgramFault> {
+        let alloc = self.cards.alloc();
+        let count = format!(in alloc; "0XL{}", bytes.len())?;
+        self.cards.statement(label, "DS", &count)?;
         for chunk in bytes.chunks(OF_A_CARD) {
             self.cards.statement("", "DC", &hexadecimal(alloc, chunk)?)?;
         }
         self.cards.statement("", "DS", "0H")
     }
 
+    // Copies bytes from where register 2 points into the buffer; their number is in register 3.
+    fn to_buffer(&mut self) -> Result<(), ProgramFault> {
+        self.point(4, "BUFFER")?;
+        self.cards.code("LR", "5,3")?;
+        self.cards.code("MVCL", "4,2")
+    }
+
     fn show(&mut self, from: &Location, length: u32) -> Result<(), ProgramFault> {
         self.locate(2, from)?;
         self.load(3, length)?;
-        self.point(4, "BUFFER")?;
-        self.cards.code("LR", "5,3")?;
-        self.cards.code("MVCL", "4,2")?;
+        self.to_buffer()?;
         self.load(0, length)?;
         self.cards.go("SHOWN")
     }
@@ -51,9 +61,7 @@ impl<W: Write> Writing<W> {
         self.locate(6, to)?;
         self.locate(2, from)?;
         self.load(3, length)?;
-        self.point(4, "BUFFER")?;
-        self.cards.code("LR", "5,3")?;
-        self.cards.code("MVCL", "4,2")?;
+        self.to_buffer()?;
         self.point(2, "BUFFER")?;
         self.load(3, length)?;
         self.cards.code("LR", "4,6")?;
@@ -72,12 +80,9 @@ impl<W: Write> Writing<W> {
         }
     }
 
-    /// Where an area lies.
+    /// The place of an area.
     pub fn of_where(&mut self, name: &Name) -> Result<(), ProgramFault> {
-        let location = self.area(name)?;
-        self.point(2, &location)?;
-        self.cards.code("CLI", "8(2),1")?;
-        self.cards.branch("7", "NONAME")?;
+        self.point_to_name(2, name)?;
         self.cards.code("L", "0,0(,2)")?;
         self.cards.go("AT")
     }

@@ -1,12 +1,15 @@
-//! Cards of a program: comments, job control, and statements in the columns that the assembler wants.
+//! Cards of a program: comments, job control, and statements in the columns that the assembler expects.
 
 use std::alloc::{AllocError, Global};
 use std::io::Write;
+use thiserror::Error;
 
 /// Why a program was not written to its end.
-#[derive(Clone, Copy, Debug, PartialEq, Eq)]
+#[derive(Clone, Copy, Debug, PartialEq, Eq, Error)]
 pub enum ProgramFault {
+    #[error("out of memory")]
     Memory,
+    #[error("write failed")]
     Write,
 }
 
@@ -16,10 +19,10 @@ impl From<AllocError> for ProgramFault {
     }
 }
 
-/// The last column of a statement, behind which a mark says that it goes on.
+/// The last column of a statement, after which a mark says that it continues.
 const LAST: usize = 71;
 
-/// The columns before those in which a statement goes on.
+/// The columns before those in which a statement continues.
 const MARGIN: usize = 15;
 
 /// A writer of cards.
@@ -37,7 +40,7 @@ fn pad(card: &mut String, column: usize) -> Result<(), AllocError> {
     Ok(())
 }
 
-// The places at which a text of operands may be parted: behind its commas outside of quotes.
+// The places at which a text of operands may be parted: after its commas outside of quotes.
 fn parts(alloc: Global, operands: &str) -> Result<Vec<String>, AllocError> {
     let mut parts = Vec::new(alloc);
     let mut part = String::new(alloc);
@@ -121,12 +124,12 @@ impl<W: Write> Cards<W> {
         self.statement("", operation, operands)
     }
 
-    /// Goes to a label for good.
+    /// Jumps to a label.
     pub fn go(&mut self, label: &str) -> Result<(), ProgramFault> {
         self.branch("15", label)
     }
 
-    /// Goes to a label under a mask.
+    /// Jumps to a label under a mask.
     pub fn branch(&mut self, mask: &str, label: &str) -> Result<(), ProgramFault> {
         let operands = format!(in self.alloc; "{mask},{label}")?;
         self.code("BRCL", &operands)

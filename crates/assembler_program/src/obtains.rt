@@ -4,6 +4,7 @@ use crate::cards::ProgramFault;
 use crate::step::{Entry, Writing};
 use mvs_model::bounded::Exponent;
 use mvs_model::code::Form;
+use mvs_model::codes::is_conditional;
 use mvs_model::line::{Names, Written};
 use mvs_model::name::Name;
 use mvs_model::request::Lengths;
@@ -37,21 +38,13 @@ pub fn word_for(form: Form) -> &'static str {
     }
 }
 
-/// Whether a form is conditional.
-pub fn is_conditional(form: Form) -> bool {
-    matches!(
-        form,
-        Form::Rc | Form::Vrc | Form::Ec | Form::Vc | Form::Lc | Form::StorageConditional
-    )
-}
-
 /// A length as it is rounded up to doublewords.
 pub fn rounded(length: u32) -> u32 {
     length.div_ceil(8).saturating_mul(8)
 }
 
-/// A constant that is a list of lengths.
-pub fn length_list(alloc: Global, lengths: &Lengths) -> Result<String, AllocError> {
+// A constant that is a list of lengths.
+fn length_list(alloc: Global, lengths: &Lengths) -> Result<String, AllocError> {
     let mut text = String::new(alloc);
     let count = lengths.len();
     for (place, length) in lengths.as_slice().iter().enumerate() {
@@ -100,7 +93,7 @@ fn takes_location(form: Form) -> bool {
 }
 
 impl<W: Write> Writing<W> {
-    // What stands behind the lengths of a request.
+    // What follows the lengths of a request.
     fn rest(&self, entry: &Entry, form: Form, number: u8, ask: &Ask) -> Result<String, AllocError> {
         let alloc = self.cards.alloc();
         let want = ask.want(Side::Below);
@@ -204,26 +197,38 @@ impl<W: Write> Writing<W> {
         rest: &str,
         area: &Name,
     ) -> Result<(), ProgramFault> {
-        let alloc = self.cards.alloc();
+        if matches!(form, Form::Vc | Form::Vu) {
+            self.obtain_some_in_words(entry, form, rest)?;
+            self.set_area(area)?;
+            self.cards.go("RCLEN")?;
+            return self.put_bounds(entry, ask);
+        }
         let (most, least) = (ask.most(), ask.least());
-        let is_in_words = matches!(form, Form::Vc | Form::Vu);
-        if is_in_words {
-            self.obtain_in_words(entry, form, None, rest)?;
-            self.cards.code("L", "1,0(,3)")?;
-            self.cards.code("L", "0,4(,3)")?;
-        } else {
-            let lengths = format!(in alloc; "({most},{least})")?;
-            self.obtain_in_register(entry, form, &lengths, rest)?;
-            self.test_code(form)?;
-        }
+        let lengths = format!(in self.cards.alloc(); "({most},{least})")?;
+        self.obtain_in_register(entry, form, &lengths, rest)?;
+        self.test_code(form)?;
         self.set_area(area)?;
-        self.cards.go("RCLEN")?;
-        if is_in_words {
-            let label = format!(in alloc; "X{}", entry.number)?;
-            self.cards
-                .statement(&label, "DC", &format!(in alloc; "F'{least}',F'{most}'")?)?;
-        }
-        Ok(())
+        self.cards.go("RCLEN")
+    }
+
+    // A request for one area of some length that comes in words: loads the address in register 1 and the length in register 0.
+    fn obtain_some_in_words(
+        &mut self,
+        entry: &Entry,
+        form: Form,
+        rest: &str,
+    ) -> Result<(), ProgramFault> {
+        self.obtain_in_words(entry, form, None, rest)?;
+        self.cards.code("L", "1,0(,3)")?;
+        self.cards.code("L", "0,4(,3)")
+    }
+
+    // The least and the greatest length of a request, with their label.
+    fn put_bounds(&mut self, entry: &Entry, ask: &Ask) -> Result<(), ProgramFault> {
+        let alloc = self.cards.alloc();
+        let label = format!(in alloc; "X{}", entry.number)?;
+        let bounds = format!(in alloc; "F'{}',F'{}'", ask.least(), ask.most())?;
+        self.cards.statement(&label, "DC", &bounds)
     }
 
     // A request for a list of areas.
@@ -235,20 +240,30 @@ impl<W: Write> Writing<W> {
         lengths: &Lengths,
         areas: &Names,
     ) -> Result<(), ProgramFault> {
-        let alloc = self.cards.alloc();
         self.obtain_in_words(entry, form, None, rest)?;
         let mut offset = 0u32;
         for (length, area) in lengths.as_slice().iter().zip(areas.as_slice().iter()) {
-            self.cards.code("L", &format!(in alloc; "1,{offset}(,3)")?)?;
-            self.load(0, rounded(length.get()))?;
-            self.set_area(area)?;
+            self.set_item(offset, length.get(), area)?;
             offset = offset.saturating_add(4);
         }
         self.cards.go("RC0")?;
-        let label = format!(in alloc; "X{}", entry.number)?;
+        let label = format!(in self.cards.alloc(); "X{}", entry.number)?;
+        self.put_length_list(&label, lengths)
+    }
+
+    // Sets a name to the area whose address is in a word, so many bytes behind the one to which register 3 points.
+    fn set_item(&mut self, offset: u32, length: u32, area: &Name) -> Result<(), ProgramFault> {
+        let operands = format!(in self.cards.alloc(); "1,{offset}(,3)")?;
+        self.cards.code("L", &operands)?;
+        self.load(0, rounded(length))?;
+        self.set_area(area)
+    }
+
+    /// Writes a list of lengths with its label.
+    pub fn put_length_list(&mut self, label: &str, lengths: &Lengths) -> Result<(), ProgramFault> {
+        let list = length_list(self.cards.alloc(), lengths)?;
         self.cards.statement("", "DS", "0F")?;
-        self.cards
-            .statement(&label, "DC", &length_list(alloc, lengths)?)
+        self.cards.statement(label, "DC", &list)
     }
 
     /// A request for one area or for a list of them.

@@ -208,7 +208,7 @@ fn entry_of(
     }
 }
 
-/// Writes the programs of a script, and answers whether no line of it has a fault; what stands before the first that has one is
+/// Writes the programs of a script, and answers whether no line of it has a fault; what is before the first that has one is
 /// written. Reports are left out.
 pub fn write_program<W: Write + Drop>(
     alloc: Global,

@@ -1,9 +1,10 @@
 //! Releases of storage.
 
 use crate::cards::ProgramFault;
-use crate::obtains::{is_conditional, length_list, word_for};
+use crate::obtains::word_for;
 use crate::step::{Entry, Writing};
 use mvs_model::code::Form;
+use mvs_model::codes::is_conditional;
 use mvs_model::line::{Location, Locations, Written};
 use mvs_model::name::Name;
 use mvs_model::request::Lengths;
@@ -19,37 +20,46 @@ impl<W: Write> Writing<W> {
         location: &Location,
         length: u32,
     ) -> Result<(), ProgramFault> {
-        let alloc = self.cards.alloc();
         self.locate(2, location)?;
-        let word = word_for(form);
         if entry.is_storage {
-            let condition = if is_conditional(form) { "YES" } else { "NO" };
-            let operands = format!(in alloc;
-                "RELEASE,LENGTH={length},ADDR=(2),SP={number},COND={condition}"
-            )?;
-            self.cards.code("STORAGE", &operands)?;
-        } else if matches!(form, Form::Ec | Form::Eu) {
-            self.point(3, "WORDS")?;
-            self.cards.code("ST", "2,0(,3)")?;
-            let operands = format!(in alloc; "{word},LV={length},A=(3),SP={number}")?;
-            self.cards.code("FREEMAIN", &operands)?;
+            self.storage_release(form, number, length)?;
         } else {
-            let operands = format!(in alloc; "{word},LV={length},A=(2),SP={number}")?;
-            self.cards.code("FREEMAIN", &operands)?;
+            self.freemain(form, number, length)?;
         }
         self.test_code(form)?;
         self.cards.go("RC0")
     }
 
+    // STORAGE RELEASE of the area to which register 2 points.
+    fn storage_release(&mut self, form: Form, number: u8, length: u32) -> Result<(), ProgramFault> {
+        let condition = if is_conditional(form) { "YES" } else { "NO" };
+        let operands = format!(in self.cards.alloc();
+            "RELEASE,LENGTH={length},ADDR=(2),SP={number},COND={condition}"
+        )?;
+        self.cards.code("STORAGE", &operands)
+    }
+
+    // FREEMAIN of the area to which register 2 points: in the E forms the address is in a word, to which register 3 points.
+    fn freemain(&mut self, form: Form, number: u8, length: u32) -> Result<(), ProgramFault> {
+        let is_in_word = matches!(form, Form::Ec | Form::Eu);
+        if is_in_word {
+            self.point(3, "WORDS")?;
+            self.cards.code("ST", "2,0(,3)")?;
+        }
+        let word = word_for(form);
+        let register = if is_in_word { 3 } else { 2 };
+        let operands = format!(in self.cards.alloc();
+            "{word},LV={length},A=({register}),SP={number}"
+        )?;
+        self.cards.code("FREEMAIN", &operands)
+    }
+
     // A release of an area by the two words that its name has.
     fn release_named(&mut self, form: Form, number: u8, area: &Name) -> Result<(), ProgramFault> {
-        let alloc = self.cards.alloc();
-        let label = self.area(area)?;
-        self.point(3, &label)?;
-        self.cards.code("CLI", "8(3),1")?;
-        self.cards.branch("7", "NONAME")?;
+        self.point_to_name(3, area)?;
         let word = word_for(form);
-        self.cards.code("FREEMAIN", &format!(in alloc; "{word},A=(3),SP={number}")?)?;
+        let operands = format!(in self.cards.alloc(); "{word},A=(3),SP={number}")?;
+        self.cards.code("FREEMAIN", &operands)?;
         self.test_code(form)?;
         self.cards.go("RC0")
     }
@@ -63,27 +73,33 @@ impl<W: Write> Writing<W> {
         locations: &Locations,
         lengths: &Lengths,
     ) -> Result<(), ProgramFault> {
-        let alloc = self.cards.alloc();
+        self.store_locations(locations)?;
+        let list = format!(in self.cards.alloc(); "X{}", entry.number)?;
+        self.point(4, &list)?;
+        self.freemain_list(form, number)?;
+        self.put_length_list(&list, lengths)
+    }
+
+    // Stores the addresses of some locations in words, to which register 3 points.
+    fn store_locations(&mut self, locations: &Locations) -> Result<(), ProgramFault> {
         self.point(3, "WORDS")?;
         let mut offset = 0u32;
         for location in locations.as_slice() {
             self.locate(2, location)?;
-            self.cards
-                .code("ST", &format!(in alloc; "2,{offset}(,3)")?)?;
+            let operands = format!(in self.cards.alloc(); "2,{offset}(,3)")?;
+            self.cards.code("ST", &operands)?;
             offset = offset.saturating_add(4);
         }
-        let list = format!(in alloc; "X{}", entry.number)?;
-        self.point(4, &list)?;
+        Ok(())
+    }
+
+    // FREEMAIN of the list to which registers 3 and 4 point.
+    fn freemain_list(&mut self, form: Form, number: u8) -> Result<(), ProgramFault> {
         let word = word_for(form);
-        self.cards.code(
-            "FREEMAIN",
-            &format!(in alloc; "{word},LA=(4),A=(3),SP={number}")?,
-        )?;
+        let operands = format!(in self.cards.alloc(); "{word},LA=(4),A=(3),SP={number}")?;
+        self.cards.code("FREEMAIN", &operands)?;
         self.test_code(form)?;
-        self.cards.go("RC0")?;
-        self.cards.statement("", "DS", "0F")?;
-        self.cards
-            .statement(&list, "DC", &length_list(alloc, lengths)?)
+        self.cards.go("RC0")
     }
 
     // A release of a whole subpool.

@@ -61,28 +61,44 @@ impl<W: Write> Writing<W> {
         self.cards.code("LGFI", &operands)
     }
 
+    /// Points a register to the words of a name, or answers that the name is not set.
+    pub fn point_to_name(&mut self, register: u8, name: &Name) -> Result<(), ProgramFault> {
+        let label = self.area(name)?;
+        self.point(register, &label)?;
+        let operands = format!(in self.cards.alloc(); "8({register}),1")?;
+        self.cards.code("CLI", &operands)?;
+        self.cards.branch("7", "NONAME")
+    }
+
+    // Loads a register with the address in the first of the words that it points to.
+    fn follow(&mut self, register: u8) -> Result<(), ProgramFault> {
+        let operands = format!(in self.cards.alloc(); "{register},0(,{register})")?;
+        self.cards.code("L", &operands)
+    }
+
+    // Adds bytes to a register.
+    fn add(&mut self, register: u8, bytes: u32) -> Result<(), ProgramFault> {
+        if bytes == 0 {
+            return Ok(());
+        }
+        let operands = format!(in self.cards.alloc(); "{register},{bytes}")?;
+        self.cards.code("AFI", &operands)
+    }
+
+    // Loads a register with an address.
+    fn load_address(&mut self, register: u8, address: u32) -> Result<(), ProgramFault> {
+        let operands = format!(in self.cards.alloc(); "{register},X'{address:08X}'")?;
+        self.cards.code("LGFI", &operands)
+    }
+
     /// Loads a register with the address of a location, or answers that its name is not set.
     pub fn locate(&mut self, register: u8, location: &Location) -> Result<(), ProgramFault> {
-        let alloc = self.cards.alloc();
         match location {
-            Location::Absolute(addr) => {
-                let operands = format!(in alloc; "{register},X'{:08X}'", addr.get())?;
-                self.cards.code("LGFI", &operands)
-            }
+            Location::Absolute(addr) => self.load_address(register, addr.get()),
             Location::Named(name, offset) => {
-                let label = self.area(name)?;
-                self.point(register, &label)?;
-                self.cards
-                    .code("CLI", &format!(in alloc; "8({register}),1")?)?;
-                self.cards.branch("7", "NONAME")?;
-                self.cards
-                    .code("L", &format!(in alloc; "{register},0(,{register})")?)?;
-                match offset.get() {
-                    0 => Ok(()),
-                    bytes => self
-                        .cards
-                        .code("AFI", &format!(in alloc; "{register},{bytes}")?),
-                }
+                self.point_to_name(register, name)?;
+                self.follow(register)?;
+                self.add(register, offset.get())
             }
         }
     }
@@ -115,28 +131,48 @@ impl<W: Write> Writing<W> {
         }
     }
 
-    /// Writes the routine of a statement; of a report, that there is none.
-    pub fn routine(&mut self, entry: &Entry) -> Result<(), ProgramFault> {
+    // Writes the beginning of a routine: a comment, its label and its base register.
+    fn begin_routine(&mut self, entry: &Entry) -> Result<(), ProgramFault> {
         let alloc = self.cards.alloc();
         let number = entry.number;
         let task = text_of(&entry.task);
         let text = entry.text.as_str();
-        if !is_written(&entry.statement) {
-            return self
-                .cards
-                .comment(&format!(in alloc; "? {number} {task} {text}: not asked")?);
-        }
         self.cards
             .comment(&format!(in alloc; "{number} {task} {text}")?)?;
-        self.cards
-            .statement(&format!(in alloc; "L{number}")?, "BASR", "12,0")?;
-        self.cards.code("USING", "*,12")?;
-        match &entry.statement {
-            Statement::Request(written) => self.request(entry, written)?,
-            Statement::Where(name) => self.of_where(name)?,
-            _ => {}
-        }
+        let label = format!(in alloc; "L{number}")?;
+        self.cards.statement(&label, "BASR", "12,0")?;
+        self.cards.code("USING", "*,12")
+    }
+
+    // Writes the end of a routine.
+    fn end_routine(&mut self) -> Result<(), ProgramFault> {
         self.cards.code("LTORG", "")?;
         self.cards.code("DROP", "12")
+    }
+
+    // Writes that a statement has no routine.
+    fn no_routine(&mut self, entry: &Entry) -> Result<(), ProgramFault> {
+        let number = entry.number;
+        let task = text_of(&entry.task);
+        let text = entry.text.as_str();
+        let comment = format!(in self.cards.alloc(); "? {number} {task} {text}: not asked")?;
+        self.cards.comment(&comment)
+    }
+
+    /// Writes the routine of a statement; of a report, that there is none.
+    pub fn routine(&mut self, entry: &Entry) -> Result<(), ProgramFault> {
+        match &entry.statement {
+            Statement::Request(written) => {
+                self.begin_routine(entry)?;
+                self.request(entry, written)?;
+                self.end_routine()
+            }
+            Statement::Where(name) => {
+                self.begin_routine(entry)?;
+                self.of_where(name)?;
+                self.end_routine()
+            }
+            _ => self.no_routine(entry),
+        }
     }
 }

@@ -76,21 +76,37 @@ impl<W: Write> Writing<W> {
         let task = self.task(name)?;
         let given = numbers(alloc, gifts, true)?;
         let shared = numbers(alloc, gifts, false)?;
-        self.point(2, &task)?;
-        self.cards.code("TM", "SLFLAGS-SLOT(2),SLACTIVE")?;
-        self.cards.branch("1", "TASKUSED")?;
-        self.cards.code("BRASL", "14,NEWSLOT")?;
+        self.begin_slot(&task)?;
         let gives = self.presents(entry, &given, "G", "GSP")?;
         let shares = self.presents(entry, &shared, "H", "SHSP")?;
-        let zero = if gifts.shares(0) { "YES" } else { "NO" };
-        let operands = format!(in alloc;
+        self.attachx(&task, &gives, &shares, gifts.shares(0))?;
+        self.put_list(entry, &given, "G")?;
+        self.put_list(entry, &shared, "H")
+    }
+
+    // Points register 2 to the slot of a task that is not active, and begins it.
+    fn begin_slot(&mut self, task: &str) -> Result<(), ProgramFault> {
+        self.point(2, task)?;
+        self.cards.code("TM", "SLFLAGS-SLOT(2),SLACTIVE")?;
+        self.cards.branch("1", "TASKUSED")?;
+        self.cards.code("BRASL", "14,NEWSLOT")
+    }
+
+    // ATTACHX of a task with what it is given and shares.
+    fn attachx(
+        &mut self,
+        task: &str,
+        gives: &str,
+        shares: &str,
+        shares_zero: bool,
+    ) -> Result<(), ProgramFault> {
+        let zero = if shares_zero { "YES" } else { "NO" };
+        let operands = format!(in self.cards.alloc();
             "EP=MVSTASK,PARAM=({task}),VL=1,ECB={task}+8{gives}{shares},SZERO={zero}"
         )?;
         self.cards.code("ATTACHX", &operands)?;
-        self.point(2, &task)?;
-        self.cards.go("ATTD")?;
-        self.put_list(entry, &given, "G")?;
-        self.put_list(entry, &shared, "H")
+        self.point(2, task)?;
+        self.cards.go("ATTD")
     }
 
     /// A request that begins or ends a task.

@@ -4,7 +4,7 @@
 pub const JOB: &str = "//MVSJOB   JOB ,'MVSJOB',MSGCLASS=H
 //*";
 
-/// The first of a program's tasks: it gives each line to its task, waits for the answer, and tells it.
+/// The first of a program's tasks: it gives each line to its task, waits for the answer, and prints it.
 pub const DRIVER: &str = "MVSJOB   CSECT
 MVSJOB   AMODE 31
 MVSJOB   RMODE 24
@@ -373,7 +373,7 @@ TAT      DC    H'11',C'AT 00000000'
          DS    0H
 WORDS    DC    16F'0'";
 
-/// What stands behind the routines: the places of lines and tasks.
+/// What follows the routines: the places of lines and tasks.
 pub const LAYOUTS: &str = "LINE     DSECT
 LNSLOT   DS    A
 LNROUT   DS    A

@@ -1,32 +1,19 @@
-//! Reads assembler source, or a listing of it, and says each request for storage as a statement of a script, or why it cannot be said.
-//! docs/FROM-ASSEMBLER.md has the operands.
+//! Processes assembler source, or a listing of it, along its paths, and converts each request for storage to a statement of a script,
+//! or reports why it cannot. docs/FROM-ASSEMBLER.md has the operands.
 #![tactic(auto)]
 
-mod attach;
-mod calculation;
-mod constant;
-mod cpool;
-mod effects;
-mod freemain;
-mod getmain;
-mod held;
-mod lines;
-mod list_forms;
-mod listing;
-mod macros;
-mod names;
-mod operands;
-mod quotes;
-mod reason;
-mod said;
+mod calls;
+mod ends;
+mod frames;
+mod marks;
+mod options;
+mod script;
 mod sections;
-mod statements;
-mod storage;
-mod symbols;
-mod values;
 mod walk;
-mod words;
+mod way;
 
-pub use crate::names::NoName;
-pub use crate::said::{Found, Saying};
+pub use crate::options::{Choices, Repeat, Schedule};
+pub use crate::script::{Found, Saying};
 pub use crate::walk::{Requests, find_requests};
+pub use crate::way::Refusal;
+pub use assembler_statements::{Member, copied_members};

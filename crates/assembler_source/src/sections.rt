@@ -1,9 +1,10 @@
 //! The sections of a source, and which of them are programs of tasks.
 
-use crate::statements::Statement;
-use crate::symbols::Symbols;
+use assembler_flow::begins_section;
+use assembler_statements::Statement;
+use assembler_symbols::Symbols;
 use std::alloc::{AllocError, Global};
-use std::collections::BTreeSet;
+use std::collections::{BTreeMap, BTreeSet};
 
 /// The name of a program without a label.
 const UNNAMED: &str = "JOB";
@@ -14,11 +15,13 @@ pub struct Sections {
     pub first: String,
     attached: BTreeSet<String>,
     above: BTreeSet<String>,
+    /// By its label, where a section begins.
+    starts: BTreeMap<String, usize>,
 }
 
-/// Whether a section of instructions begins.
-pub fn begins_section(statement: &Statement) -> bool {
-    matches!(statement.operation.as_str(), "CSECT" | "RSECT" | "START")
+// The characters at a symbol.
+fn characters_at<'a>(symbols: &'a Symbols, symbol: &str) -> Option<&'a str> {
+    Some(symbols.get(symbol)?.characters.as_ref()?.as_str())
 }
 
 // The program that a statement attaches.
@@ -29,13 +32,7 @@ fn attached_by<'a>(symbols: &'a Symbols, statement: &'a Statement) -> Option<&'a
     for operand in statement.operands.iter() {
         match operand.split_once('=') {
             Some(("EP", name)) => return Some(name),
-            Some(("EPLOC" | "DE", place)) => {
-                return symbols
-                    .get(place)?
-                    .characters
-                    .as_ref()
-                    .map(|name| name.as_str());
-            }
+            Some(("EPLOC" | "DE", place)) => return characters_at(symbols, place),
             _ => {}
         }
     }
@@ -47,35 +44,57 @@ fn is_above(statement: &Statement) -> bool {
     statement.operation.as_str() == "RMODE" && matches!(statement.field.as_str(), "ANY" | "31")
 }
 
+// The label of the first section.
+fn first_section(statements: &[Statement]) -> &str {
+    for statement in statements {
+        if begins_section(statement) && !statement.label.is_empty() {
+            return statement.label.as_str();
+        }
+    }
+    UNNAMED
+}
+
 impl Sections {
-    /// The sections of a source.
+    // Takes a statement.
+    fn take(
+        &mut self,
+        alloc: Global,
+        symbols: &Symbols,
+        place: usize,
+        statement: &Statement,
+    ) -> Result<(), AllocError> {
+        if let Some(program) = attached_by(symbols, statement) {
+            let program = String::from_str(alloc, program)?;
+            self.attached.insert(program)?;
+        }
+        if is_above(statement) {
+            self.above.insert(statement.label.clone()?)?;
+        }
+        if begins_section(statement) && !self.starts.contains_key(statement.label.as_str()) {
+            self.starts.insert(statement.label.clone()?, place)?;
+        }
+        Ok(())
+    }
+
+    /// Returns the sections of a source. It fails if memory is exhausted.
     pub fn find(
         alloc: Global,
         symbols: &Symbols,
         statements: &[Statement],
     ) -> Result<Sections, AllocError> {
-        let mut first = "";
-        let mut attached = BTreeSet::new(alloc);
-        let mut above = BTreeSet::new(alloc);
-        for statement in statements {
-            if first.is_empty() && begins_section(statement) {
-                first = statement.label.as_str();
-            }
-            if let Some(program) = attached_by(symbols, statement) {
-                attached.insert(String::from_str(alloc, program)?)?;
-            }
-            if is_above(statement) {
-                above.insert(statement.label.clone()?)?;
-            }
+        let mut sections = Sections {
+            first: String::from_str(alloc, first_section(statements))?,
+            attached: BTreeSet::new(alloc),
+            above: BTreeSet::new(alloc),
+            starts: BTreeMap::new(alloc),
+        };
+        for (place, statement) in statements.iter().enumerate() {
+            sections.take(alloc, symbols, place, statement)?;
         }
-        Ok(Sections {
-            first: String::from_str(alloc, if first.is_empty() { UNNAMED } else { first })?,
-            attached,
-            above,
-        })
+        Ok(sections)
     }
 
-    /// The program of whose task a section is: its own, or the first one.
+    /// Returns the program of whose task a section is: its own, or the first one.
     pub fn program_of<'a>(&'a self, section: &'a str) -> &'a str {
         if self.attached.contains(section) {
             section
@@ -84,8 +103,13 @@ impl Sections {
         }
     }
 
-    /// Whether a program resides above 16 megabytes.
+    /// Returns whether a program resides above 16 megabytes.
     pub fn is_above(&self, program: &str) -> bool {
         self.above.contains(program)
+    }
+
+    /// Returns where a program begins, if it is a section of the source.
+    pub fn start_of(&self, program: &str) -> Option<usize> {
+        self.starts.get(program).copied()
     }
 }

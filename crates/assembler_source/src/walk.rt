@@ -1,21 +1,21 @@
-//! Goes through a source and says each request for storage.
+//! Processes a source along its paths and converts each request for storage.
 
-use crate::effects::is_branch;
-use crate::held::{Content, Held};
-use crate::lines::source_lines;
-use crate::list_forms::{Written, how_written, operands_of};
-use crate::macros::{Macro, macro_of};
-use crate::names::{Names, NoName};
-use crate::operands::Operands;
-use crate::reason::{Reason, Unsaid, Why};
-use crate::said::{Found, Saying, State};
-use crate::sections::{Sections, begins_section};
-use crate::statements::{Statement, statements};
-use crate::symbols::symbols_of;
+use crate::frames::{Frames, Inside};
+use crate::marks::attach_mark;
+use crate::options::{Choices, Schedule};
+use crate::script::{Found, Script};
+use crate::sections::Sections;
+use crate::way::{Refusal, Way};
+use assembler_flow::{Layout, Loops, begins_section, flow_of};
+use assembler_operands::{Reason, Unsaid, Why};
+use assembler_requests::{Attached, Converted, Given, convert};
+use assembler_statements::{Member, Statement, read_statements};
+use assembler_symbols::{Symbols, symbols_of};
+use assembler_values::{Held, Known, Macro, Written, how_written, macro_of, operands_of};
 use std::alloc::{AllocError, Global};
-use std::collections::BTreeSet;
+use std::collections::{BTreeMap, BTreeSet, VecDeque};
 
-/// The requests of a source: the task of its first program, whether that resides above 16 megabytes, and what is said of each.
+/// The requests of a source: the task of its first program, whether that resides above 16 megabytes, and the lines of the script.
 #[derive(Drop)]
 pub struct Requests {
     pub task: String,
@@ -23,173 +23,446 @@ pub struct Requests {
     pub found: Vec<Found>,
 }
 
-// A source as far as it was gone through.
-#[derive(Drop)]
-struct Walk<'a> {
-    state: State<'a>,
-    sections: &'a Sections,
-    /// The task of the section.
-    task: String,
-    /// The first branch since the last request.
-    branch: Option<usize>,
-    found: Vec<Found>,
+/// The most statements that a path may have beyond those of its source.
+const MOST_STEPS: usize = 500_000;
+
+/// How often a path may go back to a statement where no loop is known.
+const MOST_BACKS: u32 = 100;
+
+/// A source that was read.
+#[derive(Clone, Copy)]
+pub struct Source<'a> {
+    pub alloc: Global,
+    pub statements: &'a [Statement],
+    pub symbols: &'a Symbols,
+    pub sections: &'a Sections,
+    pub layout: &'a Layout,
+    pub loops: &'a Loops,
 }
 
-// A statement as it is shown: its label, operation and operands.
-fn shown(alloc: Global, statement: &Statement) -> Result<String, AllocError> {
-    let mut text = String::new(alloc);
-    for part in [&statement.label, &statement.operation, &statement.field] {
-        if !text.is_empty() && !part.is_empty() {
-            text.push(' ')?;
-        }
-        text.push_str(part)?;
-    }
-    Ok(text)
+/// A source as far as it was gone through.
+#[derive(Drop)]
+pub struct Walk<'a> {
+    pub source: Source<'a>,
+    pub way: Way,
+    pub held: Held,
+    pub script: Script,
+    pub frames: Frames,
+    /// The place of the next statement.
+    pub at: usize,
+    /// The task that runs, and its program.
+    pub task: String,
+    pub program: String,
+    given: Given,
+    /// The places in routines that were called: their requests are converted where they are called.
+    called: BTreeSet<usize>,
+    /// By its place, how often a request was converted.
+    times: BTreeMap<usize, u32>,
+    /// By its place, how often a path went back to a statement.
+    backs: BTreeMap<usize, u32>,
+    /// Tasks whose statements come later.
+    waiting: VecDeque<Attached>,
+    /// The programs that were gone through, or will be.
+    entered: BTreeSet<String>,
 }
 
 impl<'a> Walk<'a> {
-    // Puts what is said of a statement behind the rest.
-    fn put(&mut self, statement: &Statement, saying: Saying) -> Result<(), AllocError> {
-        let found = Found {
-            number: statement.number,
-            source: shown(self.state.alloc, statement)?,
-            saying,
+    // Begins before the first statement.
+    fn begin(source: Source<'a>, way: Way) -> Result<Walk<'a>, Refusal> {
+        let alloc = source.alloc;
+        let mut given = Given::new(alloc, &source.sections.first)?;
+        let task = given.names.of_task(&source.sections.first)?;
+        Ok(Walk {
+            source,
+            way,
+            held: Held::new(alloc),
+            script: Script::new(alloc),
+            frames: Frames::new(alloc),
+            at: 0,
+            task,
+            program: source.sections.first.clone()?,
+            given,
+            called: BTreeSet::new(alloc),
+            times: BTreeMap::new(alloc),
+            backs: BTreeMap::new(alloc),
+            waiting: VecDeque::new(alloc),
+            entered: BTreeSet::new(alloc),
+        })
+    }
+
+    /// Appends a mark at a statement that is open. It fails if memory is exhausted.
+    pub fn mark(&mut self, statement: &Statement, text: &str) -> Result<(), AllocError> {
+        let text = String::from_str(self.source.alloc, text)?;
+        self.script.put_open(statement, Reason::choice(text))
+    }
+
+    // Counts the request at a place, and returns how often it was converted, this time among them.
+    fn count(&mut self, place: usize) -> Result<u32, AllocError> {
+        let time = match self.times.get(&place) {
+            Some(time) => time.saturating_add(1),
+            None => 1,
         };
-        self.found.push(found)?;
+        self.times.insert(place, time)?;
+        Ok(time)
+    }
+
+    // Returns the label of the loop in which a request is, if that is written once.
+    fn loop_at(&self, place: usize) -> Result<Option<String>, AllocError> {
+        if self.way.is_path() {
+            return Ok(None);
+        }
+        match self.source.loops.around(place) {
+            Some(around) if !self.way.repeats(around.end) => Ok(Some(around.label.clone()?)),
+            _ => Ok(None),
+        }
+    }
+
+    // Appends a task that was attached, whose statements come later, or continues with it.
+    fn attach(&mut self, statement: &Statement, attached: Attached) -> Result<(), AllocError> {
+        self.script.attaches(&self.task)?;
+        let start = self.source.sections.start_of(&attached.program);
+        if self.way.schedule == Schedule::Marked {
+            let source = self.source;
+            let mark = attach_mark(source.alloc, source.statements, &attached.task, start)?;
+            self.script.put_open(statement, Reason::choice(mark))?;
+        }
+        let Some(start) = start else {
+            return Ok(());
+        };
+        if self.is_running(&attached.program) {
+            return self.mark(statement, "a program that attaches itself is not followed");
+        }
+        self.entered.insert(attached.program.clone()?)?;
+        if self.way.schedule == Schedule::AtAttach {
+            return self.enter_task(attached, start);
+        }
+        self.waiting.push_back(attached)?;
         Ok(())
     }
 
-    // What ATTACH is said by, with the residence of the program.
-    fn attach(&mut self, operands: &Operands) -> Result<String, Unsaid> {
-        let mut text = self.state.attach(operands)?;
-        if self.sections.is_above(&self.state.program(operands)?) {
-            text.push_str(",RES=ABOVE")?;
-        }
-        Ok(text)
+    // Returns whether a program is the first one, that of the task that runs, or one of those above it.
+    fn is_running(&self, program: &str) -> bool {
+        self.source.sections.first.as_str() == program
+            || self.program.as_str() == program
+            || self.frames.has_program(program)
+            || self.frames.is_full()
     }
 
-    // What a request is said by.
-    fn text_of(&mut self, asked: Macro, operands: &Operands) -> Result<String, Unsaid> {
-        match asked {
-            Macro::Getmain => self.state.getmain(operands),
-            Macro::Freemain => self.state.freemain(operands),
-            Macro::Storage => self.state.storage(operands),
-            Macro::Cpool => self.state.cpool(operands),
-            Macro::Attach => self.attach(operands),
-            Macro::Beyond => Err(Unsaid::For(Reason::alone(self.state.alloc, Why::AboveTheBar))),
-        }
-    }
-
-    // Says a request that is executed where it stands.
-    fn say(
+    // Appends a request that is converted.
+    fn put_converted(
         &mut self,
-        asked: Macro,
+        place: usize,
         statement: &Statement,
-        how: &Written,
-    ) -> Result<Saying, AllocError> {
-        self.state.coming = None;
-        let said = match operands_of(&self.state, statement, how) {
-            Ok(operands) => self.text_of(asked, &operands),
-            Err(why) => Err(why),
-        };
-        self.state.held.call();
-        match said {
-            Ok(text) => {
-                if let Some((register, symbol)) = self.state.coming.take() {
-                    self.state.held.set(register, Some(Content::Word(symbol)))?;
-                }
-                Ok(Saying::Statement {
-                    task: self.task.clone()?,
-                    text,
-                })
+        request: Converted,
+    ) -> Result<(), AllocError> {
+        let Converted {
+            mut text,
+            comes,
+            attached,
+        } = request;
+        if let Some(comes) = comes {
+            self.held.take(comes)?;
+        }
+        if let Some(attached) = &attached {
+            if self.source.sections.is_above(&attached.program) {
+                text.push_str(",RES=ABOVE")?;
             }
-            Err(Unsaid::For(reason)) => Ok(Saying::Open(reason)),
-            Err(Unsaid::NoName) => Ok(Saying::Open(Reason::alone(self.state.alloc, Why::NoName))),
+        }
+        let in_loop = self.loop_at(place)?;
+        self.script
+            .put_statement(statement, &self.task, text, in_loop)?;
+        match attached {
+            Some(attached) => self.attach(statement, attached),
+            None => Ok(()),
+        }
+    }
+
+    // Appends what a request was converted to.
+    fn put(
+        &mut self,
+        place: usize,
+        statement: &Statement,
+        ended: Result<Converted, Unsaid>,
+    ) -> Result<(), AllocError> {
+        match ended {
+            Ok(request) => self.put_converted(place, statement, request),
+            Err(Unsaid::For(reason)) => self.script.put_open(statement, reason),
+            Err(Unsaid::NoName) => {
+                let reason = Reason::alone(self.source.alloc, Why::NoName);
+                self.script.put_open(statement, reason)
+            }
             Err(Unsaid::Memory) => Err(AllocError),
         }
     }
 
-    // Tells the first branch since the last request.
-    fn tell_branch(&mut self) -> Result<(), AllocError> {
-        if let Some(place) = self.branch.take() {
-            let statements = self.state.statements;
-            if let Some(statement) = statements.get(place) {
-                let reason = Reason::alone(self.state.alloc, Why::Branch);
-                return self.put(statement, Saying::Open(reason));
+    // Converts the request at a place; None if it is a list form, which is no request.
+    fn convert(
+        &mut self,
+        asked: Macro,
+        place: usize,
+        statement: &'a Statement,
+        time: u32,
+    ) -> Result<Option<Result<Converted, Unsaid>>, AllocError> {
+        let source = self.source;
+        let known = Known {
+            alloc: source.alloc,
+            symbols: source.symbols,
+            held: &self.held,
+            statement,
+            time,
+            behind: source
+                .statements
+                .get(place.saturating_add(1)..)
+                .unwrap_or(&[]),
+        };
+        let how = how_written(known, statement)?;
+        if matches!(how, Written::List) {
+            return Ok(None);
+        }
+        Ok(Some(
+            match operands_of(source.alloc, source.statements, statement, how) {
+                Ok(operands) => convert(known, &mut self.given, &operands, asked),
+                Err(why) => Err(why),
+            },
+        ))
+    }
+
+    // Processes a request.
+    fn pass_request(
+        &mut self,
+        asked: Macro,
+        place: usize,
+        statement: &'a Statement,
+    ) -> Result<(), AllocError> {
+        let time = self.count(place)?;
+        match self.convert(asked, place, statement, time)? {
+            Some(ended) => {
+                self.held.call(statement)?;
+                self.put(place, statement, ended)
+            }
+            None => Ok(()),
+        }
+    }
+
+    // Processes the beginning of a section: one of another program's is left out, and a routine ends there.
+    fn pass_section(&mut self, place: usize, statement: &Statement) -> Result<(), AllocError> {
+        match self.frames.routine() {
+            Some(entry) if entry == place => return Ok(()),
+            Some(_) => return self.leave_routine(),
+            None => {}
+        }
+        if self.source.sections.program_of(&statement.label) != self.program.as_str() {
+            self.at = match self.source.layout.next_section(place) {
+                Some(next) => next,
+                None => self.source.statements.len(),
+            };
+            return Ok(());
+        }
+        self.held.leave_registers();
+        self.script.end_section()
+    }
+
+    // Returns whether the statement at a place was converted where its routine is called.
+    fn is_converted(&self, place: usize) -> bool {
+        !self.way.is_path() && self.frames.link().is_none() && self.called.contains(&place)
+    }
+
+    // Notes that a place is passed.
+    fn note(&mut self, place: usize) -> Result<(), AllocError> {
+        if self.frames.link().is_some() {
+            self.called.insert(place)?;
+        }
+        if self.way.is_path() {
+            self.way.reach(place);
+        }
+        Ok(())
+    }
+
+    /// Returns whether a branch that is always taken loops, and counts that it jumps back. It fails if memory is exhausted.
+    pub fn goes_round(&mut self, from: usize, to: usize) -> Result<bool, AllocError> {
+        if let Some(around) = self.source.loops.from(to) {
+            if from <= around.end {
+                return Ok(true);
+            }
+        }
+        let times = match self.backs.get(&to) {
+            Some(times) => times.saturating_add(1),
+            None => 1,
+        };
+        self.backs.insert(to, times)?;
+        Ok(times > MOST_BACKS)
+    }
+
+    // Processes the statement at a place.
+    fn pass(&mut self, place: usize, statement: &'a Statement) -> Result<(), AllocError> {
+        if begins_section(statement) {
+            self.note(place)?;
+            return self.pass_section(place, statement);
+        }
+        if self.is_converted(place) {
+            return Ok(());
+        }
+        self.note(place)?;
+        if let Some(asked) = macro_of(&statement.operation) {
+            return self.pass_request(asked, place, statement);
+        }
+        if statement.operation.as_str() == "COPY" {
+            return self.mark(statement, "the member is not there (-I DIR)");
+        }
+        let source = self.source;
+        let flow = flow_of(
+            source.alloc,
+            source.symbols,
+            source.layout,
+            place,
+            statement,
+        )?;
+        self.go(place, statement, flow)
+    }
+
+    // Begins the next task that waits, and returns whether there is one.
+    fn begin_waiting(&mut self) -> Result<bool, AllocError> {
+        self.script.end_section()?;
+        let Some(Attached { task, program }) = self.waiting.pop_front() else {
+            return Ok(false);
+        };
+        self.at = match self.source.sections.start_of(&program) {
+            Some(start) => start,
+            None => self.source.statements.len(),
+        };
+        self.task = task;
+        self.program = program;
+        self.held.leave_registers();
+        Ok(true)
+    }
+
+    // Continues where the routine or task ends that the path is in; false if the path ends.
+    fn leave(&mut self) -> Result<bool, AllocError> {
+        let Some(frame) = self.frames.leave() else {
+            return self.begin_waiting();
+        };
+        self.at = frame.back;
+        match frame.inside {
+            Inside::Routine { .. } => {}
+            Inside::Task {
+                task,
+                program,
+                registers,
+            } => {
+                self.script.end_section()?;
+                self.task = task;
+                self.program = program;
+                self.held.restore(registers);
+            }
+        }
+        Ok(true)
+    }
+
+    // Processes the next statement; false if there is none.
+    fn step(&mut self) -> Result<bool, AllocError> {
+        let place = self.at;
+        match self.source.statements.get(place) {
+            Some(statement) => {
+                self.at = place.saturating_add(1);
+                self.pass(place, statement)?;
+                Ok(true)
+            }
+            None => self.leave(),
+        }
+    }
+
+    // Lets the tasks wait whose programs nothing has attached, though an ATTACH names them.
+    fn wait_for_others(&mut self) -> Result<(), Refusal> {
+        let source = self.source;
+        for start in source.layout.starts() {
+            let Some(statement) = source.statements.get(*start) else {
+                continue;
+            };
+            let label = statement.label.as_str();
+            let program = source.sections.program_of(label);
+            let is_own = program == label && program != source.sections.first.as_str();
+            if is_own
+                && self
+                    .entered
+                    .insert(String::from_str(source.alloc, program)?)?
+            {
+                let attached = Attached {
+                    task: self.given.names.of_task(program)?,
+                    program: String::from_str(source.alloc, program)?,
+                };
+                self.waiting.push_back(attached)?;
             }
         }
         Ok(())
     }
 
-    // Goes over a request. A list form is none.
-    fn pass_request(&mut self, asked: Macro, statement: &Statement) -> Result<(), AllocError> {
-        let how = how_written(&self.state, statement)?;
-        if matches!(how, Written::List) {
-            return Ok(());
+    // Processes the source, and returns whether the path ended.
+    fn run(&mut self) -> Result<bool, AllocError> {
+        let most = self.source.statements.len().saturating_add(MOST_STEPS);
+        for _ in 0..most {
+            if !self.step()? {
+                return Ok(true);
+            }
         }
-        self.tell_branch()?;
-        let saying = self.say(asked, statement, &how)?;
-        self.put(statement, saying)
+        Ok(false)
     }
 
-    // Goes over the statement at a place.
-    fn pass(&mut self, place: usize, statement: &'a Statement) -> Result<(), NoName> {
-        let statements = self.state.statements;
-        self.state.number = statement.number;
-        self.state.behind = statements.get(place.saturating_add(1)..).unwrap_or(&[]);
-        if begins_section(statement) {
-            let program = self.sections.program_of(&statement.label);
-            self.task = self.state.names.of_task(program)?;
-            self.branch = None;
-            self.state.held.forget();
-            return Ok(());
+    // Processes the whole source.
+    fn run_all(&mut self) -> Result<(), Refusal> {
+        if self.run()? && !self.way.is_path() {
+            self.wait_for_others()?;
+            self.run()?;
         }
-        if is_branch(statement) && self.branch.is_none() {
-            self.branch = Some(place);
+        if let Some(statement) = self.source.statements.get(self.at) {
+            self.mark(
+                statement,
+                "the path has too many statements, and stops here",
+            )?;
         }
-        match macro_of(&statement.operation) {
-            Some(asked) => self.pass_request(asked, statement)?,
-            None => self.state.pass(statement)?,
+        if let Some(place) = self.way.next() {
+            if let Some(statement) = self.source.statements.get(place) {
+                self.mark(statement, "the path does not come here")?;
+            }
         }
         Ok(())
     }
 }
 
-/// Returns what is said of each request of a source, or of a listing of it, in the order of the source. It fails if memory is exhausted, or
-/// if no name is left for a program.
-pub fn find_requests(alloc: Global, source: &[u8]) -> Result<Requests, NoName> {
-    let lines = source_lines(alloc, source)?;
-    let statements = statements(alloc, &lines)?;
-    let symbols = symbols_of(alloc, &statements)?;
-    let sections = Sections::find(alloc, &symbols, &statements)?;
-    let mut names = Names::new(alloc);
-    let task = names.of_task(&sections.first)?;
-    let mut attached = BTreeSet::new(alloc);
-    attached.insert(sections.first.clone()?)?;
-    let state = State {
-        alloc,
-        symbols: &symbols,
-        statements: &statements,
-        behind: &[],
-        number: 0,
-        held: Held::new(alloc),
-        coming: None,
-        names,
-        attached,
-    };
-    let mut walk = Walk {
-        state,
-        sections: &sections,
-        task: task.clone()?,
-        branch: None,
-        found: Vec::new(alloc),
-    };
-    for (place, statement) in statements.iter().enumerate() {
-        walk.pass(place, statement)?;
-    }
+// Processes a source that was read.
+fn walked(source: Source<'_>, way: Way) -> Result<Requests, Refusal> {
+    let mut walk = Walk::begin(source, way)?;
+    let task = walk.task.clone()?;
+    walk.run_all()?;
+    let is_late = walk.way.schedule != Schedule::AtAttach;
+    let Walk { script, .. } = walk;
     Ok(Requests {
         task,
-        is_above: sections.is_above(&sections.first),
-        found: walk.found,
+        is_above: source.sections.is_above(&source.sections.first),
+        found: script.lines(is_late)?,
     })
+}
+
+/// Returns the lines of the script of a source, or of a listing of it: what each request is converted to on the paths that are chosen, and what
+/// is open. It fails if memory is exhausted, if no name is left for a program, or if a choice names a label that the source does not have.
+pub fn find_requests(
+    alloc: Global,
+    source: &[u8],
+    members: &[Member],
+    choices: &Choices,
+) -> Result<Requests, Refusal> {
+    let statements = read_statements(alloc, source, members)?;
+    let symbols = symbols_of(alloc, &statements)?;
+    let sections = Sections::find(alloc, &symbols, &statements)?;
+    let layout = Layout::find(alloc, &statements)?;
+    let loops = Loops::find(alloc, &symbols, &layout, &statements)?;
+    let way = Way::find(alloc, &layout, &loops, choices)?;
+    let source = Source {
+        alloc,
+        statements: &statements,
+        symbols: &symbols,
+        sections: &sections,
+        layout: &layout,
+        loops: &loops,
+    };
+    walked(source, way)
 }

@@ -8,7 +8,7 @@ use Rattle.mvs_model.specs.Numbers.{above_begins}
 abbrev pub IsWithin : ℕ → ℕ → ℕ → Type 0
 IsWithin bound n a = a / bound ≡ (a + n - 1) / bound
 
--- n bytes from an address on end in time and lie within the boundary that is wanted
+-- n bytes from an address on end in time and do not cross the containing boundary
 abbrev pub Fits : Option ℕ → ℕ → ℕ → ℕ → Type 0
 Fits within end n a = (a + n ≤ end) × IfSome within (λ k. IsWithin (2 ^ k) n a)
 
@@ -24,7 +24,7 @@ pub record IsGreatestMultiple (unit to a : ℕ) : Type 0 where
   pub multiple : a % unit ≡ 0
   pub greatest : (q : ℕ) → q ≤ to → q % unit ≡ 0 → q ≤ a
 
--- The highest start up to the last one from which n bytes lie within the boundary that is wanted.
+-- The highest start up to the last one from which n bytes do not cross the containing boundary.
 pub record IsLastStart (start : ℕ) (within : Option ℕ) (n last at : ℕ) : Type 0 where
   pub before : at ≤ last
   pub on_start : at % 2 ^ start ≡ 0

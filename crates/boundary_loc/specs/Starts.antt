@@ -5,7 +5,7 @@ use Rattle.mvs_model.specs.Want.{WantValue}
 use Rattle.mvs_model.specs.Storage.{Meets, InRun}
 use Rattle.boundary_loc.specs.declared.Starts.{Starts}
 
--- the place lies in the run and meets what is wanted but for its lengths
+-- the place is in the run and meets the request except for its lengths
 abbrev pub Serves : PlaceValue → WantValue → PlaceValue → Type 0
 Serves run want p = InRun run p × Meets want p
 

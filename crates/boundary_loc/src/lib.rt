@@ -61,7 +61,7 @@ fn room(addr: u64, within: Option<Exponent>, end: u64) -> u64
     }
 }
 
-// The first start behind the containing boundary that comes next, or the start itself where there is none.
+// Returns the first start after the next containing boundary, or the start itself if there is none.
 fn next_start(first: u64, start: Exponent, within: Option<Exponent>) -> u64
     requires on_start { first % 2 ^ start ≡ 0 }
     requires small { first ≤ 2 ^ 33 }
@@ -92,7 +92,7 @@ fn last_start(last: u64, start: Exponent, within: Option<Exponent>, len: u64) ->
     round_down(passed - len, power(start))
 }
 
-// Whether a length lies within a boundary at all.
+// Returns whether a length fits within a boundary.
 fn is_short(len: u64, within: Option<Exponent>) -> bool
     ensures { IsTrue result ↔ IfSome within (λ k. len ≤ 2 ^ k) }
 {
@@ -121,7 +121,7 @@ struct Starts {
     next_room: u64,
 }
 
-// None where no place in the run can meet what is wanted, of whatever length.
+// Returns None if no place in the run meets the request, of any length.
 fn starts_in(run: Place, want: &Want) -> Option<Starts>
     requires { IsRun run }
     ensures { MatchOption result
@@ -144,7 +144,7 @@ fn starts_in(run: Place, want: &Want) -> Option<Starts>
     })
 }
 
-// The place of so many bytes from an address on.
+// Returns the place of a number of bytes from an address on.
 fn place(addr: u64, len: u64) -> Place
     requires addr { addr < 2 ^ 31 }
     requires some { 1 ≤ len }
@@ -154,8 +154,7 @@ fn place(addr: u64, len: u64) -> Place
     Place::new(Addr::new(addr as u32), len as u32)
 }
 
-/// The lowest place of a length in bytes that lies in the run and meets what is wanted but for its lengths; None
-/// where there is none.
+/// Returns the lowest place of a length in bytes in the run that meets the request except for its lengths; None if there is none.
 pub fn first_in(run: Place, want: &Want, len: u32) -> Option<Place>
     requires run { IsRun run }
     requires whole { len % 8 ≡ 0 }
@@ -176,8 +175,7 @@ pub fn first_in(run: Place, want: &Want, len: u32) -> Option<Place>
     }
 }
 
-/// The highest place of a length in bytes that lies in the run and meets what is wanted but for its lengths; None
-/// where there is none.
+/// Returns the highest place of a length in bytes in the run that meets the request except for its lengths; None if there is none.
 pub fn last_in(run: Place, want: &Want, len: u32) -> Option<Place>
     requires run { IsRun run }
     requires whole { len % 8 ≡ 0 }
@@ -207,7 +205,7 @@ pub fn last_in(run: Place, want: &Want, len: u32) -> Option<Place>
     Some(place(at, len))
 }
 
-/// A longest place in the run of a length that is wanted, which meets what is wanted; None where there is none.
+/// Returns a longest place in the run that meets the request; None if there is none.
 pub fn longest_in(run: Place, want: &Want) -> Option<Place>
     requires { IsRun run }
     ensures { MatchOption result
@@ -228,7 +226,7 @@ pub fn longest_in(run: Place, want: &Want) -> Option<Place>
     }
 }
 
-// Whether so many bytes from an address on lie in the run and meet what is wanted.
+// Returns whether a number of bytes from an address on is in the run and meets the request.
 fn serves_at(run: Place, want: &Want, addr: Addr, len: u32) -> bool
     requires run { IsRun run }
     requires some { 1 ≤ len }
@@ -243,8 +241,7 @@ fn serves_at(run: Place, want: &Want, addr: Addr, len: u32) -> bool
     at % power(want.start()) == 0 && u64::from(len) <= room(at, want.within(), end)
 }
 
-/// The place of a length in bytes at an address, where it lies in the run and meets what is wanted but for its
-/// lengths.
+/// Returns the place of a length in bytes at an address, if it is in the run and meets the request except for its lengths.
 pub fn at_in(run: Place, want: &Want, len: u32, addr: Addr) -> Option<Place>
     requires run { IsRun run }
     requires some { 1 ≤ len }

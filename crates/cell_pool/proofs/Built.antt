@@ -19,7 +19,7 @@ use Rattle.mvs_model.specs.Pools.{part_length, part_want}
 use Rattle.mvs_model.specs.State.{granted}
 use Rattle.mvs_model.specs.View.{state_of}
 use Rattle.mvs_model.specs.Changes.{Extends, with_part}
-use Rattle.mvs_model.specs.Steps.{Plan, new_pool}
+use Rattle.mvs_model.specs.Requests.{Plan, new_pool}
 use Rattle.mvs_model.proofs.TakenCells.{never}
 use Rattle.mvs_model.proofs.PartsGrown.{Stands}
 use Rattle.cell_pool.specs.Layout.{byte_of, count_at, taken_at, flag, flag_room, head_length, IsLaid}

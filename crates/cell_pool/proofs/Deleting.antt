@@ -1,10 +1,11 @@
 -- What CPOOL DELETE is answered.
 use Rattle.std.proofs.Common.{◌≡◌, ◌≢◌, ℕ, ◌/◌, ◌<◌, inl, inr, Bool, true, false, cond, Option, Some, None, Err, refl, sym, ap, ◌∙◌, subst}
-use Rattle.std.specs.Prelude.{is_some, unwrap_or, ◌||◌}
+use Rattle.std.specs.Prelude.{not, is_some, unwrap_or, ◌||◌}
 use Rattle.std.specs.Option.{option_map}
 use Rattle.std.specs.FinMap.{FinMap, get, nat_cmp-IsAntisymmetric}
 use Rattle.mvs_model.specs.declared.name.Name.{Name}
-use Rattle.mvs_model.specs.declared.code.Code.TheVariants.{User}
+use Rattle.mvs_model.specs.declared.refusal.Refusal.TheVariants.{NoPool}
+use Rattle.mvs_model.specs.declared.request.Request.TheVariants as request
 use Rattle.mvs_model.specs.declared.request.Reply.TheVariants.{Rc0}
 use Rattle.mvs_model.specs.Name.{name_cmp, same_name}
 use Rattle.mvs_model.specs.Finite.{Changes}
@@ -15,7 +16,8 @@ use Rattle.mvs_model.specs.State.{State, is_plain, in_cell, granted}
 use Rattle.mvs_model.specs.View.{in_pools, holding, state_of}
 use Rattle.mvs_model.specs.Changes.{DropsPool}
 use Rattle.mvs_model.specs.WellFormed.{Apart}
-use Rattle.mvs_model.specs.Steps.{DeleteStep}
+use Rattle.mvs_model.specs.Causes.{Passed, causes_of}
+use Rattle.mvs_model.specs.Steps.{Deletes, Does, Tries}
 use Rattle.mvs_model.proofs.Orders.{differs}
 use Rattle.mvs_model.proofs.Made.{made_without}
 use Rattle.mvs_model.proofs.TakenCells.{in_cell_is, cell_pooled, same_test, never}
@@ -25,7 +27,6 @@ use Rattle.cell_pool.specs.Layout.{byte_of}
 use Rattle.cell_pool.specs.Roots.{Root, part_of, pool_of, pools_of}
 use Rattle.cell_pool.specs.Agree.{Agree}
 use Rattle.cell_pool.specs.Laws.{KeepsParts}
-use Rattle.mvs_model.specs.Answered.{Answered}
 use Rattle.cell_pool.specs.Release.{in_first, DropsParts}
 use Rattle.mvs_model.proofs.Stand.{held_state, bytes_state, pooled_found, pooled_from}
 use Rattle.cell_pool.proofs.Frame.{get-pools_of, pool_from}
@@ -36,9 +37,8 @@ use Rattle.cell_pool.proofs.SameState.{same_state}
 use Rattle.cell_pool.proofs.Released.{first_found, in_all}
 
 -- where no pool has the name
-pub no_pool : (roots : FinMap name_cmp Root) (old : Storage) (name : Name) → get roots name ≡ None → (o : Owners) (t : Name)
-    → Answered {A = Unit {0}} (λ _. Rc0) (λ reply new. DeleteStep (state_of old o (pools_of roots old)) t name (get (pools_of roots old) name) reply new) (state_of old o (pools_of roots old)) t (Err (User 4002)) (state_of old o (pools_of roots old))
-no_pool roots old name e o t = (refl, λ reply ended a. subst (λ v. DeleteStep (state_of old o (pools_of roots old)) t name v reply ended) (sym (get-pools_of roots old name ∙ ap (option_map (pool_of (byte_of old))) e)) a)
+pub no_pool : (roots : FinMap name_cmp Root) (old : Storage) (name : Name) → get roots name ≡ None → (o : Owners) (t : Name) → Tries {A = Unit {0}} (λ _. Rc0) (state_of old o (pools_of roots old)) t (request.Delete name) (Err NoPool) (state_of old o (pools_of roots old))
+no_pool roots old name e o t = (inl (ap (λ v. not (is_some v)) (get-pools_of roots old name ∙ ap (option_map (pool_of (byte_of old))) e), refl), refl)
 
 module _ (roots fewer : FinMap name_cmp Root) (old new : Storage) (agree : Agree roots old) (name : Name) (r : Root) (is : get roots name ≡ Some r) (gone : (n : Name) → get fewer n ≡ cond (same_name n name) None (get roots n)) (drops : DropsParts old r r.count new) where
   -- the pools that are left
@@ -168,5 +168,8 @@ module _ (roots fewer : FinMap name_cmp Root) (old new : Storage) (agree : Agree
     dropped = subst (DropsPool (state_of old o (pools_of roots old)) name (pool_of (byte_of old) r))
         (same_state new o (pools_of fewer new) drops.storage without is_apart.bytes regions_are owners_are pools_are held_now bytes_now) drops_it
 
-    pub deleted : (t : Name) → DeleteStep (state_of old o (pools_of roots old)) t name (get (pools_of roots old) name) Rc0 (state_of new o (pools_of fewer new))
-    deleted t = subst (λ v. DeleteStep (state_of old o (pools_of roots old)) t name v Rc0 (state_of new o (pools_of fewer new))) (sym (pool_from roots old name r is)) (refl, dropped)
+    pub deleted : (t : Name) → Passed (causes_of (state_of old o (pools_of roots old)) t (request.Delete name)) × Does (state_of old o (pools_of roots old)) t (request.Delete name) Rc0 (state_of new o (pools_of fewer new))
+    deleted t = (
+      (ap (λ v. not (is_some v)) (pool_from roots old name r is), tt),
+      (refl, subst (λ v. Deletes (state_of old o (pools_of roots old)) name v (state_of new o (pools_of fewer new))) (sym (pool_from roots old name r is)) dropped),
+    )

@@ -1,13 +1,14 @@
 -- What CPOOL FREE is answered.
-use Rattle.std.proofs.Common.{◌≡◌, ◌≢◌, ℕ, ◌+◌, ◌/◌, ◌<◌, ◌≤◌, Bool, true, false, cond, Some, None, Err, refl, sym, ap, ◌∙◌, subst, arith}
-use Rattle.std.specs.Prelude.{◌==◌, not}
+use Rattle.std.proofs.Common.{inl, inr, ◌≡◌, ◌≢◌, ℕ, ◌+◌, ◌/◌, ◌<◌, ◌≤◌, Bool, true, false, cond, Some, None, Err, refl, sym, ap, ◌∙◌, subst, arith}
+use Rattle.std.specs.Prelude.{◌==◌, not, is_some}
 use Rattle.std.specs.Option.{option_map}
 use Rattle.std.proofs.lemmas.Bool.Decides.{nat_tests}
 use Rattle.std.specs.FinMap.{FinMap, get}
 use Rattle.std.specs.FinSet as set
 use Rattle.std.proofs.lemmas.Bool.{and_right}
 use Rattle.mvs_model.specs.declared.name.Name.{Name}
-use Rattle.mvs_model.specs.declared.code.Code.TheVariants.{User}
+use Rattle.mvs_model.specs.declared.refusal.Refusal.TheVariants.{NoPool, NoTakenCell}
+use Rattle.mvs_model.specs.declared.request.Request.TheVariants as request
 use Rattle.mvs_model.specs.declared.request.Reply.TheVariants.{Rc0}
 use Rattle.mvs_model.specs.Name.{name_cmp, same_name}
 use Rattle.mvs_model.specs.Place.{place_at}
@@ -15,13 +16,13 @@ use Rattle.mvs_model.specs.Finite.{count_below}
 use Rattle.mvs_model.specs.Storage.{Storage, AllHeld}
 use Rattle.mvs_model.specs.Owners.{Owners}
 use Rattle.mvs_model.specs.View.{state_of}
-use Rattle.mvs_model.specs.Steps.{FreeStep}
+use Rattle.mvs_model.specs.Causes.{Passed, Refused, causes_of, free_causes}
+use Rattle.mvs_model.specs.Steps.{Does, GivesBack, Tries}
 use Rattle.cell_pool.specs.Layout.{byte_of, count_at, taken_at, flag}
-use Rattle.cell_pool.specs.Roots.{Root, part_addr, is_taken, taken_of, pool_of, pools_of}
+use Rattle.cell_pool.specs.Roots.{Root, part_addr, is_taken, pool_of, pools_of}
 use Rattle.cell_pool.specs.Agree.{IsCounted, AgreeParts, Agree}
 use Rattle.cell_pool.specs.Marks.{Marks}
 use Rattle.cell_pool.specs.Walk.{IsTakenAt}
-use Rattle.mvs_model.specs.Answered.{Answered}
 use Rattle.cell_pool.proofs.Counts.{count_one_more, count_some}
 use Rattle.subpool_store.proofs.Counts.{count_most}
 use Rattle.cell_pool.proofs.Counted.{booked_pools, booked_agrees}
@@ -30,18 +31,23 @@ use Rattle.cell_pool.proofs.Taken.{contains-taken, set_from}
 use Rattle.cell_pool.proofs.Frame.{get-pools_of, pool_from}
 use Rattle.cell_pool.proofs.Marked.{cell_small, agrees, gives_seen, apart_given}
 use Rattle.cell_pool.proofs.Walking.{chain_of, held_in}
-use Rattle.mvs_model.proofs.Tests.{match_true, match_false}
 
 module _ (roots : FinMap name_cmp Root) (old : Storage) (agree : AgreeParts roots old) (name : Name) (c : ℕ) where
-  pub no_pool : get roots name ≡ None → (o : Owners) (t : Name) → Answered {A = Unit {0}} (λ _. Rc0) (λ reply new. FreeStep (state_of old o (pools_of roots old)) t name c (get (pools_of roots old) name) reply new) (state_of old o (pools_of roots old)) t (Err (User 4002)) (state_of old o (pools_of roots old))
-  no_pool e o t = (refl, λ reply ended a. subst (λ v. FreeStep (state_of old o (pools_of roots old)) t name c v reply ended) (sym (get-pools_of roots old name ∙ ap (option_map (pool_of (byte_of old))) e)) a)
+  pub no_pool : get roots name ≡ None → (o : Owners) (t : Name) → Tries {A = Unit {0}} (λ _. Rc0) (state_of old o (pools_of roots old)) t (request.Free name c) (Err NoPool) (state_of old o (pools_of roots old))
+  no_pool e o t = (inl (ap (λ v. not (is_some v)) (get-pools_of roots old name ∙ ap (option_map (pool_of (byte_of old))) e), refl), refl)
 
   module _ (r : Root) (is : get roots name ≡ Some r) where
-    pub no_cell : is_taken (byte_of old) r c ≡ false → (o : Owners) (t : Name) → Answered {A = Unit {0}} (λ _. Rc0) (λ reply new. FreeStep (state_of old o (pools_of roots old)) t name c (get (pools_of roots old) name) reply new) (state_of old o (pools_of roots old)) t (Err (User 4001)) (state_of old o (pools_of roots old))
+    pub there : not (is_some (get (pools_of roots old) name)) ≡ false
+    there = ap (λ v. not (is_some v)) (pool_from roots old name r is)
+
+    pub no_cell : is_taken (byte_of old) r c ≡ false → (o : Owners) (t : Name) → Tries {A = Unit {0}} (λ _. Rc0) (state_of old o (pools_of roots old)) t (request.Free name c) (Err NoTakenCell) (state_of old o (pools_of roots old))
     no_cell e o t = (
+      inr (
+        there,
+        subst (λ v. Refused (free_causes c v) NoTakenCell) (sym (pool_from roots old name r is))
+            (inl (ap not (contains-taken (byte_of old) r c ∙ and_right _ _ e), refl)),
+      ),
       refl,
-      λ reply ended a. subst (λ v. FreeStep (state_of old o (pools_of roots old)) t name c v reply ended) (sym (pool_from roots old name r is))
-          (match_true _ _ (not (set.contains (taken_of (byte_of old) r) c)) (ap not (contains-taken (byte_of old) r c ∙ and_right _ _ e)) a),
     )
 
     module _ (a i taken k : ℕ) (new : Storage) {past : Bool} (spot : IsTakenAt old r a i taken past c) (marks : Marks old a i false k new) (one_fewer : k + 1 ≡ taken) where
@@ -66,12 +72,21 @@ module _ (roots : FinMap name_cmp Root) (old : Storage) (agree : AgreeParts root
           unequal : (j i : ℕ) → j ≢ i → (j == i) ≡ false
           unequal j i h = grind (arith, nat_tests)
 
-      pub freed : (o : Owners) (t : Name) → FreeStep (state_of old o (pools_of roots old)) t name c (get (pools_of roots old) name) Rc0 (state_of new o (pools_of roots new))
-      freed o t =
-          subst (λ v. FreeStep (state_of old o (pools_of roots old)) t name c v Rc0 (state_of new o (pools_of roots new))) (sym (pool_from roots old name r is))
-          (match_false _ _ (not (set.contains (taken_of (byte_of old) r) c))
-          (ap not (set_from (byte_of old) r c (cell_small roots old new agree name r is spot.number spot.is_part i low false k marks' c spot.at) (record { part = spot.number; cell = i; is_part = spot.is_part; is_cell = low; at = spot.at; set = was })))
-          (refl, gives_seen roots old new agree name r is spot.number spot.is_part i low false k marks' c spot.at o refl was))
+      pub freed : (o : Owners) (t : Name) → Passed (causes_of (state_of old o (pools_of roots old)) t (request.Free name c)) × Does (state_of old o (pools_of roots old)) t (request.Free name c) Rc0 (state_of new o (pools_of roots new))
+      freed o t = (
+        (
+          there,
+          subst (λ v. Passed (free_causes c v)) (sym (pool_from roots old name r is)) (
+            ap not (set_from (byte_of old) r c (cell_small roots old new agree name r is spot.number spot.is_part i low false k marks' c spot.at) (record { part = spot.number; cell = i; is_part = spot.is_part; is_cell = low; at = spot.at; set = was })),
+            tt,
+          ),
+        ),
+        (
+          refl,
+          subst (λ v. GivesBack (state_of old o (pools_of roots old)) name c v (state_of new o (pools_of roots new))) (sym (pool_from roots old name r is))
+              (gives_seen roots old new agree name r is spot.number spot.is_part i low false k marks' c spot.at o refl was),
+        ),
+      )
 
       pub still_agrees : AgreeParts roots new
       still_agrees = agrees roots old new agree name r is spot.number spot.is_part i low false k marks' c spot.at counted (λ o. apart_given roots old new agree name r is spot.number spot.is_part i low false k marks' c spot.at o refl was)

@@ -4,8 +4,7 @@ use Rattle.std.specs.Option.{option_map}
 use Rattle.std.proofs.lemmas.Bool.Decides.{nat_tests}
 use Rattle.std.specs.FinMap.{FinMap, get}
 use Rattle.mvs_model.specs.declared.name.Name.{Name}
-use Rattle.mvs_model.specs.declared.code.Code.TheVariants.{User, System}
-use Rattle.mvs_model.specs.declared.request.Reply.TheVariants.{Cell, NoCell}
+use Rattle.mvs_model.specs.declared.request.Reply.TheVariants.{Cell}
 use Rattle.mvs_model.specs.Name.{name_cmp}
 use Rattle.mvs_model.specs.Place.{PlaceValue, place_at}
 use Rattle.mvs_model.specs.Storage.{Storage, NoPlace, has_address}
@@ -13,14 +12,20 @@ use Rattle.mvs_model.specs.Owners.{Owners}
 use Rattle.mvs_model.specs.Pools.{Part, part_length, part_want, first_cell, IsFreeCell, IsCellOf}
 use Rattle.mvs_model.specs.View.{state_of}
 use Rattle.mvs_model.specs.Changes.{TakesCell, with_part}
-use Rattle.mvs_model.specs.Steps.{GetStep, GetsMore}
+use Rattle.mvs_model.specs.Causes.{NoneFree, Passed, Refused, causes_of, cell_causes}
+use Rattle.mvs_model.specs.Steps.{Does, TakesSome, Tries}
+use Rattle.mvs_model.specs.declared.refusal.Refusal.TheVariants.{NoFreeCell, NoPart, NoPool}
+use Rattle.mvs_model.specs.declared.request.Request.TheVariants as request
+use Rattle.mvs_model.proofs.StepCases.{more_not_short}
+use Rattle.mvs_model.proofs.Tests.{true_false}
+use Rattle.std.specs.Prelude.{IsTrue, is_some, not}
+use Rattle.mvs_model.specs.Requests.{GetsMore}
 use Rattle.mvs_model.proofs.PoolPut.{put_here}
 use Rattle.cell_pool.specs.Layout.{byte_of, count_at, taken_at, flag, head_length}
 use Rattle.cell_pool.specs.Roots.{Root, extended, free_in, part_addr, part_of, pool_of, pools_of}
 use Rattle.cell_pool.specs.Agree.{IsCounted, AgreeParts, Agree}
 use Rattle.cell_pool.specs.Marks.{Marks}
 use Rattle.cell_pool.specs.Walk.{IsChain, IsFreeAt, AllTaken, Fills}
-use Rattle.mvs_model.specs.Answered.{Answered, cell_reply}
 use Rattle.cell_pool.specs.Extended.{Extended, NoRoom}
 use Rattle.cell_pool.proofs.Chains.{contained_part}
 use Rattle.cell_pool.proofs.Taken.{TakenAt, set_from}
@@ -36,7 +41,6 @@ use Rattle.cell_pool.proofs.Untaken.{is_free}
 use Rattle.mvs_model.proofs.TakenCells.{never}
 use Rattle.std.proofs.lemmas.Bool.{cases_lt}
 use Rattle.mvs_model.specs.Name.{same_name}
-use Rattle.mvs_model.proofs.Tests.{match_true, match_false}
 
 -- what was taken, by a spot
 module _ (roots : FinMap name_cmp Root) (old : Storage) (agree : AgreeParts roots old) (name : Name) (r : Root) (is : get roots name ≡ Some r) (a i taken open_part : ℕ) (new : Storage) (p : PlaceValue) (spot : IsFreeAt old r a i taken open_part)
@@ -73,9 +77,16 @@ module _ (roots : FinMap name_cmp Root) (old : Storage) (agree : AgreeParts root
   pub got_cell : (o : Owners) → TakesCell (state_of old o (pools_of roots old)) name (pool_of (byte_of old) r) (first_cell r.cell_size (part_of (byte_of old) r spot.number) + i * r.cell_size) (state_of new o (pools_of roots new))
   got_cell o = takes_seen roots old done.0 new agree name r is spot.number spot.is_part i low (taken + 1) marks _ refl clear more fills o
 
-  pub got : (conditional : Bool) (o : Owners) (t : Name) → GetStep (state_of old o (pools_of roots old)) t name conditional (get (pools_of roots old) name) (Cell p) (state_of new o (pools_of roots new))
-  got conditional o t = subst (λ v. GetStep (state_of old o (pools_of roots old)) t name conditional v (Cell p) (state_of new o (pools_of roots new))) (sym (pool_from roots old name r is))
-      (inl (_, got_free, (got_cell o, ap Cell place_is)))
+  pub got : (conditional : Bool) (o : Owners) (t : Name) → Passed (causes_of (state_of old o (pools_of roots old)) t (request.Get name conditional)) × Does (state_of old o (pools_of roots old)) t (request.Get name conditional) (Cell p) (state_of new o (pools_of roots new))
+  got conditional o t = (
+    (
+      ap (λ v. not (is_some v)) (pool_from roots old name r is),
+      subst (λ v. Passed (cell_causes (state_of old o (pools_of roots old)) conditional v)) (sym (pool_from roots old name r is))
+          (λ h. h.1 _ got_free, (λ h. h.0 _ got_free, tt)),
+    ),
+    subst (λ v. TakesSome (state_of old o (pools_of roots old)) name v (Cell p) (state_of new o (pools_of roots new))) (sym (pool_from roots old name r is))
+        (inl (_, got_free, (got_cell o, ap Cell place_is))),
+  )
 
   -- the part was not full
   pub room : taken_at (byte_of old) (part_addr (byte_of old) r.first spot.number) + 1 ≤ count_at (byte_of old) (part_addr (byte_of old) r.first spot.number)
@@ -109,8 +120,8 @@ module _ (roots : FinMap name_cmp Root) (old : Storage) (agree : AgreeParts root
       got_all = booked_agrees roots new_roots new name r is _ _ now got_agrees got_here got_others
 
 module _ (roots : FinMap name_cmp Root) (old : Storage) (agree : AgreeParts roots old) (name : Name) (conditional : Bool) where
-  pub no_pool : get roots name ≡ None → (o : Owners) (t : Name) → Answered cell_reply (λ reply new. GetStep (state_of old o (pools_of roots old)) t name conditional (get (pools_of roots old) name) reply new) (state_of old o (pools_of roots old)) t (Err (User 4002)) (state_of old o (pools_of roots old))
-  no_pool e o t = (refl, λ reply ended a. subst (λ v. GetStep (state_of old o (pools_of roots old)) t name conditional v reply ended) (sym (get-pools_of roots old name ∙ ap (option_map (pool_of (byte_of old))) e)) a)
+  pub no_pool : get roots name ≡ None → (o : Owners) (t : Name) → Tries Cell (state_of old o (pools_of roots old)) t (request.Get name conditional) (Err NoPool) (state_of old o (pools_of roots old))
+  no_pool e o t = (inl (ap (λ v. not (is_some v)) (get-pools_of roots old name ∙ ap (option_map (pool_of (byte_of old))) e), refl), refl)
 
   module _ (r : Root) (is : get roots name ≡ Some r) (all : AllTaken old r) where
     pub none_free : (c : ℕ) → IsFreeCell (pool_of (byte_of old) r) c → ⊥
@@ -125,15 +136,29 @@ module _ (roots : FinMap name_cmp Root) (old : Storage) (agree : AgreeParts root
           small : (c a n : ℕ) → has_address (place_at a n) c ≡ true → a + n ≤ 0x3000000 → c < 2147483648
           small c a n e l = let h : c < a + n = grind (arith, nat_tests) in omega arith
 
-    pub no_cell : conditional ≡ true → (o : Owners) (t : Name) → GetStep (state_of old o (pools_of roots old)) t name conditional (get (pools_of roots old) name) NoCell (state_of old o (pools_of roots old))
-    no_cell e o t = subst (λ v. GetStep (state_of old o (pools_of roots old)) t name conditional v NoCell (state_of old o (pools_of roots old))) (sym (pool_from roots old name r is))
-        (inr (none_free, match_true _ _ conditional e (refl, refl)))
+    there : (o : Owners) → not (is_some (get (pools_of roots old) name)) ≡ false
+    there o = ap (λ v. not (is_some v)) (pool_from roots old name r is)
 
-    pub short : conditional ≡ false → NoRoom old r → (o : Owners) (t : Name) → Answered cell_reply (λ reply new. GetStep (state_of old o (pools_of roots old)) t name conditional (get (pools_of roots old) name) reply new) (state_of old o (pools_of roots old)) t (Err (System 0x878)) (state_of old o (pools_of roots old))
-    short e none o t = (
+    pub no_cell : conditional ≡ true → (o : Owners) (t : Name) → Tries Cell (state_of old o (pools_of roots old)) t (request.Get name conditional) (Err NoFreeCell) (state_of old o (pools_of roots old))
+    no_cell e o t = (
+      inr (
+        there o,
+        subst (λ v. Refused (cell_causes (state_of old o (pools_of roots old)) conditional v) NoFreeCell) (sym (pool_from roots old name r is)) (inl ((e, none_free), refl)),
+      ),
       refl,
-      λ reply ended a. subst (λ v. GetStep (state_of old o (pools_of roots old)) t name conditional v reply ended) (sym (pool_from roots old name r is))
-          (inr (none_free, match_false _ _ conditional e (inl (subst (λ h. NoPlace old.regions h r.subpool (part_want r.cell_size r.secondary r.side)) (λ k d. sym (holder_state old o (pools_of roots old) agree.storage d) k) none, a)))),
+    )
+
+    may_extend : conditional ≡ false → (IsTrue conditional × NoneFree (pool_of (byte_of old) r)) → ⊥
+    may_extend e h = true_false (sym h.0 ∙ e)
+
+    pub short : conditional ≡ false → NoRoom old r → (o : Owners) (t : Name) → Tries Cell (state_of old o (pools_of roots old)) t (request.Get name conditional) (Err NoPart) (state_of old o (pools_of roots old))
+    short e none o t = (
+      inr (
+        there o,
+        subst (λ v. Refused (cell_causes (state_of old o (pools_of roots old)) conditional v) NoPart) (sym (pool_from roots old name r is))
+            (inr (may_extend e, inl ((none_free, subst (λ h. NoPlace old.regions h r.subpool (part_want r.cell_size r.secondary r.side)) (λ k d. sym (holder_state old o (pools_of roots old) agree.storage d) k) none), refl))),
+      ),
+      refl,
     )
 
     -- a further part, and a cell of it
@@ -200,6 +225,12 @@ module _ (roots : FinMap name_cmp Root) (old : Storage) (agree : AgreeParts root
           ),
         )
 
-        pub got_more : conditional ≡ false → (o : Owners) (t : Name) → GetStep (state_of old o (pools_of roots old)) t name conditional (get (pools_of roots old) name) (Cell p) (state_of new o (pools_of new_roots new))
-        got_more f o t = subst (λ v. GetStep (state_of old o (pools_of roots old)) t name conditional v (Cell p) (state_of new o (pools_of new_roots new))) (sym (pool_from roots old name r is))
-            (inr (none_free, match_false _ _ conditional f (inr (gets_more o))))
+        pub got_more : conditional ≡ false → (o : Owners) (t : Name) → Passed (causes_of (state_of old o (pools_of roots old)) t (request.Get name conditional)) × Does (state_of old o (pools_of roots old)) t (request.Get name conditional) (Cell p) (state_of new o (pools_of new_roots new))
+        got_more f o t = (
+          (
+            there o,
+            subst (λ v. Passed (cell_causes (state_of old o (pools_of roots old)) conditional v)) (sym (pool_from roots old name r is))
+                (may_extend f, (λ h. more_not_short (state_of old o (pools_of roots old)) (state_of new o (pools_of new_roots new)) name (pool_of (byte_of old) r) (Cell p) (gets_more o) h.1, tt)),
+          ),
+          subst (λ v. TakesSome (state_of old o (pools_of roots old)) name v (Cell p) (state_of new o (pools_of new_roots new))) (sym (pool_from roots old name r is)) (inr (none_free, gets_more o)),
+        )

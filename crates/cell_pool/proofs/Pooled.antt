@@ -1,7 +1,6 @@
 -- How many pools there are, and what CPOOL BUILD is answered.
-use Rattle.std.proofs.Common.{◌≡◌, ℕ, ◌<◌, ◌≤◌, ◌⊎◌, inl, inr, suc, Bool, true, false, cond, List, [], ◌∷◌, length, Option, Some, None, T, refl, sym, ap, ◌∙◌, subst, arith}
+use Rattle.std.proofs.Common.{◌≡◌, ℕ, ◌<◌, ◌≤◌, inl, inr, suc, Bool, true, false, cond, List, [], ◌∷◌, length, Option, Some, None, T, refl, sym, ap, ◌∙◌, subst, arith}
 use Rattle.std.specs.Prelude.{◌&&◌, is_some, nat_le}
-use Rattle.std.specs.Bool.{MatchBool}
 use Rattle.std.specs.Ordering.{is_lt, eq_by_cmp}
 use Rattle.std.specs.Option.{option_map}
 use Rattle.std.proofs.lemmas.Bool.Decides.{nat_tests}
@@ -9,28 +8,23 @@ use Rattle.std.specs.declared.cmp.Ordering.{Ordering}
 use Rattle.std.specs.FinMap.{FinMap, get, len, contains_key, entries, entries_sorted, from_sorted, entries-from_sorted, get-from_sorted, get-entries, len-entries, is_sorted, find, same_map}
 use Rattle.std.specs.FinMap.Entries.{below_all}
 use Rattle.mvs_model.specs.declared.name.Name.{Name}
-use Rattle.mvs_model.specs.declared.code.Code.{Code}
-use Rattle.mvs_model.specs.declared.code.Code.TheVariants.{User, System}
-use Rattle.mvs_model.specs.declared.request.Reply.{Reply}
-use Rattle.mvs_model.specs.declared.request.Reply.TheVariants.{Rc0}
 use Rattle.mvs_model.specs.Name.{name_cmp}
 use Rattle.mvs_model.specs.Storage.{Storage, NoPlace, holder as held_by}
 use Rattle.mvs_model.specs.Owners.{Enters, keeper}
 use Rattle.mvs_model.specs.Pools.{part_want}
-use Rattle.mvs_model.specs.State.{State}
 use Rattle.mvs_model.specs.View.{state_of}
-use Rattle.mvs_model.specs.declared.code.Family.TheVariants.{Located}
-use Rattle.mvs_model.specs.Codes.{short}
-use Rattle.mvs_model.specs.Changes.{ShortOf}
-use Rattle.mvs_model.specs.Steps.{Plan, Abends, BuildStep, Builds as MachineBuilds, is_invalid}
+use Rattle.mvs_model.specs.Requests.{Plan, Builds as MachineBuilds}
+use Rattle.mvs_model.specs.Causes.{Passed, Refused, build_causes}
+use Rattle.mvs_model.specs.declared.refusal.Refusal.{Refusal}
+use Rattle.mvs_model.specs.declared.refusal.Refusal.TheVariants.{NoPart, PoolInUse, TooManyPools}
+use Rattle.mvs_model.proofs.StepCases.{built_not_short}
 use Rattle.mvs_model.proofs.Orders.{name_cmp_total, name_cmp-IsAntisymmetric}
 use Rattle.cell_pool.specs.Layout.{byte_of}
 use Rattle.cell_pool.specs.Roots.{Root, pool_of, pools_of}
-use Rattle.cell_pool.specs.Building.{Builds, IsRefusal}
+use Rattle.cell_pool.specs.Building.{Builds, causes_of_build}
 use Rattle.cell_pool.specs.Laws.{BuildIsStep}
 use Rattle.mvs_model.proofs.Stand.{holder_state}
 use Rattle.cell_pool.proofs.Frame.{get-pools_of}
-use Rattle.mvs_model.proofs.Tests.{match_true, match_false}
 
 -- a function of each value of a map
 module _ {K A B : Type 0} (R : K → K → Ordering) (f : A → B) where
@@ -89,15 +83,15 @@ contains-pools_of roots st name = ap is_some (get-pools_of roots st name) ∙ at
   at (Some r) = refl
 
 module _ (roots : FinMap name_cmp Root) (old : Storage) (name : Name) (s : ℕ) (plan : Plan) where
-  pub in_use : (b : Bool) → b ≡ is_some (get roots name) → b ≡ true → IsRefusal roots old name s plan (User 4008)
-  in_use b e f = match_true _ _ (contains_key (pools_of roots old) name) (contains-pools_of roots old name ∙ sym e ∙ f) refl
+  pub in_use : (b : Bool) → b ≡ is_some (get roots name) → b ≡ true → Refused (causes_of_build roots old name s plan) PoolInUse
+  in_use b e f = inl (contains-pools_of roots old name ∙ sym e ∙ f, refl)
 
   pub is_fresh : (b : Bool) → b ≡ is_some (get roots name) → b ≡ false → contains_key (pools_of roots old) name ≡ false
   is_fresh b e f = contains-pools_of roots old name ∙ sym e ∙ f
 
   module _ (fresh : contains_key (pools_of roots old) name ≡ false) where
-    pub too_many : 64 ≤ len roots → IsRefusal roots old name s plan (User 4007)
-    too_many l = match_false _ _ (contains_key (pools_of roots old) name) fresh (match_true _ _ (nat_le 64 (len (pools_of roots old))) (ap (nat_le 64) (len-pools_of roots old) ∙ many (len roots) l) refl) where
+    pub too_many : 64 ≤ len roots → Refused (causes_of_build roots old name s plan) TooManyPools
+    too_many l = inr (fresh, inl (ap (nat_le 64) (len-pools_of roots old) ∙ many (len roots) l, refl)) where
       many : (n : ℕ) → 64 ≤ n → nat_le 64 n ≡ true
       many n l = grind (arith, nat_tests)
 
@@ -106,25 +100,21 @@ module _ (roots : FinMap name_cmp Root) (old : Storage) (name : Name) (s : ℕ) 
       few : (n : ℕ) → n < 64 → nat_le 64 n ≡ false
       few n l = grind (arith, nat_tests)
 
-    pub no_room : len roots < 64 → NoPlace old.regions (held_by old) s (part_want plan.cell_size plan.primary plan.side) → IsRefusal roots old name s plan (System 0x878)
-    no_room l none = match_false _ _ (contains_key (pools_of roots old) name) fresh (match_false _ _ (nat_le 64 (len (pools_of roots old))) (has_room l) (none, refl))
+    pub no_room : len roots < 64 → NoPlace old.regions (held_by old) s (part_want plan.cell_size plan.primary plan.side) → Refused (causes_of_build roots old name s plan) NoPart
+    no_room l none = inr (fresh, inr (has_room l, inl (none, refl)))
 
--- what BUILD answers is the machine's step
+-- a pool that is made is one by the machine
 pub build_is_step : BuildIsStep
 build_is_step roots new_roots old new name s plan o after t number agree valid of = (done, refused) where
-  done : Builds roots old name s plan new_roots new → Enters o (keeper o t number) number s after → BuildStep (state_of old o (pools_of roots old)) t name number plan Rc0 (state_of new after (pools_of new_roots new))
-  done b enters = match_false _ _ (is_invalid number) valid (match_false _ _ (contains_key (pools_of roots old) name) b.fresh (match_false _ _ (nat_le 64 (len (pools_of roots old))) b.room (inr ((s, of, (b.place, after, enters, b.extends o after)), refl))))
+  done : Builds roots old name s plan new_roots new → Enters o (keeper o t number) number s after
+      → Passed (build_causes (state_of old o (pools_of roots old)) t name number (part_want plan.cell_size plan.primary plan.side)) × MachineBuilds (state_of old o (pools_of roots old)) (keeper o t number) name number plan (state_of new after (pools_of new_roots new))
+  done b enters =
+      let made : MachineBuilds (state_of old o (pools_of roots old)) (keeper o t number) name number plan (state_of new after (pools_of new_roots new)) = (s, of, (b.place, after, enters, b.extends o after)) in
+      ((valid, (b.fresh, (b.room, (built_not_short (state_of old o (pools_of roots old)) (state_of new after (pools_of new_roots new)) (keeper o t number) name number plan made, tt)))), made)
 
-  refused : (code : Code) → IsRefusal roots old name s plan code → (reply : Reply) (ended : State) → Abends (state_of old o (pools_of roots old)) t code reply ended → BuildStep (state_of old o (pools_of roots old)) t name number plan reply ended
-  refused code why reply ended a = match_false _ _ (is_invalid number) valid (one (contains_key (pools_of roots old) name) (nat_le 64 (len (pools_of roots old))) why) where
-    abends : (c : Code) → code ≡ c → Abends (state_of old o (pools_of roots old)) t c reply ended
-    abends c e = subst (λ c. Abends (state_of old o (pools_of roots old)) t c reply ended) e a
-
-    one : (b c : Bool) → MatchBool b (code ≡ User 4008) (MatchBool c (code ≡ User 4007) (NoPlace old.regions (held_by old) s (part_want plan.cell_size plan.primary plan.side) × (code ≡ System 0x878)))
-        → MatchBool b (Abends (state_of old o (pools_of roots old)) t (User 4008) reply ended)
-        (MatchBool c (Abends (state_of old o (pools_of roots old)) t (User 4007) reply ended)
-        ((ShortOf (state_of old o (pools_of roots old)) (keeper o t number) number (part_want plan.cell_size plan.primary plan.side) × Abends (state_of old o (pools_of roots old)) t (short Located) reply ended)
-        ⊎ (MachineBuilds (state_of old o (pools_of roots old)) (keeper o t number) name number plan ended × (reply ≡ Rc0))))
-    one true c e = abends (User 4008) e
-    one false true e = abends (User 4007) e
-    one false false e = inl ((s, of, subst (λ h. NoPlace old.regions h s (part_want plan.cell_size plan.primary plan.side)) (λ k d. sym (holder_state old o (pools_of roots old) agree.parts.storage d) k) e.0), abends (System 0x878) e.1)
+  refused : (refusal : Refusal) → Refused (causes_of_build roots old name s plan) refusal → Refused (build_causes (state_of old o (pools_of roots old)) t name number (part_want plan.cell_size plan.primary plan.side)) refusal
+  refused refusal (inl h) = inr (valid, inl h)
+  refused refusal (inr (a, inl h)) = inr (valid, inr (a, inl h))
+  refused refusal (inr (a, inr (b, inl h))) =
+      inr (valid, inr (a, inr (b, inl ((s, of, subst (λ h. NoPlace old.regions h s (part_want plan.cell_size plan.primary plan.side)) (λ k d. sym (holder_state old o (pools_of roots old) agree.parts.storage d) k) h.0), h.1))))
+  refused refusal (inr (a, inr (b, inr h))) = absurd h.1

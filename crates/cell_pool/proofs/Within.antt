@@ -1,5 +1,5 @@
 -- Addresses in taken cells.
-use Rattle.std.proofs.Common.{◌≡◌, ℕ, ◌+◌, ◌*◌, ◌/◌, ◌<◌, ◌≤◌, inl, inr, Bool, true, false, List, Option, Some, None, refl, sym, ap, ◌∙◌, subst, arith}
+use Rattle.std.proofs.Common.{is_some, ◌≡◌, ℕ, ◌+◌, ◌*◌, ◌/◌, ◌<◌, ◌≤◌, inl, inr, Bool, true, false, List, Option, Some, None, refl, sym, ap, ◌∙◌, subst, arith}
 use Rattle.std.proofs.lemmas.Bool.{cases_lt}
 use Rattle.std.proofs.lemmas.Bool.Decides.{nat_tests}
 use Rattle.std.specs.FinMap.{FinMap, get}
@@ -11,7 +11,7 @@ use Rattle.mvs_model.specs.Pools.{Part, part_length, first_cell, IsCell, cell_at
 use Rattle.mvs_model.specs.State.{in_cell}
 use Rattle.mvs_model.specs.View.{state_of}
 use Rattle.mvs_model.proofs.CellPlaces.{has_is, behind_cell}
-use Rattle.mvs_model.proofs.TakenCells.{in_cell_is, taken_found, taken_from, never}
+use Rattle.mvs_model.proofs.TakenCells.{in_cell_from, in_cell_is, taken_found, taken_from, never}
 use Rattle.cell_pool.specs.Layout.{byte_of, count_at, flag, head_length}
 use Rattle.cell_pool.specs.Roots.{Root, part_addr, part_of, pool_of, pools_of}
 use Rattle.cell_pool.specs.Walk.{IsChain, IsPartAt}
@@ -212,3 +212,9 @@ pub not_held : (roots : FinMap name_cmp Root) (st : Storage) → AgreeParts root
 not_held roots st agree x none o = never _ (λ q.
     let i = in_cell_is (state_of st o (pools_of roots st)) x q in
     let f : None ≡ Some i.pool.subpool = none ∙ sym (holder_state st o (pools_of roots st) agree.storage (x / 8)) ∙ ap subpool_in (cell_pooled (state_of st o (pools_of roots st)) (agree.apart o) x i) in absurd (cc))
+
+-- a taken cell that has the address
+pub some_cell_at : (roots : FinMap name_cmp Root) (st : Storage) (x : ℕ) (v : Option PlaceValue) (b : Bool) → b ≡ is_some v
+    → MatchOption v ((o : Owners) → in_cell (state_of st o (pools_of roots st)) x ≡ false) (λ p. IsTakenCell (pools_of roots st) p × (has_address p x ≡ true)) → (o : Owners) → b ≡ in_cell (state_of st o (pools_of roots st)) x
+some_cell_at roots st x None b e h o = e ∙ sym (h o)
+some_cell_at roots st x (Some p) b e h o = e ∙ sym (in_cell_from (state_of st o (pools_of roots st)) x (record { name = h.0.name; pool = h.0.pool; first = p.addr; is_pool = h.0.is_pool; taken = h.0.taken; inside = ap (λ q. has_address q x) (sym h.0.place) ∙ h.1 }))

@@ -20,7 +20,7 @@ pub record IsChained (st : Storage) (r : Root) : Type 0 where
   pub last : part_addr (byte_of st) r.first r.count ≡ 0
   pub fill : r.fill ≡ st.regions.fill
 
--- Each pool is a chain of parts, and the parts lie apart, each held by the subpool of its pool.
+-- Each pool is a chain of parts, and the parts do not overlap. The subpool of the pool holds each of them.
 pub record AgreeParts (roots : FinMap name_cmp Root) (st : Storage) : Type 0 where
   pub storage : IsStorage st
   pub bounded : IsBounded st.regions

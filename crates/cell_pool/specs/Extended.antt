@@ -13,7 +13,7 @@ use Rattle.cell_pool.specs.Layout.{byte_of}
 use Rattle.cell_pool.specs.Roots.{Root, extended, part_of, pool_of, pools_of}
 use Rattle.cell_pool.specs.Walk.{IsFreeAt}
 
--- The pool has one part more, at the address and behind the others, with no cell taken; all else is as before.
+-- The pool has one part more, at the address and after the others, with no cell taken. Nothing else has changed.
 pub record Extended (roots : FinMap name_cmp Root) (old : Storage) (name : Name) (r : Root) (a : ℕ) (new_roots : FinMap name_cmp Root) (new : Storage) : Type 0 where
   pub place : PlaceValue
   pub root : get new_roots name ≡ Some (extended r a)
@@ -26,6 +26,6 @@ pub record Extended (roots : FinMap name_cmp Root) (old : Storage) (name : Name)
 abbrev pub NoRoom : Storage → Root → Type 0
 NoRoom st r = NoPlace st.regions (holder st) r.subpool (part_want r.cell_size r.secondary r.side)
 
--- A further part of the pool may lie in the place.
+-- A further part of the pool may be at the place.
 abbrev pub MayAdd : Storage → Root → PlaceValue → Type 0
 MayAdd st r q = Chosen st.regions (holder st) r.subpool (part_want r.cell_size r.secondary r.side) q

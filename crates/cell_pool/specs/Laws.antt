@@ -7,15 +7,13 @@ use Rattle.mvs_model.specs.Place.{PlaceValue}
 use Rattle.mvs_model.specs.Want.{WantValue}
 use Rattle.mvs_model.specs.Storage.{Storage, IsStorage, Covers, has_address, holder, Grant, Release, ReleaseAll}
 use Rattle.mvs_model.specs.Owners.{Owners, SubpoolOf, Enters, keeper}
-use Rattle.mvs_model.specs.declared.code.Code.{Code}
-use Rattle.mvs_model.specs.declared.request.Reply.{Reply}
-use Rattle.mvs_model.specs.declared.request.Reply.TheVariants.{Rc0}
-use Rattle.mvs_model.specs.State.{State}
-use Rattle.mvs_model.specs.Steps.{Plan, Abends, BuildStep, is_invalid}
-use Rattle.cell_pool.specs.Building.{Builds, IsRefusal}
+use Rattle.mvs_model.specs.declared.refusal.Refusal.{Refusal}
+use Rattle.mvs_model.specs.Requests.{Plan, Builds as MachineBuilds, is_invalid}
+use Rattle.mvs_model.specs.Causes.{Passed, Refused, build_causes}
+use Rattle.cell_pool.specs.Building.{Builds, causes_of_build}
 use Rattle.mvs_model.specs.View.{IsBounded, in_pools, state_of}
 use Rattle.mvs_model.specs.Finite.{Keeps}
-use Rattle.mvs_model.specs.Pools.{Pool}
+use Rattle.mvs_model.specs.Pools.{Pool, part_want}
 use Rattle.mvs_model.specs.Reports.{bytes_held}
 use Rattle.mvs_model.specs.Storage.{held_bytes}
 use Rattle.mvs_model.specs.Changes.{Granted}
@@ -31,7 +29,7 @@ pub record KeepsParts (roots : FinMap name_cmp Root) (old new : Storage) : Type 
   pub heads : (name : Name) (r : Root) (j x : ℕ) → get roots name ≡ Some r → j < r.count → part_addr (byte_of old) r.first j ≤ x
       → x < part_addr (byte_of old) r.first j + head_length (count_at (byte_of old) (part_addr (byte_of old) r.first j)) → byte_of new x ≡ byte_of old x
 
--- What keeps the parts keeps the pools, and what is kept of them goes on to agree with storage.
+-- What keeps the parts keeps the pools, and their records still agree with storage.
 abbrev pub PartsKept : Type 0
 PartsKept = (roots : FinMap name_cmp Root) (old new : Storage) → Agree roots old → KeepsParts roots old new → Agree roots new × (pools_of roots new ≡ pools_of roots old)
 
@@ -51,7 +49,7 @@ ReleaseKeeps = (roots : FinMap name_cmp Root) (old new : Storage) (s : ℕ) (p :
 abbrev pub ReleaseAllKeeps : Type 0
 ReleaseAllKeeps = (roots : FinMap name_cmp Root) (old new : Storage) (s : ℕ) → Agree roots old → IsStorage new → ReleaseAll old s new → ((name : Name) (r : Root) → get roots name ≡ Some r → r.subpool ≢ s) → KeepsParts roots old new
 
--- A write of bytes that lie in no part or in a taken cell keeps them.
+-- A write of bytes that are in no part, or in a taken cell, keeps them.
 abbrev pub WriteKeeps : Type 0
 WriteKeeps = (roots : FinMap name_cmp Root) (old new : Storage) (p : PlaceValue) (value : ℕ → Option ℕ) (o : Owners) → Agree roots old → IsStorage new → new.regions ≡ old.regions → new.held ≡ old.held
     → ((a : ℕ) → get new.bytes a ≡ (if has_address p a then value a else get old.bytes a)) → Granted (state_of old o (pools_of roots old)) p → KeepsParts roots old new
@@ -64,12 +62,16 @@ FewerAgree = (roots fewer : FinMap name_cmp Root) (st : Storage) → Agree roots
 abbrev pub NoneAgree : Type 0
 NoneAgree = (st : Storage) → IsStorage st → IsBounded st.regions → Agree empty st
 
--- What BUILD answers and leaves is the machine's step for each task that means the subpool by the number, whose keeper has it or
--- gets it now.
+-- A pool that is made is one by the machine for each task that means the subpool by the number, whose keeper has it or gets it now;
+-- and what it is refused for, the machine refuses it for.
 abbrev pub BuildIsStep : Type 0
-BuildIsStep = (roots new_roots : FinMap name_cmp Root) (old new : Storage) (name : Name) (s : ℕ) (plan : Plan) (o after : Owners) (t : Name) (number : ℕ) → Agree roots old → is_invalid number ≡ false → SubpoolOf o (keeper o t number) number s
-    → (Builds roots old name s plan new_roots new → Enters o (keeper o t number) number s after → BuildStep (state_of old o (pools_of roots old)) t name number plan Rc0 (state_of new after (pools_of new_roots new)))
-    × ((code : Code) → IsRefusal roots old name s plan code → (reply : Reply) (ended : State) → Abends (state_of old o (pools_of roots old)) t code reply ended → BuildStep (state_of old o (pools_of roots old)) t name number plan reply ended)
+BuildIsStep =
+    (roots new_roots : FinMap name_cmp Root) (old new : Storage) (name : Name) (s : ℕ) (plan : Plan) (o after : Owners) (t : Name) (number : ℕ) → Agree roots old → is_invalid number ≡ false → SubpoolOf o (keeper o t number) number s
+    → (Builds roots old name s plan new_roots new → Enters o (keeper o t number) number s after
+    → Passed (build_causes (state_of old o (pools_of roots old)) t name number (part_want plan.cell_size plan.primary plan.side))
+    × MachineBuilds (state_of old o (pools_of roots old)) (keeper o t number) name number plan (state_of new after (pools_of new_roots new)))
+    × ((refusal : Refusal) → Refused (causes_of_build roots old name s plan) refusal
+    → Refused (build_causes (state_of old o (pools_of roots old)) t name number (part_want plan.cell_size plan.primary plan.side)) refusal)
 
 -- Where the records of a subpool's pools go, the machine's pools of this subpool go, and what is left agrees with storage.
 abbrev pub DropsSubpool : Type 0

@@ -1,4 +1,4 @@
--- How a part of a pool lies in the bytes of storage: sixteen bytes that are four words, the flags, and the cells.
+-- The layout of a part of a pool in storage: sixteen bytes with four words, the flags, and the cells.
 use Rattle.std.specs.Prelude.{◌≡◌, ℕ, ◌+◌, ◌-◌, ◌*◌, ◌/◌, ◌%◌, ◌<◌, ◌≤◌, ◌==◌, Bool, false, [], ◌∷◌, unwrap_or}
 use Rattle.std.specs.Int.{bit_at, from_be_bytes, w32}
 use Rattle.std.specs.FinMap.{get}
@@ -27,8 +27,7 @@ taken_at m a = word m (a + 8)
 abbrev pub size_at : (ℕ → ℕ) → ℕ → ℕ
 size_at m a = word m (a + 12)
 
--- the flag of a cell, which says that it is taken: bit 0 is the high bit of the first byte behind the words. (this project's
--- choice)
+-- the flag of a cell, which is set if it is taken: bit 0 is the high bit of the first byte after the words. (this project's choice)
 unfoldable pub flag : (ℕ → ℕ) → ℕ → ℕ → Bool
 flag m a i = bit_at (m (a + 16 + i / 8)) (7 - i % 8) == 1
 
@@ -36,7 +35,7 @@ flag m a i = bit_at (m (a + 16 + i / 8)) (7 - i % 8) == 1
 abbrev pub flag_room : ℕ → ℕ
 flag_room count = 64 * ((count + 63) / 64)
 
--- how many bytes stand before the cells
+-- the number of bytes before the cells
 abbrev pub head_length : ℕ → ℕ
 head_length count = 16 + 8 * ((count + 63) / 64)
 

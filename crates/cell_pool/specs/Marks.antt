@@ -7,7 +7,7 @@ use Rattle.cell_pool.specs.Layout.{byte_of, taken_at, flag}
 abbrev pub IsMark : ℕ → ℕ → ℕ → Type 0
 IsMark a i x = ((a + 8 ≤ x) × (x < a + 12)) ⊎ (x ≡ a + 16 + i / 8)
 
--- The flag of a cell has the value now, the part says that so many cells are taken, and all else is as before.
+-- The flag of a cell now has the value, the part has this number of taken cells, and nothing else has changed.
 pub record Marks (old : Storage) (a i : ℕ) (v : Bool) (taken : ℕ) (new : Storage) : Type 0 where
   pub storage : IsStorage new
   pub regions : new.regions ≡ old.regions

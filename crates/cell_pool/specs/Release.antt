@@ -14,12 +14,11 @@ pub record StandsAt (st : Storage) (r : Root) (a : ℕ) : Type 0 where
   pub whole : IsWhole (part_at (byte_of st) r.cell_size a).place
   pub held : HeldBy st r.subpool (part_at (byte_of st) r.cell_size a).place
 
--- whether one of the first parts of the pool, so many of them, has the doubleword
+-- whether one of the first n parts of the pool has the doubleword
 unfoldable pub in_first : (ℕ → ℕ) → Root → ℕ → ℕ → Bool
 in_first m r n d = any_below (λ j. covers (part_of m r j).place d) n
 
--- The doublewords of the first parts of the pool, so many of them, are free now and their bytes are gone; all else is as
--- before.
+-- The doublewords of the first n parts of the pool are now free and have no bytes. Nothing else has changed.
 pub record DropsParts (old : Storage) (r : Root) (n : ℕ) (new : Storage) : Type 0 where
   pub storage : IsStorage new
   pub regions : new.regions ≡ old.regions

@@ -16,9 +16,9 @@ use Rattle.mvs_model.specs.Storage.{Storage}
 use Rattle.mvs_model.specs.Pools.{Pool, Part, part_length, first_cell}
 use Rattle.cell_pool.specs.Layout.{byte_of, next_at, count_at, taken_at, flag}
 
--- What is kept of a pool outside storage: its subpool, the size of a cell, the cells of the first part and of the further
--- ones, where these may lie, the byte that a cell holds when it is taken, how many parts there are, where the first and the last
--- one are, how many cells of all parts are free, and where a part is before which all parts are full.
+-- The record of a pool outside storage: its subpool, the size of a cell, the numbers of cells of the first part and of further
+-- ones, their side, the fill byte of a cell, the number of parts, the addresses of the first and the last part, the number of free
+-- cells of all parts, and a part before which all parts are full.
 pub record Root : Type 0 where
   pub subpool : ℕ
   pub cell_size : ℕ
@@ -42,7 +42,7 @@ abbrev below_if : Bool → Side
 below_if true = Below
 below_if false = Either
 
--- the side is the one that was said
+-- the side is the given one
 abbrev below_if-is_below : (s : Side) → below_if (is_below s) ≡ s
 below_if-is_below Below = refl
 below_if-is_below Either = refl
@@ -61,12 +61,12 @@ unfoldable pub part_addr : (ℕ → ℕ) → ℕ → ℕ → ℕ
 part_addr m first zero = first
 part_addr m first (suc i) = next_at m (part_addr m first i)
 
--- how many cells of so many parts are free, where the first one is at an address
+-- the number of free cells of n parts, the first of which is at an address
 unfoldable pub free_in : (ℕ → ℕ) → ℕ → ℕ → ℕ
 free_in m first zero = 0
 free_in m first (suc n) = (count_at m (part_addr m first n) - taken_at m (part_addr m first n)) + free_in m first n
 
--- All cells of so many parts are taken, where the first one is at an address.
+-- All cells of n parts are taken, the first of which is at an address.
 abbrev pub AreFull : (ℕ → ℕ) → ℕ → ℕ → Type 0
 AreFull m first n = (j : ℕ) → j < n → count_at m (part_addr m first j) ≤ taken_at m (part_addr m first j)
 

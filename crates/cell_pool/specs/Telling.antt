@@ -1,4 +1,4 @@
--- What is told of the place of a cell, and taken.
+-- Hints for the place of a cell, and the place that is used.
 use Rattle.std.specs.Prelude.{◌≡◌, ◌⊎◌, ℕ, Option, Some}
 use Rattle.std.specs.FinMap.{FinMap, get}
 use Rattle.mvs_model.specs.declared.name.Name.{Name}
@@ -9,7 +9,7 @@ use Rattle.mvs_model.specs.Changes.{with_part}
 use Rattle.mvs_model.specs.Pools.{Pool, IsCellOf, IsFreeCell, first_cell, part_want}
 use Rattle.mvs_model.specs.State.{State, holder}
 
--- the address of the first cell of a part of the pool that has so many cells, by its place
+-- the address of the first cell of a part of the pool with a number of cells, by its place
 abbrev pub first_in : Pool → ℕ → PlaceValue → ℕ
 first_in pool count q = first_cell pool.cell_size (record { place = q; count = count })
 
@@ -22,11 +22,11 @@ MayHave old pool a first =
     × ((q : PlaceValue) × Chosen old.regions (holder old) pool.subpool (part_want pool.cell_size pool.secondary pool.side) q × (first ≡ Some (first_in pool pool.secondary q))
     × IsCellOf pool.cell_size (record { place = q; count = pool.secondary }) a))
 
--- A cell that is taken is at the address that is told, where one may be had there.
+-- A taken cell is at the hinted address, if there can be one.
 abbrev pub CellTakesTold : State → Name → ℕ → Option ℕ → PlaceValue → Type 0
 CellTakesTold old name told first p = (pool : Pool) → get old.pools name ≡ Some pool → MayHave old pool told first → p.addr ≡ told
 
--- The pool has a part now whose first cell is at the address that is told, where such a part of so many cells may be put to it.
+-- The pool now has a part with its first cell at the hinted address, if such a part can be added to it.
 abbrev pub PartTakesTold : Storage → Name → Pool → ℕ → ℕ → FinMap name_cmp Pool → Type 0
 PartTakesTold st name pool count told pools =
     (q : PlaceValue) → Chosen st.regions (held_by st) pool.subpool (part_want pool.cell_size count pool.side) q → told ≡ first_in pool count q → get pools name ≡ Some (with_part pool count q)

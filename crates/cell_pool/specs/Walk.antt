@@ -1,4 +1,4 @@
--- A pool alone, as a walk along its parts meets it.
+-- A pool as a walk along its parts sees it.
 use Rattle.std.specs.Prelude.{◌≡◌, ℕ, ◌+◌, ◌*◌, ◌<◌, ◌≤◌, ◌==◌, Bool, true, false, Some, if◌then◌else◌}
 use Rattle.mvs_model.specs.Finite.{any_below}
 use Rattle.std.specs.FinMap.{get}
@@ -23,11 +23,11 @@ pub record IsChain (st : Storage) (r : Root) : Type 0 where
   pub held : (j : ℕ) → j < r.count → HeldBy st r.subpool (part_of (byte_of st) r j).place
   pub apart : (j k : ℕ) → j < k → k < r.count → Misses (part_of (byte_of st) r j).place (part_of (byte_of st) r k).place
 
--- whether the open part is one of the first parts of the pool, so many of them
+-- whether the open part is one of the first n parts of the pool
 abbrev pub is_past : (ℕ → ℕ) → Root → ℕ → Bool
 is_past m r n = any_below (λ j. part_addr m r.first j == r.open_part) n
 
--- The part at the address is one of the pool, with so many cells, so many of them taken; and whether the open part is this one
+-- The part at the address is one of the pool, with this number of cells and of taken cells; and whether the open part is this one
 -- or an earlier one.
 pub record IsPartAt (st : Storage) (r : Root) (a count taken : ℕ) (past : Bool) : Type 0 where
   pub number : ℕ
@@ -37,8 +37,8 @@ pub record IsPartAt (st : Storage) (r : Root) (a count taken : ℕ) (past : Bool
   pub of_taken : taken ≡ taken_at (byte_of st) a
   pub of_past : past ≡ is_past (byte_of st) r (number + 1)
 
--- The part at the address is one of the pool; its cell of this number begins at the other address and is one of so many that
--- are taken; and whether the open part is this one or an earlier one.
+-- The part at the address is one of the pool, with this number of taken cells. Its cell with this number begins at the other
+-- address and is one of them. And whether the open part is this one or an earlier one.
 pub record IsTakenAt (st : Storage) (r : Root) (a i taken : ℕ) (past : Bool) (c : ℕ) : Type 0 where
   pub number : ℕ
   pub is_part : number < r.count
@@ -49,8 +49,8 @@ pub record IsTakenAt (st : Storage) (r : Root) (a i taken : ℕ) (past : Bool) (
   pub of_taken : taken ≡ taken_at (byte_of st) a
   pub of_past : past ≡ is_past (byte_of st) r (number + 1)
 
--- The part at the address is one of the pool; its cell of this number is free, and so many of its cells are taken; and the part
--- at the other address is one of the pool too, before which all parts are full.
+-- The part at the address is one of the pool, with this number of taken cells. Its cell with this number is free. The part at the
+-- other address is one of the pool too, and all parts before it are full.
 pub record IsFreeAt (st : Storage) (r : Root) (a i taken open_part : ℕ) : Type 0 where
   pub number : ℕ
   pub is_part : number < r.count

@@ -22,7 +22,7 @@ pub fn release_all_keeps()
     ensures { ReleaseAllKeeps }
 {}
 
-/// A write of bytes that lie in no part or in a taken cell keeps them.
+/// A write of bytes that are in no part, or in a taken cell, keeps them.
 pub fn write_keeps()
     ensures { WriteKeeps }
 {}

@@ -26,7 +26,8 @@ fn part_bytes(size: u32, count: u32) -> u64
     16 + 8 * u64::from((count + 63) / 64) + (cells + 7) / 8 * 8
 }
 
-/// What a part of so many cells of a size wants, but that a length that no region has is made a shorter one that none has either.
+/// Returns the requirements for a part with a number of cells of a size. A length that no region has is replaced by a shorter one
+/// that none has either.
 pub fn part_want(size: CellSize, count: CellCount, side: Side) -> Want
     ensures { StandsFor (part_want size count side) result }
 {
@@ -35,7 +36,7 @@ pub fn part_want(size: CellSize, count: CellCount, side: Side) -> Want
     Want::fixed(Length::new(length as u32), Exponent::new(3), side)
 }
 
-// Where a part of so many cells begins whose first cell is at the address that is told.
+// Returns where a part begins whose first cell is at the hinted address.
 fn part_told(told: Option<Addr>, count: CellCount) -> Option<Addr>
     ensures { (a : ℕ) → told ≡ Some (a + head_length count) → result ≡ Some a }
 {
@@ -49,7 +50,7 @@ fn part_told(told: Option<Addr>, count: CellCount) -> Option<Addr>
     Some(Addr::new(first.get() - before))
 }
 
-// Obtains storage for a part of so many cells of a size, where its first cell is at the address that is told, if such a place serves.
+// Obtains storage for a part with its first cell at the hinted address, if the machine allows that.
 pub(crate) fn obtain_part(
     store: &mut Store,
     subpool: SubpoolId,
@@ -85,7 +86,7 @@ pub(crate) fn put_word(store: &mut Store, addr: u32, word: u32)
     put(store, addr, &word.to_be_bytes());
 }
 
-// Lays out a last part of so many cells of a size, none of them taken.
+// Lays out a last part with a number of cells of a size, none of them taken.
 pub(crate) fn lay_out(store: &mut Store, part: u32, count: u32, size: u32)
     requires low { part + head_length count ≤ 2 ^ 31 }
     requires few { count ≤ 65536 }

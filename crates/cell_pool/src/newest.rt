@@ -12,7 +12,7 @@ use mvs_model::place::{Addr, Place};
 use mvs_model::report::Newest;
 use subpool_store::Store;
 
-// The part that was put last to a pool of which this is kept.
+// Returns the last part of a pool with this record.
 pub(crate) fn newest_of(store: &Store, root: &Root) -> Newest
     requires chain { IsChain store.now.storage root.now }
     requires last { root.now.last

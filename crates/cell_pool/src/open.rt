@@ -34,7 +34,7 @@ fn eight_bytes(bytes: &[u8], at: usize) -> u64
     ])
 }
 
-// How many bytes at the front have all their bits set, as far as whole words of eight bytes tell.
+// Returns the number of bytes at the front with all bits set, found in whole words of eight bytes.
 fn full_words(bytes: &[u8]) -> usize
     requires { length bytes.now ≤ 65536 / 8 }
     ensures within { result ≤ length bytes.now }
@@ -97,7 +97,7 @@ fn first_clear(bytes: &[u8]) -> Option<u32>
     None
 }
 
-// The first free cell of a part of which not all cells are taken.
+// Returns the first free cell of a part that has one.
 fn first_free(store: &Store, part: u32, count: u32) -> u32
     requires low { part + 16 < 2 ^ 31 }
     requires count { count ≡ count_at (byte_of store.now.storage) part }
@@ -141,8 +141,8 @@ fn find_free(store: &Store, root: &Root) -> Spot
     unreachable!()
 }
 
-// A free cell of the pool, where some cell is free: the one at the address that is told, if it is free, else the first of the earliest
-// part that has one.
+// Returns a free cell of a pool that has one: the one at the hinted address if it is free, else the first of the earliest part that
+// has one.
 pub(crate) fn find_spot(store: &Store, root: &Root, told: Option<Addr>) -> Spot
     requires chain { IsChain store.now.storage root.now }
     requires counted { IsCounted (byte_of store.now.storage) root.now }

@@ -4,8 +4,8 @@ use mvs_model::bounded::{CellCount, CellSize};
 use mvs_model::want::Side;
 use std::marker::Model;
 
-/// What CPOOL BUILD says of a pool: the bytes of a cell, the cells of the first part and of each further one, and the side
-/// on which the parts may lie (Assembler Services Reference, CPOOL).
+/// The operands of CPOOL BUILD: the size of a cell in bytes, the numbers of cells of the first part and of each further one, and
+/// the side of the parts (Assembler Services Reference, CPOOL).
 #[derive(Clone, Copy, Debug, PartialEq, Eq)]
 pub struct Plan {
     pub cell_size: CellSize,
@@ -15,7 +15,7 @@ pub struct Plan {
 }
 
 impl Model for Plan {
-    ghost use Rattle.mvs_model.specs.Steps.{Plan as PlanValue};
+    ghost use Rattle.mvs_model.specs.Requests.{Plan as PlanValue};
 
     ghost Value = { PlanValue };
 

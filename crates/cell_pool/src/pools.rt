@@ -1,6 +1,6 @@
 //! The cell pools of a step.
 
-ghost use Rattle.std.specs.Prelude.{◌≡◌, ◌≢◌, ◌<◌, ◌≤◌, ◌+◌, ◌-◌, ◌*◌, ◌^◌, ◌==◌, ℕ, nat_le, not, Some, None, IsSome, true, false, IfOk, IfErr, IfSome, OnOk, OnErr, MatchOption, MatchBool, if◌then◌else◌};
+ghost use Rattle.std.specs.Prelude.{◌≡◌, ◌<◌, ◌≤◌, ◌+◌, ◌-◌, ◌*◌, ◌^◌, ◌==◌, ℕ, nat_le, not, Some, None, IsSome, true, false, IfOk, IfErr, OnOk, OnErr, MatchOption, MatchBool, if◌then◌else◌};
 ghost use Rattle.slab.specs.Slab.{get as slab_get};
 ghost use Rattle.mvs_model.specs.Pools.{Pool, in_taken};
 ghost use Rattle.mvs_model.specs.Place.{place_at};
@@ -13,10 +13,11 @@ ghost use Rattle.mvs_model.specs.Name.{same_name};
 ghost use Rattle.mvs_model.specs.Newest.{IsNewest};
 ghost use Rattle.mvs_model.specs.Numbers.{most_pools};
 ghost use Rattle.mvs_model.specs.Finite.{Keeps};
-ghost use Rattle.cell_pool.specs.Roots.{Root as TheRoot};
-ghost use Rattle.cell_pool.specs.Building.{Builds, IsRefusal};
+ghost use Rattle.cell_pool.specs.Building.{Builds, causes_of_build};
+ghost use Rattle.mvs_model.specs.Causes.{Refused};
 ghost use Rattle.mvs_model.specs.declared.name.Name.{Name as TheName};
-ghost use Rattle.mvs_model.specs.declared.request.Reply.TheVariants.{Rc0};
+ghost use Rattle.mvs_model.specs.declared.request.Reply.TheVariants.{Cell, Rc0};
+ghost use Rattle.mvs_model.specs.declared.request.Request.TheVariants as request;
 ghost use Rattle.mvs_model.specs.Owners.{Owners};
 ghost use Rattle.mvs_model.specs.Reports.{bytes_held};
 ghost use Rattle.mvs_model.specs.View.{state_of};
@@ -25,10 +26,10 @@ ghost use Rattle.cell_pool.specs.Cells.{HasPart, IsSupply, IsTakenCell, Touches,
 ghost use Rattle.mvs_model.specs.Reasons.{IsSpot};
 ghost use Rattle.std.specs.FinSet as set;
 ghost use Rattle.mvs_model.specs.State.{in_cell};
-ghost use Rattle.mvs_model.specs.Steps.{DeleteStep, FreeStep, GetStep, new_pool};
+ghost use Rattle.mvs_model.specs.Steps.{Tries};
+ghost use Rattle.mvs_model.specs.Requests.{new_pool};
 ghost use Rattle.cell_pool.specs.Roots.{extended, pool_of, pools_of, taken_of};
 ghost use Rattle.cell_pool.specs.Agree.{Agree};
-ghost use Rattle.mvs_model.specs.Answered.{Answered, cell_reply};
 ghost use Rattle.cell_pool.specs.Extended.{Extended, MayAdd, NoRoom};
 ghost use Rattle.cell_pool.specs.Telling.{CellTakesTold, PartTakesTold};
 ghost use Rattle.mvs_model.specs.Place.{PlaceValue};
@@ -45,12 +46,12 @@ use crate::take::take;
 use crate::walk::{Spot, Taken, cell_round, find_taken, meets, spot_of};
 use crate::words::{byte, mark};
 use mvs_model::bounded::{CellCount, CellSize};
-use mvs_model::code::Code;
 use mvs_model::error::OutOfMemory;
 use mvs_model::name::Name;
 use mvs_model::numbers::MOST_POOLS;
 use mvs_model::place::{Addr, Place};
 use mvs_model::reason::CellSpot;
+use mvs_model::refusal::Refusal;
 use mvs_model::report::Newest;
 use mvs_model::subpool::SubpoolId;
 use mvs_model::subpool_set::SubpoolSet;
@@ -60,8 +61,8 @@ use std::alloc::Global;
 use std::marker::Model;
 use subpool_store::Store;
 
-/// What a pool has for a request for a cell: whether a cell is free, the subpool from which a further part comes, the size and
-/// the count of its cells, and the side on which it may lie.
+/// What a pool has for a request for a cell: whether a cell is free, the subpool of a further part, the size and number of its
+/// cells, and its side.
 #[derive(Clone, Copy, Debug)]
 pub struct Supply {
     pub has_free: bool,
@@ -71,7 +72,7 @@ pub struct Supply {
     pub side: Side,
 }
 
-/// The cell pools of a step, at most 64. Their parts, and which cells are taken, stand in storage.
+/// The cell pools of a step, at most 64. Their parts, and which cells are taken, are in storage.
 #[derive(Drop)]
 pub struct Pools {
     entries: Slab<Entry>,
@@ -172,7 +173,7 @@ fn entry_meets(
     Some(entry.name)
 }
 
-// The name of a pool of the subpool of which a part has a doubleword of the place.
+// Returns the name of a pool of the subpool with a part that has a doubleword of the place.
 fn any_meets(entries: &Slab<Entry>, store: &Store, subpool: SubpoolId, place: Place) -> Option<Name>
     requires { (k : ℕ) (x : TheEntry) → slab_get entries.now k ≡ Some x
         → IsChain store.now.storage x.root }
@@ -225,24 +226,22 @@ impl Pools {
     }
 
     /// Gives back the taken cell of the pool that begins at the address (Assembler Services Reference, CPOOL FREE). Refused
-    /// are a name that no pool has (user 4002) and an address at which no taken cell of the pool begins (user 4001); the codes
-    /// are this project's choice.
-    pub fn free(&mut self, store: &mut Store, name: &Name, cell: Addr) -> Result<(), Code>
+    /// are a name that no pool has, and an address at which no taken cell of the pool begins.
+    pub fn free(&mut self, store: &mut Store, name: &Name, cell: Addr) -> Result<(), Refusal>
         requires { Agree self.old store.old.storage }
         ensures answer { (o : Owners) (t : TheName)
             → let old = state_of store.old.storage o (pools_of self.old store.old.storage) in
-            Answered (λ _. Rc0)
-            (λ reply new. FreeStep old t name.now cell (get old.pools name.now) reply new) old t
-            result (state_of store.new.storage o (pools_of self.new store.new.storage)) }
+            Tries (λ _. Rc0) old t (request.Free name.now cell) result
+            (state_of store.new.storage o (pools_of self.new store.new.storage)) }
         ensures agree { Agree self.new store.new.storage }
         ensures unchanged { OnErr result (store.new.storage ≡ store.old.storage) }
         ensures pools_unchanged { OnErr result (self.new ≡ self.old) }
     {
         let Some(root) = self.find(name) else {
-            return Err(Code::NO_SUCH_POOL);
+            return Err(Refusal::NoPool);
         };
         let Some(spot) = find_taken(store, &root, cell.get()) else {
-            return Err(Code::NO_SUCH_CELL);
+            return Err(Refusal::NoTakenCell);
         };
         self.give_cell(store, name, &root, spot);
         Ok(())
@@ -264,9 +263,9 @@ impl Pools {
         self.replace(name, root.with_freed(open));
     }
 
-    /// Makes a pool in the subpool, with a first part as the plan says (Assembler Services Reference, CPOOL BUILD), whose first cell is at the address that is told,
-    /// if the part may lie so. Refused are, in this order, a name that a pool has (user 4008), a pool beyond 64 (user 4007), and
-    /// want of a place for the part (878); the codes are this project's choice.
+    /// Creates a pool in the subpool with its first part, and the first cell at the hinted address if the machine allows that
+    /// (Assembler Services Reference, CPOOL BUILD). Refused are, in this order, the name of a pool, a pool beyond 64, and a first
+    /// part that does not fit.
     pub fn build(
         &mut self,
         store: &mut Store,
@@ -274,13 +273,14 @@ impl Pools {
         subpool: SubpoolId,
         plan: &Plan,
         told: Option<Addr>,
-    ) -> Result<(), Code>
+    ) -> Result<(), Refusal>
         requires { Agree self.old store.old.storage }
         ensures built { OnOk result
             (Builds self.old store.old.storage name.now subpool plan.now self.new
             store.new.storage) }
         ensures refused { IfErr result
-            (IsRefusal self.old store.old.storage name.now subpool plan.now) }
+            (Refused
+            (causes_of_build self.old store.old.storage name.now subpool plan.now)) }
         ensures told { (a : ℕ) → told ≡ Some a
             → OnOk result (PartTakesTold store.old.storage name.now (new_pool subpool plan.now)
             plan.now.primary a (pools_of self.new store.new.storage)) }
@@ -289,15 +289,15 @@ impl Pools {
         ensures pools_unchanged { OnErr result (self.new ≡ self.old) }
     {
         if self.find(name).is_some() {
-            return Err(Code::POOL_IN_USE);
+            return Err(Refusal::PoolInUse);
         }
         if self.len() >= MOST_POOLS {
-            return Err(Code::TOO_MANY_POOLS);
+            return Err(Refusal::TooManyPools);
         }
         let primary = plan.primary;
         let Some(place) = obtain_part(store, subpool, plan.cell_size, primary, plan.side, told)
         else {
-            return Err(Code::SHORTAGE);
+            return Err(Refusal::NoPart);
         };
         let first = place.addr();
         let fill = byte(store, first.get());
@@ -338,8 +338,8 @@ impl Pools {
         self.entries.len()
     }
 
-    // Puts a further part to the pool, whose parts are full, where there is a place for it. Its first cell is at the address that is
-    // told, if the part may lie so.
+    // Adds a further part to a pool whose parts are full, if it fits, with its first cell at the hinted address if the machine
+    // allows that.
     fn extend(
         &mut self,
         store: &mut Store,
@@ -390,21 +390,19 @@ impl Pools {
         }
     }
 
-    /// Gives up the pool with all its parts (Assembler Services Reference, CPOOL DELETE). Refused is a name that no pool has
-    /// (user 4002; the code is this project's choice).
-    pub fn delete(&mut self, store: &mut Store, name: &Name) -> Result<(), Code>
+    /// Deletes the pool with all its parts (Assembler Services Reference, CPOOL DELETE). Refused is an unknown name.
+    pub fn delete(&mut self, store: &mut Store, name: &Name) -> Result<(), Refusal>
         requires { Agree self.old store.old.storage }
         ensures answer { (o : Owners) (t : TheName)
             → let old = state_of store.old.storage o (pools_of self.old store.old.storage) in
-            Answered (λ _. Rc0)
-            (λ reply new. DeleteStep old t name.now (get old.pools name.now) reply new) old t
-            result (state_of store.new.storage o (pools_of self.new store.new.storage)) }
+            Tries (λ _. Rc0) old t (request.Delete name.now) result
+            (state_of store.new.storage o (pools_of self.new store.new.storage)) }
         ensures agree { Agree self.new store.new.storage }
         ensures unchanged { OnErr result (store.new.storage ≡ store.old.storage) }
         ensures pools_unchanged { OnErr result (self.new ≡ self.old) }
     {
         let Some(root) = self.find(name) else {
-            return Err(Code::NO_SUCH_POOL);
+            return Err(Refusal::NoPool);
         };
         release_parts(store, &root);
         self.forget(name);
@@ -440,11 +438,10 @@ impl Pools {
         remove_each(&mut self.entries, subpools);
     }
 
-    /// Takes a free cell of the pool: the one at the address that is told, and where none is told, or it is not free, the lowest
-    /// one of the earliest part that has one (Assembler Services Reference, CPOOL GET; which one is this project's choice).
-    /// Where no cell is free, a conditional request gets none, and another one a cell of a further part, which is put so that its
-    /// first cell is at the address `first`, if it may lie so. Refused are a name that no pool has (user 4002) and want of a
-    /// place for the further part (878); the codes are this project's choice.
+    /// Allocates a free cell of the pool: the one at the hinted address, and without a hint, or if it is not free, the lowest one
+    /// of the earliest part that has one (Assembler Services Reference, CPOOL GET; the choice is this project's). If no cell is
+    /// free, a conditional request is refused. Another one gets a cell of a further part, with its first cell at the address
+    /// `first` if the machine allows that. Refused are also an unknown name, and a further part that does not fit.
     pub fn get(
         &mut self,
         store: &mut Store,
@@ -452,35 +449,34 @@ impl Pools {
         conditional: bool,
         told: Option<Addr>,
         first: Option<Addr>,
-    ) -> Result<Option<Place>, Code>
+    ) -> Result<Place, Refusal>
         requires { Agree self.old store.old.storage }
         ensures answer { (o : Owners) (t : TheName)
             → let old = state_of store.old.storage o (pools_of self.old store.old.storage) in
-            Answered cell_reply
-            (λ reply new. GetStep old t name.now conditional (get old.pools name.now) reply new)
-            old t result (state_of store.new.storage o (pools_of self.new store.new.storage)) }
+            Tries Cell old t (request.Get name.now conditional) result
+            (state_of store.new.storage o (pools_of self.new store.new.storage)) }
         ensures told { (o : Owners) (a : ℕ)
             → let old = state_of store.old.storage o (pools_of self.old store.old.storage) in
-            told ≡ Some a → IfOk result (λ cell. IfSome cell (CellTakesTold old name.now a first)) }
+            told ≡ Some a → IfOk result (CellTakesTold old name.now a first) }
         ensures agree { Agree self.new store.new.storage }
         ensures unchanged { OnErr result (store.new.storage ≡ store.old.storage) }
         ensures pools_unchanged { OnErr result (self.new ≡ self.old) }
     {
         let Some(root) = self.find(name) else {
-            return Err(Code::NO_SUCH_POOL);
+            return Err(Refusal::NoPool);
         };
         if root.has_free() {
             let spot = find_spot(store, &root, told);
-            return Ok(Some(self.take_cell(store, name, &root, spot)));
+            return Ok(self.take_cell(store, name, &root, spot));
         }
         if conditional {
-            return Ok(None);
+            return Err(Refusal::NoFreeCell);
         }
         let Some(extended) = self.extend(store, name, &root, first) else {
-            return Err(Code::SHORTAGE);
+            return Err(Refusal::NoPart);
         };
         let spot = find_spot(store, &extended, told);
-        Ok(Some(self.take_cell(store, name, &extended, spot)))
+        Ok(self.take_cell(store, name, &extended, spot))
     }
 
     // Takes a free cell of the pool.
@@ -505,7 +501,7 @@ impl Pools {
         place
     }
 
-    /// The taken cell that the byte at an address lies in, of whichever pool.
+    /// Returns the taken cell, of any pool, that has the byte at an address.
     pub fn cell_at(&self, store: &Store, addr: Addr) -> Option<Place>
         requires { Agree self.now store.now.storage }
         ensures { MatchOption result
@@ -521,6 +517,16 @@ impl Pools {
         cell_in(&self.entries, store, subpool, addr.get())
     }
 
+    /// Returns whether the byte at an address is in a taken cell of some pool.
+    pub fn taken_cell(&self, store: &Store, addr: Addr) -> bool
+        requires { Agree self.now store.now.storage }
+        ensures { (o : Owners)
+            → result
+            ≡ in_cell (state_of store.now.storage o (pools_of self.now store.now.storage)) addr }
+    {
+        self.cell_at(store, addr).is_some()
+    }
+
     /// Whether the subpool holds some doubleword of a place as a part of a pool. Parts in other subpools do not count, so this
     /// is asked of a place that the subpool holds.
     pub fn touches(&self, store: &Store, subpool: SubpoolId, place: Place) -> bool
@@ -532,7 +538,7 @@ impl Pools {
         any_meets(&self.entries, store, subpool, place).is_some()
     }
 
-    /// The name of a pool of the subpool of which a part has a doubleword of the place, which the subpool holds.
+    /// Returns the name of a pool of the subpool with a part that has a doubleword of the place, which the subpool holds.
     pub fn part_in(&self, store: &Store, subpool: SubpoolId, place: Place) -> Option<Name>
         requires { Agree self.now store.now.storage }
         ensures { MatchOption result
@@ -604,7 +610,7 @@ impl Pools {
         Some(find_taken(store, &root, cell.get()).is_some())
     }
 
-    /// Where an address lies at which no taken cell of the pool begins.
+    /// Returns where an address is, if no taken cell of the pool begins there.
     pub fn spot(&self, store: &Store, name: &Name, cell: Addr) -> CellSpot
         requires agree { Agree self.now store.now.storage }
         requires untaken { (pool : Pool)

@@ -9,9 +9,9 @@ use mvs_model::subpool::SubpoolId;
 use mvs_model::want::Side;
 use std::marker::Model;
 
-// What is kept of a pool outside storage: its subpool, the size of a cell, the cells of the first part and of the
-// further ones, where these may lie, the byte that a cell gets, how many parts there are, where the first and the last one
-// are, how many cells are free, and where a part is before which all parts are full.
+// The record of a pool outside storage: its subpool, the size of a cell, the numbers of cells of the first part and of further
+// ones, their side, the fill byte of a cell, the number of parts, the addresses of the first and the last part, the number of free
+// cells, and a part before which all parts are full.
 #[derive(Clone, Copy)]
 pub(crate) struct Root {
     pub(crate) subpool: SubpoolId,
@@ -93,7 +93,7 @@ impl Root {
         self.free > 0
     }
 
-    // The same with a further part behind the others, which are full.
+    // Returns the record with a further part after the others, which are full.
     pub(crate) fn with_part(&self, part: Addr) -> Root
         requires { self.now.count < 0x1000_0000 }
         ensures { result ≡ extended self.now part }

@@ -58,7 +58,7 @@ struct Begun {
     past: bool,
 }
 
-// How many bytes stand before the cells of a part.
+// Returns the number of bytes before the cells of a part.
 pub(crate) fn bytes_before(count: u32) -> u32
     requires { count ≤ 65536 }
     ensures { result ≡ head_length count }
@@ -75,7 +75,7 @@ pub(crate) fn length_of(size: u32, count: u32) -> u32
     bytes_before(count) + (count * size + 7) / 8 * 8
 }
 
-// Whether so many bytes from an address on have another one.
+// Returns whether a number of bytes from an address on include another address.
 fn is_in(from: u32, len: u32, addr: u32) -> bool
     ensures { result ≡ has_address (place_at from len) addr }
 {
@@ -209,7 +209,7 @@ pub(crate) fn find_untaken(store: &Store, root: &Root, addr: u32) -> Option<Spot
     })
 }
 
-// The number of the cell that has the address, if the part has so many.
+// Returns the number of the cell that has the address, if the part has that many.
 fn cell_with(first: u32, size: u32, count: u32, addr: u32) -> Option<u32>
     requires some { 1 ≤ size }
     ensures { MatchOption result
@@ -247,7 +247,7 @@ fn begin_of_cell(store: &Store, root: &Root, addr: u32) -> Option<u32>
     Some(first + cell * size)
 }
 
-// Where an address lies at which no taken cell of the pool begins.
+// Returns where an address is, if no taken cell of the pool begins there.
 pub(crate) fn spot_of(store: &Store, root: &Root, addr: Addr) -> CellSpot
     requires chain { IsChain store.now.storage root.now }
     requires untaken { set.contains (taken_of (byte_of store.now.storage) root.now) addr ≡ false }
@@ -284,7 +284,7 @@ pub(crate) fn cell_round(store: &Store, root: &Root, addr: u32) -> Option<Place>
     Some(Place::new(Addr::new(first + cell * size), size))
 }
 
-// Whether so many bytes from an address on and so many from another one have a byte in common.
+// Returns whether two ranges of bytes overlap.
 fn overlaps(from: u32, len: u32, other: u32, other_len: u32) -> bool
     requires one { from + len < 2 ^ 32 }
     requires two { other + other_len < 2 ^ 32 }

@@ -96,7 +96,7 @@ pub(crate) fn put(store: &mut Store, addr: u32, bytes: &[u8])
     part.copy_from_slice(bytes);
 }
 
-// Gives the flag of a cell of the part at an address the value, with so many taken cells then.
+// Sets the flag of a cell of the part at an address, and the number of its taken cells.
 pub fn mark(store: &mut Store, part: u32, cell: u32, value: bool, taken: u32)
     requires low { part + 16 + cell / 8 < 2 ^ 31 }
     requires held { AllHeld store.old.storage (place_at part (16 + cell / 8 + 1)) }

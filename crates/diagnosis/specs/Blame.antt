@@ -8,7 +8,7 @@ use Rattle.mvs_model.specs.Reading.{behind_form, first_of, has_key, is_empty, ke
 use Rattle.job_script.specs.Parted.{starts_word}
 use Rattle.diagnosis.specs.declared.columns.Columns.{Columns}
 
--- What stands behind two words of a line and so many bytes, from its first byte that is no blank on: the operands, and a remark.
+-- What follows two words of a line and a number of bytes, from its first byte on that is not a blank: the operands, and a remark.
 pub record IsField (bytes : List ℕ) (at : ℕ) (field : List ℕ) : Type 0 where
   pub front : List ℕ
   pub place : length front ≡ at
@@ -16,16 +16,16 @@ pub record IsField (bytes : List ℕ) (at : ℕ) (field : List ℕ) : Type 0 whe
   pub words : words field ≡ drop 2 (words bytes)
   pub start : starts_word field ≡ true
 
--- how many bytes some operands take, with a comma behind each
+-- the number of bytes of some operands, with a comma after each
 abbrev pub before : List (List ℕ) → ℕ
 before [] = 0
 before (operand ∷ operands) = length operand + 1 + before operands
 
--- the form in front of the operands, where the row has one
+-- the form before the operands, if the row has one
 abbrev pub form_before : Row → List (List ℕ) → List (List ℕ)
 form_before row operands = if is_empty row.forms then [] else take 1 operands
 
--- Behind operands that are all taken stands one that is not: the first of which a check speaks that fails.
+-- After operands that are all accepted comes one that is not: the first one for which a check fails.
 pub record IsRefused (row : Row) (operands : List (List ℕ)) (at : ℕ) (operand : List ℕ) (fault : Fault) : Type 0 where
   pub left : List (List ℕ)
   pub right : List (List ℕ)
@@ -34,7 +34,7 @@ pub record IsRefused (row : Row) (operands : List (List ℕ)) (at : ℕ) (operan
   pub refused : first_of (operand_checks row (left, operand)) ≡ Some fault
   pub place : at ≡ before left
 
--- whether the value is to blame: what stands under a key that the row takes, and was not there before
+-- whether the value is wrong: that of a keyword that the row has, and that was not given before
 abbrev pub is_again : Fault → Bool
 is_again Repeated = true
 is_again fault = false
@@ -42,11 +42,11 @@ is_again fault = false
 abbrev pub is_value : Row → Fault → List ℕ → Bool
 is_value row fault operand = has_key operand && list_any (λ k. bytes_eq k.key (key_of operand)) row.keywords && not (is_again fault)
 
--- so many bytes of an operand, from so many on: its value, or all of it
+-- a number of bytes of an operand, from an offset on: its value, or all of it
 abbrev pub part_of : Row → Fault → List ℕ → ℕ × ℕ
 part_of row fault operand = if is_value row fault operand then (length (key_of operand) + 1, length (text_of operand)) else (0, length operand)
 
--- the columns of so many bytes of a line of this length, from a place on; where there are none, the byte there, or the last one
+-- the columns of a number of bytes of a line of this length, from a place on; if there are none, the byte there, or the last one
 abbrev pub columns_of : ℕ → ℕ → ℕ → Columns
 columns_of size at count = if nat_lt at size then record { first = at + 1; last = at + min (max 1 count) (size - at) } else record { first = size; last = size }
 
@@ -60,7 +60,7 @@ pub record IsOperandBlamed (row : Row) (bytes : List ℕ) (fault : Fault) (told 
   pub refused : IsRefused row (behind_form row (operands_of bytes)) at operand fault
   pub columns : told ≡ columns_of (length bytes) (start + before (form_before row (operands_of bytes)) + at + (part_of row fault operand).0) (part_of row fault operand).1
 
--- The columns lie in the line.
+-- The columns are in the line.
 pub record AreWithin (bytes : List ℕ) (columns : Columns) : Type 0 where
   pub begin : 1 ≤ columns.first
   pub order : columns.first ≤ columns.last

@@ -21,7 +21,7 @@ pub struct Blamed<'a> {
     pub at: usize,
     pub operand: &'a [u8],
     pub fault: Fault,
-    /// What a positional operand is to be there.
+    /// Returns the kind of a positional operand at this position.
     pub expected: Option<Kind>,
     pub columns: Columns,
 }

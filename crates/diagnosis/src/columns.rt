@@ -11,7 +11,8 @@ pub struct Columns {
 }
 
 impl Columns {
-    /// Those of so many bytes of a line from a place on; where there are none, the byte there, or the last one of the line.
+    /// Returns the columns of a number of bytes of a line, from a place on. If there are none, it is the byte there, or the last
+    /// one of the line.
     pub fn of(line: &[u8], at: usize, count: usize) -> Columns
         ensures exact { result ≡ columns_of (length line.now) at count }
         ensures within { 1 ≤ length line.now → AreWithin line.now result }

@@ -12,7 +12,7 @@ use job_script::parted::{behind_blanks, next_operand, parted};
 use mvs_model::line::Fault;
 use std::alloc::Global;
 
-/// So many bytes of a line from a place on, what is wrong with them, and what may help.
+/// A number of bytes of a line from a place on, what is wrong with them, and a hint.
 #[derive(Clone, Copy)]
 pub struct Found<'a> {
     pub at: usize,
@@ -29,13 +29,13 @@ pub fn place_of(line: &[u8], end: &[u8]) -> usize {
 // On a byte that no script may have.
 fn byte_hint(line: &[u8], at: usize, byte: u8) -> Hint<'static> {
     match byte {
-        b'\t' => Hint::Says("a tab: use blanks"),
+        b'\t' => Hint::Says("this is a tab: use blanks"),
         b'\r' if at.saturating_add(1) == line.len() => {
-            Hint::Says("lines of this file end as on Windows")
+            Hint::Says("this file has Windows line ends")
         }
         0xEF if at == 0 => Hint::Says("a byte order mark: save the file without it"),
-        0..=0x7F => Hint::Says("no byte of a text: is the file a script?"),
-        _ => Hint::Says("ASCII alone, in remarks too"),
+        0..=0x7F => Hint::Says("not a byte of a text: is the file a script?"),
+        _ => Hint::Says("only ASCII is allowed, even in remarks"),
     }
 }
 
@@ -68,7 +68,7 @@ fn whole<'a>(line: &[u8], said: Said<'a>) -> Found<'a> {
 fn other_operation(word: &[u8]) -> Option<Hint<'static>> {
     match word {
         b"IARV64" | b"IARCP64" | b"IARST64" => {
-            Some(Hint::Says("storage above the bar is not modelled"))
+            Some(Hint::Says("storage above the bar is not simulated"))
         }
         b"ATTACHX" => Some(Hint::Meant("ATTACH")),
         b"WAIT"
@@ -80,18 +80,18 @@ fn other_operation(word: &[u8]) -> Option<Hint<'static>> {
         | b"DELETE"
         | b"ESTAE"
         | b"DSPSERV"
-        | b"EXIT" => Some(Hint::Says("MVS has it; it is not modelled")),
+        | b"EXIT" => Some(Hint::Says("it exists on MVS, but is not simulated")),
         _ => None,
     }
 }
 
-// On a word that is no operation, behind a task.
+// Describes a word after a task that is not an operation.
 fn operation_hint(alloc: Global, task: &[u8], word: &[u8]) -> Hint<'static> {
     if read_operation(task).is_some() {
-        return Hint::Says("the name of the task is missing in column 1");
+        return Hint::Says("is the task name in column 1 missing?");
     }
     if word.iter().any(|byte| byte.is_ascii_lowercase()) {
-        return Hint::Says("letters are upper case");
+        return Hint::Says("use upper case");
     }
     if let Some(hint) = other_operation(word) {
         return hint;
@@ -102,21 +102,21 @@ fn operation_hint(alloc: Global, task: &[u8], word: &[u8]) -> Hint<'static> {
     }
 }
 
-// The first word of a line, which is to be the name of a task.
+// Describes the first word of a line, which should be the name of a task.
 fn task_fault<'a>(task: &'a [u8], line: &'a [u8]) -> Found<'a> {
     if task.is_empty() {
         return Found {
             at: 0,
             count: place_of(line, behind_blanks(line)),
             said: Said::Blank,
-            hint: Hint::Says("column 1 is the task"),
+            hint: Hint::Says("column 1 must have the task name"),
         };
     }
     let lower = task.iter().any(|byte| byte.is_ascii_lowercase());
     let hint = if lower {
-        Hint::Says("letters are upper case")
+        Hint::Says("use upper case")
     } else {
-        Hint::Says("1 to 8 of A-Z 0-9 @ # $, no digit first")
+        Hint::Says("1 to 8 of A-Z 0-9 @ # $, not beginning with a digit")
     };
     Found {
         at: 0,
@@ -130,9 +130,7 @@ fn task_fault<'a>(task: &'a [u8], line: &'a [u8]) -> Found<'a> {
 fn form_fault<'a>(alloc: Global, field: &Field<'a>) -> Found<'a> {
     let (form, _) = next_operand(field.text);
     let hint = match near_form(alloc, field.operation, form) {
-        _ if form.iter().any(|byte| byte.is_ascii_lowercase()) => {
-            Hint::Says("letters are upper case")
-        }
+        _ if form.iter().any(|byte| byte.is_ascii_lowercase()) => { Hint::Says("use upper case") }
         Some(other) => Hint::Meant(other),
         None => Hint::Nothing,
     };
@@ -187,11 +185,11 @@ fn out_of_place(line: &[u8]) -> Found<'_> {
         at: end.saturating_sub(word.len()).saturating_sub(blank),
         count: word.len(),
         said: Said::NotFirst,
-        hint: Hint::Says("as JOB REGION BELOW=4"),
+        hint: Hint::Says("for example JOB REGION BELOW=4"),
     }
 }
 
-// What is said of a line that is too long. Only the bytes are looked at that a line may have, which are there however it was read.
+// Describes a line that is too long. Only bytes that a line can have are checked, and they are there however it was read.
 fn too_long(line: &[u8]) -> Said<'_> {
     let front = &line[..line.len().min(LONGEST)];
     if front.contains(&0) {

@@ -19,7 +19,7 @@ pub enum Hint<'a> {
     Comma(&'a [u8]),
     /// The bytes of this text in EBCDIC.
     Ebcdic(&'a [u8]),
-    /// What stands behind a blank is a remark.
+    /// What follows a blank is a remark.
     Remark(&'a [u8]),
     /// Other forms of the operation take the key.
     Forms(Operation, Key),
@@ -96,11 +96,15 @@ impl fmt::Display for Hint<'_> {
             Hint::Nothing => Ok(()),
             Hint::Says(text) => write!(f, "{text}"),
             Hint::Meant(word) => write!(f, "did you mean {word}?"),
-            Hint::Decimal(number) => write!(f, "in decimal {number}"),
-            Hint::Comma(text) => write!(f, "a comma before {}?", Plain(text)),
-            Hint::Ebcdic(text) => write!(f, "in EBCDIC X'{}'", InEbcdic(text)),
+            Hint::Decimal(number) => write!(f, "in decimal: {number}"),
+            Hint::Comma(text) => write!(f, "missing comma before {}?", Plain(text)),
+            Hint::Ebcdic(text) => write!(f, "in EBCDIC: X'{}'", InEbcdic(text)),
             Hint::Remark(text) => {
-                write!(f, "'{}' behind a blank is a remark: a comma?", Plain(text))
+                write!(
+                    f,
+                    "'{}' after a blank is a remark: did you mean a comma?",
+                    Plain(text)
+                )
             }
             Hint::Forms(operation, key) => {
                 let forms = FormsWith(*operation, *key);

@@ -46,7 +46,7 @@ pub fn row_of<'a>(
     Some((Called { operation, form }, row, rest))
 }
 
-// Whether a key goes with another one that was given.
+// Returns whether a keyword belongs to another one that was given.
 fn is_partner(given: &Given<'_>, key: Key) -> bool
     requires { IsRead given.now }
 {
@@ -77,7 +77,7 @@ fn lacking(given: &Given<'_>) -> [bool; 8]
     lacking
 }
 
-// On what stands behind a field of operands: a word with an equals sign was meant as one of them.
+// Describes what follows the operands: a word with an equals sign was meant as an operand.
 fn remark_hint(text: &[u8]) -> Hint<'_> {
     let (_, behind) = next_word(text);
     let (remark, _) = next_word(behind);
@@ -88,7 +88,7 @@ fn remark_hint(text: &[u8]) -> Hint<'_> {
     }
 }
 
-// What is missing, at the place behind what stands there.
+// Describes what is missing, at the place after the operands.
 fn missing_at<'a>(line: &[u8], text: &'a [u8], said: Said<'a>) -> Found<'a> {
     let (field, _) = parted(text, b' ');
     Found {
@@ -119,7 +119,7 @@ fn missing_of<'a>(called: Called<'a>, row: Row, text: Option<&'a [u8]>) -> Optio
     }
 }
 
-// An operand that stands where the form is to stand.
+// Describes an operand in the place of the form.
 fn form_missing<'a>(operation: Operation, field: &Field<'a>) -> Option<Found<'a>> {
     let (form, _) = next_operand(field.text);
     if !operation.takes_form() || operation.row(form).is_some() {

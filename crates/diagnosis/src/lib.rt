@@ -1,5 +1,5 @@
-//! What is wrong with a line of a script, in words: the columns that are to blame, what stands there, what the place takes, and
-//! what may help. What a statement takes is told from the table that `job_script` reads it by.
+//! Describes the fault of a line: its columns, what was found, what was expected, and a hint. The table of `job_script` gives the
+//! operands of a statement.
 #![tactic(auto)]
 
 ghost use Rattle.std.specs.Prelude.{◌≡◌, ◌≤◌, Some, flat_map, length};
@@ -67,7 +67,7 @@ fn positional_hint<'a>(alloc: Global, line: &[u8], blamed: &Blamed<'a>) -> Hint<
     };
     if blamed.operand.is_empty() {
         return if behind {
-            Hint::Says("the operands end at the first blank")
+            Hint::Says("a blank ends the operands")
         } else {
             Hint::Nothing
         };
@@ -78,7 +78,7 @@ fn positional_hint<'a>(alloc: Global, line: &[u8], blamed: &Blamed<'a>) -> Hint<
         }
         Some(_) => Hint::Nothing,
         None if blamed.row.keywords().is_empty() => Hint::Nothing,
-        None => Hint::Says("an operand here is KEY=value"),
+        None => Hint::Says("the operands of this statement have the form KEY=value"),
     }
 }
 
@@ -103,7 +103,7 @@ fn operand_hint<'a>(
     }
 }
 
-// What is said of an operand that is not taken, and what may help.
+// Describes an operand that is not accepted, with a hint.
 fn operand_said<'a>(alloc: Global, line: &'a [u8], blamed: &Blamed<'a>) -> (Said<'a>, Hint<'a>) {
     match called_in(line) {
         Some(called) => (
@@ -114,8 +114,8 @@ fn operand_said<'a>(alloc: Global, line: &'a [u8], blamed: &Blamed<'a>) -> (Said
     }
 }
 
-/// What a fault of a line comes from. The line is given without its end; of an empty script it is empty. Memory is taken for the
-/// search of a near word alone, which finds none where it is refused.
+/// Describes a fault of a line. The line has no newline; for an empty script it is empty. Memory is allocated only for the search
+/// for a similar word, which finds none if that fails.
 pub fn diagnose<'a>(alloc: Global, line: &'a [u8], fault: Fault) -> Diagnosis<'a>
     ensures fault { result.fault ≡ fault }
     ensures within { 1 ≤ length line.now → AreWithin line.now result.columns }
@@ -151,7 +151,7 @@ pub fn diagnose<'a>(alloc: Global, line: &'a [u8], fault: Fault) -> Diagnosis<'a
     }
 }
 
-// Writes a byte so many times.
+// Writes a byte a number of times.
 fn write_times<W: fmt::Write>(f: &mut fmt::Formatter<W>, times: usize, text: &str) -> fmt::Result {
     for _ in 0..times {
         write!(f, "{text}")?;

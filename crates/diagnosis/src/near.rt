@@ -1,4 +1,4 @@
-//! Words that are meant where another one stands.
+//! Similar words that may have been meant.
 
 use job_script::operations::{OPERATIONS, Operation};
 use job_script::rows::Row;

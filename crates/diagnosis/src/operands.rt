@@ -1,4 +1,4 @@
-//! Where the operands of a line stand.
+//! Where the operands of a line are.
 
 ghost use Rattle.std.specs.Prelude.{◌≡◌, ◌≤◌, ◌<◌, ◌+◌, ◌^◌, ◌⊎◌, [], Some, drop, length, true, false, IfSome, MatchOption};
 ghost use Rattle.mvs_model.specs.Grammar as grammar;
@@ -13,7 +13,7 @@ use job_script::operations::{Operation, read_operation};
 use job_script::parted::{behind_blanks, next_operand, next_word};
 use job_script::rows::Row;
 
-/// The operation of a line, where the field behind it begins, and the text from there on.
+/// The operation of a line, where the field after it begins, and the text from there on.
 #[derive(Clone, Copy)]
 pub struct Field<'a> {
     pub operation: Operation,
@@ -21,7 +21,7 @@ pub struct Field<'a> {
     pub text: &'a [u8],
 }
 
-/// A row of the table, where the operands behind its form begin, and the text from there on.
+/// A row of the table, where the operands after its form begin, and the text from there on.
 #[derive(Clone, Copy)]
 pub struct Operands<'a> {
     pub row: Row,
@@ -29,7 +29,7 @@ pub struct Operands<'a> {
     pub text: &'a [u8],
 }
 
-/// The word behind the first one of a line, which is empty where there is none, and the text behind it.
+/// Returns the second word of a line, which is empty if there is none, and the text after it.
 pub fn second_word(line: &[u8]) -> (&[u8], &[u8])
     ensures word { result.0.now ≡ operation_in line.now }
     ensures rest { words result.1.now ≡ drop 2 (words line.now) }
@@ -66,7 +66,7 @@ pub fn field_of(line: &[u8]) -> Option<Field<'_>>
     })
 }
 
-// The operands of a field behind its form, which has one.
+// Returns the operands after the form of an operation that has one.
 fn behind_form<'a>(field: &Field<'a>) -> Option<Operands<'a>>
     requires room { field.now.at + length field.now.text.now < 2 ^ 63 }
     requires formed { takes_form (operation_text field.now.operation) ≡ true }
@@ -95,7 +95,7 @@ fn behind_form<'a>(field: &Field<'a>) -> Option<Operands<'a>>
     })
 }
 
-// The operands of a field of an operation that takes no form.
+// Returns the operands of an operation without a form.
 fn without_form<'a>(field: &Field<'a>) -> Option<Operands<'a>>
     requires { takes_form (operation_text field.now.operation) ≡ false }
     ensures behind { (row : grammar.Row)
@@ -119,7 +119,7 @@ fn without_form<'a>(field: &Field<'a>) -> Option<Operands<'a>>
     })
 }
 
-/// The operands of a line behind the form, where it has one, of which there is one at least.
+/// Returns the operands of a line after the form, if there is at least one.
 pub fn operands_in(line: &[u8]) -> Option<Operands<'_>>
     ensures operands { (row : grammar.Row)
         → row_of (operation_in line.now) (operands_of line.now) ≡ Some row

@@ -13,17 +13,17 @@ use job_script::parted::{next_operand, parted};
 use job_script::rows::{Keyword, Row};
 use mvs_model::line::Fault;
 
-/// An operand that is not taken, where it begins behind the place of the first one, and what is wrong with it.
+/// An operand that is not accepted, its offset from the first one, and what is wrong with it.
 #[derive(Clone, Copy)]
 pub struct Refused<'a> {
     pub at: usize,
     pub operand: &'a [u8],
     pub fault: Fault,
-    /// What a positional operand is to be there.
+    /// Returns the kind of a positional operand at this position.
     pub expected: Option<Kind>,
 }
 
-// What a positional operand is to be behind those that were taken.
+// Returns the kind of a positional operand after those that were accepted.
 fn expected(given: &Given<'_>) -> Option<Kind> {
     if given.keyed {
         return None;
@@ -67,7 +67,7 @@ pub fn first_refused<'a>(row: Row, field: &'a [u8]) -> Option<Refused<'a>>
     }
 }
 
-/// What of an operand is to blame: so many bytes from so many on.
+/// Returns the part of an operand that is wrong: a length and an offset.
 pub fn part_of(row: Row, fault: Fault, operand: &[u8]) -> (usize, usize)
     ensures part { result ≡ part_of (row_at row) fault operand.now }
     ensures within { result.0 ≤ length operand.now }

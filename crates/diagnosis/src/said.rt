@@ -22,15 +22,15 @@ pub enum Said<'a> {
     Blank,
     /// The first word is no name.
     Task(&'a [u8]),
-    /// Nothing stands behind the task.
+    /// Nothing follows the task.
     NoOperation,
     Operation(&'a [u8]),
     /// The first statement is another one than REGION.
     NotFirst,
     NoStatement,
-    /// The operation stands alone, and has forms.
+    /// The operation has forms, and none is given.
     NoForm(Operation),
-    /// An operand with a key stands where the form is to stand.
+    /// An operand with a keyword is in the place of the form.
     Keyed(Operation, &'a [u8]),
     Form(Operation, &'a [u8]),
     /// The statement does not take this operand.
@@ -87,7 +87,7 @@ fn write_keyed<W: fmt::Write>(
     match keyword_of(blamed.row, key) {
         None => write!(f, "{operand}: {called} takes {}", Taken(blamed.row)),
         Some(keyword) => match blamed.fault {
-            Fault::Repeated => write!(f, "{operand}: something stands twice"),
+            Fault::Repeated => write!(f, "{operand}: duplicate"),
             _ => write!(
                 f,
                 "{operand}: {} takes {}",
@@ -109,11 +109,11 @@ fn write_operand<W: fmt::Write>(
         return write_keyed(f, called, blamed, key);
     }
     if blamed.operand.is_empty() {
-        return write!(f, "an operand of {called} is empty");
+        return write!(f, "empty operand of {called}");
     }
     let operand = Plain(blamed.operand);
     match blamed.expected {
-        Some(kind) => write!(f, "{operand}: it is to be {}", Described(kind)),
+        Some(kind) => write!(f, "{operand}: expected {}", Described(kind)),
         None => write!(f, "{operand}: {called} takes {}", Taken(blamed.row)),
     }
 }
@@ -123,16 +123,19 @@ impl fmt::Display for Said<'_> {
         match self {
             Said::TooLong => write!(f, "a line has at most 255 bytes"),
             Said::NoText => write!(f, "a line has at most 255 bytes; is the file a script?"),
-            Said::Byte(byte) => write!(f, "X'{byte:02X}': a script has bytes X'20' to X'7E'"),
+            Said::Byte(byte) => write!(
+                f,
+                "invalid byte X'{byte:02X}': only X'20' to X'7E' are allowed"
+            ),
             Said::Blank => write!(f, "a statement begins with the name of its task"),
-            Said::Task(word) => write!(f, "{}: no name of a task", Plain(word)),
-            Said::NoOperation => write!(f, "no operation stands behind the task"),
-            Said::Operation(word) => write!(f, "{}: no operation", Plain(word)),
-            Said::NotFirst => write!(f, "the first statement is REGION"),
+            Said::Task(word) => write!(f, "{} is not a task name", Plain(word)),
+            Said::NoOperation => write!(f, "missing operation after the task name"),
+            Said::Operation(word) => write!(f, "unknown operation {}", Plain(word)),
+            Said::NotFirst => write!(f, "the first statement must be REGION"),
             Said::NoStatement => write!(f, "the script has no statement"),
             Said::NoForm(operation) => {
                 let forms = Among(operation.forms(), "or");
-                write!(f, "{} has a form: {forms}", operation.text())
+                write!(f, "missing form of {}: {forms}", operation.text())
             }
             Said::Keyed(operation, operand) => {
                 let forms = Among(operation.forms(), "or");
@@ -146,7 +149,11 @@ impl fmt::Display for Said<'_> {
             Said::Form(operation, form) => {
                 let forms = Among(operation.forms(), "and");
                 let operation = operation.text();
-                write!(f, "{}: the forms of {operation} are {forms}", Plain(form))
+                write!(
+                    f,
+                    "unknown form {}: the forms of {operation} are {forms}",
+                    Plain(form)
+                )
             }
             Said::Operand(called, blamed) => write_operand(f, called, blamed),
             Said::Missing(called, missing) => write!(f, "{called}: missing {missing}"),
@@ -156,13 +163,13 @@ impl fmt::Display for Said<'_> {
             Said::Unequal(one, other) => {
                 write!(
                     f,
-                    "{} and {} are lists of one length",
+                    "{} and {} must have the same number of items",
                     one.text(),
                     other.text()
                 )
             }
-            Said::Both => write!(f, "a subpool is given or shared, not both"),
-            Said::Something => write!(f, "the line cannot be read"),
+            Said::Both => write!(f, "a subpool can be given or shared, not both"),
+            Said::Something => write!(f, "the line cannot be parsed"),
         }
     }
 }

@@ -1,4 +1,4 @@
-//! What is said of a line that was not served: its task is not active, or a name in it is not set.
+//! Describes a line that was not executed: its task is not active, or a name in it is not set.
 
 ghost use Rattle.std.specs.Prelude.{◌≤◌, length};
 ghost use Rattle.diagnosis.specs.Blame.{AreWithin};
@@ -18,7 +18,7 @@ pub enum Clue {
     Meant(Name),
     /// A line before this one is to begin the task, or to set the name.
     Before(u32),
-    /// A line behind this one does.
+    /// A later line does.
     Behind(u32),
 }
 
@@ -33,21 +33,21 @@ impl Lacked {
     // Writes what a line before is to do.
     fn write_before<W: fmt::Write>(&self, f: &mut fmt::Formatter<W>, line: u32) -> fmt::Result {
         match self {
-            Lacked::Task => write!(f, " it begins in line {line}, and is not active here"),
-            Lacked::Name => write!(f, " it is not obtained in line {line}"),
+            Lacked::Task => write!(f, " it begins in line {line}, but is not active here"),
+            Lacked::Name => write!(f, " the request in line {line} was not granted"),
         }
     }
 
-    // Writes what a line behind does.
+    // Writes what a later line does.
     fn write_behind<W: fmt::Write>(&self, f: &mut fmt::Formatter<W>, line: u32) -> fmt::Result {
         match self {
             Lacked::Task => write!(f, " it is attached in line {line}"),
-            Lacked::Name => write!(f, " it is obtained in line {line}"),
+            Lacked::Name => write!(f, " it is set in line {line}"),
         }
     }
 }
 
-/// What is said of a line that was not served.
+/// The message for a line that was not executed.
 #[derive(Clone, Copy)]
 pub struct NotServed<'a> {
     pub columns: Columns,
@@ -57,7 +57,7 @@ pub struct NotServed<'a> {
     clue: Clue,
 }
 
-// Whether a name may stand behind such a byte.
+// Returns whether a name can follow such a byte.
 fn leads(byte: u8) -> bool {
     matches!(byte, b' ' | b',' | b'(' | b'=')
 }
@@ -67,7 +67,7 @@ fn follows(byte: u8) -> bool {
     matches!(byte, b' ' | b',' | b')' | b'+')
 }
 
-// Whether a name stands in a line from a place on, as a word of its own.
+// Returns whether a name is in a line at a place, as a word of its own.
 fn stands(line: &[u8], at: usize, name: &[u8]) -> bool {
     let before = match line.get(at.wrapping_sub(1)) {
         Some(byte) => leads(*byte),
@@ -83,7 +83,7 @@ fn stands(line: &[u8], at: usize, name: &[u8]) -> bool {
     }
 }
 
-// Where a name stands among the operands of a line.
+// Returns where a name is among the operands of a line.
 fn place_of(line: &[u8], name: &[u8]) -> usize {
     let (_, rest) = second_word(line);
     let start = line.len().saturating_sub(rest.len());

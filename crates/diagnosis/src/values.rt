@@ -37,7 +37,7 @@ fn meant_number(text: &[u8]) -> Option<u64> {
     short_number(one)?.checked_mul(short_number(other?)?)
 }
 
-// The text behind the digits that another one begins with.
+// Returns the text after the digits at its beginning.
 fn behind_digits(text: &[u8]) -> &[u8] {
     for (i, byte) in text.iter().enumerate() {
         if !byte.is_ascii_digit() {
@@ -47,7 +47,7 @@ fn behind_digits(text: &[u8]) -> &[u8] {
     &[]
 }
 
-// On a text where a number is wanted.
+// Gives a hint for a text that should be a number.
 fn number_hint(text: &[u8]) -> Hint<'_> {
     if let Some(number) = meant_number(text) {
         return Hint::Decimal(number);
@@ -60,27 +60,29 @@ fn number_hint(text: &[u8]) -> Hint<'_> {
         return Hint::Comma(behind);
     }
     match behind {
-        [b'K', ..] | [b'k', ..] | [b'M', ..] | [b'm', ..] => Hint::Says("in bytes, in decimal"),
+        [b'K', ..] | [b'k', ..] | [b'M', ..] | [b'm', ..] => Hint::Says(
+            "give the length in bytes, in decimal",
+        ),
         _ => Hint::Nothing,
     }
 }
 
-// On a text where a name is wanted.
+// Gives a hint for a text that should be a name.
 fn name_hint(text: &[u8]) -> Hint<'static> {
     if has_lower(text) {
-        return Hint::Says("letters are upper case");
+        return Hint::Says("use upper case");
     }
     match text {
         [] => Hint::Nothing,
-        [first, ..] if first.is_ascii_digit() => Hint::Says("a digit is not first"),
+        [first, ..] if first.is_ascii_digit() => Hint::Says("a name cannot begin with a digit"),
         [b'(', ..] => Hint::Says("one name, without parentheses"),
-        _ if text.len() > 8 => Hint::Says("more than 8 bytes"),
-        _ if text.contains(&b'+') => Hint::Says("a name alone"),
+        _ if text.len() > 8 => Hint::Says("longer than 8 characters"),
+        _ if text.contains(&b'+') => Hint::Says("only a name is allowed"),
         _ => Hint::Nothing,
     }
 }
 
-// On a text where bytes are wanted.
+// Gives a hint for a text that should be bytes.
 fn bytes_hint(text: &[u8]) -> Hint<'_> {
     if let [b'C', b'\'', inner @ .., b'\''] = text {
         if !inner.is_empty() && is_common(inner) {
@@ -89,31 +91,31 @@ fn bytes_hint(text: &[u8]) -> Hint<'_> {
     }
     match quoted(text) {
         None => Hint::Nothing,
-        Some([]) => Hint::Says("no digits"),
-        Some(digits) if has_lower(digits) => Hint::Says("letters are upper case"),
+        Some([]) => Hint::Says("digits are missing"),
+        Some(digits) if has_lower(digits) => Hint::Says("use upper case"),
         Some(digits) if digits.len() % 2 != 0 => Hint::Says("an odd number of digits"),
         Some(_) => Hint::Nothing,
     }
 }
 
-// On a text where an address is wanted.
+// Gives a hint for a text that should be an address.
 fn address_hint(text: &[u8]) -> Hint<'static> {
     match quoted(text) {
-        Some(digits) if has_lower(digits) => Hint::Says("letters are upper case"),
+        Some(digits) if has_lower(digits) => Hint::Says("use upper case"),
         Some(digits) if digits.len() > 8 => Hint::Says("more than 8 digits"),
         Some(_) => Hint::Nothing,
-        None if text.contains(&b'-') => Hint::Says("an offset is not negative"),
+        None if text.contains(&b'-') => Hint::Says("an offset cannot be negative"),
         None => name_hint(parted(text, b'+').0),
     }
 }
 
-// On a text where one of some words is wanted.
+// Gives a hint for a text that should be one of some words.
 fn word_hint(alloc: Global, words: &'static [&'static str], text: &[u8]) -> Hint<'static> {
     if has_lower(text) {
-        return Hint::Says("letters are upper case");
+        return Hint::Says("use upper case");
     }
     if text.starts_with(b"(") {
-        return Hint::Says("one value: where the real storage lies is not modelled");
+        return Hint::Says("one value: real storage is not simulated");
     }
     match near_word(alloc, words, text) {
         Some(word) => Hint::Meant(word),
@@ -129,13 +131,15 @@ pub fn value_hint(alloc: Global, kind: Kind, text: &[u8]) -> Hint<'_> {
         Kind::Address => address_hint(text),
         Kind::Bytes(_) => bytes_hint(text),
         Kind::Word(words) => word_hint(alloc, words.texts(), text),
-        Kind::HexByte => Hint::Says("without X and quotes, as FILL=A5"),
-        Kind::Pair(_, _) if inside(text).is_none() => Hint::Says("in parentheses, as (4096,8)"),
+        Kind::HexByte => Hint::Says("without X and quotes, such as FILL=A5"),
+        Kind::Pair(_, _) if inside(text).is_none() => Hint::Says(
+            "in parentheses, such as (4096,8)",
+        ),
         Kind::Numbers(_, _, _) | Kind::DistinctNumbers(_, _) if inside(text).is_none() => {
-            Hint::Says("in parentheses, as (8,16)")
+            Hint::Says("in parentheses, such as (8,16)")
         }
         Kind::DistinctNames(_) | Kind::Addresses(_) if inside(text).is_none() => {
-            Hint::Says("in parentheses, as (X,Y)")
+            Hint::Says("in parentheses, such as (X,Y)")
         }
         Kind::NumberOrPair(_, _) if inside(text).is_none() => number_hint(text),
         _ => Hint::Nothing,
@@ -237,7 +241,7 @@ fn is_unmodelled(key: &[u8]) -> bool {
 /// On a key that a statement does not take.
 pub fn key_hint<'a>(alloc: Global, called: &Called<'_>, row: Row, key: &[u8]) -> Hint<'a> {
     if has_lower(key) {
-        return Hint::Says("letters are upper case");
+        return Hint::Says("use upper case");
     }
     if let Some(other) = other_name(row, key) {
         return Hint::Meant(other);
@@ -246,7 +250,7 @@ pub fn key_hint<'a>(alloc: Global, called: &Called<'_>, row: Row, key: &[u8]) ->
         return hint;
     }
     if is_unmodelled(key) {
-        return Hint::Says("MVS has it; it is not modelled");
+        return Hint::Says("it exists on MVS, but is not simulated");
     }
     match near_key(alloc, row, key) {
         Some(word) => Hint::Meant(word),

@@ -67,7 +67,10 @@ impl fmt::Display for Described {
             Kind::Number(least, most) => write!(f, "a decimal number from {least} to {most}"),
             Kind::HexByte => write!(f, "two hexadecimal digits"),
             Kind::Word(words) => write!(f, "{}", Among(words.texts(), "or")),
-            Kind::Name => write!(f, "a name: 1 to 8 of A-Z 0-9 @ # $, no digit first"),
+            Kind::Name => write!(
+                f,
+                "a name: 1 to 8 of A-Z 0-9 @ # $, not beginning with a digit"
+            ),
             Kind::Address => write!(f, "an address: NAME, NAME+n or X'h..h'"),
             Kind::Bytes(most) => write!(f, "1 to {most} bytes: X'h..h', two digits for each"),
             Kind::Pair(least, most) => {
@@ -88,13 +91,13 @@ impl fmt::Display for Described {
             Kind::DistinctNumbers(least, most) => {
                 write!(
                     f,
-                    "a list (n,..) of numbers from {least} to {most}, none of them twice"
+                    "a list (n,..) of numbers from {least} to {most}, without duplicates"
                 )
             }
             Kind::DistinctNames(count) => {
                 write!(
                     f,
-                    "a list (name,..) of 1 to {count} names, none of them twice"
+                    "a list (name,..) of 1 to {count} names, without duplicates"
                 )
             }
             Kind::Addresses(count) => write!(f, "a list (address,..) of 1 to {count} addresses"),

@@ -1,7 +1,7 @@
 //! How an emulator uses the library: each supervisor call of its program is a line, and the answer comes back as a value.
 #![tactic(auto)]
 
-use mvs_job::{LineTold, Session, Why};
+use mvs_job::{Explainer, LineTold, Session};
 use mvs_model::answer::Answer;
 use mvs_model::code::Code;
 use mvs_model::want::Placement;
@@ -18,8 +18,8 @@ const CALLS: [&str; 7] = [
     "JOB GETMAIN R,LV=4096,A=Y",
 ];
 
-// What an answer does to the emulated program. The bytes of SHOW, the tasks that an abend ended and the lines of the reports
-// are lent by the job.
+// Does what an answer means for the emulated program. The job has the bytes of SHOW, the tasks that ended with an abend, and the
+// lines of reports.
 fn take_answer(rt: &HostRuntime, session: &Session, answer: &Answer) -> io::Result<()> {
     match answer {
         Answer::At(addr) => println!(rt; "register 1 is {:08X}", addr.get()),
@@ -39,7 +39,7 @@ fn take_answer(rt: &HostRuntime, session: &Session, answer: &Answer) -> io::Resu
     }
 }
 
-// What a line told.
+// Handles the events of a line.
 fn take(rt: &HostRuntime, session: &Session, told: &LineTold) -> io::Result<()> {
     match told {
         LineTold::Nothing => Ok(()),
@@ -51,16 +51,18 @@ fn take(rt: &HostRuntime, session: &Session, told: &LineTold) -> io::Result<()> 
 
 fn main(rt: HostRuntime) -> io::Result<()> {
     let mut session = Session::new(rt.alloc(), Placement::Low);
-    let mut why = Why::new();
+    let mut explainer = Explainer::new(rt.alloc());
     for call in CALLS {
         if !session.takes_line() {
             break;
         }
-        if let Some(reason) = why.reason(session.walk(), call.as_bytes()) {
-            println!(rt; "this will be refused: {reason:?}")?;
-        }
-        match session.line(call.as_bytes()) {
-            Ok(told) => take(&rt, &session, &told)?,
+        match session.explain(&mut explainer, call.as_bytes()) {
+            Ok((told, reason)) => {
+                take(&rt, &session, &told)?;
+                if let Some(reason) = reason {
+                    println!(rt; "because of {reason:?}")?;
+                }
+            }
             Err(_) => println!(rt; "out of memory")?,
         }
     }

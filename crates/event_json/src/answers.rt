@@ -1,5 +1,7 @@
 //! What a statement is answered, as members of an object.
 
+ghost use Rattle.std.specs.Prelude.{◌≡◌};
+
 use crate::members::Members;
 use mvs_job::{Job, Walk};
 use mvs_model::answer::Answer;
@@ -23,7 +25,7 @@ const MOST_RUNS: u32 = MOST_PAGES_BELOW + MOST_PAGES_ABOVE;
 /// The digits of a byte.
 const DIGITS: &[u8] = b"0123456789ABCDEF";
 
-// The first run of pages that begins behind one, if one does.
+// Returns the first run of pages after another one, if there is one.
 fn run_behind(job: &Job, run: &MapRun) -> Option<MapRun> {
     let end = run.addr.get().saturating_add(run.len);
     if end >= ADDRESSES {
@@ -33,7 +35,9 @@ fn run_behind(job: &Job, run: &MapRun) -> Option<MapRun> {
 }
 
 // Puts the subpool that some pages are assigned to, if they are, into their object.
-fn put_holder(members: &mut Members, run: &MapRun) -> Result<(), AllocError> {
+fn put_holder(members: &mut Members, run: &MapRun) -> Result<(), AllocError>
+    ensures { members.new ≡ members.old }
+{
     match &run.holder {
         Some((number, owner)) => {
             members.number("subpool", u32::from(number.get()))?;
@@ -43,8 +47,10 @@ fn put_holder(members: &mut Members, run: &MapRun) -> Result<(), AllocError> {
     }
 }
 
-// Puts the subpool of the page in which an address lies into its object.
-fn put_subpool(members: &mut Members, job: &Job, addr: Addr) -> Result<(), AllocError> {
+// Writes the subpool of the page of an address into its object.
+fn put_subpool(members: &mut Members, job: &Job, addr: Addr) -> Result<(), AllocError>
+    ensures { members.new ≡ members.old }
+{
     let mut next = job.map_run(Addr::new(0));
     for _ in 0..MOST_RUNS {
         match next {
@@ -58,8 +64,10 @@ fn put_subpool(members: &mut Members, job: &Job, addr: Addr) -> Result<(), Alloc
     Ok(())
 }
 
-// Puts where an area or a cell lies, and in which subpool, into its object.
-fn put_place(members: &mut Members, job: &Job, place: Place) -> Result<(), AllocError> {
+// Writes the place of an area or a cell, and its subpool, into its object.
+fn put_place(members: &mut Members, job: &Job, place: Place) -> Result<(), AllocError>
+    ensures { members.new ≡ members.old }
+{
     let addr = place.addr();
     members.number("address", addr.get())?;
     members.number("length", place.len())?;
@@ -68,7 +76,9 @@ fn put_place(members: &mut Members, job: &Job, place: Place) -> Result<(), Alloc
 }
 
 // The places that a request was granted.
-fn put_areas(members: &mut Members, job: &Job, places: &[Place]) -> Result<(), AllocError> {
+fn put_areas(members: &mut Members, job: &Job, places: &[Place]) -> Result<(), AllocError>
+    ensures { members.new ≡ members.old }
+{
     members.begin_list("areas")?;
     for place in places {
         members.begin_item()?;
@@ -79,7 +89,9 @@ fn put_areas(members: &mut Members, job: &Job, places: &[Place]) -> Result<(), A
 }
 
 // A return code, and what was granted with it.
-fn put_return(members: &mut Members, walk: &Walk, code: u32) -> Result<(), AllocError> {
+fn put_return(members: &mut Members, walk: &Walk, code: u32) -> Result<(), AllocError>
+    ensures { members.new ≡ members.old }
+{
     members.text("answer", "return_code")?;
     members.number("return_code", code)?;
     match (walk.job(), walk.reply()) {
@@ -92,7 +104,9 @@ fn put_return(members: &mut Members, walk: &Walk, code: u32) -> Result<(), Alloc
 }
 
 // A cell.
-fn put_cell(members: &mut Members, walk: &Walk) -> Result<(), AllocError> {
+fn put_cell(members: &mut Members, walk: &Walk) -> Result<(), AllocError>
+    ensures { members.new ≡ members.old }
+{
     members.text("answer", "cell")?;
     match (walk.job(), walk.reply()) {
         (Some(job), Reply::Cell(place)) => {
@@ -121,7 +135,9 @@ fn put_data(
     members: &mut Members,
     walk: &Walk,
     place: Place,
-) -> Result<(), AllocError> {
+) -> Result<(), AllocError>
+    ensures { members.new ≡ members.old }
+{
     members.text("answer", "data")?;
     members.number("address", place.addr().get())?;
     let bytes = match walk.job() {
@@ -133,7 +149,9 @@ fn put_data(
 }
 
 // An abend, and the tasks that ended with it.
-fn put_abend(members: &mut Members, walk: &Walk, code: Code) -> Result<(), AllocError> {
+fn put_abend(members: &mut Members, walk: &Walk, code: Code) -> Result<(), AllocError>
+    ensures { members.new ≡ members.old }
+{
     members.text("answer", "abend")?;
     match code {
         Code::System(number) => members.number("system_code", u32::from(number))?,
@@ -149,7 +167,9 @@ fn put_abend(members: &mut Members, walk: &Walk, code: Code) -> Result<(), Alloc
 }
 
 // A line of REPORT SP.
-fn put_subpool_line(members: &mut Members, line: &SubpoolLine) -> Result<(), AllocError> {
+fn put_subpool_line(members: &mut Members, line: &SubpoolLine) -> Result<(), AllocError>
+    ensures { members.new ≡ members.old }
+{
     members.begin_item()?;
     members.number("subpool", u32::from(line.number.get()))?;
     members.boolean("owned", line.owned)?;
@@ -159,7 +179,9 @@ fn put_subpool_line(members: &mut Members, line: &SubpoolLine) -> Result<(), All
 }
 
 // The lines of REPORT SP.
-fn put_subpools(members: &mut Members, job: &Job, task: &Name) -> Result<(), AllocError> {
+fn put_subpools(members: &mut Members, job: &Job, task: &Name) -> Result<(), AllocError>
+    ensures { members.new ≡ members.old }
+{
     members.begin_list("subpools")?;
     for from in 0..=132u8 {
         match job.subpool_line(task, from) {
@@ -171,7 +193,9 @@ fn put_subpools(members: &mut Members, job: &Job, task: &Name) -> Result<(), All
 }
 
 // The lines of REPORT MAP.
-fn put_map(members: &mut Members, job: &Job) -> Result<(), AllocError> {
+fn put_map(members: &mut Members, job: &Job) -> Result<(), AllocError>
+    ensures { members.new ≡ members.old }
+{
     members.begin_list("pages")?;
     let mut next = job.map_run(Addr::new(0));
     for _ in 0..MOST_RUNS {
@@ -194,7 +218,9 @@ fn put_report(
     walk: &Walk,
     task: &Name,
     is_map: bool,
-) -> Result<(), AllocError> {
+) -> Result<(), AllocError>
+    ensures { members.new ≡ members.old }
+{
     members.text("answer", if is_map { "map" } else { "subpools" })?;
     match walk.job() {
         Some(job) if is_map => put_map(members, job),
@@ -210,7 +236,9 @@ pub fn put_answer(
     walk: &Walk,
     task: &Name,
     answer: &Answer,
-) -> Result<(), AllocError> {
+) -> Result<(), AllocError>
+    ensures { members.new ≡ members.old }
+{
     match answer {
         Answer::NotRun => members.text("answer", "not_run"),
         Answer::NoName => members.text("answer", "no_name"),

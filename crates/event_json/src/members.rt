@@ -1,78 +1,117 @@
 //! An object of JSON, written member by member.
 
+ghost use Rattle.std.specs.Prelude.{◌≡◌, ◌∷◌, ◌++◌, [], ℕ, List, IfOk};
+ghost use Rattle.std.specs.Io.KnownBytes.{Appends};
+
 use crate::fault::JsonFault;
+use job_script::write_all;
 use json::Writer;
 use mvs_model::name::Name;
+use mvs_model::watched::Watched;
 use std::alloc::{AllocError, Global};
 use std::io::Write;
+use std::marker::Model;
 use std::str;
 
-/// An object that is open.
+/// An object that is open, with the members written so far. Contracts refer to these.
 #[derive(Drop)]
 pub struct Members {
     writer: Writer<Global>,
 }
 
+impl Model for Members {
+    ghost use Rattle.std.specs.Prelude.{ℕ, List};
+
+    ghost Value = { List ℕ };
+
+    ghost view = { λ members. members.writer.before };
+}
+
 impl Members {
-    pub fn new(alloc: Global) -> Result<Members, AllocError> {
-        let mut writer = Writer::new(Vec::new(alloc));
-        writer.begin_object()?;
-        Ok(Members { writer })
+    /// Opens an object after these members, and a comma, were written.
+    pub fn after(head: Vec<u8>) -> Members
+        ensures { result ≡ head.items }
+    {
+        Members {
+            writer: Writer::new(head),
+        }
     }
 
-    pub fn number(&mut self, key: &str, number: u32) -> Result<(), AllocError> {
+    pub fn number(&mut self, key: &str, number: u32) -> Result<(), AllocError>
+        ensures { self.new ≡ self.old }
+    {
         self.writer.key(key)?;
         self.writer.u64(u64::from(number))
     }
 
-    pub fn boolean(&mut self, key: &str, holds: bool) -> Result<(), AllocError> {
+    pub fn boolean(&mut self, key: &str, holds: bool) -> Result<(), AllocError>
+        ensures { self.new ≡ self.old }
+    {
         self.writer.key(key)?;
         self.writer.boolean(holds)
     }
 
-    pub fn text(&mut self, key: &str, text: &str) -> Result<(), AllocError> {
+    pub fn text(&mut self, key: &str, text: &str) -> Result<(), AllocError>
+        ensures { self.new ≡ self.old }
+    {
         self.writer.key(key)?;
         self.writer.string(text)
     }
 
-    pub fn name(&mut self, key: &str, name: &Name) -> Result<(), AllocError> {
+    pub fn name(&mut self, key: &str, name: &Name) -> Result<(), AllocError>
+        ensures { self.new ≡ self.old }
+    {
         self.text(key, str::from_utf8(name.text()).unwrap_or(""))
     }
 
     /// Opens an object that is a member; what is written next are its members.
-    pub fn begin_object(&mut self, key: &str) -> Result<(), AllocError> {
+    pub fn begin_object(&mut self, key: &str) -> Result<(), AllocError>
+        ensures { self.new ≡ self.old }
+    {
         self.writer.key(key)?;
         self.writer.begin_object()
     }
 
     /// Opens an object that is an item of the open list.
-    pub fn begin_item(&mut self) -> Result<(), AllocError> {
+    pub fn begin_item(&mut self) -> Result<(), AllocError>
+        ensures { self.new ≡ self.old }
+    {
         self.writer.begin_object()
     }
 
-    pub fn end_object(&mut self) -> Result<(), AllocError> {
+    pub fn end_object(&mut self) -> Result<(), AllocError>
+        ensures { self.new ≡ self.old }
+    {
         self.writer.end_object()
     }
 
     /// Opens a list that is a member.
-    pub fn begin_list(&mut self, key: &str) -> Result<(), AllocError> {
+    pub fn begin_list(&mut self, key: &str) -> Result<(), AllocError>
+        ensures { self.new ≡ self.old }
+    {
         self.writer.key(key)?;
         self.writer.begin_array()
     }
 
-    pub fn end_list(&mut self) -> Result<(), AllocError> {
+    pub fn end_list(&mut self) -> Result<(), AllocError>
+        ensures { self.new ≡ self.old }
+    {
         self.writer.end_array()
     }
 
     /// Closes the object, and writes it as a line.
-    pub fn write_line<W: Write>(self, out: &mut W) -> Result<(), JsonFault> {
+    pub fn write_line<W: Write>(self, out: &mut Watched<W>) -> Result<(), JsonFault>
+        ensures { IfOk result
+            (λ _. (members : List ℕ) × Appends (W.contents out.old.inner)
+            (W.contents out.new.inner) (self ++ members ++ 10 ∷ [])) }
+    {
         let Members { mut writer } = self;
         writer.end_object()?;
         let mut bytes = writer.into_inner();
         if bytes.push(b'\n').is_err() {
             return Err(JsonFault::Memory);
         }
-        match out.write_all(&bytes) {
+        match write_all(out, &bytes) {
             Ok(()) => Ok(()),
             Err(_) => Err(JsonFault::Write),
         }

@@ -1,14 +1,18 @@
 //! Why a request is refused, as an object.
 
+ghost use Rattle.std.specs.Prelude.{◌≡◌};
+
 use crate::members::Members;
 use mvs_model::name::Name;
 use mvs_model::place::Addr;
-use mvs_model::reason::{CellSpot, Holder, Reason, Room};
+use mvs_model::reason::{CellSpot, Holder, LineReason, Reason, Room};
 use mvs_model::subpool::SubNo;
 use std::alloc::AllocError;
 
 // What holds the doubleword of an address.
-fn put_holder(members: &mut Members, addr: Addr, holder: &Holder) -> Result<(), AllocError> {
+fn put_holder(members: &mut Members, addr: Addr, holder: &Holder) -> Result<(), AllocError>
+    ensures { members.new ≡ members.old }
+{
     members.number("address", addr.get())?;
     match holder {
         Holder::Nobody | Holder::Unowned => Ok(()),
@@ -18,28 +22,38 @@ fn put_holder(members: &mut Members, addr: Addr, holder: &Holder) -> Result<(), 
 }
 
 // A subpool, by its number and its owner.
-fn put_subpool(members: &mut Members, number: SubNo, owner: &Name) -> Result<(), AllocError> {
+fn put_subpool(members: &mut Members, number: SubNo, owner: &Name) -> Result<(), AllocError>
+    ensures { members.new ≡ members.old }
+{
     members.number("subpool", u32::from(number.get()))?;
     members.name("owner", owner)
 }
 
 // What room there is where no place is long enough.
-fn put_room(members: &mut Members, room: &Room) -> Result<(), AllocError> {
+fn put_room(members: &mut Members, room: &Room) -> Result<(), AllocError>
+    ensures { members.new ≡ members.old }
+{
     members.number("longest", room.longest)?;
     members.number("free_runs", room.runs)?;
     members.number("free_pages_below", room.below)?;
     members.number("free_pages_above", room.above)
 }
 
-// What a reason is called.
-fn kind(reason: &Reason) -> &'static str {
+// What the reason of a line is called.
+fn kind(reason: &LineReason) -> &'static str {
+    match reason {
+        LineReason::NotSet(_) => "not_set",
+        LineReason::Refused(reason) => refused_kind(reason),
+    }
+}
+
+// What the reason of a refused request is called.
+fn refused_kind(reason: &Reason) -> &'static str {
     match reason {
         Reason::NotActive => "not_active",
         Reason::InvalidNumber => "invalid_number",
-        Reason::NotSet(_) => "not_set",
         Reason::Shortage(_) => "shortage",
         Reason::NoMember(..) => "no_member",
-        Reason::NoMemberBehind(..) => "no_member_behind",
         Reason::NoPart(..) => "no_part",
         Reason::OffDoubleword(_) => "off_doubleword",
         Reason::NoSubpool(_) => "no_subpool",
@@ -60,15 +74,16 @@ fn kind(reason: &Reason) -> &'static str {
     }
 }
 
-// Puts what a reason tells into its object.
-fn put_told(members: &mut Members, reason: &Reason) -> Result<(), AllocError> {
+// Writes the members of a reason into its object.
+fn put_told(members: &mut Members, reason: &Reason) -> Result<(), AllocError>
+    ensures { members.new ≡ members.old }
+{
     match reason {
-        Reason::NotSet(name) => members.name("name", name),
         Reason::Shortage(room) => put_room(members, room),
-        Reason::NoMember(member, bytes, room) | Reason::NoMemberBehind(member, bytes, room) => {
+        Reason::NoMember(member, short) => {
             members.number("member", *member)?;
-            members.number("wanted", *bytes)?;
-            put_room(members, room)
+            members.number("wanted", short.bytes)?;
+            put_room(members, &short.room)
         }
         Reason::NoPart(cells, size, room) => {
             members.number("cells", *cells)?;
@@ -89,14 +104,28 @@ fn put_told(members: &mut Members, reason: &Reason) -> Result<(), AllocError> {
             members.number("address", at.get())
         }
         Reason::NotOwned(number, owner) => put_subpool(members, *number, owner),
-        _ => Ok(()),
+        Reason::NotActive
+        | Reason::InvalidNumber
+        | Reason::WholeOfZero
+        | Reason::PoolInUse
+        | Reason::TooManyPools
+        | Reason::NoPool
+        | Reason::NoFreeCell
+        | Reason::TaskInUse
+        | Reason::TooManyTasks
+        | Reason::Asked => Ok(()),
     }
 }
 
 /// Puts the reason of a statement into its object.
-pub fn put_reason(members: &mut Members, reason: &Reason) -> Result<(), AllocError> {
+pub fn put_reason(members: &mut Members, reason: &LineReason) -> Result<(), AllocError>
+    ensures { members.new ≡ members.old }
+{
     members.begin_object("reason")?;
     members.text("kind", kind(reason))?;
-    put_told(members, reason)?;
+    match reason {
+        LineReason::NotSet(name) => members.name("name", name)?,
+        LineReason::Refused(reason) => put_told(members, reason)?,
+    }
     members.end_object()
 }

@@ -9,7 +9,7 @@ pub record Run : Type 0 where
   pub from : ℕ
   pub len : ℕ
 
--- the run of a page of which all is free, alone
+-- the only run of a page that is all free
 abbrev pub whole_page : List Run
 whole_page = record { from = 0; len = page_bytes } ∷ []
 
@@ -25,7 +25,7 @@ page_of ps p o = byte_of ps (page_bytes * p + o)
 abbrev pub word : (ℕ → Option ℕ) → ℕ → ℕ
 word v o = from_be_bytes w32 (unwrap_or (v o) 0 ∷ unwrap_or (v (o + 1)) 0 ∷ unwrap_or (v (o + 2)) 0 ∷ unwrap_or (v (o + 3)) 0 ∷ [])
 
--- from the run at h on the page spells the runs: the first word of a run is where the next one begins, the second is its length
+-- from the run at h on, the page stores the runs: the first word of a run is where the next one begins, the second is its length
 abbrev pub Spells : (ℕ → Option ℕ) → ℕ → List Run → Type 0
 Spells v h [] = h ≡ end
 Spells v h (r ∷ rs) = (h ≡ r.from) × (word v (r.from + 4) ≡ r.len) × Spells v (word v r.from) rs
@@ -35,16 +35,16 @@ abbrev pub Rising : ℕ → List Run → Type 0
 Rising lo [] = ⊤
 Rising lo (r ∷ rs) = (lo ≤ r.from) × (0 < r.len) × (r.from + r.len ≤ page_bytes) × Rising (r.from + r.len + 1) rs × (r.from % 8 ≡ 0) × (r.len % 8 ≡ 0)
 
--- a queue from lo on: the page spells rising runs
+-- a queue from lo on: the page stores sorted runs
 abbrev pub Queue : ℕ → (ℕ → Option ℕ) → ℕ → List Run → Type 0
 Queue lo v h rs = Rising lo rs × Spells v h rs
 
--- the runs that the page spells from h on, at most so many
+-- the runs that the page stores from h on, at most n
 abbrev pub runs_from : ℕ → (ℕ → Option ℕ) → ℕ → List Run
 runs_from zero v h = []
 runs_from (suc n) v h = if nat_lt h page_bytes then record { from = h; len = word v (h + 4) } ∷ runs_from n v (word v h) else []
 
--- the runs that the page spells from h on
+-- the runs that the page stores from h on
 unfoldable pub runs_of : (ℕ → Option ℕ) → ℕ → List Run
 runs_of v h = runs_from page_bytes v h
 
@@ -56,17 +56,17 @@ Within a n d = (a ≤ d) × (d < a + n)
 abbrev pub Outside : ℕ → ℕ → ℕ → Type 0
 Outside a n d = (d < a) ⊎ (a + n ≤ d)
 
--- d lies in a run
+-- d is in a run
 abbrev pub IsFree : List Run → ℕ → Type 0
 IsFree [] d = ⊥
 IsFree (r ∷ rs) d = Within r.from r.len d ⊎ IsFree rs d
 
--- the n from a on lie in one run
+-- the n from a on are in one run
 abbrev pub Covers : List Run → ℕ → ℕ → Type 0
 Covers [] a n = ⊥
 Covers (r ∷ rs) a n = ((r.from ≤ a) × (a + n ≤ r.from + r.len)) ⊎ Covers rs a n
 
--- none of the n from a on lies in a run
+-- none of the n from a on is in a run
 abbrev pub NoneFree : List Run → ℕ → ℕ → Type 0
 NoneFree rs a n = (d : ℕ) → Within a n d → IsFree rs d → ⊥
 
@@ -74,7 +74,7 @@ NoneFree rs a n = (d : ℕ) → Within a n d → IsFree rs d → ⊥
 abbrev pub Same : (ℕ → Option ℕ) → (ℕ → Option ℕ) → ℕ → Type 0
 Same v w d = d % 8 ≡ 0 → (i : ℕ) → i < 8 → w (d + i) ≡ v (d + i)
 
--- from h on the page has a queue of what lies from a to b and of what is free in rs
+-- from h on the page has a queue of what is between a and b and of what is free in rs
 abbrev pub Adds : ℕ → ℕ → List Run → (ℕ → Option ℕ) → ℕ → Type 0
 Adds a b rs v h = (rs' : List Run) × Queue a v h rs' × ((d : ℕ) → IsFree rs' d ↔ (((a ≤ d) × (d < b)) ⊎ IsFree rs d))
 

@@ -1,7 +1,6 @@
-//! The queue of the free runs of a page, which lies in the free doublewords themselves.
-//!
-//! The first doubleword of a run holds two words, the high byte first: where in the page the next run begins, and the
-//! length of this one in bytes. The runs rise, and no two touch. Here a head is a plain word; `queue` has the calls.
+//! The queue of the free runs of a page, which is stored in the free doublewords themselves. The first doubleword of a run has two
+//! words, big-endian: the offset of the next run in the page, and the length of this one in bytes. The runs are sorted, and no two
+//! are adjacent. Here a head is a plain word; `queue` has the calls.
 #![tactic(auto)]
 
 ghost use Rattle.std.specs.Prelude.{◌≡◌, ◌%◌, ℕ, ◌+◌, ◌*◌, ◌<◌, ◌≤◌, ◌⊎◌, ◌↔◌, List, [], ◌∷◌, IsTrue, false, true};
@@ -35,7 +34,7 @@ pub mod queue;
 // The word that ends the chain of runs.
 const END: u32 = 0xFFFF_FFFF;
 
-// Where an offset of a page lies in the region.
+// Returns the offset in the region of an offset in a page.
 fn index(page: usize, at: u32) -> usize
     requires few { page < most_pages_above }
     requires inside { at < page_bytes }
@@ -44,7 +43,7 @@ fn index(page: usize, at: u32) -> usize
     PAGE_BYTES as usize * page + at as usize
 }
 
-// Where the run behind the one at an offset begins.
+// Returns where the run after the one at an offset begins.
 fn link(region: &Region, page: usize, at: u32) -> u32
     requires few { page < most_pages_above }
     requires inside { at + 8 ≤ page_bytes }
@@ -80,7 +79,7 @@ fn set(region: &mut Region, page: usize, at: u32, next: u32, n: u32)
     region.put_word(index(page, at + 4), n);
 }
 
-// Puts what lies from one offset to another before the queue at a third one, if there is anything.
+// Adds the bytes between two offsets, if there are any, before the queue at a third one.
 fn put_run(region: &mut Region, page: usize, at: u32, stop: u32, next: u32) -> u32
     requires few { page < most_pages_above }
     requires there { is_open region.old page ≡ true }
@@ -99,6 +98,18 @@ fn put_run(region: &mut Region, page: usize, at: u32, stop: u32, next: u32) -> u
     } else {
         next
     }
+}
+
+// Makes all of an open page free, and gives its head.
+fn start(region: &mut Region, page: usize) -> u32
+    requires few { page < most_pages_above }
+    requires there { is_open region.old page ≡ true }
+    ensures keeps { Keeps region.old page region.new }
+    ensures queue { Queue 0 (page_of region.new page) result
+        (record { from = 0; len = page_bytes } ∷ []) }
+{
+    set(region, page, 0, END, PAGE_BYTES);
+    0
 }
 
 // Makes all of an open page free but some bytes from an offset on, and gives its head.
@@ -127,7 +138,7 @@ fn is_whole(region: &Region, page: usize, head: u32) -> bool
     head == 0 && len(region, page, 0) == PAGE_BYTES
 }
 
-// The first free run of a page that begins at an offset or behind it: where it begins, and its length.
+// Returns the first free run of a page that begins at or after an offset: where it begins, and its length.
 fn next_free(region: &Region, page: usize, head: u32, from: u32) -> Option<(u32, u32)>
     requires few { page < most_pages_above }
     requires there { is_open region.now page ≡ true }
@@ -147,7 +158,7 @@ fn next_free(region: &Region, page: usize, head: u32, from: u32) -> Option<(u32,
     }
 }
 
-// Takes bytes that lie in the first free run out of the queue: they are not free then.
+// Removes bytes of the first free run from the queue: they are no longer free.
 fn take_first(region: &mut Region, page: usize, head: u32, from: u32, n: u32) -> u32
     requires few { page < most_pages_above }
     requires there { is_open region.old page ≡ true }
@@ -169,8 +180,7 @@ fn take_first(region: &mut Region, page: usize, head: u32, from: u32, n: u32) ->
     put_run(region, page, head, from, rest)
 }
 
-// Takes bytes that lie in a free run behind the first one out of the queue, which keeps its head. Of the runs before
-// them only the last is written.
+// Removes bytes of a later free run from the queue, which keeps its head. Of the runs before them only the last is written.
 fn take_behind(region: &mut Region, page: usize, head: u32, from: u32, n: u32)
     requires few { page < most_pages_above }
     requires there { is_open region.old page ≡ true }
@@ -196,7 +206,7 @@ fn take_behind(region: &mut Region, page: usize, head: u32, from: u32, n: u32)
     }
 }
 
-// Takes bytes that lie in one free run out of the queue: they are not free then.
+// Removes bytes of one free run from the queue: they are no longer free.
 fn take(region: &mut Region, page: usize, head: u32, from: u32, n: u32) -> u32
     requires few { page < most_pages_above }
     requires there { is_open region.old page ≡ true }
@@ -232,8 +242,7 @@ fn ends_before(region: &Region, page: usize, head: u32, from: u32) -> bool
     head < from && head + len(region, page, head) < from
 }
 
-// Puts bytes of which none is free into the queue before its first free run, or joins them with that one: they are free
-// then.
+// Adds bytes that are not free before the first free run, or joins them with it: they are then free.
 fn give_first(region: &mut Region, page: usize, head: u32, from: u32, n: u32) -> u32
     requires few { page < most_pages_above }
     requires there { is_open region.old page ≡ true }
@@ -263,8 +272,8 @@ fn give_first(region: &mut Region, page: usize, head: u32, from: u32, n: u32) ->
     give_first(region, page, next, head, stop - head)
 }
 
-// Puts bytes of which none is free into the queue behind its first free run, which does not touch them: they are free
-// then, and the queue keeps its head. Of the runs before them only the last is written.
+// Adds bytes that are not free after the first free run, which is not adjacent: they are then free, and the queue keeps its head.
+// Of the runs before them only the last is written.
 fn give_behind(region: &mut Region, page: usize, head: u32, from: u32, n: u32)
     requires few { page < most_pages_above }
     requires there { is_open region.old page ≡ true }
@@ -292,7 +301,7 @@ fn give_behind(region: &mut Region, page: usize, head: u32, from: u32, n: u32)
     }
 }
 
-// Puts bytes of which none is free into the queue: they are free then, joined with what is free beside them.
+// Adds bytes that are not free to the queue: they are then free, joined with adjacent free bytes.
 fn give(region: &mut Region, page: usize, head: u32, from: u32, n: u32) -> u32
     requires few { page < most_pages_above }
     requires there { is_open region.old page ≡ true }

@@ -42,19 +42,31 @@ impl Model for Head {
 }
 
 impl Head {
-    /// The head of a page of which nothing is free.
+    /// Returns the head of a page without free bytes.
     pub fn none() -> Head
         ensures { result ≡ end }
     {
         Head { offset: crate::END }
     }
 
-    /// Whether it is the head of a page of which nothing is free.
+    /// Returns whether it is the head of a page without free bytes.
     pub fn is_none(self) -> bool
         ensures { IsTrue result ↔ self ≡ end }
     {
         self.offset == crate::END
     }
+}
+
+/// Makes all of a page free. What it holds is lost.
+pub fn start(region: &mut Region, page: usize) -> Head
+    requires few { page < most_pages_above }
+    requires there { is_open region.old page ≡ true }
+    ensures keeps { Keeps region.old page region.new }
+    ensures queue { Queue 0 (page_of region.new page) result
+        (record { from = 0; len = page_bytes } ∷ []) }
+{
+    let offset = crate::start(region, page);
+    Head { offset }
 }
 
 /// Makes all of a page free but `n` bytes from an offset on, at least 8, which keep what they are. What all others hold
@@ -114,7 +126,7 @@ pub fn give(region: &mut Region, page: usize, head: Head, from: u32, n: u32) -> 
     Head { offset }
 }
 
-/// The first free run that begins at an offset or behind it: where it begins, and its length.
+/// Returns the first free run that begins at or after an offset: where it begins, and its length.
 pub fn next_free(region: &Region, page: usize, head: Head, from: u32) -> Option<(u32, u32)>
     requires few { page < most_pages_above }
     requires there { is_open region.now page ≡ true }
@@ -126,7 +138,7 @@ pub fn next_free(region: &Region, page: usize, head: Head, from: u32) -> Option<
     crate::next_free(region, page, head.offset, from)
 }
 
-/// The queue of the free runs behind the first one.
+/// Returns the queue of the free runs after the first one.
 pub fn behind(region: &Region, page: usize, head: Head) -> Head
     requires few { page < most_pages_above }
     requires there { is_open region.now page ≡ true }

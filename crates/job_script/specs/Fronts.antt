@@ -13,7 +13,7 @@ use Rattle.mvs_model.specs.Grammar as grammar
 use Rattle.mvs_model.specs.Reading.{LineOf, is_name, location, number}
 use Rattle.mvs_model.specs.Spelling.{Fits, FitsAlone}
 
--- A text that fits a kind stands in front, and behind it the rest.
+-- A text that fits a kind comes first, and the rest after it.
 pub record IsFront (kind : grammar.Kind) (text value rest : List ℕ) : Type 0 where
   pub whole : text ≡ value ++ rest
   pub alone : FitsAlone kind value
@@ -32,7 +32,7 @@ pub record IsAddressFront (text name : List ℕ) (offset : ℕ) (address rest : 
   pub location_is : Named (padded name) offset ≡ location address
   pub near : offset ≤ 33554431
 
--- what may stand behind operands: nothing, or a remark behind a blank
+-- what can follow operands: nothing, or a remark after a blank
 abbrev pub is_remark : List ℕ → Bool
 is_remark [] = true
 is_remark (b ∷ bs) = (b == 32) && list_all (λ b. nat_le 32 b && nat_le b 126) bs
@@ -66,7 +66,7 @@ form_word form.Rc = codes "RC"
 form_word form.Ru = codes "RU"
 form_word _ = []
 
--- Operands start with such a form and a length, and with a key behind which this text stands.
+-- Operands begin with such a form and a length, and with a keyword that this text follows.
 pub record IsSized (field : List ℕ) (f : Form) (n : ℕ) (digits rest : List ℕ) : Type 0 where
   pub form_is : is_single f ≡ true
   pub fits : Fits (grammar.Number 1 2147483647) digits
@@ -75,12 +75,12 @@ pub record IsSized (field : List ℕ) (f : Form) (n : ℕ) (digits rest : List �
   pub high : n ≤ 2147483647
   pub whole : field ≡ form_word f ++ (codes ",LV=" ++ (digits ++ (codes ",A=" ++ rest)))
 
--- Operands start with the name of a cell pool, and with a key behind which this text stands.
+-- Operands begin with the name of a cell pool, and with a keyword that this text follows.
 pub record IsPooled (field name rest : List ℕ) : Type 0 where
   pub fits : Fits grammar.Name name
   pub whole : field ≡ codes "CPID=" ++ (name ++ (codes ",CELL=" ++ rest))
 
--- The line of a task that goes on with a text says this, where it has at most 255 bytes.
+-- The line of a task that continues with a text has this meaning, if it has at most 255 bytes.
 abbrev pub SaysBehind : List ℕ → Name → Line → Type 0
 SaysBehind behind task l =
     (text : List ℕ) → is_name text ≡ true → task ≡ padded text → nat_lt 255 (length (text ++ behind)) ≡ false → LineOf false (text ++ behind) l

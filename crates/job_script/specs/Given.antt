@@ -54,7 +54,7 @@ pub record IsGiven (g : Given) (left : List (List ℕ)) : Type 0 where
 abbrev pub IsRead : Given → Type 0
 IsRead g = (left : List (List ℕ)) × IsGiven g left
 
--- An operand is taken behind those on its left, or the answer is what is wrong with it.
+-- An operand is accepted after those on its left, or the answer is its fault.
 abbrev pub Takes : {X : Type 0} → Given → Given → List ℕ → Result X Fault → Type 0
 Takes old new operand result =
     (left : List (List ℕ)) → IsGiven old left

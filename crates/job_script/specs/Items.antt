@@ -7,7 +7,7 @@ use Rattle.mvs_model.specs.Reading.{is_list, items, is_of, is_within, is_twice, 
 use Rattle.job_script.specs.declared.items.Item.{Item}
 use Rattle.job_script.specs.declared.items.Item.TheVariants.{Number, Name, Address}
 
--- what stands between the parentheses
+-- the text between the parentheses
 abbrev pub inner : List ℕ → List ℕ
 inner text = take (length text - 2) (drop 1 text)
 
@@ -26,7 +26,7 @@ abbrev pub is_same_item : Item → List ℕ → List ℕ → Bool
 is_same_item (Number least most) one other = number one == number other
 is_same_item _ one other = bytes_eq one other
 
--- whether a text is a list of such items, whether these are in their range, and whether there are at most so many
+-- whether a text is a list of such items, whether these are in range, and whether there are at most a number of them
 abbrev pub is_list_of : Item → List ℕ → Bool
 is_list_of item text = is_list text && list_all (is_of (item_kind item)) (items text)
 
@@ -36,6 +36,6 @@ has_items_in_range item text = list_all (is_within (item_kind item)) (items text
 abbrev pub has_items : ℕ → List ℕ → Bool
 has_items most text = nat_le (length (items text)) most
 
--- whether an item stands twice
+-- whether an item is a duplicate
 abbrev pub has_twice : Item → List ℕ → Bool
 has_twice item text = is_twice (is_same_item item) (items text)

@@ -9,7 +9,7 @@ use Rattle.job_script.specs.declared.kinds.Kind.TheVariants as kind
 use Rattle.job_script.specs.declared.kinds.Words.{Words}
 use Rattle.job_script.specs.declared.kinds.Words.TheVariants as words
 
--- the words of which an operand takes one
+-- the words, one of which is the value of an operand
 abbrev pub as_words : Words → List (List ℕ)
 as_words words.Boundary = codes "DBLWD" ∷ codes "PAGE" ∷ []
 as_words words.Location = codes "BELOW" ∷ codes "24" ∷ codes "ANY" ∷ codes "31" ∷ codes "RES" ∷ []
@@ -37,7 +37,7 @@ abbrev pub fault_in : {X : Type 0} → Result X Fault → Option Fault
 fault_in (Ok x) = None
 fault_in (Err fault) = Some fault
 
--- what may be wrong with a text of a kind; `again` says whether its key stands on the left too
+-- the possible faults of a text of a kind; `again` is true if its keyword is a duplicate
 abbrev pub checks_of : grammar.Kind → Bool → List ℕ → List (Fault × Bool)
 checks_of kind again text =
     InvalidOperand when not (is_of kind text)

@@ -9,19 +9,19 @@ use Rattle.job_script.specs.ReasonTexts.{one_line}
 
 -- the line that obtained a place
 abbrev pub by_line_said : ℕ → List ℕ
-by_line_said number = codes " that line " ++ decimal number ++ codes " obtained. (rule 37)"
+by_line_said number = codes " obtained in line " ++ decimal number ++ codes ". (rule 37)"
 
 -- of an address at which the place of a name begins
 abbrev pub first_said : Name → PlaceValue → ℕ → List ℕ
 first_said name p number = hex 8 p.addr ++ codes " is " ++ trimmed name ++ codes ", " ++ decimal p.len ++ codes " bytes" ++ by_line_said number
 
--- how far an address lies into a place
+-- the distance of an address in a place
 abbrev pub into_said : ℕ → List ℕ
 into_said n = decimal n ++ (if n == 1 then codes " byte into " else codes " bytes into ")
 
--- of an address that lies in it
+-- for an address in it
 abbrev pub inside_said : ℕ → Name → PlaceValue → ℕ → List ℕ
-inside_said a name p number = hex 8 a ++ codes " lies " ++ into_said (a - p.addr) ++ trimmed name ++ codes ", " ++ place_said p ++ by_line_said number
+inside_said a name p number = hex 8 a ++ codes " is " ++ into_said (a - p.addr) ++ trimmed name ++ codes ", " ++ place_said p ++ by_line_said number
 
 -- of an address that a name has in its place, which the line of a number obtained
 abbrev pub naming_said : ℕ → Name → PlaceValue → ℕ → List ℕ

@@ -10,7 +10,7 @@ abbrev pub starts_word : List ℕ → Bool
 starts_word [] = true
 starts_word (b ∷ bs) = not (b == 32)
 
--- how many parentheses are open behind a byte; one that closes nothing counts for nothing
+-- the number of open parentheses after a byte; an unmatched one is ignored
 abbrev pub opened_after : ℕ → ℕ → ℕ
 opened_after opened b = if b == 40 then opened + 1 else (if b == 41 then opened - 1 else opened)
 
@@ -27,7 +27,7 @@ field_in (b ∷ bs) = if b == 32 then [] else b ∷ field_in bs
 abbrev pub ends_at : ℕ → ℕ → Bool
 ends_at opened b = (b == 32) || splits_at opened b
 
--- where the first operand ends, in a text in which so many parentheses are open
+-- where the first operand ends, in a text with a number of open parentheses
 abbrev pub end_from : ℕ → List ℕ → ℕ
 end_from opened [] = 0
 end_from opened (b ∷ bs) = if ends_at opened b then 0 else suc (end_from (opened_after opened b) bs)

@@ -20,7 +20,7 @@ keys =
 unfoldable pub place_in : List ℕ → Option ℕ
 place_in text = place_by (λ k. bytes_eq (key_text k) text) keys
 
--- Among keywords is one with a key, which is this key's text, and its text is to be of this kind.
+-- Among keywords is one with this key, whose text must be of this kind.
 pub record HasKeyword (keywords : List grammar.Keyword) (key : List ℕ) (k : Key) (kind : grammar.Kind) : Type 0 where
   pub is : key_text k ≡ key
   pub kind_is : option_map (λ k. k.kind) (find (λ k. bytes_eq k.key key) keywords) ≡ Some kind

@@ -10,7 +10,7 @@ use Rattle.mvs_model.specs.declared.line.Line.TheVariants as line
 use Rattle.mvs_model.specs.Grammar as grammar
 use Rattle.mvs_model.specs.Reading.{by_key, first_of, operand_checks, with_left, lacks_positional, lacks_keyword, is_half, is_conflict, statement_of, ◌when◌, ◌>>=◌, is_empty, has_key, takes_form, form_in, row_of, behind_form, row_checks}
 
--- all that may be wrong with the operands behind a form
+-- all possible faults of the operands after a form
 abbrev pub checks_behind : grammar.Row → List (List ℕ) → List (Fault × Bool)
 checks_behind row os =
     flat_map (operand_checks row) (with_left os)
@@ -18,7 +18,7 @@ checks_behind row os =
     ∷ Conflicting when list_any (is_conflict (by_key os)) row.rules
     ∷ []
 
--- The operands are read by a row: no check is against them and this is said, or the first fault is answered.
+-- The operands are parsed with a row: no check fails and this is the meaning, or the first fault is returned.
 abbrev pub RowReading : grammar.Row → Name → List ℕ → List (List ℕ) → Result Line Fault → Type 0
 RowReading row task form os (Ok l) = (first_of (checks_behind row os) ≡ None) × (option_map (line.Statement task) (statement_of row.meaning form (by_key os)) ≡ Some l)
 RowReading row task form os (Err fault) = first_of (checks_behind row os) ≡ Some fault

@@ -14,6 +14,6 @@ abbrev pub IsFit : ByKey → grammar.Rule → Type 0
 IsFit os (grammar.Apart a b c d) = AreNumbers (os.under a) × AreNumbers (os.under b) × AreNumbers (os.under c) × AreNumbers (os.under d)
 IsFit os _ = Unit {0}
 
--- whether some number stands in both lists
+-- whether some number is in both lists
 abbrev pub is_shared_number : List ℕ → List ℕ → Bool
 is_shared_number ms ns = list_any (λ n. list_any (◌==◌ n) ns) ms

@@ -14,11 +14,11 @@ use Rattle.job_script.specs.Rowed.{said_by}
 abbrev pub byte_checks : List ℕ → List (Fault × Bool)
 byte_checks bytes = TooLong when nat_lt 255 (length bytes) ∷ InvalidByte when not (list_all (λ b. nat_le 32 b && nat_le b 126) bytes) ∷ []
 
--- whether an operation may stand where it stands
+-- whether an operation is allowed there
 abbrev pub is_in_place : Bool → List ℕ → Bool
 is_in_place first word = not (first && not (bytes_eq word (codes "REGION")))
 
--- the field behind an operation, where it has one: the first word there
+-- the operands after an operation, if it has any: the first word there
 abbrev pub field_of : Operation → List ℕ → List ℕ
 field_of operation.Return rest = []
 field_of _ rest = unwrap_or (slice_get (words rest) 0) []

@@ -76,7 +76,7 @@ pub fn is_address(text: &[u8]) -> bool
     }
 }
 
-// Whether the offset behind a name is in its range, where there is one.
+// Returns whether the offset after a name is in range, if there is one.
 fn is_offset_in_range(text: &[u8]) -> bool
     requires { is_named text.now ≡ true }
     ensures { result

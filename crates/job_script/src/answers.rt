@@ -51,7 +51,7 @@ fn print_code<W: Write>(
     write_all(writer, text.as_slice())
 }
 
-// Puts behind a text that a task ended with another.
+// Appends that a task ended with another.
 fn push_ended_with(text: &mut Text, other: &Name)
     requires { length text.old ≤ 100 }
     ensures text { text.new ≡ text.old ++ (codes "ENDED WITH " ++ trimmed other.now) }
@@ -96,7 +96,7 @@ pub fn print_abend<W: Write>(
     Ok(())
 }
 
-// Puts behind a text what an answer of one line says, which is no abend.
+// Appends the text of an answer of one line that is not an abend.
 fn push_said(text: &mut Text, answer: &Answer)
     requires room { length text.old ≤ 100 }
     requires whole { lends answer.now ≡ false }

@@ -16,7 +16,7 @@ use crate::keys::Key;
 use crate::rows::{Positional, Rule};
 use mvs_model::line::Fault;
 
-// Whether a positional operand behind the first so many is required.
+// Returns whether a positional operand after the first n is required.
 fn lacks(positional: &[Positional], count: usize) -> bool
     ensures { result ≡ list_any (λ p. p.required) (drop count positional.now) }
 {
@@ -39,7 +39,7 @@ fn listed(text: &[u8]) -> &[u8]
     }
 }
 
-// Whether a number stands under two keys.
+// Returns whether a number is given with two keywords.
 fn is_common(one: Option<&[u8]>, other: Option<&[u8]>) -> bool
     requires one { AreNumbers (option_now one) }
     requires other { AreNumbers (option_now other) }
@@ -106,7 +106,7 @@ impl Given<'_> {
         false
     }
 
-    // How many items stand under a key.
+    // Returns the number of items of a keyword.
     fn count_under(&self, key: Key) -> usize
         requires { IsRead self.now }
         ensures { result
@@ -118,7 +118,7 @@ impl Given<'_> {
         }
     }
 
-    // Whether a number stands under one of two keys and under one of two others.
+    // Returns whether a number is given with one of two keywords and with one of two others.
     fn shares(&self, one: Key, list: Key, other: Key, others: Key) -> bool
         requires read { IsRead self.now }
         requires one { AreNumbers ((by_place self.now).under (key_text one)) }

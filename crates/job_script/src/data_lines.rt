@@ -12,7 +12,8 @@ use mvs_model::numbers::LINE_BYTES;
 use mvs_model::watched::{Failed, Watched};
 use std::io::Write;
 
-// Prints a line of bytes behind its number and its task, which the text keeps: the offset of the first one, and two digits for each.
+// Prints a line of bytes after its number and its task, which remain in the text: the offset of the first one, and two digits for
+// each.
 fn print_data_line<W: Write>(
     writer: &mut Watched<W>,
     text: &mut Text,

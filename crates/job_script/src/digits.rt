@@ -55,7 +55,7 @@ pub fn read_number(text: &[u8]) -> Option<u64>
     Some(value)
 }
 
-/// Whether a number lies between two others. One of more than ten digits does not, whatever they write.
+/// Returns whether a number is in a range. A text of more than ten digits never is.
 pub fn is_in_range(least: u32, most: u32, text: &[u8]) -> bool
     requires { is_number text.now ≡ true }
     ensures { result ≡ is_in_range least most text.now }
@@ -148,7 +148,7 @@ pub fn hex_number(text: &[u8]) -> u64
     value
 }
 
-/// What stands between the quotes of X'..'.
+/// Returns the text between the quotes of X'..'.
 pub fn quoted(text: &[u8]) -> Option<&[u8]>
     ensures { MatchOption result (is_quoted text.now ≡ false)
         (λ digits. (is_quoted text.now ≡ true) × (digits.now ≡ quoted text.now)) }

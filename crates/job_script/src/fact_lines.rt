@@ -15,7 +15,7 @@ use mvs_model::subpool::SubNo;
 use mvs_model::watched::{Failed, Watched};
 use std::io::Write;
 
-// Puts the number of a subpool behind a text.
+// Appends the number of a subpool.
 fn push_number(text: &mut Text, number: SubNo)
     requires { length text.old ≤ 140 }
     ensures text { text.new ≡ text.old ++ decimal number }
@@ -24,7 +24,7 @@ fn push_number(text: &mut Text, number: SubNo)
     text.push_decimal(u32::from(number.get()));
 }
 
-// Puts a subpool behind a text: the number under which its owner has it, and the owner.
+// Appends a subpool: its owner's number for it, and the owner.
 fn push_subpool(text: &mut Text, number: SubNo, owner: &Name)
     requires { length text.old ≤ 100 }
     ensures text { text.new ≡ text.old ++ subpool_said number owner.now }
@@ -36,7 +36,7 @@ fn push_subpool(text: &mut Text, number: SubNo, owner: &Name)
     text.push_name(owner);
 }
 
-// Puts a place behind a text.
+// Appends a place.
 pub(crate) fn push_place(text: &mut Text, place: Place)
     requires { length text.old ≤ 100 }
     ensures text { text.new ≡ text.old ++ place_said place }
@@ -47,7 +47,7 @@ pub(crate) fn push_place(text: &mut Text, place: Place)
     text.push_word(place.addr().get());
 }
 
-// Puts behind a text that so many bytes were added.
+// Appends the number of bytes that were added.
 fn push_added(text: &mut Text, added: u32)
     requires { length text.old ≤ 80 }
     ensures text { text.new ≡ text.old ++ added_said added }
@@ -55,10 +55,10 @@ fn push_added(text: &mut Text, added: u32)
 {
     text.push_all(b", ");
     text.push_decimal(added);
-    text.push_all(b" of them by rounding. (rule 3)");
+    text.push_all(b" of them added by rounding. (rule 3)");
 }
 
-// Puts behind a text how much of a length was added by rounding.
+// Appends how much of a length was added by rounding.
 fn push_rounded(text: &mut Text, len: u32, asked: u32)
     requires { length text.old ≤ 80 }
     ensures text { text.new ≡ text.old ++ rounded_said len asked }
@@ -71,20 +71,20 @@ fn push_rounded(text: &mut Text, len: u32, asked: u32)
     }
 }
 
-// Puts behind a text between which lengths one was asked for.
+// Appends the range of lengths that was requested.
 fn push_between(text: &mut Text, least: u32, most: u32)
     requires { length text.old ≤ 80 }
     ensures text { text.new ≡ text.old ++ between_said least most }
     ensures len { length text.new ≤ length text.old + 50 }
 {
-    text.push_all(b", of ");
+    text.push_all(b", ");
     text.push_decimal(least);
     text.push_all(b" to ");
     text.push_decimal(most);
-    text.push_all(b" wanted. (rule 20)");
+    text.push_all(b" requested. (rule 20)");
 }
 
-// Puts behind a text how much of a length was asked for.
+// Appends how a length compares with the requested one.
 fn push_asked(text: &mut Text, len: u32, least: u32, most: u32)
     requires { length text.old ≤ 80 }
     ensures text { text.new ≡ text.old ++ asked_said len least most }
@@ -97,7 +97,7 @@ fn push_asked(text: &mut Text, len: u32, least: u32, most: u32)
     }
 }
 
-// Puts behind a text what so many pages do, in the words for one of them or for more.
+// Appends a number of pages with the verb for one of them or for several.
 fn push_pages_do(text: &mut Text, pages: u32, one: &[u8], more: &[u8])
     requires old { length text.old ≤ 2 }
     requires one { length one.now ≤ 40 }
@@ -109,25 +109,25 @@ fn push_pages_do(text: &mut Text, pages: u32, one: &[u8], more: &[u8])
     text.push_all(if pages == 1 { one } else { more });
 }
 
-// Puts behind a text that so many pages are taken.
+// Appends the number of pages that were assigned.
 fn push_taken(text: &mut Text, pages: u32)
     requires { length text.old ≤ 2 }
     ensures text { text.new ≡ text.old ++ taken_said pages }
     ensures len { length text.new ≤ length text.old + 56 }
 {
     if pages == 0 {
-        text.push_all(b"It lies in pages that the subpool has. (rule 4)");
+        text.push_all(b"It fits in pages that the subpool already has. (rule 4)");
     } else {
         push_pages_do(
             text,
             pages,
-            b" is taken that held nothing. (rule 5)",
-            b" are taken that held nothing. (rule 5)",
+            b" was newly assigned. (rule 5)",
+            b" were newly assigned. (rule 5)",
         );
     }
 }
 
-// Puts how many cells behind a text.
+// Appends a number of cells.
 fn push_cells(text: &mut Text, cells: u32)
     requires { length text.old ≤ 100 }
     ensures text { text.new ≡ text.old ++ cells_said cells }
@@ -141,7 +141,7 @@ fn push_cells(text: &mut Text, cells: u32)
     }
 }
 
-// Puts an area behind a text that was obtained.
+// Appends an area that was obtained.
 fn push_obtained(text: &mut Text, area: &Name, place: Place, number: SubNo, owner: &Name)
     requires { length text.old ≤ 2 }
     ensures text { text.new ≡ text.old ++ obtained_said area.now place number owner.now }
@@ -154,7 +154,7 @@ fn push_obtained(text: &mut Text, area: &Name, place: Place, number: SubNo, owne
     push_subpool(text, number, owner);
 }
 
-// Puts a cell behind a text that was taken.
+// Appends a cell that was allocated.
 fn push_cell(text: &mut Text, cell: &Name, pool: &Name, place: Place)
     requires { length text.old ≤ 2 }
     ensures text { text.new ≡ text.old ++ cell_said cell.now pool.now place }
@@ -168,7 +168,7 @@ fn push_cell(text: &mut Text, cell: &Name, pool: &Name, place: Place)
     text.push_all(b". (rule 60)");
 }
 
-// Puts a part behind a text that a pool gets.
+// Appends a new part of a pool.
 fn push_part(text: &mut Text, pool: &Name, cells: u32, size: u32, place: Place)
     requires { length text.old ≤ 2 }
     ensures text { text.new ≡ text.old ++ part_said pool.now cells size place }
@@ -176,7 +176,7 @@ fn push_part(text: &mut Text, pool: &Name, cells: u32, size: u32, place: Place)
 {
     text.push_all(b"Pool ");
     text.push_name(pool);
-    text.push_all(b" gets a part for ");
+    text.push_all(b" has a new part for ");
     push_cells(text, cells);
     text.push_all(b" of ");
     text.push_decimal(size);
@@ -185,34 +185,34 @@ fn push_part(text: &mut Text, pool: &Name, cells: u32, size: u32, place: Place)
     text.push_all(b". (rule 57)");
 }
 
-// Puts behind a text that a subtask owns what its mother gave.
+// Appends that a subtask owns what its attaching task gave.
 fn push_given(text: &mut Text, subtask: &Name, number: SubNo, mother: &Name)
     requires { length text.old ≤ 2 }
     ensures text { text.new ≡ text.old ++ given_said subtask.now number mother.now }
     ensures len { length text.new ≤ length text.old + 80 }
 {
     text.push_name(subtask);
-    text.push_all(b" owns SP ");
+    text.push_all(b" now owns SP ");
     push_number(text, number);
-    text.push_all(b", which ");
+    text.push_all(b", given by ");
     text.push_name(mother);
-    text.push_all(b" gave. (rule 43)");
+    text.push_all(b". (rule 43)");
 }
 
-// Puts behind a text which lengths had no place.
+// Appends that no greater length fits.
 fn push_no_greater(text: &mut Text, below: u32, above: u32)
     requires { length text.old ≤ 2 }
     ensures text { text.new ≡ text.old ++ no_greater_said below above }
     ensures len { length text.new ≤ length text.old + 120 }
 {
-    text.push_all(b"No greater length had a place; free pages before: ");
+    text.push_all(b"No greater length fits; free pages before: ");
     text.push_decimal(below);
     text.push_all(b" below, ");
     text.push_decimal(above);
     text.push_all(b" above. (rule 20)");
 }
 
-// Puts a subpool behind a text, and what is said of it.
+// Appends a subpool and a text about it.
 fn push_subpool_is(text: &mut Text, number: SubNo, owner: &Name, is: &[u8])
     requires old { length text.old ≤ 20 }
     requires is { length is.now ≤ 60 }
@@ -223,7 +223,7 @@ fn push_subpool_is(text: &mut Text, number: SubNo, owner: &Name, is: &[u8])
     text.push_all(is);
 }
 
-// Puts behind a text that a subtask shares a subpool.
+// Appends that a subtask shares a subpool.
 fn push_shared(text: &mut Text, subtask: &Name, number: SubNo, owner: &Name)
     requires { length text.old ≤ 2 }
     ensures text { text.new ≡ text.old ++ shared_said subtask.now number owner.now }
@@ -235,7 +235,7 @@ fn push_shared(text: &mut Text, subtask: &Name, number: SubNo, owner: &Name)
     text.push_all(b". (rule 44)");
 }
 
-// Puts a fact behind a text.
+// Appends a fact.
 fn push_fact(text: &mut Text, fact: &Fact)
     requires { length text.old ≤ 2 }
     ensures text { text.new ≡ text.old ++ fact_said fact.now }
@@ -261,14 +261,14 @@ fn push_fact(text: &mut Text, fact: &Fact)
         Fact::PagesFreed(pages) => push_pages_do(
             text,
             *pages,
-            b" holds nothing any more. (rule 5)",
-            b" hold nothing any more. (rule 5)",
+            b" became free. (rule 5)",
+            b" became free. (rule 5)",
         ),
         Fact::Emptied { number, owner } => push_subpool_is(
             text,
             *number,
             owner,
-            b" holds nothing any more, and stays. (rule 34)",
+            b" is now empty. (rule 34)",
         ),
         Fact::CellTaken { cell, pool, place } => push_cell(text, cell, pool, *place),
         Fact::PartAdded {

@@ -1,4 +1,4 @@
-//! The lines that say what goes with a task that ends, and what stays.
+//! The lines about the subpools that are freed at the end of a task, and about those that remain.
 
 ghost use Rattle.std.specs.Prelude.{◌≡◌, ◌≤◌, ◌+◌, ◌++◌, length};
 ghost use Rattle.job_script.specs.FactTexts.{freed_line, freed_said, pages_said, stays_line, stays_said};
@@ -12,7 +12,7 @@ use mvs_model::subpool::SubNo;
 use mvs_model::watched::{Failed, Watched};
 use std::io::Write;
 
-// Puts how many pages behind a text.
+// Appends a number of pages.
 pub(crate) fn push_pages(text: &mut Text, pages: u32)
     requires { length text.old ≤ 100 }
     ensures text { text.new ≡ text.old ++ pages_said pages }
@@ -26,7 +26,7 @@ pub(crate) fn push_pages(text: &mut Text, pages: u32)
     }
 }
 
-// Puts behind a text that a subpool is freed.
+// Appends that a subpool is freed.
 fn push_freed(text: &mut Text, number: u32, owner: &Name, bytes: u32, pages: u32)
     requires { length text.old ≤ 2 }
     ensures text { text.new ≡ text.old ++ freed_said number owner.now bytes pages }
@@ -43,8 +43,7 @@ fn push_freed(text: &mut Text, number: u32, owner: &Name, bytes: u32, pages: u32
     text.push_all(b". (rule 52)");
 }
 
-/// Prints the line that says that a subpool goes with its owner: its number, the owner, the bytes that it held, and the pages
-/// that it had.
+/// Prints the line for a subpool that is freed with its owner: its number, the owner, the bytes that it held, and its pages.
 pub fn print_freed<W: Write>(
     writer: &mut Watched<W>,
     number: SubNo,
@@ -62,7 +61,7 @@ pub fn print_freed<W: Write>(
     write_all(writer, text.as_slice())
 }
 
-// Puts behind a text that a subpool stays which a task shared.
+// Appends that a subpool remains which a task shared.
 fn push_stays(text: &mut Text, number: u32, owner: &Name, task: &Name)
     requires { length text.old ≤ 2 }
     ensures text { text.new ≡ text.old ++ stays_said number owner.now task.now }
@@ -72,7 +71,7 @@ fn push_stays(text: &mut Text, number: u32, owner: &Name, task: &Name)
     text.push_decimal(number);
     text.push_all(b" of ");
     text.push_name(owner);
-    text.push_all(b" stays: ");
+    text.push_all(b" remains: ");
     text.push_name(task);
     text.push_all(b" shared it. (rule 53)");
 }

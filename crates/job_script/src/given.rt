@@ -19,7 +19,7 @@ pub struct Given<'a> {
     pub row: Row,
     /// The keyword operands that it takes.
     pub keywords: &'static [Keyword],
-    /// Whether a keyword was read, behind which no positional operand may stand.
+    /// Returns whether a keyword was given, after which no positional operand is allowed.
     pub keyed: bool,
     /// How many positional operands were read.
     pub count: usize,
@@ -27,7 +27,7 @@ pub struct Given<'a> {
     pub texts: [Option<&'a [u8]>; KEYS],
 }
 
-// Where a keyword stands in its table, by the text before the equals sign.
+// Returns the position of a keyword in its table, by the text before the equals sign.
 fn place(keywords: &[Keyword], text: &[u8]) -> Option<usize>
     ensures place { result ≡ position (λ k. bytes_eq (key_text k.key) text.now) keywords.now }
     ensures within { IfSome result (λ i. i < length keywords.now) }
@@ -136,7 +136,7 @@ impl<'a> Given<'a> {
         }
     }
 
-    /// The same of a field, where there is one.
+    /// Accepts the operands of a field, if there is one.
     pub fn take_field(&mut self, field: Option<&'a [u8]>) -> Result<(), Fault>
         requires { IsGiven self.old [] }
         ensures { MatchResult result

@@ -11,7 +11,7 @@ use crate::addresses::is_name_byte;
 use crate::digits::is_hex_digit;
 use crate::is_plain;
 
-/// The text behind a front, where it begins with that.
+/// Returns the text after a prefix, if it begins with it.
 #[inline(always)]
 pub fn behind<'a>(text: &'a [u8], front: &[u8]) -> Option<&'a [u8]>
     ensures { MatchOption result ((rest : List ℕ) → text.now ≢ front.now ++ rest)
@@ -37,7 +37,7 @@ fn digits_in_front(text: &[u8]) -> (usize, u64)
     (text.len(), value)
 }
 
-/// The number that a text starts with, where it has at most ten digits and lies between two others, and the text behind it.
+/// Returns the number at the beginning of a text, if it has at most ten digits and is in a range, and the text after it.
 #[inline(always)]
 pub fn number_in_front(least: u32, most: u32, text: &[u8]) -> Option<(u32, &[u8])>
     ensures { IfSome result
@@ -63,7 +63,7 @@ fn name_end(text: &[u8]) -> usize
     text.len()
 }
 
-/// The name that a text starts with, and the text behind it.
+/// Returns the name at the beginning of a text, and the text after it.
 pub fn name_in_front(text: &[u8]) -> Option<(&[u8], &[u8])>
     ensures { IfSome result (λ r. IsFront grammar.Name text.now r.0.now r.1.now) }
 {
@@ -74,7 +74,7 @@ pub fn name_in_front(text: &[u8]) -> Option<(&[u8], &[u8])>
     Some((&text[..end], &text[end..]))
 }
 
-/// The name that a text starts with, the offset behind it, or 0, and the text behind both.
+/// Returns the name at the beginning of a text, the offset after it, or 0, and the text after both.
 pub fn address_in_front(text: &[u8]) -> Option<(&[u8], u32, &[u8])>
     ensures { IfSome result
         (λ r. (address : List ℕ) × IsAddressFront text.now r.0.now r.1 address r.2.now) }
@@ -100,7 +100,7 @@ fn hex_end(text: &[u8]) -> usize
     text.len()
 }
 
-/// The bytes X'..' that a text starts with, at most a hundred of them, and the text behind.
+/// Returns the bytes X'..' at the beginning of a text, at most a hundred of them, and the text after them.
 pub fn bytes_in_front(text: &[u8]) -> Option<(&[u8], &[u8])>
     ensures { IfSome result (λ r. IsFront (grammar.Bytes 100) text.now r.0.now r.1.now) }
 {
@@ -115,7 +115,7 @@ pub fn bytes_in_front(text: &[u8]) -> Option<(&[u8], &[u8])>
     Some((&text[..end + 3], &text[end + 3..]))
 }
 
-/// Whether a text that stands behind operands is no operand: nothing, or a remark behind a blank.
+/// Returns whether a text after operands is not an operand: nothing, or a remark after a blank.
 pub fn is_remark(text: &[u8]) -> bool
     ensures { result ≡ is_remark text.now }
 {

@@ -18,7 +18,7 @@ pub enum Item {
     Address,
 }
 
-/// What stands between the parentheses of a list.
+/// Returns the text between the parentheses of a list.
 pub fn inside(text: &[u8]) -> Option<&[u8]>
     ensures { MatchOption result (is_list text.now ≡ false)
         (λ items. (is_list text.now ≡ true) × (items.now ≡ inner text.now)) }
@@ -29,7 +29,7 @@ pub fn inside(text: &[u8]) -> Option<&[u8]>
     Some(&text[1..text.len() - 1])
 }
 
-/// What stands between the first byte and the last.
+/// Returns the text between the first byte and the last.
 pub fn between(text: &[u8]) -> &[u8]
     ensures { result.now ≡ inner text.now }
 {
@@ -157,7 +157,7 @@ fn has_item(item: Item, inner: &[u8], one: &[u8]) -> bool
     }
 }
 
-/// Whether an item stands twice.
+/// Returns whether an item is a duplicate.
 pub fn is_twice(item: Item, inner: &[u8]) -> bool
     requires { list_all (is_of (item_kind item)) (items_in inner.now) ≡ true }
     ensures { result ≡ is_twice (is_same_item item) (items_in inner.now) }

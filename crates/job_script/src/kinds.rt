@@ -12,7 +12,7 @@ use crate::items::{Item, are_in_range, are_items, count, inside, is_twice, two};
 use crate::parted::parted;
 use mvs_model::line::Fault;
 
-/// Words of which an operand takes one.
+/// Words, one of which is the value of an operand.
 #[derive(Clone, Copy)]
 pub enum Words {
     /// DBLWD or PAGE.
@@ -63,19 +63,19 @@ pub enum Kind {
     Word(Words),
     Name,
     Address,
-    /// One to so many bytes, in X'..'.
+    /// At least one byte and at most this number of bytes, in X'..'.
     Bytes(usize),
     /// A largest and a smallest number from the first to the second, in parentheses.
     Pair(u32, u32),
     /// A number, or a largest and a smallest one, from the first to the second.
     NumberOrPair(u32, u32),
-    /// A list of at most so many numbers from the first to the second.
+    /// A list of at most this number of numbers in a range.
     Numbers(usize, u32, u32),
-    /// A list of numbers from the first to the second, of which none stands twice.
+    /// A list of numbers in a range, without duplicates.
     DistinctNumbers(u32, u32),
-    /// A list of at most so many names, of which none stands twice.
+    /// A list of at most this number of names, without duplicates.
     DistinctNames(usize),
-    /// A list of at most so many addresses.
+    /// A list of at most this number of addresses.
     Addresses(usize),
 }
 
@@ -131,7 +131,7 @@ fn is_bytes(text: &[u8]) -> bool
     }
 }
 
-// Whether there are at most so many pairs of digits between the quotes.
+// Returns whether there are at most a number of pairs of digits between the quotes.
 fn has_at_most(most: usize, text: &[u8]) -> bool
     requires { is_bytes text.now ≡ true }
     ensures { result ≡ is_within (grammar.Bytes most) text.now }
@@ -183,7 +183,7 @@ pub fn is_of(kind: Kind, text: &[u8]) -> bool
     }
 }
 
-// Whether an item of a list stands twice.
+// Returns whether an item of a list is a duplicate.
 fn has_twice(item: Item, text: &[u8]) -> bool
     requires { is_list_of item text.now ≡ true }
     ensures { result ≡ has_twice item text.now }
@@ -194,7 +194,7 @@ fn has_twice(item: Item, text: &[u8]) -> bool
     }
 }
 
-/// Whether something stands twice in a text of a kind.
+/// Returns whether a text of a kind has a duplicate.
 pub fn repeats(kind: Kind, text: &[u8]) -> bool
     requires { is_of (as_kind kind) text.now ≡ true }
     ensures { result ≡ repeats (as_kind kind) text.now }
@@ -231,7 +231,7 @@ fn has_items_in_range(item: Item, text: &[u8]) -> bool
     }
 }
 
-// Whether a list has at most so many items.
+// Returns whether a list has at most a number of items.
 fn has_items(item: Item, most: usize, text: &[u8]) -> bool
     requires { is_list_of item text.now ≡ true }
     ensures { result ≡ has_items most text.now }
@@ -272,7 +272,7 @@ pub fn is_within(kind: Kind, text: &[u8]) -> bool
     }
 }
 
-// What is wrong with the text of an operand that is to be a number, which is read once for all.
+// Returns the fault of an operand that should be a number, which is parsed only once.
 fn check_number(least: u32, most: u32, text: &[u8], again: bool) -> Result<(), Fault>
     ensures { fault_in result ≡ first_of (checks_of (grammar.Number least most) again text.now) }
 {
@@ -291,7 +291,7 @@ fn check_number(least: u32, most: u32, text: &[u8], again: bool) -> Result<(), F
     Ok(())
 }
 
-// The same of a text of more than ten bytes, which is in no range.
+// Returns the fault of a text of more than ten bytes, which is in no range.
 fn check_long(text: &[u8], again: bool) -> Result<(), Fault>
     requires { 10 < length text.now }
     ensures { (least most : ℕ)
@@ -306,7 +306,7 @@ fn check_long(text: &[u8], again: bool) -> Result<(), Fault>
     }
 }
 
-// What is wrong with the text of an operand that is to be a name.
+// Returns the fault of an operand that should be a name.
 fn check_name(text: &[u8], again: bool) -> Result<(), Fault>
     ensures { fault_in result ≡ first_of (checks_of grammar.Name again text.now) }
 {
@@ -319,7 +319,8 @@ fn check_name(text: &[u8], again: bool) -> Result<(), Fault>
     }
 }
 
-// What is wrong with the text of an operand that is to be an address and is none in hexadecimal digits: a name, and behind a plus sign an offset.
+// Returns the fault of an operand that should be an address and is not in hexadecimal digits: a name, and an offset after a plus
+// sign.
 fn check_named(text: &[u8], again: bool) -> Result<(), Fault>
     requires { is_quoted text.now ≡ false }
     ensures { fault_in result ≡ first_of (checks_of grammar.Address again text.now) }
@@ -335,7 +336,7 @@ fn check_named(text: &[u8], again: bool) -> Result<(), Fault>
     }
 }
 
-// What is wrong with the text of an operand that is to be an address.
+// Returns the fault of an operand that should be an address.
 fn check_address(text: &[u8], again: bool) -> Result<(), Fault>
     ensures { fault_in result ≡ first_of (checks_of grammar.Address again text.now) }
 {
@@ -361,7 +362,7 @@ fn check_text(kind: Kind, text: &[u8], again: bool) -> Result<(), Fault>
     Ok(())
 }
 
-/// What is wrong with the text of an operand of a kind; `again` says whether its key stands on the left too.
+/// Returns the fault of an operand of a kind; `again` is true if its keyword is a duplicate.
 pub fn check(kind: &Kind, text: &[u8], again: bool) -> Result<(), Fault>
     ensures { fault_in result ≡ first_of (checks_of (as_kind kind.now) again text.now) }
 {

@@ -74,7 +74,7 @@ fn are_plain(bytes: &[u8]) -> bool
     plain
 }
 
-// The same of a line, so many bytes at a time, of which the last may overlap those before them.
+// Checks a line in blocks of a fixed size, the last of which may overlap the one before.
 fn is_plain_by<const SIZE: usize>(line: &[u8]) -> bool
     requires some { 0 < SIZE }
     requires long { SIZE ≤ length line.now }
@@ -90,7 +90,7 @@ fn is_plain_by<const SIZE: usize>(line: &[u8]) -> bool
     are_plain(&line[line.len() - SIZE..])
 }
 
-// The same of a line of any length.
+// Checks a line of any length.
 fn is_plain(line: &[u8]) -> bool
     ensures { result ≡ list_all (λ b. nat_le 32 b && nat_le b 126) line.now }
 {
@@ -118,14 +118,14 @@ fn says_nothing(line: &[u8]) -> bool
     }
 }
 
-// Whether the operation may stand there: the first statement is REGION.
+// Returns whether the operation is allowed there: the first statement must be REGION.
 fn is_in_place(first: bool, operation: Operation) -> bool
     ensures { result ≡ is_in_place first (operation_text operation) }
 {
     !first || matches!(operation, Operation::Region)
 }
 
-// The text that starts with the field of operands behind an operation. What follows RETURN is a remark.
+// Returns the text from the operands after an operation on. Everything after RETURN is a remark.
 fn field_of<'a>(operation: Operation, rest: &'a [u8]) -> &'a [u8]
     ensures { field_in result.now ≡ field_of operation rest.now }
 {

@@ -19,7 +19,7 @@ pub enum Pushed {
     More,
 }
 
-/// The bytes of a line that were pushed, up to 256. It takes no memory.
+/// The bytes that were pushed to a line, up to 256. It allocates no memory.
 #[derive(Drop)]
 pub struct LineBuffer {
     bytes: [u8; ROOM],

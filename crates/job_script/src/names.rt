@@ -35,7 +35,7 @@ impl Model for Names {
 }
 
 impl Names {
-    /// No name is set. This takes no memory.
+    /// Makes a table without names. It allocates no memory.
     pub fn new(alloc: Global) -> Names
         ensures { result ≡ map.empty }
     {

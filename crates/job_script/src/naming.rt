@@ -13,18 +13,18 @@ use mvs_model::place::{Addr, Place};
 use mvs_model::watched::{Failed, Watched};
 use std::io::Write;
 
-// Puts behind a text which line obtained a place.
+// Appends the line that obtained a place.
 fn push_by_line(text: &mut Text, number: u32)
     requires { length text.old ≤ 100 }
     ensures text { text.new ≡ text.old ++ by_line_said number }
     ensures len { length text.new ≤ length text.old + 45 }
 {
-    text.push_all(b" that line ");
+    text.push_all(b" obtained in line ");
     text.push_decimal(number);
-    text.push_all(b" obtained. (rule 37)");
+    text.push_all(b". (rule 37)");
 }
 
-// Puts behind a text that the place of a name begins at its address.
+// Appends that the place of a name begins at its address.
 fn push_first(text: &mut Text, name: &Name, place: Place, number: u32)
     requires { length text.old ≤ 2 }
     ensures text { text.new ≡ text.old ++ first_said name.now place number }
@@ -39,7 +39,7 @@ fn push_first(text: &mut Text, name: &Name, place: Place, number: u32)
     push_by_line(text, number);
 }
 
-// Puts behind a text how far an address lies into a place.
+// Appends the distance of an address in a place.
 fn push_into(text: &mut Text, bytes: u32)
     requires { length text.old ≤ 20 }
     ensures text { text.new ≡ text.old ++ into_said bytes }
@@ -53,21 +53,21 @@ fn push_into(text: &mut Text, bytes: u32)
     }
 }
 
-// How far an address lies behind another.
+// Returns the distance of an address from another one.
 fn distance(addr: Addr, from: Addr) -> u32
     ensures { result ≡ addr - from }
 {
     addr.get().saturating_sub(from.get())
 }
 
-// Puts behind a text that an address lies in the place of a name.
+// Appends that an address is in the place of a name.
 fn push_inside(text: &mut Text, addr: Addr, name: &Name, place: Place, number: u32)
     requires { length text.old ≤ 2 }
     ensures text { text.new ≡ text.old ++ inside_said addr name.now place number }
     ensures len { length text.new ≤ length text.old + 150 }
 {
     text.push_word(addr.get());
-    text.push_all(b" lies ");
+    text.push_all(b" is ");
     push_into(text, distance(addr, place.addr()));
     text.push_name(name);
     text.push_all(b", ");
@@ -75,7 +75,7 @@ fn push_inside(text: &mut Text, addr: Addr, name: &Name, place: Place, number: u
     push_by_line(text, number);
 }
 
-// Puts behind a text that a name has an address in its place.
+// Appends the name that has an address in its place.
 fn push_naming(text: &mut Text, addr: Addr, name: &Name, place: Place, number: u32)
     requires { length text.old ≤ 2 }
     ensures text { text.new ≡ text.old ++ naming_said addr name.now place number }

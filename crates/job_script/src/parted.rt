@@ -5,14 +5,14 @@ ghost use Rattle.std.specs.List.{before_first, after_first, list_any, slice_spli
 ghost use Rattle.mvs_model.specs.Reading.{words, parts_within};
 ghost use Rattle.job_script.specs.Parted.{IsEnd, starts_word, field_in, ends_at, opened_after, end_from};
 
-// Where the first of these bytes stands.
+// Returns the index of the first of these bytes.
 fn place(text: &[u8], byte: u8) -> Option<usize>
     ensures { result ≡ position (λ b. b == byte) text.now }
 {
     text.iter().position(|other| *other == byte)
 }
 
-/// What stands before the first of these bytes, and what behind it, where there is one.
+/// Returns the text before the first of these bytes, and the text after it, if there is one.
 pub fn parted(text: &[u8], byte: u8) -> (&[u8], Option<&[u8]>)
     ensures before { result.0.now ≡ before_first (λ b. b == byte) text.now }
     ensures after { MatchOption result.1
@@ -45,7 +45,7 @@ pub fn behind_blanks(text: &[u8]) -> &[u8]
     &[]
 }
 
-/// The first word of a text, which is empty where there is none, and the text behind it.
+/// Returns the first word of a text, which is empty if there is none, and the text after it.
 pub fn next_word(text: &[u8]) -> (&[u8], &[u8])
     ensures word { result.0.now ≡ unwrap_or (slice_get (words text.now) 0) [] }
     ensures rest { words result.1.now ≡ drop 1 (words text.now) }
@@ -58,14 +58,14 @@ pub fn next_word(text: &[u8]) -> (&[u8], &[u8])
     }
 }
 
-// Whether a byte, where so many parentheses are open, ends an operand: it is a blank, or a comma outside them.
+// Returns whether a byte ends an operand with a number of open parentheses: a blank, or a comma outside them.
 fn ends(opened: usize, byte: u8) -> bool
     ensures { result ≡ ends_at opened byte }
 {
     byte == b' ' || byte == b',' && opened == 0
 }
 
-// How many parentheses are open behind a byte. One that closes nothing counts for nothing.
+// Returns the number of open parentheses after a byte. An unmatched one is ignored.
 fn next_opened(opened: usize, byte: u8) -> usize
     requires { opened + 1 < 2 ^ 64 }
     ensures value { result ≡ opened_after opened byte }
@@ -96,7 +96,7 @@ fn operand_end(text: &[u8]) -> usize
     text.len()
 }
 
-/// The first operand of the field that a text starts with, and the text behind its comma, where there is one.
+/// Returns the first operand of the field at the beginning of a text, and the text after its comma, if there is one.
 pub fn next_operand(text: &[u8]) -> (&[u8], Option<&[u8]>)
     ensures parts { MatchOption result.1 (parts_within 0 (field_in text.now) ≡ result.0.now ∷ [])
         (λ rest.

@@ -18,7 +18,7 @@ use mvs_model::line::{Line, Location, Statement, Written};
 use mvs_model::name::Name;
 use mvs_model::want::{Ask, Loc};
 
-// The number of the subpool that a text starts with, or 0, and the text behind it.
+// Returns the subpool number at the beginning of a text, or 0, and the text after it.
 fn subpool_in_front(text: &[u8]) -> Option<(u8, &[u8])>
     ensures { IfSome result (λ r. (sp : Option (List ℕ)) × IsSubpoolFront text.now r.0 sp r.1.now) }
 {
@@ -29,7 +29,7 @@ fn subpool_in_front(text: &[u8]) -> Option<(u8, &[u8])>
     Some((number as u8, rest))
 }
 
-// The place that a text starts with, where it is not that of the task, and the text behind it.
+// Returns the location at the beginning of a text, if it is not that of the task, and the text after it.
 fn loc_word_in_front(text: &[u8]) -> Option<(Loc, &[u8])>
     ensures { IfSome result
         (λ r. (codes ",LOC=" ++ text.now ≡ loc_text r.0 ++ r.1.now) × (r.0 ≢ Loc.Res)) }
@@ -41,7 +41,7 @@ fn loc_word_in_front(text: &[u8]) -> Option<(Loc, &[u8])>
     }
 }
 
-// The place in storage that a text starts with, or that of the task, and the text behind it. (GETMAIN R has no such operand.)
+// Returns the location at the beginning of a text, or that of the task, and the text after it. (GETMAIN R has no such operand.)
 fn loc_in_front(form: Form, text: &[u8]) -> Option<(Loc, &[u8])>
     ensures { IfSome result
         (λ r. (text.now ≡ loc_text r.0 ++ r.1.now) × (may_place form r.0 ≡ true)) }
@@ -55,7 +55,7 @@ fn loc_in_front(form: Form, text: &[u8]) -> Option<(Loc, &[u8])>
     }
 }
 
-// The form of a request for one area or of its release that a field starts with, and the text behind its comma.
+// Returns the form of a request for one area, or of its release, at the beginning of a field, and the text after its comma.
 fn form_in_front(field: &[u8]) -> Option<(Form, &[u8])>
     ensures { IfSome result
         (λ r. (is_single r.0 ≡ true) × (field.now ≡ form_word r.0 ++ 44 ∷ r.1.now)) }
@@ -68,7 +68,7 @@ fn form_in_front(field: &[u8]) -> Option<(Form, &[u8])>
     }
 }
 
-// The form and the length that operands start with, and the text behind the key of what follows.
+// Returns the form and the length at the beginning of operands, and the text after the next keyword.
 #[inline(always)]
 fn sized_in_front(field: &[u8]) -> Option<(Form, u32, &[u8])>
     ensures { IfSome result (λ r. (digits : List ℕ) × IsSized field.now r.0 r.1 digits r.2.now) }
@@ -80,7 +80,7 @@ fn sized_in_front(field: &[u8]) -> Option<(Form, u32, &[u8])>
     Some((form, len, rest))
 }
 
-// The cell pool that operands start with, and the text behind the key of its cell.
+// Returns the cell pool at the beginning of operands, and the text after the keyword of its cell.
 fn pool_in_front(field: &[u8]) -> Option<(&[u8], &[u8])>
     ensures { IfSome result (λ r. IsPooled field.now r.0.now r.1.now) }
 {
@@ -189,7 +189,7 @@ fn read_cell(task: Name, field: &[u8], line: &mut Line) -> Option<()>
     read_free(task, rest, line)
 }
 
-// RETURN, with nothing behind it.
+// Parses RETURN, with nothing after it.
 fn read_return(task: Name, field: &[u8], line: &mut Line) -> Option<()>
     ensures { IfSome result (λ _. SaysBehind (codes " RETURN" ++ field.now) task line.new) }
 {
@@ -263,7 +263,7 @@ fn read_report(task: Name, field: &[u8], line: &mut Line) -> Option<()>
     Some(())
 }
 
-// What is said behind the name of a task; the first letters of an operation tell which it can be.
+// Parses what follows the name of a task. The first letters of an operation decide which it can be.
 fn read_behind(task: Name, text: &[u8], read: &mut Line) -> Option<()>
     ensures { IfSome result (λ _. SaysBehind text.now task read.new) }
 {

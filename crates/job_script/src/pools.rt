@@ -15,7 +15,7 @@ use mvs_model::line::{Fault, Line, Statement, Written};
 use mvs_model::name::Name;
 
 impl Given<'_> {
-    // The word behind CPOOL GET makes it conditional.
+    // The keyword after CPOOL GET makes it conditional.
     fn is_conditional(&self) -> bool
         requires { IsRead self.now }
         ensures { result ≡ is_conditional ((by_place self.now).at 0) }

@@ -24,7 +24,7 @@ pub fn write_all<W: Write>(writer: &mut Watched<W>, bytes: &[u8]) -> Result<(), 
     Ok(())
 }
 
-/// Puts the number and the task of a line behind a text.
+/// Appends the number and the task of a line.
 pub fn push_head(text: &mut Text, line_number: u32, task: &Name)
     requires { length text.old ≤ 100 }
     ensures text { text.new
@@ -37,7 +37,7 @@ pub fn push_head(text: &mut Text, line_number: u32, task: &Name)
     text.push_all(b" ");
 }
 
-/// Prints one line: its number, its task, and what is said.
+/// Prints one line: its number, its task, and its text.
 pub fn print_line<W: Write>(
     writer: &mut Watched<W>,
     line_number: u32,
@@ -55,7 +55,7 @@ pub fn print_line<W: Write>(
     write_all(writer, text.as_slice())
 }
 
-// Puts the pages below and above behind a text.
+// Appends the numbers of pages below and above.
 fn push_region(text: &mut Text, card: &Card)
     requires { length text.old ≤ 100 }
     ensures text { text.new ≡ text.old ++ region_text card.now }

@@ -3,14 +3,15 @@
 ghost use Rattle.std.specs.Prelude.{◌≡◌, ◌≤◌, ◌<◌, ◌+◌, ◌++◌, ◌==◌, length, decimal};
 ghost use Rattle.std.specs.List.{position_or_len};
 ghost use Rattle.mvs_model.specs.Name.{trimmed};
-ghost use Rattle.job_script.specs.ReasonTexts.{cell_of, holder_said, least_of, named, named_said, no_access_said, no_cell_said, no_member_said, no_part_said, no_subpool_said, not_held_said, not_owned_said, number_of, off_said, one_line, overlap_said, reason_line, reason_said, room_said, shortage_said, spot_said, subtask_said};
+ghost use Rattle.mvs_model.specs.Reasons.{number_of};
+ghost use Rattle.job_script.specs.ReasonTexts.{cell_of, holder_said, least_of, members_before, named, named_said, no_access_said, no_cell_said, no_member_said, no_part_said, no_subpool_said, not_held_said, not_owned_said, off_said, one_line, overlap_said, reason_line, reason_said, room_said, shortage_said, spot_said, subtask_said, why_said};
 ghost use Rattle.job_script.specs.Writing.{Prints};
 
 use crate::print::write_all;
 use crate::text::Text;
 use mvs_model::name::Name;
 use mvs_model::place::Addr;
-use mvs_model::reason::{CellSpot, Holder, Reason, Room};
+use mvs_model::reason::{CellSpot, Holder, LineReason, Reason, Room, Shortfall};
 use mvs_model::request::Request;
 use mvs_model::subpool::SubNo;
 use mvs_model::want::Side;
@@ -52,7 +53,7 @@ fn cell(request: &Request) -> u32
     }
 }
 
-// Puts the name of the cell pool or the subtask behind a text.
+// Appends the name of the cell pool or the subtask.
 fn push_named(text: &mut Text, request: &Request)
     requires { length text.old ≤ 100 }
     ensures text { text.new ≡ text.old ++ named request.now }
@@ -68,7 +69,7 @@ fn push_named(text: &mut Text, request: &Request)
     }
 }
 
-// Puts what holds a doubleword behind a text.
+// Appends the holder of a doubleword.
 fn push_holder(text: &mut Text, holder: &Holder)
     requires { length text.old ≤ 100 }
     ensures text { text.new ≡ text.old ++ holder_said holder.now }
@@ -84,13 +85,13 @@ fn push_holder(text: &mut Text, holder: &Holder)
         }
         Holder::Unowned => text.push_all(b" is held by a subpool of no task"),
         Holder::Part(name) => {
-            text.push_all(b" lies in pool ");
+            text.push_all(b" is in pool ");
             text.push_name(name);
         }
     }
 }
 
-// Puts behind a text what else there is where no place is long enough, and the begin of the rule.
+// Appends the free runs and pages, and the beginning of the rule.
 fn push_room(text: &mut Text, room: &Room)
     requires { length text.old ≤ 157 }
     ensures text { text.new ≡ text.old ++ room_said room.now }
@@ -105,43 +106,53 @@ fn push_room(text: &mut Text, room: &Room)
     text.push_all(b" above. (rule ");
 }
 
-// Puts behind a text that there is no place of a length.
+// Appends that a length does not fit.
 fn push_shortage(text: &mut Text, request: &Request, room: &Room)
     requires { length text.old ≤ 2 }
     ensures text { text.new ≡ text.old ++ shortage_said request.now room.now }
     ensures len { length text.new ≤ length text.old + 237 }
 {
     text.push_decimal(least(request));
-    text.push_all(b" bytes wanted in SP ");
+    text.push_all(b" bytes requested in SP ");
     text.push_decimal(number(request));
-    text.push_all(b", and at most ");
+    text.push_all(b", but the largest area that fits has ");
     text.push_decimal(room.longest);
-    text.push_all(b" have such a place");
+    text.push_all(b" bytes");
     push_room(text, room);
     text.push_all(b"12)");
 }
 
-// Puts behind a text that there is no place for a member of a list, by itself or where something is so.
-fn push_no_member(text: &mut Text, member: u32, bytes: u32, so: &[u8], room: &Room)
-    requires old { length text.old ≤ 2 }
-    requires so { length so.now ≤ 30 }
-    ensures text { text.new ≡ text.old ++ no_member_said member bytes so.now room.now }
+// Appends that other members of a list are before one.
+fn push_before(text: &mut Text, member: u32)
+    requires { length text.old ≤ 100 }
+    ensures text { text.new ≡ text.old ++ members_before member }
+    ensures len { length text.new ≤ length text.old + 28 }
+{
+    if member != 1 {
+        text.push_all(b"after the members before it ");
+    }
+}
+
+// Appends that a member of a list does not fit.
+fn push_no_member(text: &mut Text, member: u32, short: &Shortfall)
+    requires { length text.old ≤ 2 }
+    ensures text { text.new ≡ text.old ++ no_member_said member short.now }
     ensures len { length text.new ≤ length text.old + 237 }
 {
     text.push_all(b"Member ");
     text.push_decimal(member);
-    text.push_all(b" of the list wants ");
-    text.push_decimal(bytes);
-    text.push_all(b" bytes, and ");
-    text.push_all(so);
-    text.push_all(b"at most ");
-    text.push_decimal(room.longest);
-    text.push_all(b" have such a place");
-    push_room(text, room);
+    text.push_all(b" of the list requests ");
+    text.push_decimal(short.bytes);
+    text.push_all(b" bytes, but ");
+    push_before(text, member);
+    text.push_all(b"the largest area that fits has ");
+    text.push_decimal(short.room.longest);
+    text.push_all(b" bytes");
+    push_room(text, &short.room);
     text.push_all(b"22)");
 }
 
-// Puts behind a text that there is no place for a part of a pool.
+// Appends that a part of a pool does not fit.
 fn push_no_part(text: &mut Text, request: &Request, cells: u32, size: u32, room: &Room)
     requires { length text.old ≤ 2 }
     ensures text { text.new ≡ text.old ++ no_part_said request.now cells size room.now }
@@ -149,18 +160,18 @@ fn push_no_part(text: &mut Text, request: &Request, cells: u32, size: u32, room:
 {
     text.push_all(b"Pool ");
     push_named(text, request);
-    text.push_all(b": no place for ");
+    text.push_all(b": no room for ");
     text.push_decimal(cells);
     text.push_all(b" cells of ");
     text.push_decimal(size);
-    text.push_all(b" bytes; the longest has ");
+    text.push_all(b" bytes; the largest area that fits has ");
     text.push_decimal(room.longest);
     text.push_all(b" bytes");
     push_room(text, room);
     text.push_all(b"59)");
 }
 
-// Puts behind a text that an address is not on a doubleword.
+// Appends that an address is not on a doubleword.
 fn push_off(text: &mut Text, addr: Addr)
     requires { length text.old ≤ 2 }
     ensures text { text.new ≡ text.old ++ off_said addr }
@@ -168,14 +179,14 @@ fn push_off(text: &mut Text, addr: Addr)
 {
     let addr = addr.get();
     text.push_word(addr);
-    text.push_all(b" is not on a doubleword: it is ");
+    text.push_all(b" is not on a doubleword: offset ");
     text.push_decimal(addr % 8);
-    text.push_all(b" past ");
+    text.push_all(b" from ");
     text.push_word(8 * (addr / 8));
     text.push_all(b". (rule 29)");
 }
 
-// Puts behind a text that the subpool of a task does not hold a doubleword.
+// Appends that the subpool of a task does not hold a doubleword.
 fn push_not_held(text: &mut Text, task: &Name, number: u32, addr: Addr, holder: &Holder)
     requires { length text.old ≤ 2 }
     ensures text { text.new ≡ text.old ++ not_held_said task.now number addr holder.now }
@@ -187,10 +198,10 @@ fn push_not_held(text: &mut Text, task: &Name, number: u32, addr: Addr, holder: 
     text.push_decimal(number);
     text.push_all(b" of ");
     text.push_name(task);
-    text.push_all(b" does not hold it outside of pools. (rules 26, 66)");
+    text.push_all(b" does not hold it outside cell pools. (rules 26, 66)");
 }
 
-// Puts behind a text that members of a list overlap.
+// Appends that members of a list overlap.
 fn push_overlap(text: &mut Text, one: Addr, other: Addr, addr: Addr)
     requires { length text.old ≤ 2 }
     ensures text { text.new ≡ text.old ++ overlap_said one other addr }
@@ -200,12 +211,12 @@ fn push_overlap(text: &mut Text, one: Addr, other: Addr, addr: Addr)
     text.push_word(one.get());
     text.push_all(b" and ");
     text.push_word(other.get());
-    text.push_all(b" both have the doubleword at ");
+    text.push_all(b" both contain the doubleword at ");
     text.push_word(addr.get());
     text.push_all(b". (rule 32)");
 }
 
-// Puts the name of the cell pool or the subtask behind a text, with what stands before and behind it.
+// Appends the name of the cell pool or the subtask, with texts before and after it.
 fn push_of(text: &mut Text, before: &[u8], request: &Request, behind: &[u8])
     requires old { length text.old ≤ 8 }
     requires before { length before.now ≤ 40 }
@@ -218,7 +229,7 @@ fn push_of(text: &mut Text, before: &[u8], request: &Request, behind: &[u8])
     text.push_all(behind);
 }
 
-// Puts a number behind a text, with what stands before and behind it.
+// Appends a number, with texts before and after it.
 fn push_number(text: &mut Text, before: &[u8], number: u32, behind: &[u8])
     requires old { length text.old ≤ 70 }
     requires before { length before.now ≤ 55 }
@@ -232,7 +243,7 @@ fn push_number(text: &mut Text, before: &[u8], number: u32, behind: &[u8])
     text.push_all(behind);
 }
 
-// Puts a task behind a text, with what stands behind it.
+// Appends a task, with a text after it.
 fn push_task(text: &mut Text, task: &Name, behind: &[u8])
     requires old { length text.old ≤ 60 }
     requires behind { length behind.now ≤ 80 }
@@ -243,7 +254,7 @@ fn push_task(text: &mut Text, task: &Name, behind: &[u8])
     text.push_all(behind);
 }
 
-// Puts where an address lies behind a text, at which no taken cell begins.
+// Appends where an address is, if no taken cell begins there.
 fn push_spot(text: &mut Text, spot: &CellSpot)
     requires { length text.old ≤ 100 }
     ensures text { text.new ≡ text.old ++ spot_said spot.now }
@@ -252,20 +263,20 @@ fn push_spot(text: &mut Text, spot: &CellSpot)
     match spot {
         CellSpot::Untaken => text.push_all(b"that cell is free"),
         CellSpot::Inside(first) => {
-            text.push_all(b"it lies inside the cell at ");
+            text.push_all(b"it is inside the cell at ");
             text.push_word(first.get());
         }
-        CellSpot::Elsewhere => text.push_all(b"it lies in no cell of the pool"),
+        CellSpot::Elsewhere => text.push_all(b"it is in no cell of the pool"),
     }
 }
 
-// Puts behind a text that no taken cell begins at the address of a request.
+// Appends that no taken cell begins at the address of a request.
 fn push_no_cell(text: &mut Text, request: &Request, spot: &CellSpot)
     requires { length text.old ≤ 2 }
     ensures text { text.new ≡ text.old ++ no_cell_said request.now spot.now }
     ensures len { length text.new ≤ length text.old + 237 }
 {
-    text.push_all(b"No taken cell of pool ");
+    text.push_all(b"No allocated cell of pool ");
     push_named(text, request);
     text.push_all(b" begins at ");
     text.push_word(cell(request));
@@ -274,7 +285,7 @@ fn push_no_cell(text: &mut Text, request: &Request, spot: &CellSpot)
     text.push_all(b". (rule 63)");
 }
 
-// Puts behind a text that a task has no subpool under the number of a request.
+// Appends that a task has no subpool with the number of a request.
 fn push_no_subpool(text: &mut Text, request: &Request, keeper: &Name)
     requires { length text.old ≤ 2 }
     ensures text { text.new ≡ text.old ++ no_subpool_said request.now keeper.now }
@@ -283,10 +294,10 @@ fn push_no_subpool(text: &mut Text, request: &Request, keeper: &Name)
     text.push_name(keeper);
     text.push_all(b" has no subpool ");
     text.push_decimal(number(request));
-    text.push_all(b", which would hold it. (rule 26)");
+    text.push_all(b". (rule 26)");
 }
 
-// Puts behind a text that a task only shares a subpool that it gives.
+// Appends that a task only shares a subpool that it gives.
 fn push_not_owned(text: &mut Text, task: &Name, number: SubNo, owner: &Name)
     requires { length text.old ≤ 2 }
     ensures text { text.new ≡ text.old ++ not_owned_said task.now number owner.now }
@@ -300,7 +311,7 @@ fn push_not_owned(text: &mut Text, task: &Name, number: SubNo, owner: &Name)
     text.push_all(b" can give it. (rule 48)");
 }
 
-// Puts behind a text that a subtask of a task is active.
+// Appends that a subtask of a task is active.
 fn push_subtask(text: &mut Text, task: &Name, subtask: &Name)
     requires { length text.old ≤ 2 }
     ensures text { text.new ≡ text.old ++ subtask_said task.now subtask.now }
@@ -312,7 +323,7 @@ fn push_subtask(text: &mut Text, task: &Name, subtask: &Name)
     text.push_all(b", is active. (rule 54)");
 }
 
-// Puts behind a text that a byte may not be read and written.
+// Appends that a byte cannot be accessed.
 fn push_no_access(text: &mut Text, addr: Addr, holder: &Holder)
     requires { length text.old ≤ 2 }
     ensures text { text.new ≡ text.old ++ no_access_said addr holder.now }
@@ -320,41 +331,50 @@ fn push_no_access(text: &mut Text, addr: Addr, holder: &Holder)
 {
     text.push_word(addr.get());
     push_holder(text, holder);
-    text.push_all(
-        b"; a byte may be touched outside of pools where it is held, and in a taken cell. (rule 38)",
-    );
+    text.push_all(b"; only obtained storage and allocated cells can be accessed. (rule 38)");
 }
 
-// Puts behind a text why a request for cells or of a subtask is refused.
+// Appends why a request for cells or of a subtask is refused.
 fn push_named_reason(text: &mut Text, request: &Request, reason: &Reason)
     requires { length text.old ≤ 2 }
     ensures text { text.new ≡ text.old ++ named_said request.now reason.now }
     ensures len { length text.new ≤ length text.old + 237 }
 {
     match reason {
-        Reason::PoolInUse => push_of(text, b"A pool ", request, b" is there already. (rule 68)"),
+        Reason::PoolInUse => push_of(text, b"A pool ", request, b" already exists. (rule 68)"),
         Reason::NoPool => push_of(text, b"There is no pool ", request, b". (rule 63)"),
         Reason::NoFreeCell => push_of(
             text,
             b"No cell of pool ",
             request,
-            b" is free, and COND adds no part. (rule 60)",
+            b" is free, and COND does not add a part. (rule 60)",
         ),
         Reason::NoTakenCell(spot) => push_no_cell(text, request, spot),
         Reason::NoPart(cells, size, room) => push_no_part(text, request, *cells, *size, room),
-        Reason::TaskInUse => push_of(text, b"A task ", request, b" is active already. (rule 51)"),
+        Reason::TaskInUse => push_of(text, b"A task ", request, b" is already active. (rule 51)"),
         Reason::TooManyPools => {
-            text.push_all(b"64 pools are there, and no more can be. (rule 68)");
+            text.push_all(b"64 pools exist, which is the limit. (rule 68)");
         }
         Reason::TooManyTasks => {
-            text.push_all(b"32 tasks are active, and no more can be. (rule 51)");
+            text.push_all(b"32 tasks are active, which is the limit. (rule 51)");
         }
-        Reason::WholeOfZero => text.push_all(b"SP 0 is not released as a whole. (rule 35)"),
-        _ => {}
+        Reason::WholeOfZero => text.push_all(b"SP 0 cannot be released as a whole. (rule 35)"),
+        Reason::NotActive
+        | Reason::InvalidNumber
+        | Reason::Shortage(_)
+        | Reason::NoMember(..)
+        | Reason::OffDoubleword(_)
+        | Reason::NoSubpool(_)
+        | Reason::NotHeld(..)
+        | Reason::Overlap(..)
+        | Reason::NotOwned(..)
+        | Reason::ActiveSubtask(_)
+        | Reason::Asked
+        | Reason::NoAccess(..) => {}
     }
 }
 
-// Puts behind a text why a request of a task is refused.
+// Appends why a request of a task is refused.
 fn push_reason(text: &mut Text, task: &Name, request: &Request, reason: &Reason)
     requires { length text.old ≤ 2 }
     ensures text { text.new ≡ text.old ++ reason_said task.now request.now reason.now }
@@ -368,22 +388,12 @@ fn push_reason(text: &mut Text, task: &Name, request: &Request, reason: &Reason)
         ),
         Reason::InvalidNumber => push_number(
             text,
-            b"A program may name SP 0 to 127, 131 and 132, and not ",
+            b"A program can use SP 0 to 127, 131 and 132, but not ",
             number(request),
             b". (rule 8)",
         ),
-        Reason::NotSet(name) => push_task(
-            text,
-            name,
-            b" is not set: no request of this step was granted under it. (rule 74)",
-        ),
         Reason::Shortage(room) => push_shortage(text, request, room),
-        Reason::NoMember(member, bytes, room) => {
-            push_no_member(text, *member, *bytes, b"", room);
-        }
-        Reason::NoMemberBehind(member, bytes, room) => {
-            push_no_member(text, *member, *bytes, b"behind those before it ", room);
-        }
+        Reason::NoMember(member, short) => push_no_member(text, *member, short),
         Reason::OffDoubleword(addr) => push_off(text, *addr),
         Reason::NoSubpool(keeper) => push_no_subpool(text, request, keeper),
         Reason::NotHeld(addr, holder) => {
@@ -392,13 +402,37 @@ fn push_reason(text: &mut Text, task: &Name, request: &Request, reason: &Reason)
         Reason::Overlap(one, other, addr) => push_overlap(text, *one, *other, *addr),
         Reason::NotOwned(number, owner) => push_not_owned(text, task, *number, owner),
         Reason::ActiveSubtask(subtask) => push_subtask(text, task, subtask),
-        Reason::Asked => push_task(text, task, b" asks for this abend. (rule 55)"),
+        Reason::Asked => push_task(text, task, b" requests this abend. (rule 55)"),
         Reason::NoAccess(addr, holder) => push_no_access(text, *addr, holder),
-        _ => push_named_reason(text, request, reason),
+        Reason::PoolInUse
+        | Reason::NoPool
+        | Reason::NoFreeCell
+        | Reason::NoTakenCell(_)
+        | Reason::NoPart(..)
+        | Reason::TaskInUse
+        | Reason::TooManyPools
+        | Reason::TooManyTasks
+        | Reason::WholeOfZero => push_named_reason(text, request, reason),
     }
 }
 
-// How many bytes stand before the first line feed.
+// Appends why a line of a task is not executed as it asks.
+fn push_why(text: &mut Text, task: &Name, request: &Request, reason: &LineReason)
+    requires { length text.old ≤ 2 }
+    ensures text { text.new ≡ text.old ++ why_said task.now request.now reason.now }
+    ensures len { length text.new ≤ length text.old + 237 }
+{
+    match reason {
+        LineReason::NotSet(name) => push_task(
+            text,
+            name,
+            b" is not set: no granted request of this step set it. (rule 74)",
+        ),
+        LineReason::Refused(reason) => push_reason(text, task, request, reason),
+    }
+}
+
+// Returns the number of bytes before the first newline.
 fn line_len(bytes: &[u8]) -> usize
     ensures len { result ≡ position_or_len (λ b. b == 10) bytes.now }
     ensures within { result ≤ length bytes.now }
@@ -421,19 +455,19 @@ pub fn end_line(text: &mut Text)
     text.push(b'\n');
 }
 
-/// Prints the line that says why a request of a task is refused.
+/// Prints the line that says why a line of a task is not executed as it asks.
 pub fn print_reason<W: Write>(
     writer: &mut Watched<W>,
     task: &Name,
     request: &Request,
-    reason: &Reason,
+    reason: &LineReason,
 ) -> Result<(), Failed>
     ensures { Prints W.contents writer.old writer.new result
         (reason_line task.now request.now reason.now) }
 {
     let mut text = Text::new();
     text.push_all(b"* ");
-    push_reason(&mut text, task, request, reason);
+    push_why(&mut text, task, request, reason);
     end_line(&mut text);
     write_all(writer, text.as_slice())
 }

@@ -12,7 +12,7 @@ use mvs_model::subpool::SubNo;
 use mvs_model::watched::{Failed, Watched};
 use std::io::Write;
 
-// Puts behind a text whether a task owns a subpool or shares it.
+// Appends whether a task owns a subpool or shares it.
 fn push_share(text: &mut Text, owned: bool)
     requires { length text.old ≤ 100 }
     ensures text { text.new
@@ -26,7 +26,7 @@ fn push_share(text: &mut Text, owned: bool)
     }
 }
 
-// Puts behind a text what is said of a number that a task has.
+// Appends the line for a number that a task has.
 fn push_subpool(text: &mut Text, line: &SubpoolLine)
     requires { length text.old ≤ 80 }
     ensures text { text.new ≡ text.old ++ subpool_text line.now }
@@ -69,7 +69,7 @@ pub fn print_no_subpool<W: Write>(
     print_line(writer, line_number, task, b"SP NONE")
 }
 
-// Puts behind a text the subpool that pages are assigned to.
+// Appends the subpool of some pages.
 fn push_holder(text: &mut Text, holder: &Option<(SubNo, Name)>)
     requires { length text.old ≤ 80 }
     ensures text { text.new ≡ text.old ++ label_text holder.now }

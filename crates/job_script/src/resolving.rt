@@ -45,7 +45,7 @@ fn place(names: &Names, location: &Location, len: Length) -> Option<Place>
     Some(Place::new(addr, len.get()))
 }
 
-// Puts the places that are written behind others, where their names are set.
+// Appends the places of a list, if their names are set.
 fn push_places(
     names: &Names,
     places: &mut Places,

@@ -33,7 +33,7 @@ pub enum Rule {
     Excludes(Key, Key),
     /// The two lists have as many items.
     SameLength(Key, Key),
-    /// No number stands under one of the first two keywords and under one of the last two.
+    /// No number is given with one of the first two keywords and with one of the last two.
     Apart(Key, Key, Key, Key),
 }
 

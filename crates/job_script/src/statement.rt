@@ -19,7 +19,7 @@ use mvs_model::line::{Fault, Line, Statement, Written};
 use mvs_model::name::Name;
 
 impl Given<'_> {
-    // The line that operands say which were all taken, and of which none excludes another.
+    // Returns the line for operands that were all accepted, and none of which excludes another.
     fn fill(&self, task: Name, form: &[u8], line: &mut Line) -> Result<(), Fault>
         requires read { IsRead self.now }
         requires apart { list_any (is_conflict (by_place self.now)) (row_at self.now.row).rules
@@ -67,7 +67,7 @@ impl Given<'_> {
     }
 }
 
-// Reads the operands behind a form by a row of the table.
+// Parses the operands after a form with a row of the table.
 fn read_row(
     task: Name,
     row: Row,
@@ -105,7 +105,7 @@ fn is_empty(field: &[u8]) -> bool
     }
 }
 
-// Reads the form of an operation and the operands behind it.
+// Parses the form of an operation and the operands after it.
 fn read_with_form(
     task: Name,
     operation: Operation,
@@ -140,7 +140,7 @@ fn as_field(field: &[u8]) -> Option<&[u8]>
     }
 }
 
-// Reads the operands of an operation that takes no form.
+// Parses the operands of an operation without a form.
 fn read_without_form(
     task: Name,
     operation: Operation,

@@ -97,7 +97,7 @@ impl Given<'_> {
         }
     }
 
-    // Where an area lies.
+    // The location of an area.
     pub fn loc(&self) -> Loc
         requires { IsRead self.now }
         ensures { result ≡ loc_of (by_place self.now) }

@@ -52,7 +52,7 @@ impl Text {
         self.len
     }
 
-    /// Keeps so many of its bytes, the first ones.
+    /// Keeps the first n of its bytes.
     pub fn cut(&mut self, len: usize)
         requires { len ≤ length self.old }
         ensures { self.new ≡ take len self.old }

@@ -88,7 +88,7 @@ pub fn byte(digits: &[u8]) -> u8
     hex_number(digits) as u8
 }
 
-// The byte that the first two digits write, and the digits behind them.
+// Returns the byte of the first two digits, and the digits after them.
 fn next_byte(digits: &[u8]) -> (u8, &[u8])
     requires two { 2 ≤ length digits.now }
     requires digits { list_all is_hex_digit digits.now ≡ true }

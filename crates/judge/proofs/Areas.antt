@@ -20,7 +20,8 @@ use Rattle.mvs_model.specs.Storage.{Chosen, InRegion, Regions}
 use Rattle.mvs_model.specs.State.{State, holder}
 use Rattle.mvs_model.specs.Codes.{family, is_conditional, short}
 use Rattle.mvs_model.specs.Changes.{GrantTo, ShortOf}
-use Rattle.mvs_model.specs.Steps.{Fails, side_for, is_invalid}
+use Rattle.mvs_model.proofs.ByCase.{Fails}
+use Rattle.mvs_model.specs.Requests.{side_for, is_invalid}
 use Rattle.mvs_model.specs.Replies.{answer_of, grant_answer, is_abend, where_answer}
 use Rattle.mvs_model.specs.Resolving.{all_set, names_set, places_in}
 use Rattle.mvs_model.specs.Answers as tells
@@ -29,14 +30,16 @@ use Rattle.mvs_model.specs.Job.{JobValue}
 use Rattle.mvs_model.specs.Runs.{Condition, Any, Makes, Does}
 use Rattle.mvs_model.specs.View.{IsBounded}
 use Rattle.mvs_model.specs.Determined.{granted_at, TakesTold}
-use Rattle.mvs_model.proofs.Kept.{enters_tasks}
+use Rattle.mvs_laws.proofs.Kept.{enters_tasks}
 use Rattle.mvs_model.proofs.OneOwners.{one_subpool}
-use Rattle.mvs_model.proofs.OneSteps.{by_two, no_grant, none_granted, one_grant, one_step, round8_some}
+use Rattle.mvs_model.proofs.OneSteps.{by_two, none_granted, one_grant, one_step}
+use Rattle.mvs_model.proofs.StepCases.{no_grant, step_cases}
+use Rattle.mvs_model.proofs.StorageLaws.{round8_some}
 use Rattle.mvs_model.proofs.Orders.{name_cmp_total, same_name_self}
-use Rattle.mvs_model.proofs.RegionsKept.{grant_inside}
+use Rattle.mvs_laws.proofs.RegionsKept.{grant_inside}
 use Rattle.judge.specs.Deciding.{no_bytes}
-use Rattle.step_machine.specs.Lists.{first_of}
-use Rattle.step_machine.specs.Taking.{Takes}
+use Rattle.request_forms.specs.Lists.{first_of}
+use Rattle.request_forms.specs.Taking.{Takes}
 use Rattle.judge.proofs.Settled.{made_same}
 
 -- two places that are chosen have one length
@@ -115,7 +118,7 @@ module _ (told : List ℕ) (old : JobValue) (t : Name) (answer other : Answer) (
   same_answer false p q e = refl
 
   obtains : Makes (Takes told) old t k (request.Obtain form number ask) answer a → Makes Any old t k (request.Obtain form number ask) other b → Alike
-  obtains x y = by_active (is_active old.state.owners t) x.step y.step (λ p q. none (ap granted_at p.0) (ap granted_at q.0))
+  obtains x y = by_active (is_active old.state.owners t) (step_cases old.state t (request.Obtain form number ask) x.reply a.state x.step) (step_cases old.state t (request.Obtain form number ask) y.reply b.state y.step) (λ p q. none (ap granted_at p.0) (ap granted_at q.0))
       (λ active p q. by_two (is_invalid number) p q (λ u v. none (ap granted_at u.1) (ap granted_at v.1)) (at active)) where
         none : granted_at x.reply ≡ [] → granted_at y.reply ≡ [] → Alike
         none e f =

@@ -22,20 +22,20 @@ use Rattle.mvs_model.specs.Lines.{lines_of}
 use Rattle.mvs_model.specs.Start.{start}
 use Rattle.std.specs.List.{list_all}
 use Rattle.mvs_model.specs.Reading.{LineOf, FaultOf, hex_number, is_hex_digit, line_said}
-use Rattle.mvs_model.specs.Going.{Reaches}
+use Rattle.mvs_laws.specs.Going.{Reaches}
 use Rattle.mvs_model.specs.Runs.{Any, Condition, IsPrinting, machine, job_machine}
 use Rattle.mvs_model.specs.Texts.{answer_text, printing, reply_line, said, hex}
 use Rattle.mvs_model.specs.View.{IsBounded}
 use Rattle.mvs_model.specs.Walk.{Arrives, Closes, Serves, ServesLine, Faults, is_first}
 use Rattle.mvs_model.specs.Want.{AskValue, IsAsk}
-use Rattle.mvs_model.proofs.Going.{line_keeps, printed_both, reaches_then}
-use Rattle.mvs_model.proofs.Walking.{leads_then}
-use Rattle.mvs_model.proofs.Kept.{Closed}
+use Rattle.mvs_laws.proofs.Going.{line_keeps, printed_both, reaches_then}
+use Rattle.mvs_laws.proofs.Walking.{leads_then}
+use Rattle.mvs_laws.proofs.Kept.{Closed}
 use Rattle.mvs_model.proofs.OneSteps.{head_of, tail_of}
 use Rattle.mvs_model.proofs.Reading.{one_reading}
 use Rattle.mvs_model.proofs.ReadingRanges.{line_ranged}
 use Rattle.mvs_model.proofs.ValueTexts.{hex_writes}
-use Rattle.step_machine.specs.Taking.{Takes}
+use Rattle.request_forms.specs.Taking.{Takes}
 use Rattle.mvs_job.specs.declared.walk.LineTold.{LineTold}
 use Rattle.mvs_job.specs.declared.walk.LineTold.TheVariants as tells
 use Rattle.mvs_model.proofs.Tests.{false_true}

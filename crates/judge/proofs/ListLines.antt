@@ -26,7 +26,7 @@ use Rattle.mvs_model.specs.Texts.{answer_text, hex, printing, reply_line, said}
 use Rattle.mvs_model.specs.Walk.{Faults, Serves, is_first}
 use Rattle.mvs_model.proofs.Reading.{one_reading}
 use Rattle.mvs_model.proofs.Tests.{false_true}
-use Rattle.step_machine.specs.Taking.{Takes}
+use Rattle.request_forms.specs.Taking.{Takes}
 use Rattle.mvs_job.specs.declared.walk.LineTold.{LineTold}
 use Rattle.mvs_job.specs.declared.walk.LineTold.TheVariants as tells
 use Rattle.mvs_job.specs.Telling.{IsToldBy, WalkValue, events_told}

@@ -4,6 +4,7 @@ use Rattle.std.specs.Prelude.{◌≢◌, not, ◌^◌}
 use Rattle.std.specs.List.{AllByRecursion}
 use Rattle.std.specs.FinMap.{FinMap, get, insert, get-insert}
 use Rattle.std.proofs.lemmas.List.{append_cancel_left}
+use Rattle.mvs_model.proofs.StepCases.{step_cases}
 use Rattle.mvs_model.specs.declared.name.Name.{Name}
 use Rattle.mvs_model.specs.declared.code.Form.{Form}
 use Rattle.mvs_model.specs.declared.want.Side.TheVariants.{Below}
@@ -23,8 +24,10 @@ use Rattle.mvs_model.specs.Storage.{InRegion, Regions}
 use Rattle.mvs_model.specs.State.{State}
 use Rattle.mvs_model.specs.declared.code.Family.{Family}
 use Rattle.mvs_model.specs.Codes.{family, is_conditional, short}
-use Rattle.mvs_model.specs.Changes.{ListGrant, ListShort}
-use Rattle.mvs_model.specs.Steps.{Fails, is_invalid}
+use Rattle.mvs_model.specs.Changes.{ListGrant}
+use Rattle.mvs_model.proofs.ByCase.{ListShort}
+use Rattle.mvs_model.proofs.ByCase.{Fails}
+use Rattle.mvs_model.specs.Requests.{is_invalid}
 use Rattle.mvs_model.specs.Replies.{answer_of}
 use Rattle.mvs_model.specs.Resolving.{all_set, places_in}
 use Rattle.mvs_model.specs.Answers.{Answer, Abended, Rc0, Rc4}
@@ -34,8 +37,8 @@ use Rattle.mvs_model.specs.View.{IsBounded}
 use Rattle.mvs_model.specs.Determined.{granted_at, ListTakesTold}
 use Rattle.mvs_model.proofs.OneSteps.{by_two, head_of, none_granted, one_grant, one_step, tail_of}
 use Rattle.mvs_model.proofs.Orders.{name_cmp_total, told as told_apart}
-use Rattle.mvs_model.proofs.RegionsKept.{list_inside}
-use Rattle.step_machine.specs.Taking.{Takes}
+use Rattle.mvs_laws.proofs.RegionsKept.{list_inside}
+use Rattle.request_forms.specs.Taking.{Takes}
 use Rattle.judge.specs.Judging.{AnswersList, AreApart}
 use Rattle.judge.proofs.Areas.{by_active, name_put, small, task_stays}
 use Rattle.judge.proofs.Settled.{made_same}
@@ -154,7 +157,7 @@ module _ (told : List ℕ) (old : JobValue) (t : Name) (answer other : Answer) (
   fails false kin reply new said x e = inr (kin, x.0.fallen, e ∙ ap (answer_of old.state k r) x.1)
 
   obtains : Makes (Takes told) old t k r answer a → Makes Any old t k r other b → Alike
-  obtains x y = by_active (is_active old.state.owners t) x.step y.step (λ p q. none (ap granted_at p.0) (ap granted_at q.0))
+  obtains x y = by_active (is_active old.state.owners t) (step_cases old.state t r x.reply a.state x.step) (step_cases old.state t r y.reply b.state y.step) (λ p q. none (ap granted_at p.0) (ap granted_at q.0))
       (λ active p q. by_two (is_invalid number) p q (λ u v. none (ap granted_at u.1) (ap granted_at v.1)) (at active)) where
         same_at : granted_at x.reply ≡ granted_at y.reply → (answer ≡ other) × (a ≡ b)
         same_at e =

@@ -4,12 +4,12 @@ use Rattle.std.proofs.lemmas.List.{drop_all, drop-drop}
 use Rattle.std.specs.Io.KnownBytes.{Appends}
 use Rattle.mvs_model.specs.declared.outcome.Outcome.{Outcome}
 use Rattle.mvs_model.specs.declared.outcome.Outcome.TheVariants.{ScriptFault}
-use Rattle.mvs_model.specs.Going.{Reaches}
+use Rattle.mvs_laws.specs.Going.{Reaches}
 use Rattle.mvs_model.specs.Lines.{lines_of}
 use Rattle.mvs_model.specs.Runs.{IsPrinting, machine}
 use Rattle.mvs_model.specs.Texts.{printing}
 use Rattle.mvs_model.specs.Walk.{Closes}
-use Rattle.mvs_model.proofs.Going.{printed_both, reaches_next, reaches_then}
+use Rattle.mvs_laws.proofs.Going.{printed_both, reaches_next, reaches_then}
 use Rattle.mvs_job.specs.Serving.{RunsLine}
 use Rattle.mvs_job.specs.Telling.{WalkValue, closing}
 use Rattle.judge.specs.Deciding.{Stands}

@@ -5,6 +5,7 @@ use Rattle.std.specs.List.{list_all}
 use Rattle.std.specs.FinMap.{FinMap, get}
 use Rattle.std.specs.FinSet as set
 use Rattle.std.proofs.lemmas.Bool.Decides.{nat_tests}
+use Rattle.mvs_model.proofs.StepCases.{step_cases}
 use Rattle.mvs_model.specs.declared.name.Name.{Name}
 use Rattle.mvs_model.specs.declared.line.Line.{Line}
 use Rattle.mvs_model.specs.declared.line.Line.TheVariants as line
@@ -22,12 +23,16 @@ use Rattle.mvs_model.specs.declared.request.Reply.TheVariants.{Rc0}
 use Rattle.mvs_model.specs.Place.{PlaceValue}
 use Rattle.mvs_model.specs.Gifts.{GiftsValue}
 use Rattle.mvs_model.specs.Name.{name_cmp}
-use Rattle.mvs_model.specs.Owners.{is_active, subpool_meant, attach_refusal, has_subtask}
+use Rattle.mvs_model.specs.Owners.{is_active, subpool_meant, has_subtask}
+use Rattle.mvs_model.proofs.ByCase.{attach_refusal}
 use Rattle.mvs_model.specs.Pools.{Pool}
 use Rattle.mvs_model.specs.State.{State}
 use Rattle.mvs_model.specs.Codes.{family, is_conditional, not_held}
 use Rattle.mvs_model.specs.Changes.{Frees}
-use Rattle.mvs_model.specs.Steps.{Step, Acts, Abends, Fails, MayRelease, ReleaseStep, FreeStep, DeleteStep, AttachCase, Accesses, is_invalid, on_doubleword, whole}
+use Rattle.mvs_model.specs.Steps.{Step}
+use Rattle.mvs_model.proofs.ByCase.{Acts, Fails, MayRelease, ReleaseStep, FreeStep, DeleteStep, AttachCase, Accesses}
+use Rattle.mvs_model.specs.Consequences.{Abends}
+use Rattle.mvs_model.specs.Requests.{is_invalid, on_doubleword, whole}
 use Rattle.mvs_model.specs.Resolving.{resolved, names_set, places_in, all_set}
 use Rattle.mvs_model.specs.Replies.{is_abend, answer_of}
 use Rattle.mvs_model.specs.Answers.{Answer, Event, Told}
@@ -103,7 +108,7 @@ module _ (old : State) (t : Name) (reply : Reply) (new : State) where
   acts_none (request.Move to from n) closed y = access_none _ _ y
 
 closed_same : (old : State) (t : Name) (r : Request) (one other : Reply) (a b : State) → opens r ≡ false → Step old t r one a → Step old t r other b → (one ≡ other) × (a ≡ b)
-closed_same old t r one other a b closed x y = by_two (not (is_active old.owners t)) x y (λ p q. (p.0 ∙ sym q.0, p.1 ∙ sym q.1))
+closed_same old t r one other a b closed x y = by_two (not (is_active old.owners t)) (step_cases old t r one a x) (step_cases old t r other b y) (λ p q. (p.0 ∙ sym q.0, p.1 ∙ sym q.1))
     (λ p q. one_step old t r one other a b x y (acts_none old t one a r closed p ∙ sym (acts_none old t other b r closed q)))
 
 -- ---- what two steps alike leave

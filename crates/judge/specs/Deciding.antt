@@ -6,7 +6,7 @@ use Rattle.mvs_model.specs.declared.outcome.Outcome.{Outcome}
 use Rattle.mvs_model.specs.declared.outcome.Outcome.TheVariants.{ScriptFault}
 use Rattle.std.specs.List.{AllByRecursion}
 use Rattle.mvs_model.specs.Answers.{Answer, At, Event, Granted, Rc0}
-use Rattle.mvs_model.specs.Going.{Holds, Reaches}
+use Rattle.mvs_laws.specs.Going.{Holds, Reaches}
 use Rattle.mvs_model.specs.Job.{JobValue}
 use Rattle.mvs_model.specs.Lines.{lines_of}
 use Rattle.mvs_model.specs.Reading.{LineOf}
@@ -25,7 +25,7 @@ use Rattle.judge.specs.Judging.{AsksArea, AsksList, BeginsAnswered, IsAskedBefor
 abbrev pub MayPrint : ℕ → Option JobValue → List (List ℕ) → List ℕ → Outcome → Type 0
 MayPrint number old lines text outcome = (events : List Event) × Walks machine (JobEnds machine outcome) number old lines events × (text ≡ printing events)
 
--- The line, read before the first statement or behind it, can be granted no place.
+-- The line, before the first statement or after it, can be granted no place.
 abbrev pub IsClosed : Option JobValue → List ℕ → Type 0
 IsClosed step bytes = (l : Line) → LineOf (is_first step) bytes l → leaves_open l ≡ false
 
@@ -43,7 +43,7 @@ AsksOther l =
     (leaves_open l ≡ true) × ((task : Name) (area : Name) (variable : Bool) → AsksArea l task area variable → ⊥)
     × ((task : Name) (areas : List Name) → AsksList l task areas → ⊥)
 
--- the same of a line as it is written
+-- the text of a line can be granted no place
 abbrev pub IsOther : Option JobValue → List ℕ → Type 0
 IsOther step bytes = (l : Line) × LineOf (is_first step) bytes l × AsksOther l
 
@@ -54,14 +54,14 @@ IsKindOf l (Area task area variable) = AsksArea l task area variable
 IsKindOf l (Areas task areas) = AsksList l task areas
 IsKindOf l Several = AsksOther l
 
--- the same of a line as it is written
+-- the text of a line is a request for areas
 abbrev pub IsKind : Option JobValue → List ℕ → Kind → Type 0
 IsKind step bytes Closed = IsClosed step bytes
 IsKind step bytes (Area task area variable) = IsGrant step bytes task area variable
 IsKind step bytes (Areas task areas) = IsList step bytes task areas
 IsKind step bytes Several = IsOther step bytes
 
--- The first of the lines, if there is one, does not ask where the name lies.
+-- The first of the lines, if there is one, has no WHERE for the name.
 abbrev pub HasNoQuestion : List (List ℕ) → Name → Name → Type 0
 HasNoQuestion [] task area = Unit {0}
 HasNoQuestion (bytes ∷ lines) task area = IsQuestion bytes task area → ⊥
@@ -75,12 +75,12 @@ abbrev pub no_bytes : Bool → Answer
 no_bytes true = Granted 0
 no_bytes false = Rc0
 
--- what is printed, from the line of this number on, of questions of a task that are told these addresses
+-- the text, from the line with this number on, of WHERE statements of a task with these addresses
 abbrev pub at_text : ℕ → Name → List ℕ → List ℕ
 at_text number task [] = []
 at_text number task (addr ∷ addrs) = reply_line number task (said (At addr)) ++ at_text (number + 1) task addrs
 
--- The addresses are those that a text tells from the line of this number on, where it tells one for each of some names.
+-- The addresses are those that a text shows from the line with this number on, if it shows one for each of some names.
 abbrev pub ReadsEach : List ℕ → ℕ → Name → List Name → List ℕ → Type 0
 ReadsEach text number task areas told =
     (addrs : List ℕ) (rest : List ℕ) → length addrs ≡ length areas → AllByRecursion (λ addr. addr < 2 ^ 31) addrs → text ≡ at_text number task addrs ++ rest → told ≡ addrs
@@ -89,7 +89,7 @@ ReadsEach text number task areas told =
 abbrev pub BeginsBy : List ℕ → List ℕ → Bool → Type 0
 BeginsBy text front b = (b ≡ true → (more : List ℕ) × (text ≡ front ++ more)) × ((more : List ℕ) → text ≡ front ++ more → b ≡ true)
 
--- Whether a list is open at which a text may pass: it does not, and goes on with what a list may be answered.
+-- Whether a list is undecided for a text: the text does not pass it, and continues with an answer that a list can have.
 abbrev pub OpensList : ℕ → Name → List ℕ → Bool → Bool → Type 0
 OpensList number task text true b = b ≡ false
 OpensList number task text false b = (b ≡ true → BeginsAnswered number task text) × (BeginsAnswered number task text → b ≡ true)
@@ -99,8 +99,8 @@ abbrev pub IsServed : List (List ℕ) → WalkValue → List ℕ → Bool → Wa
 IsServed served old text true new = (events : List Event) × Leads machine old.number old.step served events new.step × (new.number ≡ old.number + length served) × (text ≡ printing events)
 IsServed served old text false new = (l : List ℕ) × (events : List Event) × (served ≡ l ∷ []) × Faults old.number (is_first old.step) l events × (text ≡ printing events)
 
--- What is decided at lines of which this is printed, and behind which the job goes on or not. Where a run may still print what is left of an
--- output, that begins with this, and each run that prints it comes behind the lines with the job that stands there.
+-- What is decided at lines that print this, and after which the job continues or not. If a run can still print the rest of an
+-- output, the output begins with this, and every run that prints it is after the lines in the same state.
 abbrev pub Decides : List (List ℕ) → List ℕ → WalkValue → List ℕ → Bool → Bool → WalkValue → Type 0
 Decides served left old text goes_on false new = (more : List (List ℕ)) (outcome : Outcome) → MayPrint old.number old.step (served ++ more) left outcome → ⊥
 Decides served left old text false true new = left ≡ text
@@ -108,7 +108,7 @@ Decides served left old text true true new =
     (left ≡ text ++ drop (length text) left)
     × ((more : List (List ℕ)) (outcome : Outcome) → MayPrint old.number old.step (served ++ more) left outcome → MayPrint new.number new.step more (drop (length text) left) outcome)
 
--- The same where some lines lie behind them.
+-- What is decided if some lines come after them.
 abbrev pub DecidesBefore : List (List ℕ) → List (List ℕ) → List ℕ → WalkValue → List ℕ → Bool → Bool → WalkValue → Type 0
 DecidesBefore served more left old text goes_on false new = (outcome : Outcome) → MayPrint old.number old.step (served ++ more) left outcome → ⊥
 DecidesBefore served more left old text false true new = left ≡ text
@@ -116,13 +116,13 @@ DecidesBefore served more left old text true true new =
     (left ≡ text ++ drop (length text) left)
     × ((outcome : Outcome) → MayPrint old.number old.step (served ++ more) left outcome → MayPrint new.number new.step more (drop (length text) left) outcome)
 
--- Both at the first lines of a script, so many bytes of it.
+-- Both for the first lines of a script, given as a number of bytes.
 abbrev pub DecidesFirst : List ℕ → List ℕ → WalkValue → ℕ → List ℕ → Bool → Bool → WalkValue → Type 0
 DecidesFirst script left old taken text goes_on passes new =
     (served : List (List ℕ)) × (lines_of script ≡ served ++ lines_of (drop taken script)) × IsServed served old text goes_on new
     × DecidesBefore served (lines_of (drop taken script)) left old text goes_on passes new × (goes_on ≡ true → IsAskedBefore served (lines_of (drop taken script)))
 
--- The first line of a script, so many bytes of it, is served, and leaves open how it is answered.
+-- The first line of a script, given as a number of bytes, is executed, and its answer is not determined.
 abbrev pub LeavesFirst : List ℕ → List ℕ → WalkValue → ℕ → List ℕ → Bool → Bool → WalkValue → Type 0
 LeavesFirst script left old taken text goes_on passes new =
     (bytes : List ℕ) × (lines_of script ≡ bytes ∷ lines_of (drop taken script)) × IsServed (bytes ∷ []) old text true new × IsOpen old.number old.step (lines_of script) left
@@ -133,11 +133,11 @@ abbrev pub IsFoundFirst : List ℕ → List ℕ → WalkValue → ℕ → List �
 IsFoundFirst script left old taken text goes_on passes true new = LeavesFirst script left old taken text goes_on passes new
 IsFoundFirst script left old taken text goes_on passes false new = DecidesFirst script left old taken text goes_on passes new
 
--- A job that has printed this of a script stands so, with these bytes left.
+-- A job that has printed this of a script is in this state, with these bytes left.
 abbrev pub Stands : List ℕ → List ℕ → WalkValue → List ℕ → Type 0
 Stands script text w left = (events : List Event) × Reaches (lines_of script) events w.number w.step (lines_of left) × (text ≡ printing events)
 
--- The text is what is printed of the end of a job that stands so and has no more lines.
+-- The text is the printing of the end of a job in this state that has no more lines.
 abbrev pub PrintsEnd : WalkValue → List ℕ → Outcome → Type 0
 PrintsEnd w text outcome = (ended : Option Bool) × Closes machine w.number w.step (closing w.number ended) outcome × (text ≡ printing (closing w.number ended))
 
@@ -151,7 +151,7 @@ abbrev pub HasParted : List ℕ → List ℕ → List ℕ → ℕ → Bool → T
 HasParted script output text number false = IsNoPrinting script output
 HasParted script output text number true = IsOpenIn script output text number
 
--- how a job has ended behind lines, if it does not go on: at a fault
+-- how a job has ended after lines, if it does not continue: with a fault
 abbrev pub end_at : Bool → Option Outcome
 end_at true = None
 end_at false = Some ScriptFault

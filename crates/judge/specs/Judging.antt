@@ -12,7 +12,7 @@ use Rattle.mvs_model.specs.declared.outcome.Outcome.{Outcome}
 use Rattle.mvs_model.specs.Answers.{Abended, Answer, Event, Rc0, Rc4}
 use Rattle.mvs_model.specs.declared.code.Family.{Family}
 use Rattle.mvs_model.specs.Codes.{short}
-use Rattle.mvs_model.specs.Going.{Reaches}
+use Rattle.mvs_laws.specs.Going.{Reaches}
 use Rattle.mvs_model.specs.Job.{JobValue}
 use Rattle.mvs_model.specs.Lines.{lines_of}
 use Rattle.mvs_model.specs.Reading.{LineOf}
@@ -35,7 +35,7 @@ may_grant (written.Build pool number size primary secondary loc) = true
 may_grant (written.Get pool conditional cell) = true
 may_grant _ = false
 
--- the same of what a line says
+-- a statement can be granted no place
 abbrev pub leaves_open : Line → Bool
 leaves_open (line.Statement t (says.Request a)) = may_grant a
 leaves_open _ = false
@@ -55,26 +55,26 @@ AsksList l task areas =
     (form : Form) × (number : ℕ) × (lengths : List ℕ) × (start : ℕ)
     × (l ≡ line.Statement task (says.Request (written.ObtainList form number lengths start areas))) × (length lengths ≡ length areas) × AreApart areas
 
--- The line is a question of the task where the name lies.
+-- The line is a WHERE of the task for the name.
 abbrev pub IsQuestion : List ℕ → Name → Name → Type 0
 IsQuestion bytes task area = LineOf false bytes (line.Statement task (says.Where area))
 
--- The first of the lines are questions of the task where the names lie, in their order.
+-- The first of the lines are WHERE statements of the task for the names, in order.
 abbrev pub AskEach : List (List ℕ) → Name → List Name → Type 0
 AskEach lines task [] = Unit {0}
 AskEach [] task (area ∷ areas) = ⊥
 AskEach (question ∷ lines) task (area ∷ areas) = IsQuestion question task area × AskEach lines task areas
 
--- The line is a request for one area, and the first of the lines behind it asks where the area lies.
+-- The line is a request for one area, and the next line is its WHERE.
 abbrev pub IsAreaAsked : Line → List (List ℕ) → Type 0
 IsAreaAsked l [] = ⊥
 IsAreaAsked l (question ∷ lines) = (task : Name) × (area : Name) × (variable : Bool) × AsksArea l task area variable × IsQuestion question task area
 
--- The line is a request for a list, and the lines behind it ask where each of its areas lies.
+-- The line is a request for a list, and the next lines are the WHERE statements for its areas.
 abbrev pub IsListAsked : Line → List (List ℕ) → Type 0
 IsListAsked l lines = (task : Name) × (areas : List Name) × AsksList l task areas × AskEach lines task areas
 
--- The lines behind a line ask for what it may be granted.
+-- The lines after a line show what it is granted.
 abbrev pub IsAskedFor : Line → List (List ℕ) → Type 0
 IsAskedFor l lines = IsAreaAsked l lines ⊎ IsListAsked l lines
 
@@ -90,24 +90,24 @@ AnswersList answer = (answer ≡ Rc0) ⊎ ((answer ≡ Rc4) ⊎ ((f : Family) ×
 abbrev pub BeginsAnswered : ℕ → Name → List ℕ → Type 0
 BeginsAnswered number task text = (answer : Answer) × AnswersList answer × (more : List ℕ) × (text ≡ answer_text number task answer ++ more)
 
--- The line of this number is a request for a list, which some run is answered otherwise than a text goes on; and the text goes on with
--- what a list may be answered.
+-- The line with this number is a request for a list for which some run has another answer than a text; and the text continues with
+-- an answer that a list can have.
 abbrev pub MayDiffer : ℕ → Option JobValue → List ℕ → Line → List ℕ → Type 0
 MayDiffer number step bytes l rest =
     (list : IsForList l) × (events : List Event) × (new : Option JobValue) × ServesLine machine number step bytes events new × ((more : List ℕ) → rest ≡ printing events ++ more → ⊥) × BeginsAnswered number list.0 rest
 
--- The first of the lines, which has this number, may be granted places, and what lies behind it does not ask for them; or it asks for a
--- list, which may be answered otherwise than a text goes on.
+-- The first of the lines, which has this number, may be granted places that the next lines do not show; or it is a list, which may
+-- have another answer than a text.
 abbrev pub IsOpen : ℕ → Option JobValue → List (List ℕ) → List ℕ → Type 0
 IsOpen number step [] rest = ⊥
 IsOpen number step (bytes ∷ lines) rest = (l : Line) × LineOf (is_first step) bytes l × (leaves_open l ≡ true) × (IsAskedFor l lines → MayDiffer number step bytes l rest)
 
--- Each of the first lines that may be granted places is asked for by the line behind it, up to those that are left.
+-- For each of the first lines that may be granted places, the next line shows them, up to those that are left.
 abbrev pub IsAskedBefore : List (List ℕ) → List (List ℕ) → Type 0
 IsAskedBefore [] left = Unit {0}
 IsAskedBefore (bytes ∷ lines) left = ((l : Line) → LineOf false bytes l → leaves_open l ≡ true → IsAskedFor l (lines ++ left)) × IsAskedBefore lines left
 
--- the same of all lines
+-- for all lines
 abbrev pub IsAsked : List (List ℕ) → Type 0
 IsAsked lines = IsAskedBefore lines []
 

@@ -9,7 +9,7 @@ use std::collections::HashMap;
 pub enum Said {
     /// It was answered 0, or with a cell.
     Granted,
-    /// An area or a cell lies at this address.
+    /// An area or a cell is at this address.
     At(u32),
 }
 
@@ -36,7 +36,7 @@ fn read_said(line: &str) -> Option<(u32, Said)> {
 }
 
 impl Answers {
-    /// Those of an output, to the line of this number and those behind it.
+    /// The addresses of an output for the line with this number and those after it.
     pub fn read(alloc: Global, first_number: u32, output: &str) -> Result<Answers, OutOfMemory> {
         let mut lines = HashMap::new(alloc);
         for line in output.lines() {

@@ -1,11 +1,11 @@
-//! Decides what lines of a script do of a text that a run may print, by the places that the text tells right behind the grants.
+//! Decides what some lines of a script mean for an output, with the addresses that the output shows right after the grants.
 
 ghost use Rattle.std.specs.Prelude.{◌≡◌, ◌<◌, ◌≤◌, ◌+◌, ◌^◌, ◌++◌, ◌∷◌, ◌&&◌, not, [], List, ℕ, true, false, IfOk, IfSome, MatchOption, length, drop, take};
 ghost use Rattle.std.specs.List.{AllByRecursion};
 ghost use Rattle.mvs_model.specs.Texts.{answer_text, hex, printing, reply_line, said};
 ghost use Rattle.mvs_model.specs.Answers.{At};
 ghost use Rattle.mvs_job.specs.Telling.{IsToldBy, events_told};
-ghost use Rattle.step_machine.specs.Taking.{Takes};
+ghost use Rattle.request_forms.specs.Taking.{Takes};
 ghost use Rattle.mvs_model.specs.Lent.{lends, lent};
 ghost use Rattle.mvs_model.specs.Lines.{lines_of};
 ghost use Rattle.mvs_model.specs.State.{State};
@@ -26,18 +26,18 @@ use mvs_model::place::Addr;
 use mvs_model::watched::Watched;
 use std::alloc::Global;
 
-/// What was served of a script, and how an output goes on with it.
+/// The lines of a script that were executed, and how an output continues.
 #[derive(Drop)]
 pub struct Served {
     /// What is printed of it.
     pub text: Vec<u8>,
-    /// Whether the job goes on: no line has a fault.
+    /// Whether the job continues: no line has a fault.
     pub goes_on: bool,
     /// Whether a run may still print the output. Where the job does not go on, it is then just this text.
     pub passes: bool,
 }
 
-/// The same of the first lines of a script, so many bytes of it.
+/// The lines that were executed, as a number of bytes of the script.
 #[derive(Drop)]
 pub struct Decided {
     pub taken: usize,
@@ -47,7 +47,7 @@ pub struct Decided {
 }
 
 impl Decided {
-    /// Whether it is decided that the job goes on, and that a run may still print the output.
+    /// Whether it is decided that the job continues, and that a run can still print the output.
     pub fn follows(&self) -> bool
         ensures { result ≡ (self.now.served.passes && self.now.served.goes_on && not self.now.is_open) }
     {
@@ -55,21 +55,21 @@ impl Decided {
     }
 }
 
-// A task asks for areas, of which each sets a name.
+// A task requests areas, each of which sets a name.
 #[derive(Drop)]
 struct Listed {
     task: Name,
     areas: Names,
 }
 
-// What a line told, and what is printed up to behind it.
+// The events of a line, and the text printed so far.
 #[derive(Drop)]
 struct Printed {
     told: LineTold,
     text: Vec<u8>,
 }
 
-// Serves a line, and prints what it tells behind a text.
+// Executes a line, and appends what it prints.
 fn print_next(
     walk: &mut Walk,
     line: &[u8],
@@ -142,7 +142,7 @@ fn decide_line(
     })
 }
 
-// Prints an answer of one line behind a text.
+// Appends an answer of one line.
 pub(crate) fn print_answer(
     text: Vec<u8>,
     line_number: u32,
@@ -187,7 +187,7 @@ fn answered_len(alloc: Global, line_number: u32, asked: &Asked) -> Result<usize,
     Ok(both.as_slice().len())
 }
 
-// The address that eight digits behind a front write; 0 where none stand there.
+// Returns the address of eight digits after a prefix; 0 if there are none.
 fn address_behind(text: &[u8], front: usize) -> Addr
     ensures { (addr : ℕ) (rest : List ℕ) → addr < 2 ^ 31
         → drop front text.now ≡ hex 8 addr ++ rest → result ≡ addr }
@@ -207,7 +207,7 @@ fn address_behind(text: &[u8], front: usize) -> Addr
     Addr::new(number as u32)
 }
 
-// Decides at a grant with a question behind it. The area lies at the address that the text tells of the question, where the machine
+// Decides at a grant with a question after it. The area is placed at the address in the output for the question, if the machine
 // allows that.
 fn decide_pair(
     alloc: Global,
@@ -291,7 +291,7 @@ fn granted_len(alloc: Global, line_number: u32, task: &Name) -> Result<usize, Ou
     Ok(text.as_slice().len())
 }
 
-// How many bytes are printed of a question that is told an address, whose line has this number.
+// Returns the number of bytes printed for a question with an address, on the line with this number.
 fn located_len(alloc: Global, line_number: u32, task: &Name) -> Result<usize, OutOfMemory>
     ensures { IfOk result (λ n. n ≡ length (reply_line line_number task.now (said (At 0)))) }
 {
@@ -300,7 +300,7 @@ fn located_len(alloc: Global, line_number: u32, task: &Name) -> Result<usize, Ou
     Ok(text.as_slice().len())
 }
 
-// What stands behind so many bytes of a text.
+// Returns what follows a number of bytes of a text.
 fn text_behind(text: &[u8], front: usize) -> &[u8]
     ensures { result.now ≡ drop front text.now }
 {
@@ -311,7 +311,7 @@ fn text_behind(text: &[u8], front: usize) -> &[u8]
     }
 }
 
-// Some addresses, and another one behind them.
+// Some addresses, and another one after them.
 fn pushed(mut told: Vec<Addr>, addr: Addr) -> Result<Vec<Addr>, OutOfMemory>
     ensures { IfOk result (λ all. all.items ≡ told.items ++ addr ∷ []) }
 {
@@ -321,7 +321,7 @@ fn pushed(mut told: Vec<Addr>, addr: Addr) -> Result<Vec<Addr>, OutOfMemory>
     }
 }
 
-// Puts the addresses that a text tells of some names, from the line of this number on, behind others.
+// Appends the addresses that an output shows for some names, from the line with this number on.
 fn read_each(
     alloc: Global,
     line_number: u32,
@@ -352,7 +352,7 @@ fn read_each(
     )
 }
 
-// The addresses that a text tells of the areas of a list, whose line has this number.
+// Returns the addresses that an output shows for the areas of a list, on the line with this number.
 fn read_areas(
     alloc: Global,
     line_number: u32,
@@ -377,8 +377,8 @@ fn read_areas(
     )
 }
 
-// Decides at a list with questions behind it. Its areas lie at the addresses that the text tells of the questions, where the machine
-// allows that. It is open where it is answered otherwise than the text says, and the text says what a list may be answered.
+// Decides at a list with questions after it. Its areas are placed at the addresses in the output for the questions, if the machine
+// allows that. It is undecided if the run has another answer than the output, and the output has one that a list can have.
 fn decide_list(
     alloc: Global,
     walk: &mut Walk,
@@ -418,7 +418,7 @@ fn decide_list(
     })
 }
 
-// Decides at the first line of a script, which ends there and asks for a list; nothing where the lines behind do not ask for its areas.
+// Decides at the first line of a script if that is the last line and a list; nothing if the next lines do not ask for its areas.
 fn decide_areas(
     alloc: Global,
     walk: &mut Walk,

@@ -1,4 +1,4 @@
-//! Follows an output along a script, as far as each run that prints it is in one place.
+//! Follows an output along a script, as long as every run that prints it is in the same state.
 
 ghost use Rattle.std.specs.Prelude.{◌≡◌, ◌≤◌, ◌+◌, ◌++◌, IfOk, drop, length};
 ghost use Rattle.mvs_model.specs.Numbers.{most_script_bytes};
@@ -27,7 +27,7 @@ pub struct Followed {
     pub open_line: u32,
 }
 
-// A text, and another one behind it.
+// A text, and another one after it.
 fn joined(alloc: Global, front: &[u8], back: &[u8]) -> Result<Vec<u8>, OutOfMemory>
     ensures { IfOk result (λ all. all.items ≡ front.now ++ back.now) }
 {
@@ -59,7 +59,7 @@ fn within(script: &[u8], at: usize) -> usize
     if at < script.len() { at } else { script.len() }
 }
 
-// Follows no further behind the lines that were served last, of which the first has this number and before which this was printed.
+// Stops following. The last lines that were executed begin with this number, and this text was printed before them.
 fn parted(
     alloc: Global,
     at: usize,

@@ -1,5 +1,5 @@
-//! Matches the addresses that an output tells with the grants of the script, areas and cells: WHERE tells where that grant lies which
-//! set the name last.
+//! Matches the addresses in an output with the grants of the script, areas and cells: WHERE shows the place of the grant that set
+//! the name last.
 
 use crate::answers::{Answers, Said};
 use crate::parts::Parts;
@@ -13,22 +13,21 @@ use std::alloc::Global;
 use std::collections::HashMap;
 use std::str;
 
-// A member of a grant: the line that asks for it, and its place in the list of that; an area or a cell alone has place 0.
+// A member of a grant: its line, and its position in the list; a single area or a cell has position 0.
 #[derive(Clone, Copy, Debug, PartialEq, Eq, PartialOrd, Ord)]
 struct Member {
     line: u32,
     place: usize,
 }
 
-// Where a member lies.
+// The place of a member.
 #[derive(Clone, Copy, Debug, PartialEq, Eq, PartialOrd, Ord)]
 struct Spot {
     member: Member,
     addr: u32,
 }
 
-// What is known of the lines so far: the grants that set the names, of which members it was told where they lie, and the parts of
-// the pools.
+// What is known of the lines so far: the grants that set the names, the members whose places are shown, and the parts of the pools.
 #[derive(Drop)]
 struct Hearing {
     names: HashMap<Name, Member>,
@@ -53,7 +52,7 @@ impl Hearing {
         }
     }
 
-    // The same of the names of a list.
+    // Records the names of a list.
     fn set_each(&mut self, areas: &[Name], line: u32) -> Result<(), OutOfMemory> {
         for (place, area) in areas.iter().enumerate() {
             self.set(*area, Member { line, place })?;
@@ -72,7 +71,7 @@ impl Hearing {
         }
     }
 
-    // It is told where the place of a name lies.
+    // Records the place of a name.
     fn tell(&mut self, name: &Name, addr: u32) -> Result<(), OutOfMemory> {
         let Some(member) = self.names.get(name).copied() else {
             return Ok(());
@@ -83,7 +82,7 @@ impl Hearing {
         }
     }
 
-    // Takes a statement and what is said of it.
+    // Records a statement and its printed answer.
     fn take(
         &mut self,
         statement: &Statement,
@@ -111,7 +110,7 @@ impl Hearing {
     }
 }
 
-// The addresses of each line, of its cell or in the order of its areas, up to the first that is not told.
+// Returns the addresses of each line, of its cell or in the order of its areas, up to the first that is not shown.
 fn by_lines(alloc: Global, spots: &[Spot]) -> Result<Told, OutOfMemory> {
     let mut told = Told::nothing(alloc);
     for spot in spots {
@@ -123,7 +122,7 @@ fn by_lines(alloc: Global, spots: &[Spot]) -> Result<Told, OutOfMemory> {
     Ok(told)
 }
 
-// What is known behind the last line, where the first has this number.
+// Returns what is known after the last line. The first has this number.
 fn hear_lines(
     alloc: Global,
     first_number: u32,
@@ -144,7 +143,7 @@ fn hear_lines(
     Ok(hearing)
 }
 
-// The same of texts.
+// Records the texts.
 fn hear_text(
     alloc: Global,
     first_number: u32,
@@ -169,9 +168,9 @@ fn hear_text(
     Ok(told)
 }
 
-/// What an output tells of the places of the rest of a script, which begins with the line of this number, behind its first statement:
-/// nothing where one of them is no text. Where the parts of pools begin is told by their cells, if that is wanted, and else left to the
-/// placement.
+/// Returns the addresses in an output for the rest of a script, which begins with the line with this number, after its first
+/// statement; nothing if one of them is not text. Where the parts of pools begin follows from their cells, if that is requested,
+/// and otherwise from the placement.
 pub fn hear(
     alloc: Global,
     first_number: u32,

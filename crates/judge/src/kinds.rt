@@ -19,9 +19,9 @@ pub enum Kind {
     Closed,
     /// An area of a task, which sets a name, by a request that is variable or not.
     Area(Name, Name, bool),
-    /// Areas of a task, each of which sets a name of its own.
+    /// Areas of a task, each of which sets its own name.
     Areas(Name, Names),
-    /// A cell, the parts of a pool, or areas of which two set one name.
+    /// A cell, the parts of a pool, or areas two of which set the same name.
     Several,
 }
 
@@ -110,7 +110,7 @@ pub fn next_kind(walk: &Walk, line: &[u8]) -> Kind
     }
 }
 
-// Whether a line is a question of a task where a name lies.
+// Returns whether a line is a WHERE of a task for a name.
 fn asks_where(line: &[u8], task: &Name, area: &Name) -> bool
     ensures yes { result ≡ true → IsQuestion line.now task.now area.now }
     ensures no { IsQuestion line.now task.now area.now → result ≡ true }
@@ -125,7 +125,7 @@ fn asks_where(line: &[u8], task: &Name, area: &Name) -> bool
     }
 }
 
-/// Where the first line of a script ends, if it asks where an area lies.
+/// Returns where the first line of a script ends, if it is a WHERE.
 pub fn question_end(script: &[u8], asked: &Asked) -> Option<usize>
     ensures { MatchOption result
         (HasNoQuestion (lines_of script.now) asked.now.task asked.now.area)
@@ -144,7 +144,7 @@ pub fn question_end(script: &[u8], asked: &Asked) -> Option<usize>
     }
 }
 
-/// Whether the first lines of a script are questions of a task where some names lie, in their order.
+/// Returns whether the first lines of a script are the WHERE statements of a task for some names, in order.
 pub fn asks_each(script: &[u8], task: &Name, areas: &[Name]) -> bool
     ensures { IsTrue result ↔ AskEach (lines_of script.now) task.now areas.now }
 {

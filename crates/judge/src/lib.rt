@@ -9,7 +9,6 @@ ghost use Rattle.judge.specs.Deciding.{finding_of};
 ghost use Rattle.judge.specs.Judging.{IsAsked, IsFound, IsListAt};
 
 mod answers;
-mod ask;
 mod deciding;
 mod following;
 mod hearing;
@@ -21,7 +20,6 @@ mod resting;
 use crate::following::follow;
 use crate::hearing::hear;
 use crate::resting::run_rest;
-pub use ask::write_asking;
 use mvs_job::{RunFault, Told, Walk};
 use mvs_model::error::OutOfMemory;
 use mvs_model::numbers::MOST_SCRIPT_BYTES;
@@ -36,13 +34,13 @@ pub enum Finding {
     Accepted,
     /// No run prints it.
     Refused,
-    /// A run prints what it begins with, up to the line of this number: the first that may be granted places for which the lines behind
-    /// do not ask, or a request for a list that a run may be granted and another one refused.
+    /// A run prints its beginning, up to the line with this number: the first that grants storage for which the next lines have no
+    /// WHERE, or a list that one run may be granted and another one refused.
     Undecided(u32),
 }
 
-/// What an output was compared with, and what was found: the printing of a run of the script that takes the addresses that the output
-/// tells, wherever the machine allows that.
+/// What an output was compared with, and the finding: the printing of a run of the script that uses the addresses in the output, if
+/// the machine allows that.
 #[derive(Drop)]
 pub struct Judgement {
     pub outcome: Outcome,
@@ -50,8 +48,7 @@ pub struct Judgement {
     pub finding: Finding,
 }
 
-// What is told of the places of the lines that are left, where that may matter; and of the parts of pools by their cells, if that is
-// wanted.
+// Returns the hints for the remaining lines, if they matter, and those for parts of pools from their cells, if that is requested.
 fn told_if(
     matters: bool,
     alloc: Global,
@@ -80,8 +77,8 @@ fn finding_of(refused: bool, agrees: bool, line_number: u32) -> Finding
     }
 }
 
-// Judges an output by one run of the script, which takes the addresses that the output tells, and places the parts of pools by their
-// cells or as the placement does.
+// Judges an output with one run of the script, which uses the addresses in the output, and places the parts of pools by their cells
+// or by the placement.
 fn judge_run(
     alloc: Global,
     script: &[u8],
@@ -134,9 +131,9 @@ fn judge_run(
     })
 }
 
-/// Judges an output by one run of the script, which takes the addresses that the output tells; or by another one, where that alone prints
-/// the output. No answer tells where the parts of a pool lie: the first run places them by their cells, the other one as the placement
-/// does.
+/// Judges an output with one run of the script, which uses the addresses in the output; or with another one, if only that prints
+/// the output. No answer shows where the parts of a pool are: the first run places them by their cells, the other one by the
+/// placement.
 pub fn judge(alloc: Global, script: &[u8], output: &[u8]) -> Result<Judgement, RunFault>
     ensures found { IfOk result
         (λ j. IsFound script.now output.now j.text.items j.outcome j.finding) }
@@ -147,7 +144,7 @@ pub fn judge(alloc: Global, script: &[u8], output: &[u8]) -> Result<Judgement, R
     ensures run { IfOk result (λ j. IsPrinting script.now j.text.items j.outcome) }
     ensures agrees { IfOk result
         (λ j. j.finding ≡ Finding.Accepted ↔ j.text.items ≡ output.now) }
-    // It gives up at a script that is too long, and else only for want of memory, of which each line takes some.
+    // It stops with an error if the script is too long, and otherwise only if memory is exhausted. Each line needs some.
     ensures too_long { most_script_bytes < length script.now
         → IsErrOf result RunFault.ReadTooLong }
     ensures memory { IfErr result

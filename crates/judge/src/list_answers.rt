@@ -1,4 +1,4 @@
-//! Whether an output goes on with what a list may be answered: it is granted, or refused for want of places.
+//! Whether an output continues with an answer that a list can have: it is granted, or refused for a shortage.
 
 ghost use Rattle.std.specs.Prelude.{◌≡◌, [], false, true, IfOk};
 ghost use Rattle.mvs_model.specs.Answers.{Abended};
@@ -34,7 +34,7 @@ fn begins_so(
     Ok(begins(text, printed.as_slice()))
 }
 
-// The same of an abend with this code, whatever tasks end with it.
+// Returns whether it is an abend with this code, with any tasks that end with it.
 fn begins_abend(
     alloc: Global,
     line_number: u32,

@@ -1,4 +1,4 @@
-//! Finds where the parts of cell pools begin, by the cells that an output tells.
+//! Finds where the parts of cell pools begin, from the cells that an output shows.
 
 use mvs_job::Told;
 use mvs_model::error::OutOfMemory;
@@ -8,7 +8,7 @@ use mvs_model::place::Addr;
 use std::alloc::Global;
 use std::collections::HashMap;
 
-// Of the cells of a part that are told: the first one that was taken, the lowest and the highest.
+// The known cells of a part: the first one that was taken, the lowest and the highest.
 #[derive(Clone, Copy)]
 struct Cells {
     first: u32,
@@ -16,8 +16,8 @@ struct Cells {
     highest: u32,
 }
 
-// A part: the line at which it was put to its pool, that at which the pool was made, how long a cell is, how many cells there are, and
-// those that are told.
+// A part: the line that added it to its pool, the line that built the pool, the size of a cell, the number of cells, and the known
+// ones.
 #[derive(Clone, Copy)]
 struct Part {
     line: u32,
@@ -54,19 +54,19 @@ pub struct Parts {
 }
 
 impl Cells {
-    // Whether several are told, and the first one that was taken is the highest.
+    // Returns whether several are known, and the first one that was taken is the highest.
     fn go_down(&self) -> bool {
         self.lowest < self.highest && self.first == self.highest
     }
 
-    // The same of the lowest.
+    // Returns whether the first one that was taken is the lowest.
     fn go_up(&self) -> bool {
         self.lowest < self.highest && self.first == self.lowest
     }
 }
 
 impl Part {
-    // The same once a cell of it is told.
+    // Returns the part after one of its cells is known.
     fn with_cell(&self, addr: u32) -> Part {
         let cells = match self.cells {
             Some(cells) => Cells {
@@ -232,7 +232,7 @@ impl Parts {
         }
     }
 
-    // A cell is told that was taken when this part was the last. It is one of the part, unless it was taken before the part was put.
+    // Records a cell that was taken when this part was the last. It is in the part, unless it was taken before the part was added.
     fn see(
         &mut self,
         place: usize,
@@ -257,7 +257,7 @@ impl Parts {
         }
     }
 
-    // Takes each cell that is told.
+    // Records each known cell.
     fn see_each(&mut self, alloc: Global, told: &Told) -> Result<(), OutOfMemory> {
         let mut seen = HashMap::new(alloc);
         for number in 0..self.taken.len() {
@@ -284,8 +284,8 @@ impl Parts {
         some_down
     }
 
-    /// Tells where the first cell of each part may be: of the first part of a pool at the line of its BUILD, and of a further one
-    /// behind the cell of the line that put it.
+    /// Returns the hint for the first cell of each part: of the first part of a pool for the line of its BUILD, and of a further
+    /// one after the cell of the line that added it.
     pub fn tell(&mut self, alloc: Global, told: &mut Told) -> Result<(), OutOfMemory> {
         self.see_each(alloc, told)?;
         let go_down = self.go_down();
@@ -301,7 +301,7 @@ impl Parts {
         Ok(())
     }
 
-    /// Leaves each part to the placement: of a further one an address is told at which no cell begins.
+    /// Leaves each part to the placement: the hint for a further one is an address where no cell begins.
     pub fn leave(&self, alloc: Global, told: &mut Told) -> Result<(), OutOfMemory> {
         for part in &self.parts {
             if part.line != part.pool_line && !told.of(part.line).is_empty() {

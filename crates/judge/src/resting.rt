@@ -16,7 +16,7 @@ pub struct Ran {
     pub text: Vec<u8>,
 }
 
-/// Runs the lines that are left of a job that has printed a text, at the addresses that are told of them.
+/// Runs the remaining lines of a job that has printed a text, with their hints.
 pub fn run_rest(
     mut walk: Walk,
     script: &[u8],

@@ -1,26 +1,27 @@
--- What C is told of the step that runs.
-use Rattle.std.specs.Prelude.{◌≡◌, ℕ, ◌+◌, ◌^◌, ◌<◌, ◌≤◌, true, false, List, length, replicate, slice_get, Option, Some, None, MatchOption}
+-- What C gets of the running step.
+use Rattle.std.specs.Prelude.{◌≡◌, ℕ, ◌+◌, ◌^◌, ◌<◌, ◌≤◌, true, false, List, length, replicate, slice_get, Option, Some, None, MatchOption, MatchResult, Result, Err}
 use Rattle.std.specs.FinMap.{get}
 use Rattle.mvs_model.specs.declared.name.Name.{Name}
 use Rattle.mvs_model.specs.declared.report.SubpoolLine.{SubpoolLine}
 use Rattle.mvs_model.specs.declared.report.MapRun.{MapRun as Pages}
 use Rattle.mvs_model.specs.Changes.{Granted}
 use Rattle.mvs_model.specs.Job.{JobValue}
-use Rattle.mvs_model.specs.Name.{IsNameText, padded}
+use Rattle.mvs_model.specs.Owners.{is_active}
 use Rattle.mvs_model.specs.Numbers.{subpool_numbers}
 use Rattle.mvs_model.specs.Place.{IsPlace, place_at}
-use Rattle.step_machine.specs.Reports.{HasNone, IsMapEnd, IsMapRun, IsSubpoolLine}
+use Rattle.request_forms.specs.Reports.{HasNone, IsMapEnd, IsMapRun, IsSubpoolLine}
 use Rattle.mvs_c.specs.declared.access.Subpool.{Subpool}
 use Rattle.mvs_c.specs.declared.access.Run.{Run}
 use Rattle.mvs_job.specs.Telling.{WalkValue}
 use Rattle.mvs_job.specs.Valued.{WritesOf}
+use Rattle.mvs_c.specs.Asks.{IsNamed, name_said}
 use Rattle.mvs_c.specs.Opens.{OpenValue, without_line}
 
 -- P holds of the step that runs, and one does.
 abbrev pub InStep : OpenValue → (JobValue → Type 0) → Type 0
 InStep o P = MatchOption o.session.walk.step ⊥ P
 
--- So many bytes from an address on are a place, each byte of which may be read and written.
+-- A number of bytes from an address on are a place, each byte of which can be accessed.
 abbrev pub MayRead : OpenValue → ℕ → ℕ → Type 0
 MayRead o address n = InStep o (λ job. IsPlace (place_at address n) × Granted job.state (place_at address n))
 
@@ -41,24 +42,40 @@ pub record WritesAt (old : OpenValue) (address : ℕ) (bytes : List ℕ) (new : 
       → (later : WalkValue) × WritesOf old.session.walk (place_at address (length bytes)) bytes true later × (new ≡ without_line later) × (status ≡ 0)
   pub refused : old.session.goes_on ≡ true → (MayRead old address (length bytes) → ⊥) → (new ≡ old) × (status ≡ 36)
 
--- One of several things is told, or there is none, and all stays as it was.
+-- One of several things is returned, or there is none, and nothing changes.
 abbrev pub TellsOne : {X Y : Type 0} → Option X → (X → Y) → Y → Y → ℕ → Type 0
 TellsOne found told before after status = MatchOption found ((after ≡ before) × (status ≡ 40)) (λ x. (after ≡ told x) × (status ≡ 0))
 
+-- the number of bytes of a line of REPORT SP, and of REPORT MAP
+abbrev pub subpool_bytes : ℕ
+subpool_bytes = 20
+
+abbrev pub run_bytes : ℕ
+run_bytes = 28
+
 -- a line of REPORT SP
 abbrev pub subpool_told : SubpoolLine → Subpool
-subpool_told l = record { number = l.number; owned = l.owned; plain = l.plain; pool = l.pool }
+subpool_told l = record { size = subpool_bytes; number = l.number; owned = l.owned; plain = l.plain; pool = l.pool }
 
--- What is found of the first number, at or after one, that a task has.
-pub record FindsSubpool (o : OpenValue) (name : List ℕ) (from : ℕ) (found : Option SubpoolLine) : Type 0 where
-  pub named : IsNameText name → MatchOption o.session.walk.step (found ≡ None) (λ job.
-      MatchOption found (HasNone job.state.owners (padded name) from subpool_numbers) (IsSubpoolLine job.state (padded name) from))
-  pub unnamed : (IsNameText name → ⊥) → found ≡ None
+-- A task of this name is active in the step that runs.
+abbrev pub IsActive : OpenValue → List ℕ → Type 0
+IsActive o name = IsNamed name × InStep o (λ job. is_active job.state.owners (name_said name) ≡ true)
+
+-- What is found of the first number, at or after one, that a task has; or there is no such task.
+pub record FindsSubpool (o : OpenValue) (name : List ℕ) (from : ℕ) (found : Result SubpoolLine ℕ) : Type 0 where
+  pub active : IsActive o name → InStep o (λ job. MatchResult found (IsSubpoolLine job.state (name_said name) from)
+      (λ status. (status ≡ 40) × HasNone job.state.owners (name_said name) from subpool_numbers))
+  pub unknown : (IsActive o name → ⊥) → found ≡ Err 48
+
+-- The line that is found is returned, or nothing changes.
+abbrev pub AnswersSubpool : OpenValue → List ℕ → ℕ → Subpool → Subpool → ℕ → Type 0
+AnswersSubpool o name from before after status = (found : Result SubpoolLine ℕ) × FindsSubpool o name from found
+    × MatchResult found (λ l. (after ≡ subpool_told l) × (status ≡ 0)) (λ refused. (after ≡ before) × (status ≡ refused))
 
 -- what pages are assigned to: nothing; or the number and the owner of a subpool
 abbrev pub holder_told : ℕ → ℕ → Option (ℕ × Name) → Run
-holder_told addr len None = record { address = addr; length = len; assigned = false; number = 0; owner = replicate 8 32 }
-holder_told addr len (Some label) = record { address = addr; length = len; assigned = true; number = label.0; owner = label.1 }
+holder_told addr len None = record { size = run_bytes; address = addr; length = len; assigned = false; number = 0; owner = replicate 8 32 }
+holder_told addr len (Some label) = record { size = run_bytes; address = addr; length = len; assigned = true; number = label.0; owner = label.1 }
 
 -- a line of REPORT MAP
 abbrev pub run_told : Pages → Run

@@ -1,9 +1,9 @@
--- The requests that a struct of C asks for. Its numbers are this project's choice.
-use Rattle.std.specs.Prelude.{◌≡◌, ℕ, ◌+◌, ◌*◌, ◌^◌, ◌<◌, ◌≤◌, ◌==◌, ◌||◌, ◌⊎◌, Bool, true, false, not, List, [], ◌∷◌, take, Option, Some, None, slice_get, SomeIff, if◌then◌else◌}
+-- The requests that a struct of C asks for. Its numbers are this project's choice; its ranges are those of the operands of a statement.
+use Rattle.std.specs.Prelude.{◌≡◌, ℕ, ◌+◌, ◌*◌, ◌^◌, ◌<◌, ◌≤◌, ◌==◌, ◌||◌, ◌⊎◌, Bool, true, false, not, List, [], ◌∷◌, take, Option, Some, None, Result, Ok, Err, IfSome, MatchOption, MatchResult, slice_get, if◌then◌else◌}
 use Rattle.std.specs.List.{position_or_len}
 use Rattle.std.specs.Option.{unwrap_or}
 use Rattle.mvs_model.specs.declared.code.Form.{Form}
-use Rattle.mvs_model.specs.declared.code.Form.TheVariants.{R, Rc, Ru, Vrc, Vru, Ec, Eu, Vc, Vu, Storage, StorageConditional}
+use Rattle.mvs_model.specs.declared.code.Form.TheVariants.{R, Rc, Ru, Vrc, Vru, Ec, Eu, Vc, Vu, Lc, Lu, Storage, StorageConditional}
 use Rattle.mvs_model.specs.declared.name.Name.{Name}
 use Rattle.mvs_model.specs.declared.request.Request.{Request}
 use Rattle.mvs_model.specs.declared.request.Request.TheVariants as request
@@ -12,38 +12,135 @@ use Rattle.mvs_model.specs.declared.want.Loc.TheVariants as loc
 use Rattle.mvs_model.specs.declared.want.Residence.{Residence}
 use Rattle.mvs_model.specs.declared.want.Residence.TheVariants as residence
 use Rattle.mvs_model.specs.Gifts.{GiftsValue, IsGifts}
-use Rattle.mvs_model.specs.Name.{IsNameText, padded}
+use Rattle.mvs_model.specs.Name.{padded}
 use Rattle.mvs_model.specs.Numbers.{least_cell_bytes, most_cell_bytes, most_cells, most_shown, most_moved}
-use Rattle.mvs_model.specs.Place.{IsPlace, place_at}
-use Rattle.mvs_model.specs.Want.{AskValue, IsAsk}
+use Rattle.mvs_model.specs.Place.{place_at}
+use Rattle.mvs_model.specs.Reading.{is_name}
+use Rattle.mvs_model.specs.Want.{AskValue, IsExponent}
 use Rattle.mvs_c.specs.declared.ask.Ask.{Ask}
+use Rattle.mvs_c.specs.declared.field.Field.{Field}
+use Rattle.mvs_c.specs.declared.field.Field.TheVariants as field
 use Rattle.mvs_c.specs.declared.ask.Kind.{Kind}
 use Rattle.mvs_c.specs.declared.ask.Kind.TheVariants.{Obtain, Release, ReleaseWhole, Build, Get, Free, Delete, Attach, Return, Abend, Show, Move}
 
--- the kinds of requests, by their numbers from 0 on
-abbrev pub kinds : List Kind
-kinds = Obtain ∷ Release ∷ ReleaseWhole ∷ Build ∷ Get ∷ Free ∷ Delete ∷ Attach ∷ Return ∷ Abend ∷ Show ∷ Move ∷ []
+-- the kinds of requests and the forms, by their numbers from 1 on; 0 is none
+abbrev pub kinds : List (Option Kind)
+kinds = None ∷ Some Obtain ∷ Some Release ∷ Some ReleaseWhole ∷ Some Build ∷ Some Get ∷ Some Free ∷ Some Delete ∷ Some Attach ∷ Some Return ∷ Some Abend ∷ Some Show ∷ Some Move ∷ []
 
--- the forms
-abbrev pub forms : List Form
-forms = R ∷ Rc ∷ Ru ∷ Vrc ∷ Vru ∷ Ec ∷ Eu ∷ Vc ∷ Vu ∷ Storage ∷ StorageConditional ∷ []
+abbrev pub forms : List (Option Form)
+forms = None ∷ Some R ∷ Some Rc ∷ Some Ru ∷ Some Vrc ∷ Some Vru ∷ Some Ec ∷ Some Eu ∷ Some Vc ∷ Some Vu ∷ Some Storage ∷ Some StorageConditional ∷ Some Lc ∷ Some Lu ∷ []
 
--- the locations
+abbrev pub kind_numbered : ℕ → Option Kind
+kind_numbered n = unwrap_or (slice_get kinds n) None
+
+abbrev pub form_numbered : ℕ → Option Form
+form_numbered n = unwrap_or (slice_get forms n) None
+
+-- the locations; 0 is as in a statement without LOC
 abbrev pub locations : List Loc
 locations = loc.Res ∷ loc.Below ∷ loc.Any ∷ []
 
--- the form, and the location, of a number; of one that is too great the first one
-abbrev pub form_said : ℕ → Form
-form_said n = unwrap_or (slice_get forms n) R
-
 abbrev pub location_said : ℕ → Loc
 location_said n = unwrap_or (slice_get locations n) loc.Res
+
+-- how many lengths a form takes: one; the greatest and the least; or either
+abbrev pub takes_least : Form → Bool
+takes_least Vrc = true
+takes_least Vru = true
+takes_least Vc = true
+takes_least Vu = true
+takes_least Storage = true
+takes_least StorageConditional = true
+takes_least R = false
+takes_least Rc = false
+takes_least Ru = false
+takes_least Ec = false
+takes_least Eu = false
+takes_least Lc = false
+takes_least Lu = false
+
+abbrev pub needs_least : Form → Bool
+needs_least Vrc = true
+needs_least Vru = true
+needs_least Vc = true
+needs_least Vu = true
+needs_least Storage = false
+needs_least StorageConditional = false
+needs_least R = false
+needs_least Rc = false
+needs_least Ru = false
+needs_least Ec = false
+needs_least Eu = false
+needs_least Lc = false
+needs_least Lu = false
+
+-- whether a form takes LOC, STARTBDY and CONTBDY
+abbrev pub is_located : Form → Bool
+is_located Rc = true
+is_located Ru = true
+is_located Vrc = true
+is_located Vru = true
+is_located Storage = true
+is_located StorageConditional = true
+is_located R = false
+is_located Ec = false
+is_located Eu = false
+is_located Vc = false
+is_located Vu = false
+is_located Lc = false
+is_located Lu = false
+
+-- what a form takes: an obtain of one area; a release of one area; a release of a whole subpool
+abbrev pub obtains_one : Form → Bool
+obtains_one Lc = false
+obtains_one Lu = false
+obtains_one R = true
+obtains_one Rc = true
+obtains_one Ru = true
+obtains_one Vrc = true
+obtains_one Vru = true
+obtains_one Ec = true
+obtains_one Eu = true
+obtains_one Vc = true
+obtains_one Vu = true
+obtains_one Storage = true
+obtains_one StorageConditional = true
+
+abbrev pub releases_one : Form → Bool
+releases_one R = true
+releases_one Rc = true
+releases_one Ru = true
+releases_one Ec = true
+releases_one Eu = true
+releases_one Vc = true
+releases_one Vu = true
+releases_one Storage = true
+releases_one StorageConditional = true
+releases_one Vrc = false
+releases_one Vru = false
+releases_one Lc = false
+releases_one Lu = false
+
+abbrev pub releases_whole : Form → Bool
+releases_whole R = true
+releases_whole Rc = true
+releases_whole Ru = true
+releases_whole Storage = true
+releases_whole StorageConditional = true
+releases_whole Vrc = false
+releases_whole Vru = false
+releases_whole Ec = false
+releases_whole Eu = false
+releases_whole Vc = false
+releases_whole Vu = false
+releases_whole Lc = false
+releases_whole Lu = false
 
 -- a number, or another one in the place of 0
 abbrev pub or_else : ℕ → ℕ → ℕ
 or_else n other = if n == 0 then other else n
 
--- the exponent of the boundary that a place lies within; 0 says none
+-- the exponent of the boundary not to cross; 0 is none
 abbrev pub within_said : ℕ → Option ℕ
 within_said n = if n == 0 then None else Some n
 
@@ -61,7 +158,7 @@ name_text bytes = take (position_or_len ends_name bytes) bytes
 abbrev pub name_said : List ℕ → Name
 name_said bytes = padded (name_text bytes)
 
--- what a mother gives and shares
+-- what an attaching task gives and shares
 abbrev pub gifts_said : Ask → GiftsValue
 gifts_said a = record { given = a.given_low + 2 ^ 64 * a.given_high; shared = a.shared_low + 2 ^ 64 * a.shared_high; zero = not a.keeps_zero }
 
@@ -70,42 +167,142 @@ abbrev pub residence_said : Bool → Residence
 residence_said false = residence.Below
 residence_said true = residence.Above
 
--- how many cells a part of a pool has
+-- The text is a name as a script has them.
+abbrev pub IsNamed : List ℕ → Type 0
+IsNamed bytes = is_name (name_text bytes) ≡ true
+
+-- A length of an area; how many cells a part of a pool has.
+abbrev pub IsLength : ℕ → Type 0
+IsLength n = (1 ≤ n) × (n < 2 ^ 31)
+
 abbrev pub IsCount : ℕ → Type 0
 IsCount n = (1 ≤ n) × (n ≤ most_cells)
 
--- The numbers of an obtain, and of a pool, are in their ranges.
-abbrev pub IsObtain : Ask → Type 0
-IsObtain a = (a.form < 11) × (a.subpool < 256) × (a.location < 3) × IsAsk (ask_said a)
+-- The form is one that a kind of request takes.
+abbrev pub TakesForm : (Form → Bool) → ℕ → Type 0
+TakesForm takes n = MatchOption (form_numbered n) ⊥ (λ form. takes form ≡ true)
 
-pub record IsBuild (a : Ask) : Type 0 where
-  pub name : IsNameText (name_text a.name)
-  pub subpool : a.subpool < 256
-  pub size : (least_cell_bytes ≤ a.length) × (a.length ≤ most_cell_bytes)
-  pub primary : IsCount a.primary
-  pub secondary : IsCount (or_else a.secondary a.primary)
-  pub location : a.location < 3
+-- The least length of an obtain of this form.
+abbrev pub IsLeast : Form → ℕ → ℕ → Type 0
+IsLeast form most n = (or_else n most ≤ most) × (needs_least form ≡ true → 1 ≤ n) × (takes_least form ≡ false → n ≡ 0)
 
--- The request that a struct asks for, if its numbers are in their ranges.
-abbrev pub AsksFor : Ask → Option Kind → Option Request → Type 0
-AsksFor a None r = r ≡ None
-AsksFor a (Some Obtain) r = SomeIff r (IsObtain a) (request.Obtain (form_said a.form) a.subpool (ask_said a))
-AsksFor a (Some Release) r = SomeIff r ((a.form < 11) × (a.subpool < 256) × IsPlace (place_at a.address a.length)) (request.Release (form_said a.form) a.subpool (place_at a.address a.length))
-AsksFor a (Some ReleaseWhole) r = SomeIff r ((a.form < 11) × (a.subpool < 256)) (request.ReleaseWhole (form_said a.form) a.subpool)
-AsksFor a (Some Build) r = SomeIff r (IsBuild a) (request.Build (name_said a.name) a.subpool a.length a.primary (or_else a.secondary a.primary) (location_said a.location))
-AsksFor a (Some Get) r = SomeIff r (IsNameText (name_text a.name)) (request.Get (name_said a.name) a.conditional)
-AsksFor a (Some Free) r = SomeIff r (IsNameText (name_text a.name) × (a.address < 2 ^ 31)) (request.Free (name_said a.name) a.address)
-AsksFor a (Some Delete) r = SomeIff r (IsNameText (name_text a.name)) (request.Delete (name_said a.name))
-AsksFor a (Some Attach) r = SomeIff r (IsNameText (name_text a.name) × IsGifts (gifts_said a)) (request.Attach (name_said a.name) (gifts_said a) (residence_said a.above))
-AsksFor a (Some Return) r = r ≡ Some request.Return
-AsksFor a (Some Abend) r = SomeIff r (a.code < 4096) (request.Abend a.code)
-AsksFor a (Some Show) r = SomeIff r ((a.address < 2 ^ 31) × (1 ≤ a.length) × (a.length ≤ most_shown)) (request.Show a.address a.length)
-AsksFor a (Some Move) r = SomeIff r ((a.address < 2 ^ 31) × (a.source < 2 ^ 31) × (1 ≤ a.length) × (a.length ≤ most_moved)) (request.Move a.address a.source a.length)
+-- The boundary to begin on, the boundary not to cross, and the location of an obtain of this form. A form that is not located takes
+-- a doubleword or a page.
+abbrev pub IsStart : Form → ℕ → Type 0
+IsStart form n = IsExponent (or_else n 3) × (is_located form ≡ false → (or_else n 3 ≡ 3) ⊎ (n ≡ 12))
 
-abbrev pub Asks : Ask → Option Request → Type 0
-Asks a r = AsksFor a (slice_get kinds a.kind) r
+abbrev pub IsWithin : Form → ℕ → Type 0
+IsWithin form n = IfSome (within_said n) IsExponent × (is_located form ≡ false → n ≡ 0)
 
--- The same with the task that is named, of what a struct may ask for.
-abbrev pub TaskAsks : Ask → (Option Request → Type 0) → Option (Name × Request) → Type 0
-TaskAsks a asks None = (IsNameText (name_text a.task) → ⊥) ⊎ asks None
-TaskAsks a asks (Some asked) = IsNameText (name_text a.task) × (asked.0 ≡ name_said a.task) × asks (Some asked.1)
+abbrev pub IsLocation : Form → ℕ → Type 0
+IsLocation form n = (n < 3) × (is_located form ≡ false → n ≡ 0)
+
+-- the form of a number; of a number that is none the first one
+abbrev pub form_said : ℕ → Form
+form_said n = unwrap_or (form_numbered n) R
+
+-- The field of a request of this kind is in its range. A field that the kind does not read is not looked at.
+abbrev pub Fits : Kind → Ask → Field → Type 0
+Fits Obtain a field.Form = TakesForm obtains_one a.form
+Fits Obtain a field.Subpool = a.subpool < 256
+Fits Obtain a field.Length = IsLength a.length
+Fits Obtain a field.Least = IsLeast (form_said a.form) a.length a.least
+Fits Obtain a field.Boundary = IsStart (form_said a.form) a.boundary
+Fits Obtain a field.Within = IsWithin (form_said a.form) a.within
+Fits Obtain a field.Location = IsLocation (form_said a.form) a.location
+Fits Release a field.Form = TakesForm releases_one a.form
+Fits Release a field.Subpool = a.subpool < 256
+Fits Release a field.Length = IsLength a.length
+Fits Release a field.Address = a.address < 2 ^ 31
+Fits ReleaseWhole a field.Form = TakesForm releases_whole a.form
+Fits ReleaseWhole a field.Subpool = a.subpool < 256
+Fits Build a field.Name = IsNamed a.name
+Fits Build a field.Subpool = a.subpool < 256
+Fits Build a field.Length = (least_cell_bytes ≤ a.length) × (a.length ≤ most_cell_bytes)
+Fits Build a field.Primary = IsCount a.primary
+Fits Build a field.Secondary = IsCount (or_else a.secondary a.primary)
+Fits Build a field.Location = a.location < 3
+Fits Get a field.Name = IsNamed a.name
+Fits Free a field.Name = IsNamed a.name
+Fits Free a field.Address = a.address < 2 ^ 31
+Fits Delete a field.Name = IsNamed a.name
+Fits Attach a field.Name = IsNamed a.name
+Fits Attach a field.Subpools = IsGifts (gifts_said a)
+Fits Abend a field.Code = a.code < 4096
+Fits Show a field.Address = a.address < 2 ^ 31
+Fits Show a field.Length = (1 ≤ a.length) × (a.length ≤ most_shown)
+Fits Move a field.Address = a.address < 2 ^ 31
+Fits Move a field.Source = a.source < 2 ^ 31
+Fits Move a field.Length = (1 ≤ a.length) × (a.length ≤ most_moved)
+Fits k a f = Unit {0}
+
+-- the fields that a kind reads, in the order in which they are checked
+abbrev pub reads : Kind → List Field
+reads Obtain = field.Form ∷ field.Subpool ∷ field.Length ∷ field.Least ∷ field.Boundary ∷ field.Within ∷ field.Location ∷ []
+reads Release = field.Form ∷ field.Subpool ∷ field.Length ∷ field.Address ∷ []
+reads ReleaseWhole = field.Form ∷ field.Subpool ∷ []
+reads Build = field.Subpool ∷ field.Length ∷ field.Location ∷ field.Primary ∷ field.Secondary ∷ field.Name ∷ []
+reads Get = field.Name ∷ []
+reads Free = field.Address ∷ field.Name ∷ []
+reads Delete = field.Name ∷ []
+reads Attach = field.Subpools ∷ field.Name ∷ []
+reads Return = []
+reads Abend = field.Code ∷ []
+reads Show = field.Length ∷ field.Address ∷ []
+reads Move = field.Length ∷ field.Address ∷ field.Source ∷ []
+
+-- The result is what is wanted if all these fields fit, and else the first that does not.
+abbrev pub FitsOr : {X : Type 0} → (Field → Type 0) → List Field → X → Result X Field → Type 0
+FitsOr fits [] wanted r = r ≡ Ok wanted
+FitsOr fits (f ∷ fs) wanted r = (fits f → FitsOr fits fs wanted r) × ((fits f → ⊥) → r ≡ Err f)
+
+-- the request that a struct of a kind asks for, if its fields fit
+abbrev pub request_said : Kind → Ask → Request
+request_said Obtain a = request.Obtain (form_said a.form) a.subpool (ask_said a)
+request_said Release a = request.Release (form_said a.form) a.subpool (place_at a.address a.length)
+request_said ReleaseWhole a = request.ReleaseWhole (form_said a.form) a.subpool
+request_said Build a = request.Build (name_said a.name) a.subpool a.length a.primary (or_else a.secondary a.primary) (location_said a.location)
+request_said Get a = request.Get (name_said a.name) a.conditional
+request_said Free a = request.Free (name_said a.name) a.address
+request_said Delete a = request.Delete (name_said a.name)
+request_said Attach a = request.Attach (name_said a.name) (gifts_said a) (residence_said a.above)
+request_said Return a = request.Return
+request_said Abend a = request.Abend a.code
+request_said Show a = request.Show a.address a.length
+request_said Move a = request.Move a.address a.source a.length
+
+-- The request of a struct of this kind, or the first field that does not fit.
+pub record AsksOf (k : Kind) (a : Ask) (r : Result Request Field) : Type 0 where
+  pub first : FitsOr (Fits k a) (reads k) (request_said k a) r
+
+-- The number of bytes of a struct, which it has to have in its own field.
+abbrev pub ask_bytes : ℕ
+ask_bytes = 112
+
+-- The request of a struct of any kind that is one of these.
+abbrev pub AsksFor : (Kind → Result Request Field → Type 0) → Option Kind → Result Request Field → Type 0
+AsksFor asks None r = r ≡ Err field.Kind
+AsksFor asks (Some k) r = asks k r
+
+abbrev pub Asks : Ask → Result Request Field → Type 0
+Asks a r = AsksFor (λ k r. AsksOf k a r) (kind_numbered a.kind) r
+
+-- The size, and the name of the task.
+abbrev pub FitsTask : Ask → Field → Type 0
+FitsTask a field.Size = a.size ≡ ask_bytes
+FitsTask a field.Task = IsNamed a.task
+FitsTask a f = Unit {0}
+
+-- the task that is named, if the size and its name fit
+abbrev pub NamesTask : Ask → Result Name Field → Type 0
+NamesTask a r = FitsOr (FitsTask a) (field.Size ∷ field.Task ∷ []) (name_said a.task) r
+
+-- a request with its task
+abbrev pub with_task : Name → Result Request Field → Result (Name × Request) Field
+with_task t (Ok request) = Ok (t, request)
+with_task t (Err f) = Err f
+
+-- The task that is named with the request that a struct may ask for, or the first field that does not fit.
+abbrev pub TaskAsks : Ask → (Result Request Field → Type 0) → Result (Name × Request) Field → Type 0
+TaskAsks a asks r = (task : Result Name Field) × NamesTask a task
+    × MatchResult task (λ t. (request : Result Request Field) × asks request × (r ≡ with_task t request)) (λ f. r ≡ Err f)

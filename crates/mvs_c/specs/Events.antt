@@ -1,4 +1,4 @@
--- What a call tells C. The numbers of the kinds are this project's choice.
+-- The events of calls for C. The numbers of the kinds are this project's choice.
 use Rattle.std.specs.Prelude.{ℕ, ◌*◌, Bool, true, false, Option, Some, None, Result, Ok, Err, replicate}
 use Rattle.mvs_model.specs.declared.answer.Answer.{Answer}
 use Rattle.mvs_model.specs.declared.answer.Answer.TheVariants as answer
@@ -13,14 +13,20 @@ use Rattle.mvs_job.specs.declared.walk.LineTold.{LineTold}
 use Rattle.mvs_job.specs.declared.walk.LineTold.TheVariants as told
 use Rattle.mvs_job.specs.declared.walk.Stopped.{Stopped}
 use Rattle.mvs_c.specs.declared.event.Event.{Event}
+use Rattle.mvs_c.specs.declared.field.Field.{Field}
+use Rattle.mvs_c.specs.Fields.{offset}
+
+-- the number of bytes of an event
+abbrev pub event_bytes : ℕ
+event_bytes = 32
 
 -- an event of a kind, and no more
 abbrev pub of_kind : ℕ → Event
-of_kind kind = record { kind = kind; code = 0; address = 0; length = 0; ended = 0; task = replicate 8 32 }
+of_kind kind = record { size = event_bytes; kind = kind; code = 0; address = 0; length = 0; ended = 0; task = replicate 8 32 }
 
 -- an event of a task
 abbrev pub of_task : ℕ → Name → Event
-of_task kind t = record { kind = kind; code = 0; address = 0; length = 0; ended = 0; task = t }
+of_task kind t = record { size = event_bytes; kind = kind; code = 0; address = 0; length = 0; ended = 0; task = t }
 
 -- an event of a task that has a place
 abbrev pub of_place : ℕ → Name → PlaceValue → Event
@@ -39,44 +45,48 @@ completion (User n) = n
 
 -- the answer to a statement of a task
 abbrev pub answer_event : Name → Answer → Event
-answer_event t answer.NotRun = of_task 2 t
-answer_event t answer.NoName = of_task 3 t
-answer_event t (answer.At a) = record (of_task 4 t) { address = a }
-answer_event t answer.Rc0 = of_task 5 t
-answer_event t (answer.Granted n) = record (of_task 6 t) { length = n }
-answer_event t answer.Rc4 = of_task 7 t
-answer_event t answer.Cell = of_task 8 t
-answer_event t answer.NoCell = of_task 9 t
-answer_event t answer.Attached = of_task 10 t
-answer_event t answer.Ended = of_task 11 t
-answer_event t answer.Done = of_task 12 t
-answer_event t (answer.Data p) = of_place 13 t p
-answer_event t (answer.Abended code) = record (of_task 14 t) { code = completion code }
-answer_event t answer.Subpools = of_task 15 t
-answer_event t answer.Map = of_task 16 t
+answer_event t answer.NotRun = of_task 3 t
+answer_event t answer.NoName = of_task 4 t
+answer_event t (answer.At a) = record (of_task 5 t) { address = a }
+answer_event t answer.Rc0 = of_task 6 t
+answer_event t (answer.Granted n) = record (of_task 7 t) { length = n }
+answer_event t answer.Rc4 = of_task 8 t
+answer_event t answer.Cell = of_task 9 t
+answer_event t answer.NoCell = of_task 10 t
+answer_event t answer.Attached = of_task 11 t
+answer_event t answer.Ended = of_task 12 t
+answer_event t answer.Done = of_task 13 t
+answer_event t (answer.Data p) = of_place 14 t p
+answer_event t (answer.Abended code) = record (of_task 15 t) { code = completion code }
+answer_event t answer.Subpools = of_task 16 t
+answer_event t answer.Map = of_task 17 t
 
 -- the reply to a request of a task that was given by values, which is for no list
 abbrev pub reply_event : Name → Reply → Event
-reply_event t reply.NotRun = of_task 2 t
-reply_event t reply.Rc0 = of_task 5 t
-reply_event t (reply.Listed ps) = of_task 5 t
-reply_event t (reply.Obtained p) = of_place 6 t p
-reply_event t reply.Rc4 = of_task 7 t
-reply_event t (reply.Cell p) = of_place 8 t p
-reply_event t reply.NoCell = of_task 9 t
-reply_event t reply.Attached = of_task 10 t
-reply_event t reply.Ended = of_task 11 t
-reply_event t reply.Done = of_task 12 t
-reply_event t (reply.Abended code fallen) = record (of_task 14 t) { code = completion code }
+reply_event t reply.NotRun = of_task 3 t
+reply_event t reply.Rc0 = of_task 6 t
+reply_event t (reply.Listed ps) = of_task 6 t
+reply_event t (reply.Obtained p) = of_place 7 t p
+reply_event t reply.Rc4 = of_task 8 t
+reply_event t (reply.Cell p) = of_place 9 t p
+reply_event t reply.NoCell = of_task 10 t
+reply_event t reply.Attached = of_task 11 t
+reply_event t reply.Ended = of_task 12 t
+reply_event t reply.Done = of_task 13 t
+reply_event t (reply.Abended code fallen) = record (of_task 15 t) { code = completion code }
 
--- what a line told, or that memory was wanting for it
+-- the event of a line, or that memory is exhausted
 abbrev pub line_event : Result LineTold Stopped → Event
-line_event (Ok told.Nothing) = of_kind 0
-line_event (Ok (told.Began end card)) = record (of_task 1 card.name) { ended = step_number end }
+line_event (Ok told.Nothing) = of_kind 1
+line_event (Ok (told.Began end card)) = record (of_task 2 card.name) { ended = step_number end }
 line_event (Ok (told.Answered t a)) = answer_event t a
-line_event (Ok (told.Faulted fault)) = record (of_kind 17) { code = fault_number fault }
-line_event (Err stopped) = record (of_kind 18) { ended = step_number stopped.ended }
+line_event (Ok (told.Faulted fault)) = record (of_kind 18) { code = fault_number fault }
+line_event (Err stopped) = record (of_kind 19) { ended = step_number stopped.ended }
 
 -- the end of a job
 abbrev pub end_event : Option Bool → Event
-end_event end = record (of_kind 19) { ended = step_number end }
+end_event end = record (of_kind 20) { ended = step_number end }
+
+-- the event of a request that is refused because of a field
+abbrev pub refused_event : Field → Event
+refused_event f = record (of_kind 21) { code = offset f }

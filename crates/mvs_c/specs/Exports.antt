@@ -1,5 +1,5 @@
 -- What the calls of C do. The numbers of the statuses are this project's choice.
-use Rattle.std.specs.Prelude.{◌≡◌, ℕ, ◌+◌, ◌<◌, ◌≤◌, List, [], ◌∷◌, ◌++◌, drop, length, Option, Some, None, Result, Ok, Err, IfOk, MatchBool, MatchOption, MatchResult, true, false}
+use Rattle.std.specs.Prelude.{◌≡◌, ◌≢◌, ◌⊎◌, ℕ, ◌+◌, ◌<◌, ◌≤◌, List, [], ◌∷◌, ◌++◌, drop, length, Option, Some, None, Result, Ok, Err, IfOk, MatchBool, MatchOption, MatchResult, true, false}
 use Rattle.mvs_model.specs.declared.name.Name.{Name}
 use Rattle.mvs_model.specs.declared.request.Request.{Request}
 use Rattle.mvs_model.specs.declared.outcome.Outcome.{Outcome}
@@ -16,9 +16,16 @@ use Rattle.mvs_job.specs.Valued.{RequestsOf}
 use Rattle.mvs_c.specs.declared.event.Event.{Event}
 use Rattle.mvs_c.specs.declared.last.Last.TheVariants as last
 use Rattle.mvs_c.specs.declared.ask.Ask.{Ask}
+use Rattle.mvs_c.specs.declared.field.Field.{Field}
+use Rattle.mvs_c.specs.declared.list.Area.{Area}
 use Rattle.mvs_c.specs.Asks.{TaskAsks}
-use Rattle.mvs_c.specs.Events.{line_event, end_event, reply_event}
-use Rattle.mvs_c.specs.Opens.{OpenValue, TakesLine, last_of, without_line}
+use Rattle.mvs_c.specs.Events.{line_event, end_event, refused_event, reply_event}
+use Rattle.mvs_c.specs.Lists.{AsksList, areas_told, listed}
+use Rattle.mvs_c.specs.Opens.{OpenValue, TakesLine, fault_of, last_of, without_line}
+
+-- The numbers of the lowest and of the highest place.
+abbrev pub IsPlaceNumber : ℕ → Type 0
+IsPlaceNumber n = (n ≡ 1) ⊎ (n ≡ 2)
 
 -- how a job ended
 abbrev pub outcome_status : Outcome → ℕ
@@ -26,7 +33,7 @@ outcome_status Clean = 0
 outcome_status SomeAbend = 8
 outcome_status ScriptFault = 12
 
--- what a line did: it was served, or has a fault, or memory was wanting for it
+-- the result of a line: it was executed, or has a fault, or memory is exhausted
 abbrev pub line_status : Result LineTold Stopped → ℕ
 line_status (Ok (told.Faulted fault)) = 12
 line_status (Ok told) = 0
@@ -37,7 +44,7 @@ abbrev pub WithSession : Option OpenValue → Option OpenValue → Type 0 → (O
 WithSession None after none some = (after ≡ None) × none
 WithSession (Some old) after none some = (new : OpenValue) × (after ≡ Some new) × some old new
 
--- A session serves a line, and tells this. The reply that it keeps is that to the request of the line, if that makes one.
+-- A session executes a line, with these events. The kept reply is that to the request of the line, if it makes one.
 abbrev pub TellsLine : OpenValue → List ℕ → Result LineTold Stopped → OpenValue → Type 0
 TellsLine old line told new =
     MatchResult told (λ told. IsTold old.session.walk line told new.session.walk)
@@ -45,28 +52,41 @@ TellsLine old line told new =
     × (new.session.walk.number ≡ old.session.walk.number + 1) × (new.session.goes_on ≡ goes_on told) × (new.last ≡ last_of old.session.walk.number told)
     × IfOk told (λ told. KeepsReplyOf old.session.walk line told new.session.walk)
 
--- What a call answers that tells a session a line: the session serves it, or takes none, and then all is as it was.
+-- The result of a call with a line: the session executes it, or accepts none, and then nothing changes.
 abbrev pub AnswersLine : OpenValue → List ℕ → OpenValue → Event → Event → ℕ → Type 0
 AnswersLine old line new before after status =
     (TakesLine old.session → (told : Result LineTold Stopped) × TellsLine old line told new × (after ≡ line_event told) × (status ≡ line_status told))
     × ((TakesLine old.session → ⊥) → (new ≡ old) × (after ≡ before) × (status ≡ 24))
 
+-- The result of a call that tries a line: one with a fault changes nothing but the event, and any other is executed.
+pub record TriesLine (old : OpenValue) (line : List ℕ) (new : OpenValue) (before after : Event) (status : ℕ) : Type 0 where
+  pub taken : TakesLine old.session → MatchOption (fault_of old line) (AnswersLine old line new before after status)
+      (λ fault. (new ≡ old) × (after ≡ line_event (Ok (told.Faulted fault))) × (status ≡ 12))
+  pub over : (TakesLine old.session → ⊥) → (new ≡ old) × (after ≡ before) × (status ≡ 24)
+
 -- A call leaves all as it was, and answers this status.
 abbrev pub Leaves : OpenValue → OpenValue → Event → Event → ℕ → ℕ → Type 0
 Leaves old new before after status answered = (new ≡ old) × (after ≡ before) × (answered ≡ status)
 
--- A session answers a request that is given by values; where the numbers say none, or no step runs, it leaves all as it was.
-abbrev pub AnswersAsked : OpenValue → Option (Name × Request) → OpenValue → Event → Event → ℕ → Type 0
-AnswersAsked old None new before after status = Leaves old new before after 52 status
-AnswersAsked old (Some asked) new before after status = MatchOption old.session.walk.step
+-- A session executes a request that is given by values. If a field does not fit, or no step runs, nothing changes but the event that
+-- names the field.
+abbrev pub AnswersAsked : OpenValue → Result (Name × Request) Field → OpenValue → Event → Event → ℕ → Type 0
+AnswersAsked old (Err f) new before after status = (new ≡ old) × (after ≡ refused_event f) × (status ≡ 52)
+AnswersAsked old (Ok asked) new before after status = MatchOption old.session.walk.step
     (Leaves old new before after 56 status)
     (λ _. (later : WalkValue) × RequestsOf old.session.walk asked.0 asked.1 true later × (new ≡ without_line later) × (after ≡ reply_event asked.0 later.reply) × (status ≡ 0))
 
 -- What a call answers that gives a session a request by values, of those that a struct may ask for: a job that has ended takes none.
-abbrev pub AnswersRequest : OpenValue → Ask → (Option Request → Type 0) → OpenValue → Event → Event → ℕ → Type 0
+abbrev pub AnswersRequest : OpenValue → Ask → (Result Request Field → Type 0) → OpenValue → Event → Event → ℕ → Type 0
 AnswersRequest old a asks new before after status = MatchBool old.session.goes_on
-    ((asked : Option (Name × Request)) × TaskAsks a asks asked × AnswersAsked old asked new before after status)
+    ((asked : Result (Name × Request) Field) × TaskAsks a asks asked × AnswersAsked old asked new before after status)
     (Leaves old new before after 24 status)
+
+-- The result of a call with a list request: the same as for one area, and the granted places are returned.
+abbrev pub AnswersList : OpenValue → Ask → List Area → OpenValue → List Area → Event → Event → ℕ → Type 0
+AnswersList old a areas new told before after status =
+    AnswersRequest old a (AsksList a areas) new before after status
+    × (status ≡ 0 → told ≡ areas_told (listed new.session.walk.reply) areas) × (status ≢ 0 → told ≡ areas)
 
 -- A session ends its job so.
 abbrev pub TellsEnd : OpenValue → Closing → OpenValue → Type 0
@@ -74,14 +94,14 @@ TellsEnd old end new =
     Closes machine old.session.walk.number old.session.walk.step (closing old.session.walk.number end.ended) end.outcome
     × (new ≡ record { session = record { walk = old.session.walk; goes_on = false }; last = last.Closed old.session.walk.number end.ended })
 
--- What a call answers that tells a session that there are no more lines.
+-- The result of a call that ends a job.
 abbrev pub AnswersEnd : OpenValue → OpenValue → Event → Event → ℕ → Type 0
 AnswersEnd old new before after status =
     (old.session.goes_on ≡ true → (end : Closing) × TellsEnd old end new × (after ≡ end_event end.ended) × (status ≡ outcome_status end.outcome))
     × (old.session.goes_on ≡ false → (new ≡ old) × (after ≡ before) × (status ≡ 24))
 
--- Some bytes are handed over in a buffer, whose front they are then, and this status is answered; or it is too small for them, and
--- stays as it was. How many they are is told.
+-- Some bytes are returned in a buffer, at its front, with this status; or it is too small for them, and does not change. Their
+-- number is returned.
 pub record HandsOver (bytes before after : List ℕ) (wanted fits status : ℕ) : Type 0 where
   pub told : wanted ≡ length bytes
   pub fitting : length bytes ≤ length before → (after ≡ bytes ++ drop (length bytes) before) × (status ≡ fits)

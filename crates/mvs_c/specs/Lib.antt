@@ -2,7 +2,9 @@ pub mod Access
 pub mod Asks
 pub mod Events
 pub mod Exports
+pub mod Fields
 pub mod Handle
 pub mod Lists
 pub mod Opens
+pub mod Regions
 pub mod Whole

@@ -1,8 +1,11 @@
 -- What a handle of C holds.
-use Rattle.std.specs.Prelude.{refl, ◌≡◌, ℕ, ◌+◌, ◌^◌, ◌<◌, List, [], true, Result, Ok, Err}
+use Rattle.std.specs.Prelude.{refl, ◌≡◌, ℕ, ◌+◌, ◌^◌, ◌<◌, List, [], true, Option, Result, Ok, Err}
 use Rattle.std.specs.Coded.{Coded, code_by, coded×}
+use Rattle.mvs_model.specs.declared.line.Fault.{Fault}
 use Rattle.mvs_model.specs.Answers.{Event}
+use Rattle.mvs_model.specs.Reading.{checks, first_of}
 use Rattle.mvs_model.specs.Texts.{printing}
+use Rattle.mvs_model.specs.Walk.{is_first}
 use Rattle.mvs_job.specs.declared.walk.LineTold.{LineTold}
 use Rattle.mvs_job.specs.declared.walk.Stopped.{Stopped}
 use Rattle.mvs_job.specs.Sessions.{SessionValue, session_code, new_session}
@@ -11,7 +14,7 @@ use Rattle.mvs_c.specs.declared.last.Last.{Last}
 use Rattle.mvs_c.specs.declared.last.Last.TheVariants as last
 use Rattle.mvs_c.specs.contracts.last.Last.{the_row}
 
--- a session, and what it told last
+-- a session, and its last event
 pub record OpenValue : Type 0 where
   pub session : SessionValue
   pub last : Last
@@ -20,11 +23,11 @@ pub record OpenValue : Type 0 where
 abbrev pub open_code : Coded OpenValue
 open_code = code_by (SessionValue × Last) (coded× session_code the_row.coded) (λ o. (o.session, o.last)) (λ p. record { session = p.0; last = p.1 }) (λ _. refl)
 
--- a session that was told no line
+-- a session before its first line
 abbrev pub new_open : OpenValue
 new_open = record { session = new_session; last = last.Nothing }
 
--- the events that were told last
+-- the last events
 abbrev pub events_of : WalkValue → Last → List Event
 events_of w last.Nothing = []
 events_of w (last.Line number told) = events_told number w told
@@ -35,20 +38,24 @@ events_of w (last.Closed number end) = closing number end
 abbrev pub text_of : OpenValue → List ℕ
 text_of o = printing (events_of o.session.walk o.last)
 
--- a session that goes on, whose job stands so, and which told no line last
+-- a session that continues, with its job in this state and no event of a line
 abbrev pub without_line : WalkValue → OpenValue
 without_line w = record { session = record { walk = w; goes_on = true }; last = last.Nothing }
 
--- The session lends what it told last.
+-- The session has the long data of its last event.
 abbrev pub LendsLast : WalkValue → Last → Type 0
 LendsLast w (last.Line number told) = IsLent w told
 LendsLast w _ = Unit {0}
 
--- what the line of this number told
+-- the events of the line with this number
 abbrev pub last_of : ℕ → Result LineTold Stopped → Last
 last_of number (Ok told) = last.Line number told
 last_of number (Err stopped) = last.Stopped stopped.ended
 
--- The job has not ended, and there is a number for the line behind the next.
+-- the fault of a line, the next of a session, if it has one
+abbrev pub fault_of : OpenValue → List ℕ → Option Fault
+fault_of o line = first_of (checks (is_first o.session.walk.step) line)
+
+-- The job has not ended, and there is a number for the line after the next.
 abbrev pub TakesLine : SessionValue → Type 0
 TakesLine s = (s.goes_on ≡ true) × (s.walk.number + 1 < 2 ^ 32)

@@ -1,33 +1,31 @@
 //! What C reads of the step that runs: bytes, and the lines of the reports.
 
-ghost use Rattle.std.specs.Prelude.{◌≡◌, ◌<◌, ◌≤◌, ◌^◌, Option, MatchOption, slice_get};
+ghost use Rattle.std.specs.Prelude.{◌≡◌, ◌≢◌, ◌<◌, ◌≤◌, ◌^◌, Option, MatchBool, MatchOption, slice_get};
 ghost use Rattle.mvs_model.specs.Lent.{fallen_in};
 ghost use Rattle.mvs_model.specs.Place.{IsPlace, place_at};
-ghost use Rattle.mvs_model.specs.declared.report.SubpoolLine.{SubpoolLine};
 ghost use Rattle.mvs_model.specs.declared.report.MapRun.{MapRun};
-ghost use Rattle.mvs_c.specs.Access.{FindsRun, FindsSubpool, Reads, TellsOne, WritesAt, run_told, subpool_told};
+ghost use Rattle.mvs_c.specs.Access.{AnswersSubpool, FindsRun, FindsSubpool, Reads, TellsOne, WritesAt, run_bytes, run_told, subpool_bytes};
 
+use crate::ask::name_of;
 use crate::open::Open;
-use mvs_model::name::Name;
+use crate::status::{NO_ACCESS, NO_MORE, NO_TASK, OK, OVER};
 use mvs_model::place::{Addr, Place};
 use mvs_model::report::{MapRun, SubpoolLine};
 
-/// The call was served.
-const OK: u32 = 0;
-/// The job is over.
-const OVER: u32 = 24;
-/// A byte may not be read or written.
-const NO_ACCESS: u32 = 36;
-/// There is no more of what was asked for.
-const NO_MORE: u32 = 40;
-
 /// The first address that is none.
 const ADDRESSES: u32 = 1 << 31;
+
+/// The number of bytes of a line of REPORT SP, and of REPORT MAP.
+const SUBPOOL_BYTES: u32 = 20;
+
+const RUN_BYTES: u32 = 28;
 
 /// A line of REPORT SP.
 #[repr(C)]
 #[derive(Clone, Copy)]
 pub struct Subpool {
+    /// The number of bytes of this struct.
+    pub size: u32,
     pub number: u32,
     pub owned: bool,
     /// The bytes outside and inside of cell pools.
@@ -39,12 +37,32 @@ pub struct Subpool {
 #[repr(C)]
 #[derive(Clone, Copy)]
 pub struct Run {
+    /// The number of bytes of this struct.
+    pub size: u32,
     pub address: u32,
     pub length: u32,
     /// Whether the pages are assigned to a subpool.
     pub assigned: bool,
     pub number: u32,
     pub owner: [u8; 8],
+}
+
+impl Subpool {
+    /// Returns whether the size is that of such a line.
+    pub fn is_sized(&self) -> bool
+        ensures { MatchBool result (self.now.size ≡ subpool_bytes) (self.now.size ≢ subpool_bytes) }
+    {
+        self.size == SUBPOOL_BYTES
+    }
+}
+
+impl Run {
+    /// Returns whether the size is that of such a line.
+    pub fn is_sized(&self) -> bool
+        ensures { MatchBool result (self.now.size ≡ run_bytes) (self.now.size ≢ run_bytes) }
+    {
+        self.size == RUN_BYTES
+    }
 }
 
 // An address of 31 bits; None where a number is none.
@@ -58,7 +76,7 @@ fn addr_of(number: u32) -> Option<Addr>
     }
 }
 
-// So many bytes from an address on; None where they are no place.
+// Returns a number of bytes from an address on, or None if they are not a place.
 fn place_of(address: u32, len: usize) -> Option<Place>
     ensures { MatchOption result (IsPlace (place_at address len) → ⊥)
         (λ place. IsPlace place × (place ≡ place_at address len)) }
@@ -121,23 +139,33 @@ pub fn tell_fallen(held: &Open, index: usize, name: &mut [u8; 8]) -> u32
     }
 }
 
-// The line of a task's first subpool number at or after one.
-fn find_subpool(held: &Open, name: &[u8], from: u8) -> Option<SubpoolLine>
+// The line of a task's first subpool number at or after one, or a status.
+fn find_subpool(held: &Open, name: &[u8; 8], from: u8) -> Result<SubpoolLine, u32>
     ensures { FindsSubpool held.now name.now from result }
 {
-    let job = held.job()?;
-    let task = Name::new(name)?;
-    job.subpool_line(&task, from)
+    let Some(job) = held.job() else {
+        return Err(NO_TASK);
+    };
+    let Some(task) = name_of(name) else {
+        return Err(NO_TASK);
+    };
+    if !job.is_active(&task) {
+        return Err(NO_TASK);
+    }
+    match job.subpool_line(&task, from) {
+        Some(line) => Ok(line),
+        None => Err(NO_MORE),
+    }
 }
 
-/// Tells of a task's first subpool number at or after one.
-pub fn tell_subpool(held: &Open, name: &[u8], from: u8, told: &mut Subpool) -> u32
-    ensures { (found : Option SubpoolLine) × FindsSubpool held.now name.now from found
-        × TellsOne found subpool_told told.old told.new result }
+/// Returns the first subpool number of a task at or after one.
+pub fn tell_subpool(held: &Open, name: &[u8; 8], from: u8, told: &mut Subpool) -> u32
+    ensures { AnswersSubpool held.now name.now from told.old told.new result }
 {
     match find_subpool(held, name, from) {
-        Some(line) => {
+        Ok(line) => {
             *told = Subpool {
+                size: SUBPOOL_BYTES,
                 number: u32::from(line.number.get()),
                 owned: line.owned,
                 plain: line.plain,
@@ -145,7 +173,7 @@ pub fn tell_subpool(held: &Open, name: &[u8], from: u8, told: &mut Subpool) -> u
             };
             OK
         }
-        None => NO_MORE,
+        Err(status) => status,
     }
 }
 
@@ -167,6 +195,7 @@ fn run_told(run: &MapRun) -> Run
         None => (false, 0, [b' '; 8]),
     };
     Run {
+        size: RUN_BYTES,
         address: run.addr.get(),
         length: run.len,
         assigned,
@@ -175,7 +204,7 @@ fn run_told(run: &MapRun) -> Run
     }
 }
 
-/// Tells of the first run of pages at or after an address.
+/// Returns the first run of pages at or after an address.
 pub fn tell_run(held: &Open, from: u32, told: &mut Run) -> u32
     ensures { (found : Option MapRun) × FindsRun held.now from found
         × TellsOne found run_told told.old told.new result }

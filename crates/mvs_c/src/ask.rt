@@ -1,23 +1,27 @@
 //! A request that C gives by values.
 
-ghost use Rattle.std.specs.Prelude.{◌≡◌, ◌<◌, ◌≤◌, ◌+◌, ◌*◌, ◌^◌, ◌||◌, ◌==◌, SomeIff, length, slice_get};
+ghost use Rattle.std.specs.Prelude.{◌≡◌, ◌<◌, ◌≤◌, ◌+◌, ◌*◌, ◌^◌, ◌||◌, ◌==◌, IfSome, MatchOption, SomeIff, length};
 ghost use Rattle.std.specs.List.{position_or_len};
 ghost use Rattle.mvs_model.specs.Gifts.{IsGifts};
-ghost use Rattle.mvs_model.specs.Name.{IsNameText};
 ghost use Rattle.mvs_model.specs.Numbers.{least_cell_bytes, most_cell_bytes, most_cells, most_shown, most_moved};
-ghost use Rattle.mvs_model.specs.Place.{IsPlace, place_at};
-ghost use Rattle.mvs_model.specs.Want.{IsAsk};
-ghost use Rattle.mvs_model.specs.declared.request.Request.TheVariants as request;
-ghost use Rattle.mvs_c.specs.Asks.{Asks, IsBuild, ends_name, IsCount, IsObtain, ask_said, form_said, gifts_said, kinds, location_said, name_said, name_text, or_else, residence_said, TaskAsks};
+ghost use Rattle.mvs_model.specs.Place.{place_at};
+ghost use Rattle.mvs_model.specs.Want.{IsExponent};
+ghost use Rattle.mvs_c.specs.Asks as asks;
+ghost use Rattle.mvs_c.specs.Asks.{Asks, AsksOf, IsCount, IsLeast, IsLength, IsLocation, IsNamed, IsStart, IsWithin, NamesTask, TakesForm, TaskAsks, ends_name, form_numbered, form_said, gifts_said, kind_numbered, location_said, name_said, name_text, or_else, within_said};
+ghost use Rattle.mvs_c.specs.declared.ask.Kind.TheVariants as kind;
 
+use crate::field::Field;
+use job_script::addresses::{is_name, name};
 use mvs_model::bounded::{CellCount, CellSize, Exponent, Length, MoveLength, ShowLength, UserCode};
 use mvs_model::code::Form;
 use mvs_model::gifts::Gifts;
 use mvs_model::name::Name;
-use mvs_model::numbers::{LEAST_CELL_BYTES, MOST_CELL_BYTES, MOST_CELLS, MOST_MOVED, MOST_SHOWN};
 use mvs_model::place::{Addr, Place};
 use mvs_model::request::Request;
 use mvs_model::want::{self, Loc, Residence};
+
+/// The number of bytes of a request by values.
+const ASK_BYTES: u32 = 112;
 
 /// The first address that is none.
 const ADDRESSES: u32 = 1 << 31;
@@ -39,44 +43,50 @@ pub enum Kind {
     Move,
 }
 
-/// The kinds by their numbers, from 0 on.
-const KINDS: [Kind; 12] = [
-    Kind::Obtain,
-    Kind::Release,
-    Kind::ReleaseWhole,
-    Kind::Build,
-    Kind::Get,
-    Kind::Free,
-    Kind::Delete,
-    Kind::Attach,
-    Kind::Return,
-    Kind::Abend,
-    Kind::Show,
-    Kind::Move,
+/// The kinds by their numbers, from 1 on.
+const KINDS: [Option<Kind>; 13] = [
+    None,
+    Some(Kind::Obtain),
+    Some(Kind::Release),
+    Some(Kind::ReleaseWhole),
+    Some(Kind::Build),
+    Some(Kind::Get),
+    Some(Kind::Free),
+    Some(Kind::Delete),
+    Some(Kind::Attach),
+    Some(Kind::Return),
+    Some(Kind::Abend),
+    Some(Kind::Show),
+    Some(Kind::Move),
 ];
 
-/// The forms.
-const FORMS: [Form; 11] = [
-    Form::R,
-    Form::Rc,
-    Form::Ru,
-    Form::Vrc,
-    Form::Vru,
-    Form::Ec,
-    Form::Eu,
-    Form::Vc,
-    Form::Vu,
-    Form::Storage,
-    Form::StorageConditional,
+/// The forms by their numbers, from 1 on.
+const FORMS: [Option<Form>; 14] = [
+    None,
+    Some(Form::R),
+    Some(Form::Rc),
+    Some(Form::Ru),
+    Some(Form::Vrc),
+    Some(Form::Vru),
+    Some(Form::Ec),
+    Some(Form::Eu),
+    Some(Form::Vc),
+    Some(Form::Vu),
+    Some(Form::Storage),
+    Some(Form::StorageConditional),
+    Some(Form::Lc),
+    Some(Form::Lu),
 ];
 
 /// The locations.
 const LOCATIONS: [Loc; 3] = [Loc::Res, Loc::Below, Loc::Any];
 
-/// A request of a task; what a kind of request does not say is not looked at.
+/// A request of a task. A field that a kind of request does not read is ignored.
 #[repr(C)]
 #[derive(Clone, Copy)]
 pub struct Ask {
+    /// The number of bytes of this struct.
+    pub size: u32,
     pub kind: u32,
     pub form: u32,
     pub subpool: u32,
@@ -86,7 +96,7 @@ pub struct Ask {
     pub least: u32,
     /// The power of two of the boundary that an area begins on; 0: a doubleword.
     pub boundary: u32,
-    /// The power of two of the boundary that it lies within; 0: none.
+    /// The power of two of the boundary not to cross; 0: none.
     pub within: u32,
     pub location: u32,
     pub address: u32,
@@ -113,17 +123,96 @@ pub struct Ask {
 }
 
 // A kind of request.
-pub fn kind_of(number: u32) -> Option<Kind>
-    ensures { result ≡ slice_get kinds number }
+fn kind_of(number: u32) -> Option<Kind>
+    ensures { result ≡ kind_numbered number }
 {
-    KINDS.get(number as usize).copied()
+    match KINDS.get(number as usize) {
+        Some(kind) => *kind,
+        None => None,
+    }
 }
 
 // A form.
-fn form_of(number: u32) -> Option<Form>
-    ensures { SomeIff result (number < 11) (form_said number) }
+pub fn form_of(number: u32) -> Option<Form>
+    ensures { result ≡ form_numbered number }
 {
-    FORMS.get(number as usize).copied()
+    match FORMS.get(number as usize) {
+        Some(form) => *form,
+        None => None,
+    }
+}
+
+// Whether an obtain of this form can have a least length.
+fn takes_least(form: Form) -> bool
+    ensures { result ≡ asks.takes_least form }
+{
+    match form {
+        Form::Vrc | Form::Vru | Form::Vc | Form::Vu | Form::Storage | Form::StorageConditional =>
+            true,
+        Form::R | Form::Rc | Form::Ru | Form::Ec | Form::Eu | Form::Lc | Form::Lu => false,
+    }
+}
+
+// Whether an obtain of this form needs a least length.
+fn needs_least(form: Form) -> bool
+    ensures { result ≡ asks.needs_least form }
+{
+    match form {
+        Form::Vrc | Form::Vru | Form::Vc | Form::Vu => true,
+        Form::R
+        | Form::Rc
+        | Form::Ru
+        | Form::Ec
+        | Form::Eu
+        | Form::Lc
+        | Form::Lu
+        | Form::Storage
+        | Form::StorageConditional => false,
+    }
+}
+
+// Whether an obtain of this form takes a location, and boundaries other than a doubleword and a page.
+fn is_located(form: Form) -> bool
+    ensures { result ≡ asks.is_located form }
+{
+    match form {
+        Form::Rc | Form::Ru | Form::Vrc | Form::Vru | Form::Storage | Form::StorageConditional =>
+            true,
+        Form::R | Form::Ec | Form::Eu | Form::Vc | Form::Vu | Form::Lc | Form::Lu => false,
+    }
+}
+
+// The form of an obtain.
+fn obtaining(number: u32) -> Option<Form>
+    ensures { SomeIff result (TakesForm asks.obtains_one number) (form_said number) }
+{
+    match form_of(number)? {
+        Form::Lc | Form::Lu => None,
+        form => Some(form),
+    }
+}
+
+// The form of a release of one area.
+fn releasing(number: u32) -> Option<Form>
+    ensures { SomeIff result (TakesForm asks.releases_one number) (form_said number) }
+{
+    match form_of(number)? {
+        Form::Vrc | Form::Vru | Form::Lc | Form::Lu => None,
+        form => Some(form),
+    }
+}
+
+// The form of a release of a whole subpool.
+fn releasing_whole(number: u32) -> Option<Form>
+    ensures { SomeIff result (TakesForm asks.releases_whole number) (form_said number) }
+{
+    match form_of(number)? {
+        form @ (Form::R | Form::Rc | Form::Ru | Form::Storage | Form::StorageConditional) => {
+            Some(form)
+        }
+        Form::Vrc | Form::Vru | Form::Ec | Form::Eu | Form::Vc | Form::Vu | Form::Lc | Form::Lu =>
+            None,
+    }
 }
 
 // A location.
@@ -131,6 +220,16 @@ fn location_of(number: u32) -> Option<Loc>
     ensures { SomeIff result (number < 3) (location_said number) }
 {
     LOCATIONS.get(number as usize).copied()
+}
+
+// The location of an obtain of a form.
+fn location_in(form: Form, number: u32) -> Option<Loc>
+    ensures { SomeIff result (IsLocation form number) (location_said number) }
+{
+    if !is_located(form) && number != 0 {
+        return None;
+    }
+    location_of(number)
 }
 
 // A subpool number.
@@ -149,24 +248,58 @@ pub fn or_else(number: u32, other: u32) -> u32
 
 // A length of an area.
 pub fn length_of(number: u32) -> Option<Length>
-    ensures { SomeIff result ((1 ≤ number) × (number < 2 ^ 31)) number }
+    ensures { SomeIff result (IsLength number) number }
 {
-    if 1 <= number && number < ADDRESSES {
-        Some(Length::new(number))
+    Length::checked(number)
+}
+
+// The least length of an obtain of a form.
+fn least_in(form: Form, number: u32, most: Length) -> Option<Length>
+    ensures { SomeIff result (IsLeast form most number) (or_else number most) }
+{
+    if needs_least(form) && number == 0 {
+        return None;
+    }
+    if !takes_least(form) && number != 0 {
+        return None;
+    }
+    let least = or_else(number, most.get());
+    if least > most.get() {
+        return None;
+    }
+    length_of(least)
+}
+
+// The power of two of a boundary.
+pub fn exponent_of(number: u32) -> Option<Exponent>
+    ensures { SomeIff result (IsExponent number) number }
+{
+    Exponent::checked(number)
+}
+
+// The power of two of the boundary that an obtain of a form begins on.
+fn start_in(form: Form, number: u32) -> Option<Exponent>
+    ensures { SomeIff result (IsStart form number) (or_else number 3) }
+{
+    let start = exponent_of(or_else(number, 3))?;
+    if is_located(form) || start.get() == 3 || start.get() == 12 {
+        Some(start)
     } else {
         None
     }
 }
 
-// The power of two of a boundary.
-pub fn exponent_of(number: u32) -> Option<Exponent>
-    ensures { SomeIff result ((3 ≤ number) × (number ≤ 31)) number }
+// The power of two of the boundary that an obtain of a form does not cross, if there is one.
+fn within_in(form: Form, number: u32) -> Option<Option<Exponent>>
+    ensures { SomeIff result (IsWithin form number) (within_said number) }
 {
-    if 3 <= number && number <= 31 {
-        Some(Exponent::new(number))
-    } else {
-        None
+    if number == 0 {
+        return Some(None);
     }
+    if !is_located(form) {
+        return None;
+    }
+    Some(Some(exponent_of(number)?))
 }
 
 // An address.
@@ -180,38 +313,27 @@ fn address_of(number: u32) -> Option<Addr>
     }
 }
 
-// So many bytes from an address on.
+// Returns a number of bytes from an address on.
 pub fn place_of(addr: u32, len: u32) -> Option<Place>
-    ensures { SomeIff result (IsPlace (place_at addr len)) (place_at addr len) }
+    ensures { SomeIff result ((addr < 2 ^ 31) × IsLength len) (place_at addr len) }
 {
     let addr = address_of(addr)?;
-    if 1 <= len && len <= ADDRESSES {
-        Some(Place::new(addr, len))
-    } else {
-        None
-    }
+    let len = length_of(len)?;
+    Some(Place::new(addr, len.get()))
 }
 
 // How many cells a part of a pool has.
 fn count_of(number: u32) -> Option<CellCount>
     ensures { SomeIff result (IsCount number) number }
 {
-    if 1 <= number && number <= MOST_CELLS {
-        Some(CellCount::new(number))
-    } else {
-        None
-    }
+    CellCount::checked(number)
 }
 
 // The bytes of a cell.
 fn cell_size(number: u32) -> Option<CellSize>
     ensures { SomeIff result ((least_cell_bytes ≤ number) × (number ≤ most_cell_bytes)) number }
 {
-    if LEAST_CELL_BYTES <= number && number <= MOST_CELL_BYTES {
-        Some(CellSize::new(number))
-    } else {
-        None
-    }
+    CellSize::checked(number)
 }
 
 // Whether a byte ends a name.
@@ -221,8 +343,8 @@ fn ends_name(byte: u8) -> bool
     byte == 0 || byte == b' '
 }
 
-// How many bytes stand before the first blank or zero byte.
-fn text_len(bytes: &[u8]) -> usize
+// Returns the number of bytes before the first blank or zero byte.
+pub fn text_len(bytes: &[u8]) -> usize
     ensures len { result ≡ position_or_len ends_name bytes.now }
     ensures within { result ≤ length bytes.now }
 {
@@ -236,9 +358,14 @@ fn text_len(bytes: &[u8]) -> usize
 
 // A name of eight bytes, which ends before the first blank or zero byte.
 pub fn name_of(bytes: &[u8; 8]) -> Option<Name>
-    ensures { SomeIff result (IsNameText (name_text bytes.now)) (name_said bytes.now) }
+    ensures { SomeIff result (IsNamed bytes.now) (name_said bytes.now) }
 {
-    Name::new(&bytes[..text_len(bytes)])
+    let text = &bytes[..text_len(bytes)];
+    if is_name(text) {
+        Some(name(text))
+    } else {
+        None
+    }
 }
 
 // The two halves of a set of subpool numbers.
@@ -249,87 +376,157 @@ fn set_of(low: u64, high: u64) -> u128
 }
 
 impl Ask {
-    // What an obtain asks for.
-    fn wanted(&self) -> Option<want::Ask>
-        ensures { SomeIff result ((self.now.location < 3) × IsAsk (ask_said self.now)) (ask_said self.now) }
-    {
-        let most = length_of(self.length)?;
-        let least = length_of(or_else(self.least, self.length))?;
-        if least.get() > most.get() {
-            return None;
-        }
-        let start = exponent_of(or_else(self.boundary, 3))?;
-        let ask = want::Ask::fixed(most, start, location_of(self.location)?).at_least(least);
-        if self.within == 0 {
-            return Some(ask);
-        }
-        Some(ask.within(exponent_of(self.within)?))
-    }
-
-    fn obtain(&self) -> Option<Request>
-        ensures { SomeIff result (IsObtain self.now) (request.Obtain (form_said self.now.form) self.now.subpool (ask_said self.now)) }
-    {
-        Some(Request::Obtain {
-            form: form_of(self.form)?,
-            number: subpool_of(self.subpool)?,
-            ask: self.wanted()?,
-        })
-    }
-
-    fn release(&self) -> Option<Request>
-        ensures { SomeIff result ((self.now.form < 11) × (self.now.subpool < 256) × IsPlace (place_at self.now.address self.now.length))
-            (request.Release (form_said self.now.form) self.now.subpool (place_at self.now.address self.now.length)) }
-    {
-        Some(Request::Release {
-            form: form_of(self.form)?,
-            number: subpool_of(self.subpool)?,
-            place: place_of(self.address, self.length)?,
-        })
-    }
-
-    fn release_whole(&self) -> Option<Request>
-        ensures { SomeIff result ((self.now.form < 11) × (self.now.subpool < 256))
-            (request.ReleaseWhole (form_said self.now.form) self.now.subpool) }
-    {
-        Some(Request::ReleaseWhole {
-            form: form_of(self.form)?,
-            number: subpool_of(self.subpool)?,
-        })
-    }
-
-    fn build(&self) -> Option<Request>
-        ensures { SomeIff result (IsBuild self.now)
-            (request.Build (name_said self.now.name) self.now.subpool self.now.length self.now.primary (or_else self.now.secondary self.now.primary) (location_said self.now.location)) }
-    {
-        Some(Request::Build {
-            pool: name_of(&self.name)?,
-            number: subpool_of(self.subpool)?,
-            size: cell_size(self.length)?,
-            primary: count_of(self.primary)?,
-            secondary: count_of(or_else(self.secondary, self.primary))?,
-            loc: location_of(self.location)?,
-        })
-    }
-
-    fn free(&self) -> Option<Request>
-        ensures { SomeIff result (IsNameText (name_text self.now.name) × (self.now.address < 2 ^ 31))
-            (request.Free (name_said self.now.name) self.now.address) }
-    {
-        Some(Request::Free {
-            pool: name_of(&self.name)?,
-            cell: address_of(self.address)?,
-        })
-    }
-
-    fn attach(&self) -> Option<Request>
-        ensures { SomeIff result (IsNameText (name_text self.now.name) × IsGifts (gifts_said self.now))
-            (request.Attach (name_said self.now.name) (gifts_said self.now) (residence_said self.now.above)) }
+    // What an attaching task gives and shares.
+    fn gifts(&self) -> Option<Gifts>
+        ensures { SomeIff result (IsGifts (gifts_said self.now)) (gifts_said self.now) }
     {
         let given = set_of(self.given_low, self.given_high);
         let shared = set_of(self.shared_low, self.shared_high);
-        Some(Request::Attach {
-            name: name_of(&self.name)?,
-            gifts: Gifts::new(given, shared, !self.keeps_zero)?,
+        Gifts::new(given, shared, !self.keeps_zero)
+    }
+
+    fn obtain(&self) -> Result<Request, Field>
+        ensures { AsksOf kind.Obtain self.now result }
+    {
+        let Some(form) = obtaining(self.form) else {
+            return Err(Field::Form);
+        };
+        let Some(number) = subpool_of(self.subpool) else {
+            return Err(Field::Subpool);
+        };
+        let Some(most) = length_of(self.length) else {
+            return Err(Field::Length);
+        };
+        let Some(least) = least_in(form, self.least, most) else {
+            return Err(Field::Least);
+        };
+        let Some(start) = start_in(form, self.boundary) else {
+            return Err(Field::Boundary);
+        };
+        let Some(within) = within_in(form, self.within) else {
+            return Err(Field::Within);
+        };
+        let Some(loc) = location_in(form, self.location) else {
+            return Err(Field::Location);
+        };
+        let ask = want::Ask::fixed(most, start, loc).at_least(least);
+        let ask = match within {
+            Some(within) => ask.within(within),
+            None => ask,
+        };
+        Ok(Request::Obtain { form, number, ask })
+    }
+
+    fn release(&self) -> Result<Request, Field>
+        ensures { AsksOf kind.Release self.now result }
+    {
+        let Some(form) = releasing(self.form) else {
+            return Err(Field::Form);
+        };
+        let Some(number) = subpool_of(self.subpool) else {
+            return Err(Field::Subpool);
+        };
+        let Some(len) = length_of(self.length) else {
+            return Err(Field::Length);
+        };
+        let Some(addr) = address_of(self.address) else {
+            return Err(Field::Address);
+        };
+        Ok(Request::Release {
+            form,
+            number,
+            place: Place::new(addr, len.get()),
+        })
+    }
+
+    fn release_whole(&self) -> Result<Request, Field>
+        ensures { AsksOf kind.ReleaseWhole self.now result }
+    {
+        let Some(form) = releasing_whole(self.form) else {
+            return Err(Field::Form);
+        };
+        let Some(number) = subpool_of(self.subpool) else {
+            return Err(Field::Subpool);
+        };
+        Ok(Request::ReleaseWhole { form, number })
+    }
+
+    fn build(&self) -> Result<Request, Field>
+        ensures { AsksOf kind.Build self.now result }
+    {
+        let Some(number) = subpool_of(self.subpool) else {
+            return Err(Field::Subpool);
+        };
+        let Some(size) = cell_size(self.length) else {
+            return Err(Field::Length);
+        };
+        let Some(loc) = location_of(self.location) else {
+            return Err(Field::Location);
+        };
+        let Some(primary) = count_of(self.primary) else {
+            return Err(Field::Primary);
+        };
+        let Some(secondary) = count_of(or_else(self.secondary, self.primary)) else {
+            return Err(Field::Secondary);
+        };
+        let Some(pool) = name_of(&self.name) else {
+            return Err(Field::Name);
+        };
+        Ok(Request::Build {
+            pool,
+            number,
+            size,
+            primary,
+            secondary,
+            loc,
+        })
+    }
+
+    fn get(&self) -> Result<Request, Field>
+        ensures { AsksOf kind.Get self.now result }
+    {
+        let Some(pool) = name_of(&self.name) else {
+            return Err(Field::Name);
+        };
+        Ok(Request::Get {
+            pool,
+            conditional: self.conditional,
+        })
+    }
+
+    fn free(&self) -> Result<Request, Field>
+        ensures { AsksOf kind.Free self.now result }
+    {
+        let Some(cell) = address_of(self.address) else {
+            return Err(Field::Address);
+        };
+        let Some(pool) = name_of(&self.name) else {
+            return Err(Field::Name);
+        };
+        Ok(Request::Free { pool, cell })
+    }
+
+    fn delete(&self) -> Result<Request, Field>
+        ensures { AsksOf kind.Delete self.now result }
+    {
+        let Some(pool) = name_of(&self.name) else {
+            return Err(Field::Name);
+        };
+        Ok(Request::Delete { pool })
+    }
+
+    fn attach(&self) -> Result<Request, Field>
+        ensures { AsksOf kind.Attach self.now result }
+    {
+        let Some(gifts) = self.gifts() else {
+            return Err(Field::Subpools);
+        };
+        let Some(name) = name_of(&self.name) else {
+            return Err(Field::Name);
+        };
+        Ok(Request::Attach {
+            name,
+            gifts,
             residence: if self.above {
                 Residence::Above
             } else {
@@ -338,77 +535,103 @@ impl Ask {
         })
     }
 
-    fn abend(&self) -> Option<Request>
-        ensures { SomeIff result (self.now.code < 4096) (request.Abend self.now.code) }
+    fn abend(&self) -> Result<Request, Field>
+        ensures { AsksOf kind.Abend self.now result }
     {
-        if self.code < 4_096 {
-            Some(Request::Abend(UserCode::new(self.code)))
-        } else {
-            None
+        if self.code >= 4_096 {
+            return Err(Field::Code);
         }
+        Ok(Request::Abend(UserCode::new(self.code)))
     }
 
-    fn show(&self) -> Option<Request>
-        ensures { SomeIff result ((self.now.address < 2 ^ 31) × (1 ≤ self.now.length) × (self.now.length ≤ most_shown))
-            (request.Show self.now.address self.now.length) }
+    fn show(&self) -> Result<Request, Field>
+        ensures { AsksOf kind.Show self.now result }
     {
-        let from = address_of(self.address)?;
-        if self.length < 1 || self.length > MOST_SHOWN {
-            return None;
-        }
-        Some(Request::Show {
-            from,
-            len: ShowLength::new(self.length),
-        })
+        let Some(len) = ShowLength::checked(self.length) else {
+            return Err(Field::Length);
+        };
+        let Some(from) = address_of(self.address) else {
+            return Err(Field::Address);
+        };
+        Ok(Request::Show { from, len })
     }
 
-    fn copy(&self) -> Option<Request>
-        ensures { SomeIff result ((self.now.address < 2 ^ 31) × (self.now.source < 2 ^ 31) × (1 ≤ self.now.length) × (self.now.length ≤ most_moved))
-            (request.Move self.now.address self.now.source self.now.length) }
+    fn copy(&self) -> Result<Request, Field>
+        ensures { AsksOf kind.Move self.now result }
     {
-        let to = address_of(self.address)?;
-        let from = address_of(self.source)?;
-        if self.length < 1 || self.length > MOST_MOVED {
-            return None;
-        }
-        Some(Request::Move {
-            to,
-            from,
-            len: MoveLength::new(self.length),
-        })
+        let Some(len) = MoveLength::checked(self.length) else {
+            return Err(Field::Length);
+        };
+        let Some(to) = address_of(self.address) else {
+            return Err(Field::Address);
+        };
+        let Some(from) = address_of(self.source) else {
+            return Err(Field::Source);
+        };
+        Ok(Request::Move { to, from, len })
     }
 
-    // The request that is asked for; None where a number of it is out of its range.
-    fn request(&self) -> Option<Request>
-        ensures { Asks self.now result }
+    // Returns the request of a struct of this kind, or the first field that does not fit.
+    fn request_of(&self, kind: Kind) -> Result<Request, Field>
+        ensures { AsksOf kind self.now result }
     {
-        match kind_of(self.kind)? {
+        match kind {
             Kind::Obtain => self.obtain(),
             Kind::Release => self.release(),
             Kind::ReleaseWhole => self.release_whole(),
             Kind::Build => self.build(),
-            Kind::Get => Some(Request::Get {
-                pool: name_of(&self.name)?,
-                conditional: self.conditional,
-            }),
+            Kind::Get => self.get(),
             Kind::Free => self.free(),
-            Kind::Delete => Some(Request::Delete {
-                pool: name_of(&self.name)?,
-            }),
+            Kind::Delete => self.delete(),
             Kind::Attach => self.attach(),
-            Kind::Return => Some(Request::Return),
+            Kind::Return => Ok(Request::Return),
             Kind::Abend => self.abend(),
             Kind::Show => self.show(),
             Kind::Move => self.copy(),
         }
     }
 
-    /// The task and the request that it asks for; None where a name or a number of it is out of its range.
-    pub fn task_request(&self) -> Option<(Name, Request)>
+    // Returns the request, or the first field that does not fit.
+    fn request(&self) -> Result<Request, Field>
+        ensures { Asks self.now result }
+    {
+        match self.kind() {
+            Some(kind) => self.request_of(kind),
+            None => Err(Field::Kind),
+        }
+    }
+
+    /// Returns the kind of request, or None if the number is that of no kind.
+    pub fn kind(&self) -> Option<Kind>
+        ensures { result ≡ kind_numbered self.now.kind }
+    {
+        kind_of(self.kind)
+    }
+
+    /// Returns the task that makes the request, or the field if the size or the name does not fit.
+    pub fn named_task(&self) -> Result<Name, Field>
+        ensures { NamesTask self.now result }
+    {
+        if self.size != ASK_BYTES {
+            return Err(Field::Size);
+        }
+        let Some(task) = name_of(&self.task) else {
+            return Err(Field::Task);
+        };
+        Ok(task)
+    }
+
+    /// Returns the task and the request that it makes, or the first field that does not fit.
+    pub fn task_request(&self) -> Result<(Name, Request), Field>
         ensures { TaskAsks self.now (Asks self.now) result }
     {
-        let task = name_of(&self.task)?;
-        let request = self.request()?;
-        Some((task, request))
+        let task = match self.named_task() {
+            Ok(task) => task,
+            Err(field) => return Err(field),
+        };
+        match self.request() {
+            Ok(request) => Ok((task, request)),
+            Err(field) => Err(field),
+        }
     }
 }

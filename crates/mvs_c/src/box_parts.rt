@@ -1,4 +1,4 @@
-//! A box in two parts: where its value lies, and the allocator that frees it.
+//! A box in two parts: the place of its value, and the allocator that frees it.
 ghost use Rattle.std.specs.Prelude.{◌≡◌};
 ghost use Rattle.std_alloc.specs.Box.Ownership.{box_owns};
 

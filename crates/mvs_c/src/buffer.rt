@@ -3,10 +3,7 @@
 ghost use Rattle.std.specs.Prelude.{◌≡◌};
 ghost use Rattle.mvs_c.specs.Exports.{HandsOver};
 
-/// The call was served.
-pub const OK: u32 = 0;
-/// A buffer has no room for all.
-pub const TOO_SMALL: u32 = 32;
+use crate::status::TOO_SMALL;
 
 /// Copies some bytes to the front of a buffer, where they fit, and answers the status for that.
 pub fn hand_over(bytes: &[u8], out: &mut [u8], wanted: &mut usize, fits: u32) -> u32

@@ -1,9 +1,11 @@
-//! What a call tells, as numbers. The numbers of the kinds are those of mvs.h.
+//! The events of calls, as numbers. The numbers of the kinds are those of mvs.h, from 1 on.
 
-ghost use Rattle.std.specs.Prelude.{◌≡◌};
+ghost use Rattle.std.specs.Prelude.{◌≡◌, ◌≢◌, MatchBool, Ok};
 ghost use Rattle.mvs_model.specs.Texts.{fault_number};
-ghost use Rattle.mvs_c.specs.Events.{answer_event, completion, end_event, line_event, of_kind, of_place, of_task, reply_event, step_number};
+ghost use Rattle.mvs_job.specs.declared.walk.LineTold.TheVariants as told;
+ghost use Rattle.mvs_c.specs.Events.{answer_event, completion, end_event, event_bytes, line_event, of_kind, of_place, of_task, refused_event, reply_event, step_number};
 
+use crate::field::Field;
 use mvs_job::{LineTold, Stopped};
 use mvs_model::answer::Answer;
 use mvs_model::code::Code;
@@ -12,12 +14,17 @@ use mvs_model::name::Name;
 use mvs_model::place::Place;
 use mvs_model::request::Reply;
 
-/// What a call tells: its kind, and what goes with that; all else is 0, and the task blank.
+/// The number of bytes of an event.
+const EVENT_BYTES: u32 = 32;
+
+/// The event of a call: its kind, and the fields of that kind; all others are 0, and the task is blank.
 #[repr(C)]
 #[derive(Clone, Copy)]
 pub struct Event {
+    /// The number of bytes of this struct.
+    pub size: u32,
     pub kind: u32,
-    /// A completion code, or the number of a fault.
+    /// A completion code, the number of a fault, or the offset of a field.
     pub code: u32,
     pub address: u32,
     pub length: u32,
@@ -26,11 +33,21 @@ pub struct Event {
     pub task: [u8; 8],
 }
 
+impl Event {
+    /// Returns whether the size is that of an event.
+    pub fn is_sized(&self) -> bool
+        ensures { MatchBool result (self.now.size ≡ event_bytes) (self.now.size ≢ event_bytes) }
+    {
+        self.size == EVENT_BYTES
+    }
+}
+
 // An event of a kind, and no more.
 fn of_kind(kind: u32) -> Event
     ensures { result ≡ of_kind kind }
 {
     Event {
+        size: EVENT_BYTES,
         kind,
         code: 0,
         address: 0,
@@ -104,30 +121,30 @@ pub fn answer_event(task: &Name, answer: &Answer) -> Event
     ensures { result ≡ answer_event task.now answer.now }
 {
     match answer {
-        Answer::NotRun => of_task(2, task),
-        Answer::NoName => of_task(3, task),
+        Answer::NotRun => of_task(3, task),
+        Answer::NoName => of_task(4, task),
         Answer::At(addr) => Event {
             address: addr.get(),
-            ..of_task(4, task)
+            ..of_task(5, task)
         },
-        Answer::Rc0 => of_task(5, task),
+        Answer::Rc0 => of_task(6, task),
         Answer::Granted(len) => Event {
             length: *len,
-            ..of_task(6, task)
+            ..of_task(7, task)
         },
-        Answer::Rc4 => of_task(7, task),
-        Answer::Cell => of_task(8, task),
-        Answer::NoCell => of_task(9, task),
-        Answer::Attached => of_task(10, task),
-        Answer::Ended => of_task(11, task),
-        Answer::Done => of_task(12, task),
-        Answer::Data(place) => of_place(13, task, place),
+        Answer::Rc4 => of_task(8, task),
+        Answer::Cell => of_task(9, task),
+        Answer::NoCell => of_task(10, task),
+        Answer::Attached => of_task(11, task),
+        Answer::Ended => of_task(12, task),
+        Answer::Done => of_task(13, task),
+        Answer::Data(place) => of_place(14, task, place),
         Answer::Abended(code) => Event {
             code: completion(*code),
-            ..of_task(14, task)
+            ..of_task(15, task)
         },
-        Answer::Subpools => of_task(15, task),
-        Answer::Map => of_task(16, task),
+        Answer::Subpools => of_task(16, task),
+        Answer::Map => of_task(17, task),
     }
 }
 
@@ -136,40 +153,47 @@ pub fn reply_event(task: &Name, reply: &Reply) -> Event
     ensures { result ≡ reply_event task.now reply.now }
 {
     match reply {
-        Reply::NotRun => of_task(2, task),
-        Reply::Rc0 | Reply::Listed(_) => of_task(5, task),
-        Reply::Obtained(place) => of_place(6, task, place),
-        Reply::Rc4 => of_task(7, task),
-        Reply::Cell(place) => of_place(8, task, place),
-        Reply::NoCell => of_task(9, task),
-        Reply::Attached => of_task(10, task),
-        Reply::Ended => of_task(11, task),
-        Reply::Done => of_task(12, task),
+        Reply::NotRun => of_task(3, task),
+        Reply::Rc0 | Reply::Listed(_) => of_task(6, task),
+        Reply::Obtained(place) => of_place(7, task, place),
+        Reply::Rc4 => of_task(8, task),
+        Reply::Cell(place) => of_place(9, task, place),
+        Reply::NoCell => of_task(10, task),
+        Reply::Attached => of_task(11, task),
+        Reply::Ended => of_task(12, task),
+        Reply::Done => of_task(13, task),
         Reply::Abended(code, _) => Event {
             code: completion(*code),
-            ..of_task(14, task)
+            ..of_task(15, task)
         },
     }
 }
 
-/// What a line told, or that memory was wanting for it.
+/// The event of a line with a fault.
+pub fn fault_event(fault: Fault) -> Event
+    ensures { result ≡ line_event (Ok (told.Faulted fault)) }
+{
+    Event {
+        code: fault_number(fault),
+        ..of_kind(18)
+    }
+}
+
+/// The event of a line, or that memory is exhausted.
 pub fn line_event(told: &Result<LineTold, Stopped>) -> Event
     ensures { result ≡ line_event told.now }
 {
     match told {
-        Ok(LineTold::Nothing) => of_kind(0),
+        Ok(LineTold::Nothing) => of_kind(1),
         Ok(LineTold::Began { ended, card }) => Event {
             ended: step_number(*ended),
-            ..of_task(1, &card.name())
+            ..of_task(2, &card.name())
         },
         Ok(LineTold::Answered { task, answer }) => answer_event(task, answer),
-        Ok(LineTold::Faulted(fault)) => Event {
-            code: fault_number(*fault),
-            ..of_kind(17)
-        },
+        Ok(LineTold::Faulted(fault)) => fault_event(*fault),
         Err(stopped) => Event {
             ended: step_number(stopped.ended),
-            ..of_kind(18)
+            ..of_kind(19)
         },
     }
 }
@@ -180,6 +204,16 @@ pub fn end_event(ended: Option<bool>) -> Event
 {
     Event {
         ended: step_number(ended),
-        ..of_kind(19)
+        ..of_kind(20)
+    }
+}
+
+/// The event of a request that is refused because of a field.
+pub fn refused_event(field: Field) -> Event
+    ensures { result ≡ refused_event field }
+{
+    Event {
+        code: field.offset(),
+        ..of_kind(21)
     }
 }

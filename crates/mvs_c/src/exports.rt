@@ -1,22 +1,28 @@
 //! The functions that C calls. A handle is taken apart for the time of a call.
 
-ghost use Rattle.std.specs.Prelude.{◌≡◌, ◌≢◌, ◌≤◌, ◌<◌, Some, None, Option, slice_get, true, false, IfSome};
+ghost use Rattle.std.specs.Prelude.{◌≡◌, ◌≢◌, ◌⊎◌, ◌↔◌, ◌≤◌, ◌<◌, [], Some, None, Option, slice_get, true, false, IfSome, IsSome};
 ghost use Rattle.mvs_model.specs.Lent.{fallen_in};
-ghost use Rattle.mvs_model.specs.declared.report.SubpoolLine.{SubpoolLine};
 ghost use Rattle.mvs_model.specs.declared.report.MapRun.{MapRun};
-ghost use Rattle.mvs_c.specs.Access.{FindsRun, FindsSubpool, Reads, TellsOne, WritesAt, run_told, subpool_told};
-ghost use Rattle.mvs_c.specs.Opens.{TakesLine, new_open, text_of};
-ghost use Rattle.mvs_c.specs.Asks.{Asks, kinds};
-ghost use Rattle.mvs_c.specs.Lists.{AnswersList, AsksForList, areas_told, listed};
-ghost use Rattle.mvs_c.specs.Exports.{AnswersAsked, AnswersEnd, AnswersLine, AnswersRequest, HandsOver, WithSession, line_status, outcome_status};
+ghost use Rattle.mvs_c.specs.Access.{AnswersSubpool, FindsRun, Reads, TellsOne, WritesAt, run_bytes, run_told, subpool_bytes};
+ghost use Rattle.mvs_c.specs.Opens.{TakesLine, events_of, new_open, text_of};
+ghost use Rattle.mvs_c.specs.Asks.{Asks};
+ghost use Rattle.mvs_c.specs.Events.{event_bytes};
+ghost use Rattle.mvs_c.specs.Regions.{region_bytes, region_line};
+ghost use Rattle.mvs_c.specs.Lists.{AsksList, areas_told, listed};
+ghost use Rattle.mvs_c.specs.Exports.{AnswersAsked, AnswersEnd, AnswersLine, AnswersList, AnswersRequest, HandsOver, IsPlaceNumber, TriesLine, WithSession, line_status, outcome_status};
 
 use crate::access::{self, Run, Subpool};
 use crate::ask::Ask;
-use crate::buffer::{OK, hand_over};
-use crate::event::{Event, end_event, line_event, reply_event};
+use crate::buffer::hand_over;
+use crate::event::{Event, end_event, fault_event, line_event, refused_event, reply_event};
+use crate::field::Field;
 use crate::handle::Handle;
 use crate::list::{Area, tell_listed};
 use crate::open::Open;
+use crate::region::Region;
+use crate::status::{
+    NO_MEMORY, NO_PLACE, NO_REQUEST, NO_SESSION, NO_STEP, OK, OVER, SCRIPT_FAULT, WRONG_SIZE,
+};
 use mvs_job::{LineTold, Stopped};
 use mvs_model::name::Name;
 use mvs_model::outcome::Outcome;
@@ -26,16 +32,8 @@ use mvs_model::watched::Watched;
 use std::alloc::Global;
 use std::mem;
 
-/// Memory was wanting.
-const NO_MEMORY: u32 = 16;
-/// The handle holds no session.
-const NO_SESSION: u32 = 20;
-/// The job is over, or there is no number for another line.
-const OVER: u32 = 24;
-/// A request has a name or a number out of its range.
-const NO_REQUEST: u32 = 52;
-/// No step runs.
-const NO_STEP: u32 = 56;
+/// The version of these calls.
+const VERSION: u32 = 2_000;
 
 /// The status of an outcome.
 pub fn outcome_status(outcome: Outcome) -> u32
@@ -54,18 +52,20 @@ fn line_status(told: &Result<LineTold, Stopped>) -> u32
     ensures { result ≡ line_status told.now }
 {
     match told {
-        Ok(LineTold::Faulted(_)) => 12,
-        Ok(_) => 0,
+        Ok(LineTold::Faulted(_)) => SCRIPT_FAULT,
+        Ok(_) => OK,
         Err(_) => NO_MEMORY,
     }
 }
 
-/// The placement that a number names: 0 is low, and all others are high.
-pub fn placement(number: u32) -> Placement {
-    if number == 0 {
-        Placement::Low
-    } else {
-        Placement::High
+/// Returns the placement of a number: 1 is low, 2 is high.
+pub fn placement(number: u32) -> Option<Placement>
+    ensures { IsSome result ↔ IsPlaceNumber number }
+{
+    match number {
+        1 => Some(Placement::Low),
+        2 => Some(Placement::High),
+        _ => None,
     }
 }
 
@@ -85,7 +85,7 @@ fn take_out(alloc: Global, session: &mut Handle) -> Option<Box<Open>>
     mem::replace(session, Handle::none()).into_box(alloc)
 }
 
-// Tells a session a line, if it takes one.
+// Passes a line to a session, if it accepts one.
 fn tell_line(held: &mut Open, line: &[u8], event: &mut Event) -> u32
     ensures { AnswersLine held.old line.now held.new event.old event.new result }
 {
@@ -97,13 +97,33 @@ fn tell_line(held: &mut Open, line: &[u8], event: &mut Event) -> u32
     line_status(&told)
 }
 
-// Gives a session that goes on a request, if there is one and a step runs.
-fn serve(held: &mut Open, asked: Option<(Name, Request)>, event: &mut Event) -> u32
+// Passes a line to a session, if it accepts one and the line has no fault.
+fn try_line(held: &mut Open, line: &[u8], event: &mut Event) -> u32
+    ensures { TriesLine held.old line.now held.new event.old event.new result }
+{
+    if !held.takes_line() {
+        return OVER;
+    }
+    match held.fault_in(line) {
+        Some(fault) => {
+            *event = fault_event(fault);
+            SCRIPT_FAULT
+        }
+        None => tell_line(held, line, event),
+    }
+}
+
+// Passes a request to a session that continues, if there is a request and a step is running.
+fn serve(held: &mut Open, asked: Result<(Name, Request), Field>, event: &mut Event) -> u32
     requires { held.old.session.goes_on ≡ true }
     ensures { AnswersAsked held.old asked held.new event.old event.new result }
 {
-    let Some((task, request)) = asked else {
-        return NO_REQUEST;
+    let (task, request) = match asked {
+        Ok(asked) => asked,
+        Err(field) => {
+            *event = refused_event(field);
+            return NO_REQUEST;
+        }
     };
     if !held.request(&task, &request) {
         return NO_STEP;
@@ -112,7 +132,7 @@ fn serve(held: &mut Open, asked: Option<(Name, Request)>, event: &mut Event) -> 
     OK
 }
 
-// Gives a session a request, if it goes on and a step runs.
+// Passes a request to a session, if it continues and a step is running.
 fn tell_request(held: &mut Open, ask: &Ask, event: &mut Event) -> u32
     ensures { AnswersRequest held.old ask.now (Asks ask.now) held.new event.old event.new result }
 {
@@ -122,10 +142,10 @@ fn tell_request(held: &mut Open, ask: &Ask, event: &mut Event) -> u32
     serve(held, ask.task_request(), event)
 }
 
-// Gives a session a list request, if it goes on and a step runs.
+// Passes a list request to a session, if it continues and a step is running.
 fn tell_list(held: &mut Open, ask: &Ask, areas: &mut [Area], event: &mut Event) -> u32
     ensures answer { AnswersRequest held.old ask.now
-        (AsksForList ask.now areas.old (slice_get kinds ask.now.kind)) held.new event.old event.new
+        (AsksList ask.now areas.old) held.new event.old event.new
         result }
     ensures granted { result ≡ 0
         → areas.new ≡ areas_told (listed held.new.session.walk.reply) areas.old }
@@ -141,7 +161,7 @@ fn tell_list(held: &mut Open, ask: &Ask, areas: &mut [Area], event: &mut Event) 
     status
 }
 
-// Tells a session that there are no more lines, if it goes on.
+// Ends a session that continues: there are no more lines.
 fn tell_end(held: &mut Open, event: &mut Event) -> u32
     ensures { AnswersEnd held.old held.new event.old event.new result }
 {
@@ -153,11 +173,15 @@ fn tell_end(held: &mut Open, event: &mut Event) -> u32
     outcome_status(closing.outcome)
 }
 
-// Hands over the text of what a session told last.
+// Returns the text of the last events of a session.
 fn show(alloc: Global, held: &Open, out: &mut [u8], wanted: &mut usize) -> u32
     ensures memory { result ≡ 16 → (out.new ≡ out.old) × (wanted.new ≡ wanted.old) }
+    ensures needed { result ≡ 16 → events_of held.now.session.walk held.now.last ≢ [] }
     ensures text { result ≢ 16 → HandsOver (text_of held.now) out.old out.new wanted.new 0 result }
 {
+    if held.tells_nothing() {
+        return hand_over(&[], out, wanted, OK);
+    }
     let mut writer = Watched::new(Vec::new(alloc));
     match held.print(&mut writer) {
         Ok(()) => hand_over(&writer.into_inner(), out, wanted, OK),
@@ -165,22 +189,35 @@ fn show(alloc: Global, held: &Open, out: &mut [u8], wanted: &mut usize) -> u32
     }
 }
 
+/// Returns the version of these calls.
+#[unsafe(no_mangle)]
+pub extern "C" fn mvs_version() -> u32
+    ensures { result ≡ 2000 }
+{
+    VERSION
+}
+
 /// Begins a session. One that the handle held is freed.
 #[unsafe(no_mangle)]
 pub extern "C" fn mvs_new(alloc: Global, session: &mut Handle, place: u32) -> u32
     ensures begun { result ≡ 0 → session.new.open ≡ Some new_open }
-    ensures memory { result ≢ 0 → (result ≡ 16) × (session.new.open ≡ session.old.open) }
+    ensures memory { result ≢ 0 → session.new.open ≡ session.old.open }
+    ensures place { IsPlaceNumber place → (result ≡ 0) ⊎ (result ≡ 16) }
+    ensures no_place { (IsPlaceNumber place → ⊥) → result ≡ 60 }
 {
-    match Box::new(alloc, Open::new(alloc, placement(place))) {
+    let Some(placement) = placement(place) else {
+        return NO_PLACE;
+    };
+    match Box::new(alloc, Open::new(alloc, placement)) {
         Ok(held) => {
             put(alloc, session, held);
-            0
+            OK
         }
         Err(_) => NO_MEMORY,
     }
 }
 
-/// Tells a line, which is given without its end.
+/// Executes a line, which is given without its newline.
 #[unsafe(no_mangle)]
 pub extern "C" fn mvs_line(
     alloc: Global,
@@ -188,14 +225,72 @@ pub extern "C" fn mvs_line(
     line: &[u8],
     event: &mut Event,
 ) -> u32
-    ensures { WithSession session.old.open session.new.open
+    ensures size { event.old.size ≢ event_bytes
+        → (result ≡ 64) × (session.new.open ≡ session.old.open) × (event.new ≡ event.old) }
+    ensures answer { event.old.size ≡ event_bytes
+        → WithSession session.old.open session.new.open
         ((result ≡ 20) × (event.new ≡ event.old))
         (λ old new. AnswersLine old line.now new event.old event.new result) }
 {
+    if !event.is_sized() {
+        return WRONG_SIZE;
+    }
     let Some(mut held) = take_out(alloc, session) else {
         return NO_SESSION;
     };
     let status = tell_line(&mut held, line, event);
+    put(alloc, session, held);
+    status
+}
+
+/// Executes a line, as `mvs_line` does; one with a fault changes nothing but the event.
+#[unsafe(no_mangle)]
+pub extern "C" fn mvs_try(
+    alloc: Global,
+    session: &mut Handle,
+    line: &[u8],
+    event: &mut Event,
+) -> u32
+    ensures size { event.old.size ≢ event_bytes
+        → (result ≡ 64) × (session.new.open ≡ session.old.open) × (event.new ≡ event.old) }
+    ensures answer { event.old.size ≡ event_bytes
+        → WithSession session.old.open session.new.open
+        ((result ≡ 20) × (event.new ≡ event.old))
+        (λ old new. TriesLine old line.now new event.old event.new result) }
+{
+    if !event.is_sized() {
+        return WRONG_SIZE;
+    }
+    let Some(mut held) = take_out(alloc, session) else {
+        return NO_SESSION;
+    };
+    let status = try_line(&mut held, line, event);
+    put(alloc, session, held);
+    status
+}
+
+/// Begins a step, as `mvs_try` does with the line of its REGION statement.
+#[unsafe(no_mangle)]
+pub extern "C" fn mvs_begin(
+    alloc: Global,
+    session: &mut Handle,
+    region: &Region,
+    event: &mut Event,
+) -> u32
+    ensures size { (region.now.size ≡ region_bytes → ⊥) ⊎ (event.old.size ≡ event_bytes → ⊥)
+        → (result ≡ 64) × (session.new.open ≡ session.old.open) × (event.new ≡ event.old) }
+    ensures answer { region.now.size ≡ region_bytes → event.old.size ≡ event_bytes
+        → WithSession session.old.open session.new.open
+        ((result ≡ 20) × (event.new ≡ event.old))
+        (λ old new. TriesLine old (region_line region.now) new event.old event.new result) }
+{
+    if !region.is_sized() || !event.is_sized() {
+        return WRONG_SIZE;
+    }
+    let Some(mut held) = take_out(alloc, session) else {
+        return NO_SESSION;
+    };
+    let status = try_line(&mut held, region.line().as_slice(), event);
     put(alloc, session, held);
     status
 }
@@ -208,10 +303,16 @@ pub extern "C" fn mvs_request(
     ask: &Ask,
     event: &mut Event,
 ) -> u32
-    ensures { WithSession session.old.open session.new.open
+    ensures size { event.old.size ≢ event_bytes
+        → (result ≡ 64) × (session.new.open ≡ session.old.open) × (event.new ≡ event.old) }
+    ensures answer { event.old.size ≡ event_bytes
+        → WithSession session.old.open session.new.open
         ((result ≡ 20) × (event.new ≡ event.old))
         (λ old new. AnswersRequest old ask.now (Asks ask.now) new event.old event.new result) }
 {
+    if !event.is_sized() {
+        return WRONG_SIZE;
+    }
     let Some(mut held) = take_out(alloc, session) else {
         return NO_SESSION;
     };
@@ -220,7 +321,7 @@ pub extern "C" fn mvs_request(
     status
 }
 
-/// Gives a list request by values, and tells the areas that are granted.
+/// Executes a list request by values, and returns the granted areas.
 #[unsafe(no_mangle)]
 pub extern "C" fn mvs_list(
     alloc: Global,
@@ -229,10 +330,17 @@ pub extern "C" fn mvs_list(
     areas: &mut [Area],
     event: &mut Event,
 ) -> u32
-    ensures { WithSession session.old.open session.new.open
+    ensures size { event.old.size ≢ event_bytes
+        → (result ≡ 64) × (session.new.open ≡ session.old.open) × (areas.new ≡ areas.old)
+        × (event.new ≡ event.old) }
+    ensures answer { event.old.size ≡ event_bytes
+        → WithSession session.old.open session.new.open
         ((result ≡ 20) × (areas.new ≡ areas.old) × (event.new ≡ event.old))
         (λ old new. AnswersList old ask.now areas.old new areas.new event.old event.new result) }
 {
+    if !event.is_sized() {
+        return WRONG_SIZE;
+    }
     let Some(mut held) = take_out(alloc, session) else {
         return NO_SESSION;
     };
@@ -241,13 +349,19 @@ pub extern "C" fn mvs_list(
     status
 }
 
-/// Tells that there are no more lines.
+/// Ends the job: there are no more lines.
 #[unsafe(no_mangle)]
 pub extern "C" fn mvs_end(alloc: Global, session: &mut Handle, event: &mut Event) -> u32
-    ensures { WithSession session.old.open session.new.open
+    ensures size { event.old.size ≢ event_bytes
+        → (result ≡ 64) × (session.new.open ≡ session.old.open) × (event.new ≡ event.old) }
+    ensures answer { event.old.size ≡ event_bytes
+        → WithSession session.old.open session.new.open
         ((result ≡ 20) × (event.new ≡ event.old))
         (λ old new. AnswersEnd old new event.old event.new result) }
 {
+    if !event.is_sized() {
+        return WRONG_SIZE;
+    }
     let Some(mut held) = take_out(alloc, session) else {
         return NO_SESSION;
     };
@@ -256,9 +370,9 @@ pub extern "C" fn mvs_end(alloc: Global, session: &mut Handle, event: &mut Event
     status
 }
 
-/// Prints what was told last.
+/// Prints the last events to the front of a buffer.
 #[unsafe(no_mangle)]
-pub extern "C" fn mvs_text(
+pub extern "C" fn mvs_text_into(
     alloc: Global,
     session: &mut Handle,
     out: &mut [u8],
@@ -267,7 +381,10 @@ pub extern "C" fn mvs_text(
     ensures session { session.new.open ≡ session.old.open }
     ensures none { session.old.open ≡ None
         → (result ≡ 20) × (out.new ≡ out.old) × (wanted.new ≡ wanted.old) }
+    // Memory is exhausted only where there is something to print.
     ensures memory { result ≡ 16 → (out.new ≡ out.old) × (wanted.new ≡ wanted.old) }
+    ensures needed { IfSome session.old.open
+        (λ old. result ≡ 16 → events_of old.session.walk old.last ≢ []) }
     ensures text { IfSome session.old.open
         (λ old. result ≢ 16 → HandsOver (text_of old) out.old out.new wanted.new 0 result) }
 {
@@ -281,7 +398,7 @@ pub extern "C" fn mvs_text(
 
 /// Frees a session, where the handle holds one.
 #[unsafe(no_mangle)]
-pub extern "C" fn mvs_free(alloc: Global, session: &mut Handle)
+pub extern "C" fn mvs_free_session(alloc: Global, session: &mut Handle)
     ensures { session.new.open ≡ None }
 {
     drop(take_out(alloc, session));
@@ -316,7 +433,7 @@ pub extern "C" fn mvs_write(alloc: Global, session: &mut Handle, address: u32, b
     status
 }
 
-/// Tells the name of one of the tasks that ended with the one that abended last.
+/// Returns the name of one of the tasks that ended with the last one that abended.
 #[unsafe(no_mangle)]
 pub extern "C" fn mvs_fallen(
     alloc: Global,
@@ -338,21 +455,25 @@ pub extern "C" fn mvs_fallen(
     status
 }
 
-/// Tells of a task's first subpool number at or after one.
+/// Returns the first subpool number of a task at or after one.
 #[unsafe(no_mangle)]
 pub extern "C" fn mvs_subpool(
     alloc: Global,
     session: &mut Handle,
-    task: &[u8],
+    task: &[u8; 8],
     from: u8,
     told: &mut Subpool,
 ) -> u32
     ensures session { session.new.open ≡ session.old.open }
-    ensures none { session.old.open ≡ None → (result ≡ 20) × (told.new ≡ told.old) }
-    ensures told { IfSome session.old.open
-        (λ old. (found : Option SubpoolLine) × FindsSubpool old task.now from found
-        × TellsOne found subpool_told told.old told.new result) }
+    ensures size { told.old.size ≢ subpool_bytes → (result ≡ 64) × (told.new ≡ told.old) }
+    ensures none { told.old.size ≡ subpool_bytes → session.old.open ≡ None
+        → (result ≡ 20) × (told.new ≡ told.old) }
+    ensures told { told.old.size ≡ subpool_bytes
+        → IfSome session.old.open (λ old. AnswersSubpool old task.now from told.old told.new result) }
 {
+    if !told.is_sized() {
+        return WRONG_SIZE;
+    }
     let Some(held) = take_out(alloc, session) else {
         return NO_SESSION;
     };
@@ -361,15 +482,21 @@ pub extern "C" fn mvs_subpool(
     status
 }
 
-/// Tells of the first run of pages at or after an address.
+/// Returns the first run of pages at or after an address.
 #[unsafe(no_mangle)]
 pub extern "C" fn mvs_map(alloc: Global, session: &mut Handle, from: u32, told: &mut Run) -> u32
     ensures session { session.new.open ≡ session.old.open }
-    ensures none { session.old.open ≡ None → (result ≡ 20) × (told.new ≡ told.old) }
-    ensures told { IfSome session.old.open
+    ensures size { told.old.size ≢ run_bytes → (result ≡ 64) × (told.new ≡ told.old) }
+    ensures none { told.old.size ≡ run_bytes → session.old.open ≡ None
+        → (result ≡ 20) × (told.new ≡ told.old) }
+    ensures told { told.old.size ≡ run_bytes
+        → IfSome session.old.open
         (λ old. (found : Option MapRun) × FindsRun old from found
         × TellsOne found run_told told.old told.new result) }
 {
+    if !told.is_sized() {
+        return WRONG_SIZE;
+    }
     let Some(held) = take_out(alloc, session) else {
         return NO_SESSION;
     };

@@ -1,15 +1,15 @@
-//! What a session told last.
+//! The last events of a session.
 
 use mvs_job::LineTold;
 
-/// What was told last. What is long in it the session lends.
+/// The last event. The session has its long data.
 #[derive(Clone, Copy, Debug, PartialEq, Eq)]
 pub enum Last {
-    /// Nothing was told yet.
+    /// There was no event yet.
     Nothing,
     /// The line of this number.
     Line { number: u32, told: LineTold },
-    /// A line for which memory was wanting: the step that ran, if one did, has ended, and a task of it had abended or not.
+    /// A line for which memory was exhausted: the running step, if there was one, has ended, and whether a task of it had abended.
     Stopped(Option<bool>),
     /// The end of the job, at the number of a next line.
     Closed { number: u32, ended: Option<bool> },

@@ -1,21 +1,20 @@
 //! A list request that C gives by a struct and its areas.
 
-ghost use Rattle.std.specs.Prelude.{◌≡◌, ◌<◌, ◌≤◌, ◌+◌, ◌++◌, ◌∷◌, [], MatchBool, Some, SomeIff, length, map, slice_get};
-ghost use Rattle.mvs_model.specs.Place.{IsPlace, place_at};
-ghost use Rattle.mvs_model.specs.declared.request.Request.TheVariants as request;
-ghost use Rattle.mvs_c.specs.Asks.{TaskAsks, kinds, name_said, name_text, or_else};
-ghost use Rattle.mvs_c.specs.Lists.{AreLengths, ArePlaces, AsksForList, IsList, IsListForm, IsListLength, IsObtainList, areas_told, list_form_said, listed};
+ghost use Rattle.std.specs.Prelude.{◌≡◌, ◌<◌, ◌≤◌, ◌+◌, ◌^◌, ◌++◌, MatchBool, SomeIff, length, map};
+ghost use Rattle.mvs_model.specs.Place.{place_at};
+ghost use Rattle.mvs_c.specs.Asks.{TakesForm, TaskAsks, form_said, or_else};
+ghost use Rattle.mvs_c.specs.Lists.{AreLengths, ArePlaces, AsksList, IsListLength, IsListStart, ObtainsList, ReleasesList, areas_told, is_list_form, listed};
 
-use crate::ask::{
-    Ask, Kind, exponent_of, kind_of, length_of, name_of, or_else, place_of, subpool_of,
-};
+use crate::ask::{Ask, Kind, exponent_of, form_of, length_of, or_else, place_of, subpool_of};
+use crate::field::Field;
+use mvs_model::bounded::Exponent;
 use mvs_model::code::Form;
 use mvs_model::name::Name;
 use mvs_model::numbers::MOST_ITEMS;
 use mvs_model::place::Place;
 use mvs_model::request::{Lengths, Places, Reply, Request};
 
-/// An area of a list: of a request its length, and where it lies if it is released; behind a request that obtains what was granted.
+/// An area of a list: its length, and its address if it is released; after a request that obtains, what was granted.
 #[repr(C)]
 #[derive(Clone, Copy)]
 pub struct Area {
@@ -24,17 +23,36 @@ pub struct Area {
 }
 
 // The form of a list.
-fn form_of(number: u32) -> Option<Form>
-    ensures { SomeIff result (IsListForm number) (list_form_said number) }
+fn list_form(number: u32) -> Option<Form>
+    ensures { SomeIff result (TakesForm is_list_form number) (form_said number) }
 {
-    match number {
-        11 => Some(Form::Lc),
-        12 => Some(Form::Lu),
+    match form_of(number)? {
+        form @ (Form::Lc | Form::Lu) => Some(form),
+        Form::R
+        | Form::Rc
+        | Form::Ru
+        | Form::Vrc
+        | Form::Vru
+        | Form::Ec
+        | Form::Eu
+        | Form::Vc
+        | Form::Vu
+        | Form::Storage
+        | Form::StorageConditional => None,
+    }
+}
+
+// The power of two of the boundary that each area begins on.
+fn list_start(number: u32) -> Option<Exponent>
+    ensures { SomeIff result (IsListStart number) (or_else number 3) }
+{
+    match or_else(number, 3) {
+        start @ (3 | 12) => exponent_of(start),
         _ => None,
     }
 }
 
-// Puts the lengths of areas behind others, where all are in their range.
+// Appends the lengths of areas, if all are in range.
 fn push_lengths(lengths: &mut Lengths, areas: &[Area]) -> bool
     requires { length lengths.old + length areas.now ≤ 16 }
     ensures { MatchBool result
@@ -67,7 +85,7 @@ fn lengths_of(areas: &[Area]) -> Option<Lengths>
     }
 }
 
-// Puts the places of areas behind others, where all are in their range.
+// Appends the places of areas, if all are in range.
 fn push_places(places: &mut Places, areas: &[Area]) -> bool
     requires { length places.old + length areas.now ≤ 16 }
     ensures { MatchBool result
@@ -102,50 +120,86 @@ fn places_of(areas: &[Area]) -> Option<Places>
 }
 
 impl Ask {
-    fn obtain_list(&self, areas: &[Area]) -> Option<Request>
-        ensures { SomeIff result (IsObtainList self.now areas.now)
-            (request.ObtainList (list_form_said self.now.form) self.now.subpool (map (λ a. a.length) areas.now) (or_else self.now.boundary 3)) }
+    fn obtain_list(&self, areas: &[Area]) -> Result<Request, Field>
+        ensures { ObtainsList self.now areas.now result }
     {
-        Some(Request::ObtainList {
-            form: form_of(self.form)?,
-            number: subpool_of(self.subpool)?,
-            lengths: lengths_of(areas)?,
-            start: exponent_of(or_else(self.boundary, 3))?,
+        let Some(form) = list_form(self.form) else {
+            return Err(Field::Form);
+        };
+        let Some(number) = subpool_of(self.subpool) else {
+            return Err(Field::Subpool);
+        };
+        let Some(start) = list_start(self.boundary) else {
+            return Err(Field::Boundary);
+        };
+        let Some(lengths) = lengths_of(areas) else {
+            return Err(Field::Areas);
+        };
+        Ok(Request::ObtainList {
+            form,
+            number,
+            lengths,
+            start,
         })
     }
 
-    fn release_list(&self, areas: &[Area]) -> Option<Request>
-        ensures { SomeIff result (IsList self.now areas.now × ArePlaces areas.now)
-            (request.ReleaseList (list_form_said self.now.form) self.now.subpool (map (λ a. place_at a.address a.length) areas.now)) }
+    fn release_list(&self, areas: &[Area]) -> Result<Request, Field>
+        ensures { ReleasesList self.now areas.now result }
     {
-        Some(Request::ReleaseList {
-            form: form_of(self.form)?,
-            number: subpool_of(self.subpool)?,
-            places: places_of(areas)?,
+        let Some(form) = list_form(self.form) else {
+            return Err(Field::Form);
+        };
+        let Some(number) = subpool_of(self.subpool) else {
+            return Err(Field::Subpool);
+        };
+        let Some(places) = places_of(areas) else {
+            return Err(Field::Areas);
+        };
+        Ok(Request::ReleaseList {
+            form,
+            number,
+            places,
         })
     }
 
-    fn list_request(&self, areas: &[Area]) -> Option<Request>
-        ensures { AsksForList self.now areas.now (slice_get kinds self.now.kind) result }
+    fn list_request(&self, areas: &[Area]) -> Result<Request, Field>
+        ensures { AsksList self.now areas.now result }
     {
-        match kind_of(self.kind)? {
+        let Some(kind) = self.kind() else {
+            return Err(Field::Kind);
+        };
+        match kind {
             Kind::Obtain => self.obtain_list(areas),
             Kind::Release => self.release_list(areas),
-            _ => None,
+            Kind::ReleaseWhole
+            | Kind::Build
+            | Kind::Get
+            | Kind::Free
+            | Kind::Delete
+            | Kind::Attach
+            | Kind::Return
+            | Kind::Abend
+            | Kind::Show
+            | Kind::Move => Err(Field::Kind),
         }
     }
 
-    /// The task and the list request that it asks for; None where a name or a number of it is out of its range.
-    pub fn task_list_request(&self, areas: &[Area]) -> Option<(Name, Request)>
-        ensures { TaskAsks self.now (AsksForList self.now areas.now (slice_get kinds self.now.kind)) result }
+    /// Returns the task and the list request that it makes, or the first field that does not fit.
+    pub fn task_list_request(&self, areas: &[Area]) -> Result<(Name, Request), Field>
+        ensures { TaskAsks self.now (AsksList self.now areas.now) result }
     {
-        let task = name_of(&self.task)?;
-        let request = self.list_request(areas)?;
-        Some((task, request))
+        let task = match self.named_task() {
+            Ok(task) => task,
+            Err(field) => return Err(field),
+        };
+        match self.list_request(areas) {
+            Ok(request) => Ok((task, request)),
+            Err(field) => Err(field),
+        }
     }
 }
 
-// Tells places in the place of the first areas.
+// Writes places over the first areas.
 fn tell_places(places: &[Place], areas: &mut [Area])
     ensures { areas.new ≡ areas_told places.now areas.old }
 {
@@ -162,7 +216,7 @@ fn tell_places(places: &[Place], areas: &mut [Area])
     tell_places(places, areas);
 }
 
-/// Tells the places that a reply grants to a list.
+/// Writes the places that a reply grants to a list.
 pub fn tell_listed(reply: &Reply, areas: &mut [Area])
     ensures { areas.new ≡ areas_told (listed reply.now) areas.old }
 {

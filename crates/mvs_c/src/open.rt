@@ -1,6 +1,6 @@
-//! A session, and what it told last.
+//! A session, and its last event.
 
-ghost use Rattle.std.specs.Prelude.{◌≡◌, ◌+◌, ◌^◌, ◌<◌, ◌∷◌, [], true, false, None, length, IfOk, MatchBool, MatchOption, MatchResult};
+ghost use Rattle.std.specs.Prelude.{◌≡◌, ◌≢◌, ◌+◌, ◌^◌, ◌<◌, ◌∷◌, [], true, false, None, length, IfOk, MatchBool, MatchOption, MatchResult};
 ghost use Rattle.mvs_model.specs.Lent.{fallen_in};
 ghost use Rattle.mvs_model.specs.Memory.{StopsForMemory};
 ghost use Rattle.mvs_model.specs.Runs.{machine};
@@ -9,10 +9,12 @@ ghost use Rattle.job_script.specs.Writing.{Prints};
 ghost use Rattle.mvs_job.specs.Telling.{IsTold, KeepsReplyOf, closing, ended, goes_on};
 ghost use Rattle.mvs_job.specs.Valued.{RequestsOf, WritesOf};
 ghost use Rattle.mvs_c.specs.declared.last.Last.TheVariants as last;
-ghost use Rattle.mvs_c.specs.Opens.{TakesLine, last_of, new_open, text_of, without_line};
+ghost use Rattle.mvs_c.specs.Opens.{TakesLine, events_of, fault_of, last_of, new_open, text_of, without_line};
 
 use crate::last::Last;
+use job_script::read_line;
 use mvs_job::{Closing, Job, LineTold, Session, Stopped, print_closing, print_line};
+use mvs_model::line::{Fault, Line};
 use mvs_model::name::Name;
 use mvs_model::place::Place;
 use mvs_model::request::{Reply, Request};
@@ -22,7 +24,7 @@ use std::alloc::Global;
 use std::io::Write;
 use std::marker::Model;
 
-/// A session, and what it told last.
+/// A session, and its last event.
 #[derive(Drop)]
 pub struct Open {
     session: Session,
@@ -42,7 +44,7 @@ impl Model for Open {
 }
 
 impl Open {
-    /// A session that was told no line.
+    /// Makes a session before its first line.
     pub fn new(alloc: Global, placement: Placement) -> Open
         ensures { result ≡ new_open }
     {
@@ -59,7 +61,7 @@ impl Open {
         self.session.takes_line()
     }
 
-    /// Whether the job goes on.
+    /// Returns whether the job continues.
     pub fn goes_on(&self) -> bool
         ensures { result ≡ self.now.session.goes_on }
     {
@@ -79,6 +81,17 @@ impl Open {
         ensures { result.now ≡ fallen_in self.now.session.walk.reply }
     {
         self.session.walk().fallen()
+    }
+
+    /// Returns the fault of a line, or None if it has none.
+    pub fn fault_in(&self, line: &[u8]) -> Option<Fault>
+        ensures { result ≡ fault_of self.now line.now }
+    {
+        let mut read = Line::Nothing;
+        match read_line(line, self.job().is_none(), &mut read) {
+            Ok(()) => None,
+            Err(fault) => Some(fault),
+        }
     }
 
     /// Serves a line, as a session does.
@@ -106,7 +119,8 @@ impl Open {
         told
     }
 
-    /// Serves a request that is given by values, as a session does, and then has told no line; false where no step runs.
+    /// Executes a request given by values, as a session does; there is then no event of a line. Returns false if no step is
+    /// running.
     pub fn request(&mut self, task: &Name, request: &Request) -> bool
         requires { self.old.session.goes_on ≡ true }
         ensures no_step { result ≡ false → (self.old.session.walk.step ≡ None) × (self.new ≡ self.old) }
@@ -122,7 +136,7 @@ impl Open {
         served
     }
 
-    /// Writes bytes, as a session does, and then has told no line; false where it does not write them.
+    /// Writes bytes, as a session does; there is then no event of a line. Returns false if it does not write them.
     pub fn write(&mut self, place: Place, bytes: &[u8]) -> bool
         requires goes_on { self.old.session.goes_on ≡ true }
         requires len { length bytes.now ≡ place.len }
@@ -162,7 +176,20 @@ impl Open {
         closing
     }
 
-    /// Prints what was told last.
+    /// Returns whether the last event prints nothing.
+    pub fn tells_nothing(&self) -> bool
+        ensures { MatchBool result (events_of self.now.session.walk self.now.last ≡ [])
+            (events_of self.now.session.walk self.now.last ≢ []) }
+    {
+        match &self.last {
+            Last::Nothing => true,
+            Last::Line { told, .. } => matches!(told, LineTold::Nothing),
+            Last::Stopped(ended) => ended.is_none(),
+            Last::Closed { .. } => false,
+        }
+    }
+
+    /// Prints the last event.
     pub fn print<W: Write>(&self, writer: &mut Watched<W>) -> Result<(), Failed>
         ensures { Prints W.contents writer.old writer.new result (text_of self.now) }
     {

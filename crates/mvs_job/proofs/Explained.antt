@@ -1,10 +1,8 @@
 -- A script that is run with reasons, a line at a time.
-use Rattle.std.proofs.Common.{◌≡◌, ◌≢◌, ℕ, ◌+◌, ◌<◌, ◌≤◌, List, [], ◌∷◌, ◌++◌, length, take, drop, get_or, append_assoc, append-nil, add-one, arith, Option, Some, None, Result, Bool, true, false, cond, Ok, Err, inl, inr, refl, sym, ap, ◌∙◌, subst}
+use Rattle.std.proofs.Common.{◌≡◌, ◌≢◌, ℕ, ◌+◌, ◌<◌, ◌≤◌, List, [], ◌∷◌, ◌++◌, length, take, drop, get_or, append_assoc, append-nil, add-one, arith, Option, None, Result, Bool, true, false, Ok, Err, inl, inr, refl, sym, ap, ◌∙◌, subst}
 use Rattle.std.proofs.Math.Seq.{drop-cons}
 use Rattle.std.proofs.lemmas.List.{take-append-drop, take_all, drop_all, drop-drop}
 use Rattle.std.specs.List.{AllByRecursion}
-use Rattle.std.specs.Option.{option_and_then}
-use Rattle.std.specs.Prelude.{IfSome}
 use Rattle.std.specs.Io.KnownBytes.{Appends}
 use Rattle.std.proofs.KnownBytes.{Appends-kept, Appends-nil, Appends-trans}
 use Rattle.mvs_model.specs.declared.outcome.Outcome.{Outcome}
@@ -15,29 +13,19 @@ use Rattle.mvs_model.specs.Runs.{machine}
 use Rattle.mvs_model.specs.Texts.{printing}
 use Rattle.mvs_model.specs.Walk.{Closes, ServesLine}
 use Rattle.job_script.specs.Writing.{AppendsFront}
-use Rattle.job_script.proofs.Appending.{front_longer, front_more}
+use Rattle.job_script.proofs.Appending.{front_more}
 use Rattle.mvs_job.specs.declared.printing.Stop.{Stop}
 use Rattle.mvs_job.specs.declared.printing.Stop.TheVariants as stop
-use Rattle.mvs_job.specs.Explaining.{Explains, ExplainsLine, IsBehind, IsExplanation, SoFar, WritesExplained, behind_said, said_of, unless_granted}
-use Rattle.mvs_job.specs.Why.{TurnIn}
-use Rattle.mvs_job.proofs.Turning.{turn_told}
-use Rattle.mvs_job.specs.Facts.{IsAsked, IsFreeing, IsSurvey, ended_by, freed_by, freed_lines, may_end, surveyed}
-use Rattle.mvs_job.specs.declared.asking.Asking.{Asking}
-use Rattle.mvs_job.specs.declared.ends.Asked.{Asked}
-use Rattle.mvs_job.specs.declared.naming.Naming.{Naming}
-use Rattle.mvs_job.specs.Naming.{IsAddress, IsNamed, IsNamingIn, IsSetBehind, KeepsLines, SetLines, address_told, lines_before, naming_text, no_lines}
-use Rattle.mvs_job.specs.declared.granting.Before.{Before}
-use Rattle.mvs_job.specs.Granting.{IsGranting, IsReadIn, before_line, done_text, granted_text, tells_grant}
-use Rattle.mvs_model.specs.declared.line.Line.{Line}
-use Rattle.mvs_model.specs.declared.line.Line.TheVariants as line
+use Rattle.mvs_job.specs.Explaining.{Explains, ExplainsLine, IsBehind, SoFar, WritesExplained}
+use Rattle.mvs_job.specs.Naming.{IsSetBehind, KeepsLines, SetLines, no_lines}
 use Rattle.mvs_job.specs.declared.walk.LineTold.{LineTold}
 use Rattle.mvs_job.specs.declared.walk.LineTold.TheVariants as told
-use Rattle.step_machine.specs.declared.facts.OwnedSubpool.{OwnedSubpool}
 use Rattle.mvs_model.specs.declared.line.Fault.{Fault}
-use Rattle.mvs_model.specs.Job.{JobValue}
 use Rattle.mvs_job.specs.Serving.{RunsLine, TellsLine}
 use Rattle.mvs_job.specs.Telling.{IsTold, WalkValue, events_told, new_walk}
 use Rattle.mvs_job.proofs.Feeding.{all_before, lines_ended, lines_last}
+use Rattle.mvs_job.specs.Apart.{StandsBehind}
+use Rattle.mvs_job.specs.Asking.{StopsLine}
 
 -- ---- the first line
 
@@ -67,67 +55,6 @@ served w w' l told.Nothing other h = h
 served w w' l (told.Began end card) other h = h
 served w w' l (told.Answered t a) other h = h
 
--- which subpools go, by those that were taken before
-module _ (job : JobValue) (asked : Asked) (subpools : List OwnedSubpool) (read : Line) (e : asked.ends ≡ may_end read asked.reason) (survey : IsSurvey asked.ends (Some job) read subpools) where
-  taken : asked.ends ≡ true → subpools ≡ surveyed job.state read
-  taken same = of read refl where
-    of : (l : Line) → read ≡ l → subpools ≡ surveyed job.state l
-    of line.Nothing is = absurd (let f : false ≡ true = sym (e ∙ ap (λ l. may_end l asked.reason) is) ∙ same in cc)
-    of (line.Statement t s) is = survey same job refl t s is
-
-  goes_by : (events : List Event) → freed_by asked.ends subpools events ≡ freed_by (may_end read asked.reason) (surveyed job.state read) events
-  goes_by events = at asked.ends refl ∙ ap (λ b. freed_by b (surveyed job.state read) events) e where
-    at : (b : Bool) → asked.ends ≡ b → freed_by b subpools events ≡ freed_by b (surveyed job.state read) events
-    at true same = ap (λ s. freed_lines s (ended_by events)) (taken same)
-    at false same = refl
-
-pub freeing : (step : Option JobValue) (l : List ℕ) (asked : Asked) (subpools : List OwnedSubpool) (read : Line) → IsAsked step l read asked → IsSurvey asked.ends step read subpools → (events : List Event)
-    → IsFreeing step l events (freed_by asked.ends subpools events)
-freeing None l asked subpools read is survey events = ap (λ b. freed_by b subpools events) is
-freeing (Some job) l asked subpools read (inl (of, why, e)) survey events = inl (read, of, (asked.reason, why, goes_by job asked subpools read e survey events))
-freeing (Some job) l asked subpools read (inr (fault, of, e)) survey events = inr (fault, of, ap (λ b. freed_by b subpools events) e)
-
--- what the line did, by what was looked at before
-nothing_done : (l : Line) (events : List Event) (new : Option JobValue) → granted_text None l events new ≡ []
-nothing_done l events new = at (tells_grant events) where
-  at : (yes : Bool) → cond yes (done_text None l new) [] ≡ []
-  at true = refl
-  at false = refl
-
-nothing_before : (step : Option JobValue) → before_line step line.Nothing ≡ None
-nothing_before None = refl
-nothing_before (Some job) = refl
-
-granting : (step : Option JobValue) (l : List ℕ) (read : Line) (before : Option Before) → IsReadIn step l read → before ≡ before_line step read → (events : List Event) (new : Option JobValue) → IsGranting step l events new (granted_text before read events new)
-granting None l read before is looked events new = inr (inl (refl, ap (λ b. granted_text b read events new) looked ∙ nothing_done read events new))
-granting (Some job) l read before (inl of) looked events new = inl (read, of, ap (λ b. granted_text b read events new) looked)
-granting (Some job) l read before (inr (fault, of, is)) looked events new =
-    inr (inr (fault, of, ap (λ b. granted_text b read events new) (looked ∙ ap (before_line (Some job)) is ∙ nothing_before (Some job)) ∙ nothing_done read events new))
-
--- which name has the address of the reason
-named : (step : Option JobValue) (set : SetLines) (l : List ℕ) (a : Option ℕ) (n : Option Naming) → IfSome step (λ job. IsAddress job l a) → IsNamingIn step (lines_before step set) a n → IsNamed step set l (naming_text n)
-named None set l a n tells is = ap naming_text is
-named (Some job) set l a n tells is = (a, tells, (n, is, refl))
-
--- what is printed behind a line that was asked about
-pub behind : (step : Option JobValue) (set : SetLines) (l : List ℕ) (x : Asking) → IsExplanation step l (said_of x.why.read x.why.request x.asked.reason)
-    → IfSome step (λ job. IsAddress job l (option_and_then (address_told x.why.request) x.asked.reason)) → IsNamingIn step (lines_before step set) (option_and_then (address_told x.why.request) x.asked.reason) x.naming
-    → IsAsked step l x.why.read x.asked → IsSurvey x.asked.ends step x.why.read x.subpools → IsReadIn step l x.why.read → x.asked.before ≡ before_line step x.why.read → TurnIn step x.why.read x.asked.reason x.turn
-    → (events : List Event) (new : Option JobValue) → IsBehind step set l events new (behind_said x events new)
-behind step set l x why address names asked survey reads looked turn events new = (
-  said_of x.why.read x.why.request x.asked.reason,
-  naming_text x.naming,
-  unless_granted events (said_of x.why.read x.why.request x.turn),
-  freed_by x.asked.ends x.subpools events,
-  granted_text x.asked.before x.why.read events new,
-  why,
-  named step set l (option_and_then (address_told x.why.request) x.asked.reason) x.naming address names,
-  turn_told step l x.why.read x.asked x.why.request x.turn events asked reads turn,
-  freeing step l x.asked x.subpools x.why.read asked survey events,
-  granting step l x.why.read x.asked.before reads looked events new,
-  refl,
-)
-
 -- the lines that set names behind a line that has no fault
 kept_lines : (w w' : WalkValue) (set : SetLines) (l : List ℕ) (t : LineTold) (later : SetLines) → ((fault : Fault) → t ≡ told.Faulted fault → ⊥) → KeepsLines w set l w' t later → IsSetBehind w.number w.step set l (events_told w.number w' t) later
 kept_lines w w' set l (told.Faulted fault) later other h = absurd (other fault refl)
@@ -135,23 +62,28 @@ kept_lines w w' set l told.Nothing later other h = h
 kept_lines w w' set l (told.Began end card) later other h = h
 kept_lines w w' set l (told.Answered t a) later other h = h
 
-module _ (w : WalkValue) (set : SetLines) (l : List ℕ) (said : List Event → Option JobValue → List ℕ) (is : (events : List Event) (new : Option JobValue) → IsBehind w.step set l events new (said events new)) where
-  module _ (before mid after : Option (List ℕ)) (w' : WalkValue) (t : LineTold) (later : SetLines) (other : (fault : Fault) → t ≡ told.Faulted fault → ⊥) (tells : TellsLine before mid w l w' (Ok t)) where
-    pub line_explained : KeepsLines w set l w' t later → Appends mid after (said (events_told w.number w' t) w'.step) → ExplainsLine before after w set l w' later (Ok true)
-    line_explained kept a =
-        let events = events_told w.number w' t in
-        (events, said events w'.step, Appends-trans before mid after (printing events) _ tells.1 a, served w w' l t other tells.0, kept_lines w w' set l t later other kept, is events w'.step)
+module _ (w : WalkValue) (set : SetLines) (l : List ℕ) (before mid after : Option (List ℕ)) (w' : WalkValue) (t : LineTold) (later : SetLines) (text : List ℕ) (other : (fault : Fault) → t ≡ told.Faulted fault → ⊥) (tells : TellsLine before mid w l w' (Ok t)) (is : IsBehind w.step set l (events_told w.number w' t) w'.step text) where
+  pub line_explained : KeepsLines w set l w' t later → Appends mid after text → ExplainsLine before after w set l w' later (Ok true)
+  line_explained kept a =
+      let events = events_told w.number w' t in
+      (events, text, Appends-trans before mid after (printing events) text tells.1 a, served w w' l t other tells.0, kept_lines w w' set l t later other kept, is)
 
-    pub line_cut : AppendsFront mid after (said (events_told w.number w' t) w'.step) → ExplainsLine before after w set l w' later (Err stop.Write)
-    line_cut a =
-        let events = events_told w.number w' t in
-        inr (events, said events w'.step, w'.step, inl (served w w' l t other tells.0), is events w'.step, front_more before mid after (printing events) _ tells.1 a)
+  pub line_cut : AppendsFront mid after text → ExplainsLine before after w set l w' later (Err stop.Write)
+  line_cut a =
+      let events = events_told w.number w' t in
+      inr (events, text, w'.step, inl (served w w' l t other tells.0), is, front_more before mid after (printing events) text tells.1 a)
 
-  pub line_stopped : (before after : Option (List ℕ)) (w' : WalkValue) (later : SetLines) (s : Stop) → RunsLine before after w l w' (Err s) → ExplainsLine before after w set l w' later (Err s)
-  line_stopped before after w' later stop.Write (inl kept) = inl kept
-  line_stopped before after w' later stop.Write (inr (events, inl (new, serves), front)) = inr (events, said events new, new, inl serves, is events new, front_longer before after (printing events) _ front)
-  line_stopped before after w' later stop.Write (inr (events, inr faults, front)) = inr (events, said events None, None, inr faults, is events None, front_longer before after (printing events) _ front)
-  line_stopped before after w' later stop.Memory h = h
+-- what is printed behind a line apart
+pub stands_behind : (before after : Option (List ℕ)) (w : WalkValue) (set : SetLines) (l : List ℕ) (w' : WalkValue) (t : LineTold) (text : List ℕ) → Appends before after text → IsBehind w.step set l (events_told w.number w' t) w'.step text → StandsBehind before after w set l w' t
+stands_behind before after w set l w' (told.Faulted fault) text a is = tt
+stands_behind before after w set l w' told.Nothing text a is = (text, a, is)
+stands_behind before after w set l w' (told.Began end card) text a is = (text, a, is)
+stands_behind before after w set l w' (told.Answered t x) text a is = (text, a, is)
+
+-- a line that stops the run
+pub line_stopped : (w : WalkValue) (set : SetLines) (l : List ℕ) (before after : Option (List ℕ)) (w' : WalkValue) (later : SetLines) (s : Stop) → RunsLine before after w l w' (Err s) → (s ≡ stop.Write → StopsLine before after w set l) → ExplainsLine before after w set l w' later (Err s)
+line_stopped w set l before after w' later stop.Write h stops = stops refl
+line_stopped w set l before after w' later stop.Memory h stops = h
 
 -- ---- the lines so far
 

@@ -10,14 +10,14 @@ use Rattle.mvs_model.specs.Name.{same_name}
 use Rattle.mvs_model.specs.Reports.{each_below, label_of, number_of}
 use Rattle.mvs_model.specs.State.{State}
 use Rattle.mvs_model.proofs.Orders.{same_name_self, told as told_apart}
-use Rattle.step_machine.specs.Facts.{bytes_of, has_subpool, listed, owned_at, pages_of}
-use Rattle.step_machine.specs.declared.facts.OwnedSubpool.{OwnedSubpool}
+use Rattle.request_forms.specs.Facts.{bytes_of, has_subpool, listed, owned_at, pages_of}
+use Rattle.request_forms.specs.declared.facts.OwnedSubpool.{OwnedSubpool}
 use Rattle.mvs_model.specs.declared.name.Name.{Name}
 use Rattle.mvs_model.specs.declared.answer.Answer.{Answer as Short}
 use Rattle.mvs_model.specs.Lent.{lent, fallen_in}
 use Rattle.mvs_job.specs.declared.walk.LineTold.{LineTold}
 use Rattle.mvs_job.specs.declared.walk.LineTold.TheVariants as told
-use Rattle.mvs_job.specs.Facts.{end_of, ended_by, freed_by, freed_lines}
+use Rattle.mvs_job.specs.Facts.{end_of, ended_by, freed_lines}
 use Rattle.mvs_job.specs.Telling.{WalkValue, IsLent, events_told, lent_in}
 use Rattle.mvs_job.proofs.Numbers.{each_next, each_skip}
 
@@ -59,10 +59,9 @@ module _ (st : State) (t : Name) (s : ℕ) (subpools : List OwnedSubpool) (few :
   )
 
 -- what goes where a statement was answered
-pub answered_frees : (w : WalkValue) (t : LineTold) (task : Name) (a : Short) (ends : Bool) (subpools : List OwnedSubpool) (fallen : List Name) → ends ≡ true → t ≡ told.Answered task a → IsLent w t → fallen ≡ fallen_in w.reply → (number : ℕ)
-    → (st : State) × (freed_lines subpools (end_of task (lent st fallen task a)) ≡ freed_by ends subpools (events_told number w t))
-answered_frees w t task a false subpools fallen asked is lends falls number = absurd (let f : false ≡ true = asked in cc)
-answered_frees w t task a true subpools fallen asked is lends falls number =
+pub answered_frees : (w : WalkValue) (t : LineTold) (task : Name) (a : Short) (subpools : List OwnedSubpool) (fallen : List Name) → t ≡ told.Answered task a → IsLent w t → fallen ≡ fallen_in w.reply → (number : ℕ)
+    → (st : State) × (freed_lines subpools (end_of task (lent st fallen task a)) ≡ freed_lines subpools (ended_by (events_told number w t)))
+answered_frees w t task a subpools fallen is lends falls number =
     let l = subst (IsLent w) is lends in (
       l.0.state,
       ap (λ names. freed_lines subpools (end_of task (lent l.0.state names task a))) falls

@@ -1,6 +1,7 @@
 -- The lines that set names, kept behind a line that was served.
 use Rattle.std.proofs.Common.{◌≡◌, ◌≢◌, ℕ, Bool, true, false, not, List, [], ◌∷◌, map, Option, Some, None, inl, inr, refl, sym, ap, subst, ◌∙◌}
-use Rattle.std.specs.FinMap.{FinMap}
+use Rattle.std.specs.FinMap.{FinMap, get}
+use Rattle.mvs_model.proofs.StepCases.{step_cases}
 use Rattle.mvs_model.specs.declared.name.Name.{Name}
 use Rattle.mvs_model.specs.declared.code.Code.{Code}
 use Rattle.mvs_model.specs.declared.code.Form.{Form}
@@ -10,9 +11,10 @@ use Rattle.mvs_model.specs.declared.line.Statement.TheVariants as says
 use Rattle.mvs_model.specs.declared.line.Written.{Written}
 use Rattle.mvs_model.specs.declared.line.Written.TheVariants as written
 use Rattle.mvs_model.specs.declared.request.Request.{Request}
+use Rattle.mvs_model.specs.declared.request.Request.TheVariants as request
 use Rattle.mvs_model.specs.declared.request.Reply.{Reply}
 use Rattle.mvs_model.specs.declared.request.Reply.TheVariants.{NotRun, Rc4, Obtained, Listed, Cell, NoCell, Abended}
-use Rattle.mvs_model.specs.Answers.{Answer, Event, Told}
+use Rattle.mvs_model.specs.Answers.{Answer, Event}
 use Rattle.mvs_model.specs.Answers as answer
 use Rattle.mvs_model.specs.Changes.{ListGrant}
 use Rattle.mvs_model.specs.Codes.{is_conditional}
@@ -26,9 +28,13 @@ use Rattle.mvs_model.specs.Replies.{answer_of}
 use Rattle.mvs_model.specs.Resolving.{names_set, places_in, resolved}
 use Rattle.mvs_model.specs.Runs.{Any, Asks, Does, machine}
 use Rattle.mvs_model.specs.State.{State}
-use Rattle.mvs_model.specs.Steps.{Abends, Fails, Gets, GetsNone, GetStep, ObtainListStep, ObtainStep, Step, is_invalid}
+use Rattle.mvs_model.specs.Consequences.{Abends}
+use Rattle.mvs_model.proofs.ByCase.{Fails, GetsNone, GetStep, ObtainListStep, ObtainStep}
+use Rattle.mvs_model.specs.Requests.{Gets, is_invalid, side_for}
+use Rattle.mvs_model.specs.Steps.{Step}
 use Rattle.mvs_model.specs.Walk.{Serves, ServesLine}
-use Rattle.mvs_model.specs.Want.{WantValue}
+use Rattle.mvs_model.specs.Want.{WantValue, fixed_want, want_of}
+use Rattle.mvs_model.specs.declared.want.Side.TheVariants.{Below}
 use Rattle.mvs_model.proofs.Reading.{one_reading}
 use Rattle.mvs_model.proofs.Tests.{by_test}
 use Rattle.mvs_job.specs.declared.walk.LineTold.{LineTold}
@@ -96,14 +102,14 @@ some_same x y e = cc
 gives : (names : FinMap name_cmp PlaceValue) (a : Written) (r : Request) (old : State) (t : Name) (reply : Reply) (new : State) → resolved names a ≡ Some r → names_set a ≢ [] → HasLengths a → Step old t r reply new → Gives old a r reply
 gives names (written.Obtain form number ask variable area) r old t reply new e some long step =
     let a = written.Obtain form number ask variable area in
-    by_test (not (is_active old.owners t)) (subst (λ r. Step old t r reply new) (sym (some_same _ r e)) step) (λ _ k. no_grant old a r reply NotRun k.0 refl) (λ _ k. obtain_gives old a r t form number _ reply new k)
+    by_test (not (is_active old.owners t)) (step_cases old t (request.Obtain form number ask) reply new (subst (λ r. Step old t r reply new) (sym (some_same _ r e)) step)) (λ _ k. no_grant old a r reply NotRun k.0 refl) (λ _ k. obtain_gives old a r t form number (want_of ask (side_for old t form ask.loc)) reply new k)
 gives names (written.ObtainList form number lengths start areas) r old t reply new e some long step =
     let a = written.ObtainList form number lengths start areas in
-    by_test (not (is_active old.owners t)) (subst (λ r. Step old t r reply new) (sym (some_same _ r e)) step) (λ _ k. no_grant old a r reply NotRun k.0 refl)
-    (λ _ k. list_gives old a r t form number _ reply new (each_wanted _ lengths long) k)
+    by_test (not (is_active old.owners t)) (step_cases old t (request.ObtainList form number lengths start) reply new (subst (λ r. Step old t r reply new) (sym (some_same _ r e)) step)) (λ _ k. no_grant old a r reply NotRun k.0 refl)
+    (λ _ k. list_gives old a r t form number (map (λ n. fixed_want n start Below) lengths) reply new (each_wanted (λ n. fixed_want n start Below) lengths long) k)
 gives names (written.Get pool conditional cell) r old t reply new e some long step =
     let a = written.Get pool conditional cell in
-    by_test (not (is_active old.owners t)) (subst (λ r. Step old t r reply new) (sym (some_same _ r e)) step) (λ _ k. no_grant old a r reply NotRun k.0 refl) (λ _ k. get_gives old a r t pool conditional _ reply new k)
+    by_test (not (is_active old.owners t)) (step_cases old t (request.Get pool conditional) reply new (subst (λ r. Step old t r reply new) (sym (some_same _ r e)) step)) (λ _ k. no_grant old a r reply NotRun k.0 refl) (λ _ k. get_gives old a r t pool conditional (get old.pools pool) reply new k)
 gives names a r old t reply new e some long step = absurd (some refl)
 
 module _ (job : JobValue) (t : Name) (a : Written) (some : names_set a ≢ []) (long : HasLengths a) (ans : Answer) (new : JobValue) (grant : is_grant ans ≡ true) where

@@ -1,4 +1,5 @@
-pub mod Parting
+pub mod Behind
+pub mod Observed
 pub mod Explained
 pub mod Feeding
 pub mod FirstLine
@@ -8,14 +9,17 @@ pub mod Numbers
 pub mod Resolved
 pub mod ReadNames
 pub mod RunNames
-pub mod Running
 pub mod Serving
 pub mod StandingLines
+pub mod Sources
 pub mod Starred
 pub mod Steady
 pub mod Strictly
-pub mod Turning
 pub mod Valuing
-pub mod Whys
 pub mod Latest
 pub mod Kept
+pub mod Tracing
+pub mod Driving
+pub mod Entries
+pub mod Looping
+pub mod Printed

@@ -17,7 +17,7 @@ use Rattle.mvs_model.specs.Answers.{Map}
 use Rattle.mvs_model.specs.Texts.{reply_line, map_text, answer_text}
 use Rattle.mvs_model.specs.Reports.{PageRun, same_subpool, with_page, page_runs, page_subpool, number_of, label_of, map_runs, page_map}
 use Rattle.mvs_model.specs.View.{IsBounded}
-use Rattle.step_machine.specs.Reports.{Begins, IsHolder, IsMapEnd, IsMapRun, IsPages, NoneBegins}
+use Rattle.request_forms.specs.Reports.{Begins, IsHolder, IsMapEnd, IsMapRun, IsPages, NoneBegins}
 use Rattle.job_script.specs.Writing.{AppendsFront}
 use Rattle.job_script.proofs.Appending.{front_longer, front_more}
 

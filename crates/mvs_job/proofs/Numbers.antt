@@ -12,7 +12,7 @@ use Rattle.mvs_model.specs.State.{State}
 use Rattle.mvs_model.specs.Answers.{Subpools}
 use Rattle.mvs_model.specs.Texts.{reply_line, subpool_text, answer_text}
 use Rattle.mvs_model.specs.Reports.{bytes_held, each_below, line_of_entry, subpool_lines_of}
-use Rattle.step_machine.specs.Reports.{HasNone, IsSubpoolLine}
+use Rattle.request_forms.specs.Reports.{HasNone, IsSubpoolLine}
 use Rattle.job_script.specs.Writing.{AppendsFront}
 use Rattle.job_script.proofs.Appending.{front_longer, front_more}
 

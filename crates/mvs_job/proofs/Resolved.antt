@@ -1,10 +1,11 @@
 -- Requests as they are written, and what they mean.
-use Rattle.std.proofs.Common.{◌≡◌, ℕ, ◌+◌, ◌-◌, ◌<◌, inl, inr, Bool, true, false, List, [], ◌∷◌, Option, Some, None, refl, ap, sym, subst, ◌∙◌, ◌≤◌, arith, length, suc, add-zero}
+use Rattle.std.proofs.Common.{◌≡◌, ℕ, ◌+◌, ◌-◌, ◌<◌, inl, inr, Bool, true, false, List, [], ◌∷◌, map, Option, Some, None, refl, ap, sym, subst, ◌∙◌, ◌≤◌, arith, length, suc, add-zero}
 use Rattle.std.specs.Prelude.{All, not, slice_get, unwrap_or}
 use Rattle.std.specs.Bool.{MatchBool}
 use Rattle.std.specs.List.{AllByRecursion}
 use Rattle.std.specs.FinMap.{FinMap, get}
 use Rattle.std.proofs.lemmas.List.Elements.{All-nil, All-cons}
+use Rattle.mvs_model.proofs.StepCases.{step_cases}
 use Rattle.mvs_model.specs.declared.name.Name.{Name}
 use Rattle.mvs_model.specs.declared.code.Form.{Form}
 use Rattle.mvs_model.specs.declared.code.Code.{Code}
@@ -16,13 +17,16 @@ use Rattle.mvs_model.specs.declared.request.Reply.{Reply}
 use Rattle.mvs_model.specs.declared.request.Reply.TheVariants.{NotRun, Rc4, Done, Abended}
 use Rattle.mvs_model.specs.Name.{name_cmp}
 use Rattle.mvs_model.specs.Place.{PlaceValue, place_at}
-use Rattle.mvs_model.specs.Want.{WantValue}
+use Rattle.mvs_model.specs.Want.{WantValue, fixed_want, want_of}
+use Rattle.mvs_model.specs.declared.want.Side.TheVariants.{Below}
 use Rattle.mvs_model.specs.Storage.{Regions, InRegion}
 use Rattle.mvs_model.specs.State.{State, granted}
 use Rattle.mvs_model.specs.Changes as changes
-use Rattle.mvs_model.specs.Changes.{GrantTo, ListGrant, ListShort, ShortOf}
 use Rattle.mvs_model.specs.Pools.{Pool, cell_at}
-use Rattle.mvs_model.specs.Steps.{Step, Abends, Fails, ObtainStep, ObtainListStep, Gets, GetsNone, GetStep, all_granted, Accesses, is_invalid}
+use Rattle.mvs_model.specs.Steps.{Step}
+use Rattle.mvs_model.specs.Consequences.{Abends}
+use Rattle.mvs_model.proofs.ByCase.{Fails, ObtainStep, ObtainListStep, GetsNone, GetStep, Accesses}
+use Rattle.mvs_model.specs.Requests.{Gets, all_granted, is_invalid, side_for}
 use Rattle.mvs_model.specs.Codes.{is_conditional}
 use Rattle.mvs_model.specs.Owners.{is_active, keeper}
 use Rattle.mvs_model.specs.declared.answer.Answer.{Answer as Short}
@@ -31,8 +35,8 @@ use Rattle.mvs_model.specs.Answers.{Data}
 use Rattle.mvs_model.specs.Replies.{answer_of, bytes_at}
 use Rattle.mvs_model.specs.Resolving.{resolved, names_set, places_in}
 use Rattle.mvs_model.specs.Lines.{IsWritten}
-use Rattle.mvs_model.proofs.Requested.{is_request}
-use Rattle.mvs_model.proofs.RegionsKept.{grant_inside, list_inside}
+use Rattle.mvs_laws.proofs.Requested.{is_request}
+use Rattle.mvs_laws.proofs.RegionsKept.{grant_inside, list_inside}
 use Rattle.mvs_model.proofs.SeenAccess.{below_each}
 use Rattle.mvs_model.specs.View.{IsBounded}
 use Rattle.job_script.specs.Areas.{IsArea, Fit}
@@ -106,14 +110,14 @@ get_areas old t name conditional (Some pool) reply new s (inr none) = none_free 
 -- the names that a request sets fit the places that its reply gives
 pub areas_fit : (names : FinMap name_cmp PlaceValue) (a : Written) (r : Request) (old : State) (t : Name) (reply : Reply) (new : State) → resolved names a ≡ Some r → IsBounded old.regions → IsSteady new → Step old t r reply new → Fit (names_set a) (places_in reply)
 areas_fit names (written.Obtain form number ask variable area) r old t reply new e limits steady step =
-    by_test (not (is_active old.owners t)) (subst (λ r. Step old t r reply new) (sym (some_same _ r e)) step) (λ k. no_areas reply NotRun k.0 refl) (λ k. obtain_areas old t form number _ reply new limits k)
+    by_test (not (is_active old.owners t)) (step_cases old t (request.Obtain form number ask) reply new (subst (λ r. Step old t r reply new) (sym (some_same _ r e)) step)) (λ k. no_areas reply NotRun k.0 refl) (λ k. obtain_areas old t form number (want_of ask (side_for old t form ask.loc)) reply new limits k)
 areas_fit names (written.ObtainList form number lengths start areas) r old t reply new e limits steady step =
-    all_fit areas (by_test (not (is_active old.owners t)) (subst (λ r. Step old t r reply new) (sym (some_same _ r e)) step) (λ k. no_areas reply NotRun k.0 refl) (λ k. obtain_list_areas old t form number _ reply new limits k)) where
+    all_fit areas (by_test (not (is_active old.owners t)) (step_cases old t (request.ObtainList form number lengths start) reply new (subst (λ r. Step old t r reply new) (sym (some_same _ r e)) step)) (λ k. no_areas reply NotRun k.0 refl) (λ k. obtain_list_areas old t form number (map (λ n. fixed_want n start Below) lengths) reply new limits k)) where
       all_fit : (names : List Name) → Areas reply → Fit names (places_in reply)
       all_fit [] all = tt
       all_fit (n ∷ ns) all = all
 areas_fit names (written.Get pool conditional cell) r old t reply new e limits steady step =
-    by_test (not (is_active old.owners t)) (subst (λ r. Step old t r reply new) (sym (some_same _ r e)) step) (λ k. no_areas reply NotRun k.0 refl) (λ k. get_areas old t pool conditional _ reply new steady k)
+    by_test (not (is_active old.owners t)) (step_cases old t (request.Get pool conditional) reply new (subst (λ r. Step old t r reply new) (sym (some_same _ r e)) step)) (λ k. no_areas reply NotRun k.0 refl) (λ k. get_areas old t pool conditional (get old.pools pool) reply new steady k)
 areas_fit names a r old t reply new e limits steady step = tt
 
 -- each byte may be read where all may
@@ -136,7 +140,7 @@ place_read st p bytes long each = sym (bytes_read st p.addr bytes (λ k l. each 
 -- where SHOW is done, the bytes may be read and nothing has changed
 shown_granted : (old : State) (t : Name) (p : PlaceValue) (new : State) → Step old t (request.Show p.addr p.len) Done new → changes.Granted new p × (new ≡ old)
 shown_granted old t p new step =
-    by_test (not (is_active old.owners t)) step (λ k. absurd (let f = k.0 in cc))
+    by_test (not (is_active old.owners t)) (step_cases old t (request.Show p.addr p.len) Done new step) (λ k. absurd (let f = k.0 in cc))
     (λ k. read_all (all_granted old p) refl k) where
       read_all : (b : Bool) → all_granted old p ≡ b → Accesses old t b (new ≡ old) Done new → changes.Granted new p × (new ≡ old)
       read_all false e h = absurd (let f = h.1 in cc)

@@ -4,6 +4,7 @@ use Rattle.std.specs.List.{AllByRecursion, list_all}
 use Rattle.std.specs.FinMap.{FinMap, contains_key, empty, get, gets, len}
 use Rattle.std.specs.FinSet as set
 use Rattle.std.proofs.lemmas.Bool.Decides.{nat_tests}
+use Rattle.mvs_model.proofs.StepCases.{step_cases}
 use Rattle.mvs_model.specs.declared.code.Code.{Code}
 use Rattle.mvs_model.specs.declared.code.Form.{Form}
 use Rattle.mvs_model.specs.declared.name.Name.{Name}
@@ -14,7 +15,8 @@ use Rattle.mvs_model.specs.declared.request.Request.{Request}
 use Rattle.mvs_model.specs.declared.request.Request.TheVariants as request
 use Rattle.mvs_model.specs.Changes.{End, ListGrant, with_part}
 use Rattle.mvs_model.specs.Lines.{IsUnended, card_of, lines_of}
-use Rattle.mvs_model.specs.Owners.{Task, Descends, Enters, subpool_meant, attach_refusal, has_subtask, is_active, keeper, subtask, further}
+use Rattle.mvs_model.specs.Owners.{Task, Descends, Enters, subpool_meant, has_subtask, is_active, keeper, subtask, further}
+use Rattle.mvs_model.proofs.ByCase.{attach_refusal}
 use Rattle.mvs_model.specs.Gifts.{GiftsValue}
 use Rattle.mvs_model.specs.declared.want.Residence.{Residence}
 use Rattle.mvs_model.specs.Name.{name_cmp, same_name}
@@ -22,7 +24,10 @@ use Rattle.mvs_model.proofs.Orders.{same_name_is}
 use Rattle.mvs_model.specs.Place.{PlaceValue}
 use Rattle.mvs_model.specs.Pools.{Pool, cell_at}
 use Rattle.mvs_model.specs.State.{State}
-use Rattle.mvs_model.specs.Steps.{Abends, Acts, AttachCase, Attaches, BuildStep, DeleteStep, Fails, FreeStep, GetStep, ObtainListStep, ObtainStep, Plan, is_invalid, on_doubleword, EmptiesEntry, GetsNone, Accesses, ReleaseStep, ReleaseWholeStep, ReturnStep, Step}
+use Rattle.mvs_model.specs.Consequences.{Abends}
+use Rattle.mvs_model.proofs.ByCase.{Acts, AttachCase, BuildStep, DeleteStep, Fails, FreeStep, GetStep, ObtainListStep, ObtainStep, GetsNone, Accesses, ReleaseStep, ReleaseWholeStep, ReturnStep}
+use Rattle.mvs_model.specs.Requests.{Attaches, Plan, is_invalid, on_doubleword, EmptiesEntry}
+use Rattle.mvs_model.specs.Steps.{Step}
 use Rattle.mvs_model.specs.Want.{WantValue}
 use Rattle.mvs_model.specs.declared.line.Line.{Line}
 use Rattle.mvs_model.specs.declared.line.Line.TheVariants as line
@@ -31,7 +36,7 @@ use Rattle.mvs_model.specs.declared.line.Statement.TheVariants as says
 use Rattle.mvs_model.specs.declared.line.Written.{Written}
 use Rattle.std.specs.Option.{option_map, option_and_then}
 use Rattle.mvs_model.specs.Answers.{Answer, NoName, NotRun, Event}
-use Rattle.mvs_model.specs.Laws.{KeptWellFormed}
+use Rattle.mvs_laws.specs.Laws.{KeptWellFormed}
 use Rattle.mvs_model.specs.Card.{CardValue}
 use Rattle.mvs_model.specs.Job.{JobValue}
 use Rattle.mvs_model.specs.Numbers.{above_begins, below_begins, first_page_above, first_page_below, page_bytes}
@@ -43,11 +48,11 @@ use Rattle.mvs_model.specs.Runs.{Any, Asks, Does, IsPrinting, IsRun, Says, Tells
 use Rattle.mvs_model.specs.Start.{start}
 use Rattle.mvs_model.specs.Walk.{Closes, JobEnds, Serves, Walks, ending}
 use Rattle.mvs_model.specs.WellFormed.{WellFormed}
-use Rattle.mvs_model.specs.Going.{Holds, Reaches}
-use Rattle.mvs_model.proofs.Kept.{enters_tasks}
-use Rattle.mvs_model.proofs.Going.{reaches_next}
+use Rattle.mvs_laws.specs.Going.{Holds, Reaches}
+use Rattle.mvs_laws.proofs.Kept.{enters_tasks}
+use Rattle.mvs_laws.proofs.Going.{reaches_next}
 use Rattle.mvs_model.proofs.Made.{made_at}
-use Rattle.mvs_model.proofs.Walking.{Turns, served_first, served_in}
+use Rattle.mvs_laws.proofs.Walking.{Turns, served_first, served_in}
 use Rattle.mvs_job.specs.Explaining.{without_starred}
 use Rattle.mvs_job.proofs.ReadNames.{AttachesUnended, NamesUnended, SaysUnended, names_unended}
 use Rattle.mvs_job.proofs.StandingLines.{AnswerUnended, EventUnended, HolderUnended, printing_stands}
@@ -193,7 +198,7 @@ module _ (old : State) (fine : TasksUnended old) where
   acts t (request.Move to from n) answer new r h = access t _ _ answer new (λ w. w.owners) h
 
   step_fine : (t : Name) (asked : Request) (answer : Reply) (new : State) → RequestUnended asked → Step old t asked answer new → Fine answer new
-  step_fine t asked answer new r h = by_test (not (is_active old.owners t)) h (λ _ k. told reply.NotRun answer new tt k.0 (ap (λ st. st.owners) k.1)) (λ _ k. acts t asked answer new r k)
+  step_fine t asked answer new r h = by_test (not (is_active old.owners t)) (step_cases old t asked answer new h) (λ _ k. told reply.NotRun answer new tt k.0 (ap (λ st. st.owners) k.1)) (λ _ k. acts t asked answer new r k)
 
 -- ---- what a line tells
 

@@ -1,9 +1,9 @@
 -- A statement is served, and what a line tells.
 use Rattle.std.proofs.Common.{◌≡◌, ℕ, List, [], ◌∷◌, ◌++◌, append-nil, Option, Some, None, Bool, true, false, Result, Ok, Err, inl, inr, ◌⊎◌, refl, sym, ap, ◌∙◌, subst}
 use Rattle.std.specs.Prelude.{◌||◌, not, OnErr, IfOk, MatchResult, is_some}
-use Rattle.std.specs.Io.KnownBytes.{Appends, Keeps}
+use Rattle.std.specs.Io.KnownBytes.{Keeps}
 use Rattle.std.proofs.KnownBytes.{Appends-trans}
-use Rattle.mvs_job.specs.Serving.{LineTells, RunsLine}
+use Rattle.mvs_job.specs.Serving.{LineTells}
 use Rattle.mvs_model.specs.declared.name.Name.{Name}
 use Rattle.mvs_model.specs.declared.line.Line.{Line}
 use Rattle.mvs_model.specs.declared.line.Line.TheVariants as line
@@ -26,10 +26,10 @@ use Rattle.mvs_model.specs.Resolving.{resolved, all_set, names_set, places_in}
 use Rattle.mvs_model.specs.Runs.{Condition, Any, Asks, Does, Makes, job_machine, machine}
 use Rattle.mvs_model.specs.Steps.{Step}
 use Rattle.mvs_model.specs.Texts.{text_of, printing}
-use Rattle.mvs_model.specs.Walk.{Serves, Faults, ending, is_first}
+use Rattle.mvs_model.specs.Walk.{Serves, ending, is_first}
 use Rattle.mvs_model.specs.Watched.{WatchedValue}
-use Rattle.mvs_model.proofs.Determined.{line_other}
-use Rattle.mvs_model.proofs.Going.{printed_both}
+use Rattle.mvs_laws.proofs.Determined.{line_other}
+use Rattle.mvs_laws.proofs.Going.{printed_both}
 use Rattle.job_script.specs.Writing.{Prints, AppendsFront}
 use Rattle.job_script.proofs.Appending.{front_longer, front_more}
 use Rattle.mvs_job.specs.declared.walk.Stopped.{Stopped}
@@ -92,16 +92,6 @@ pub told_each : (P : Condition) (old new : WalkValue) (bytes : List ℕ) (r : Re
 told_each P old new bytes (Ok t) Q h = told_by P old new bytes t h
 told_each P old new bytes (Err e) Q h = h
 
--- what a call did that printed what a line tells
-pub ran_fault : (before after : Option (List ℕ)) (old new : WalkValue) (bytes : List ℕ) (t : LineTold) (fault : Fault) → t ≡ told.Faulted fault → IsTold old bytes t new → Appends before after (printing (events_told old.number new t)) → RunsLine before after old bytes new (Ok false)
-ran_fault before after old new bytes t fault is h appended = (events_told old.number new t, appended, subst (λ x. Faults old.number (is_first old.step) bytes (events_told old.number new x)) (sym is) (fault, (subst (λ x. IsTold old bytes x new) is h).0, refl))
-
-pub ran_served : (before after : Option (List ℕ)) (old new : WalkValue) (bytes : List ℕ) (t : LineTold) → ((fault : Fault) → t ≡ told.Faulted fault → ⊥) → IsTold old bytes t new → Appends before after (printing (events_told old.number new t)) → RunsLine before after old bytes new (Ok true)
-ran_served before after old new bytes (told.Faulted fault) other h appended = absurd (other fault refl)
-ran_served before after old new bytes told.Nothing other h appended = (events_told old.number new told.Nothing, appended, h)
-ran_served before after old new bytes (told.Began end card) other h appended = (events_told old.number new (told.Began end card), appended, h)
-ran_served before after old new bytes (told.Answered t a) other h appended = (events_told old.number new (told.Answered t a), appended, h)
-
 -- what a line that was served or has a fault may tell
 pub line_tells : (old new : WalkValue) (bytes : List ℕ) (t : LineTold) → IsTold old bytes t new → LineTells old bytes (events_told old.number new t)
 line_tells old new bytes (told.Faulted fault) h = inr (fault, h.0, refl)
@@ -109,7 +99,7 @@ line_tells old new bytes told.Nothing h = inl (new.step, h)
 line_tells old new bytes (told.Began end card) h = inl (new.step, h)
 line_tells old new bytes (told.Answered t a) h = inl (new.step, h)
 
-nothing_kept : (a b : Option (List ℕ)) → AppendsFront a b [] → Keeps a b
+pub nothing_kept : (a b : Option (List ℕ)) → AppendsFront a b [] → Keeps a b
 nothing_kept None b f = tt
 nothing_kept (Some xs) None f = absurd f.3
 nothing_kept (Some xs) (Some ys) f = f.3 ∙ ap (λ x. xs ++ x) (none f.0 f.1 f.2) ∙ append-nil xs where

@@ -10,7 +10,7 @@ use Rattle.mvs_model.specs.declared.line.Line.{Line}
 use Rattle.mvs_model.specs.declared.line.Line.TheVariants as line
 use Rattle.mvs_model.specs.declared.line.Statement.TheVariants as says
 use Rattle.mvs_model.specs.declared.outcome.Outcome.{Outcome}
-use Rattle.mvs_model.specs.declared.reason.Reason.{Reason}
+use Rattle.mvs_model.specs.declared.reason.LineReason.{LineReason}
 use Rattle.mvs_model.specs.declared.request.Request.{Request}
 use Rattle.mvs_model.specs.declared.request.Request.TheVariants.{Return}
 use Rattle.mvs_model.specs.Answers.{Answer, NotRun, NoName, At, Rc0, Granted, Rc4, Cell, NoCell, Attached, Ended, Done, Data, Abended, Subpools, Map, Region, Event, Told, StepEnded, Faulted}
@@ -21,19 +21,20 @@ use Rattle.mvs_model.specs.Resolving.{resolved}
 use Rattle.mvs_model.specs.Runs.{machine, IsPrinting}
 use Rattle.mvs_model.specs.Texts.{answer_text, code_text, data_lines, fault_number, map_text, printing, reply_line, said, subpool_text, text_of}
 use Rattle.mvs_model.specs.Walk.{JobEnds, Walks}
-use Rattle.mvs_model.proofs.Going.{printed_both}
-use Rattle.job_script.specs.ReasonTexts.{one_line, reason_line, reason_said}
+use Rattle.mvs_laws.proofs.Going.{printed_both}
+use Rattle.job_script.specs.ReasonTexts.{one_line, reason_line, why_said}
 use Rattle.mvs_model.specs.Owners.{goes}
-use Rattle.step_machine.specs.declared.facts.OwnedSubpool.{OwnedSubpool}
+use Rattle.request_forms.specs.declared.facts.OwnedSubpool.{OwnedSubpool}
 use Rattle.job_script.specs.FactTexts.{fact_line, fact_said, freed_line, freed_said, stays_line, stays_said}
-use Rattle.mvs_job.specs.Facts.{IsFreeing, ended_by, freed_by, freed_lines, may_end, subpool_line, surveyed}
+use Rattle.mvs_job.specs.Facts.{IsFreeing, ended_by, freed_text, subpool_line}
+use Rattle.request_forms.specs.Facts.{owned_subpools}
 use Rattle.mvs_job.specs.declared.granting.Before.{Before}
 use Rattle.mvs_job.specs.Granting.{IsGranting, before_line, done_text, facts_of, granted_text, tells_grant}
 use Rattle.job_script.specs.NamingTexts.{naming_said}
 use Rattle.mvs_job.specs.declared.naming.Naming.{Naming}
 use Rattle.mvs_job.specs.Naming.{IsNamed, SetLines, naming_text, no_lines}
 use Rattle.mvs_job.specs.Why.{spoken}
-use Rattle.mvs_job.specs.Explaining.{Explains, IsBehind, IsExplanation, IsTurnTold, NoLineIsStarred, WritesExplained, reason_text, unless_granted, without_starred}
+use Rattle.mvs_job.specs.Explaining.{Explains, IsBehind, IsExplanation, NoLineIsStarred, WritesExplained, reason_text, without_starred}
 use Rattle.mvs_job.proofs.Feeding.{all_before, lines_cut, lines_ended}
 
 -- ---- texts that end in a line feed
@@ -154,10 +155,10 @@ begins_so text =
 line_out : (said : List ℕ) → IsLeftOut (one_line (codes "* " ++ said))
 line_out said = starred_out (before_first (λ b. b == 10) (codes "* " ++ said)) (unended (codes "* " ++ said)) (begins_so (codes " " ++ said))
 
-reason_out : (t : Name) (request : Request) (reason : Reason) → IsLeftOut (reason_line t request reason)
-reason_out t request reason = line_out (reason_said t request reason)
+reason_out : (t : Name) (request : Request) (reason : LineReason) → IsLeftOut (reason_line t request reason)
+reason_out t request reason = line_out (why_said t request reason)
 
-text_out : (job : JobValue) (l : Line) (r : Option Reason) → IsLeftOut (reason_text job l r)
+text_out : (job : JobValue) (l : Line) (r : Option LineReason) → IsLeftOut (reason_text job l r)
 text_out job l None = none_left_out [] refl
 text_out job line.Nothing (Some reason) = none_left_out [] refl
 text_out job (line.Statement t (says.Request a)) (Some reason) = reason_out t (spoken (resolved job.names a)) reason
@@ -166,10 +167,10 @@ text_out job (line.Statement t (says.Where name)) (Some reason) = reason_out t R
 text_out job (line.Statement t says.ReportSubpools) (Some reason) = reason_out t Return reason
 text_out job (line.Statement t says.ReportMap) (Some reason) = reason_out t Return reason
 
-explanation_out : (old : Option JobValue) (l why : List ℕ) → IsExplanation old l why → IsLeftOut why
-explanation_out None l why e = none_left_out why e
-explanation_out (Some job) l why (inl (said, is, (r, of, e))) = subst IsLeftOut (sym e) (text_out job said r)
-explanation_out (Some job) l why (inr (fault, is, e)) = none_left_out why e
+explanation_out : (old : Option JobValue) (l : List ℕ) (events : List Event) (why : List ℕ) → IsExplanation old l events why → IsLeftOut why
+explanation_out None l events why e = none_left_out why e
+explanation_out (Some job) l events why (inl (said, is, (r, of, e))) = subst IsLeftOut (sym e) (text_out job said r)
+explanation_out (Some job) l events why (inr (fault, is, e)) = none_left_out why e
 
 out_both : (one other : List ℕ) → IsLeftOut one → IsLeftOut other → IsLeftOut (one ++ other)
 out_both one other a b more = ap without_starred (append_assoc one other more) ∙ a (other ++ more) ∙ b more
@@ -185,18 +186,13 @@ each_out : {X : Type 0} (f : X → List ℕ) → ((x : X) → IsLeftOut (f x)) �
 each_out f each [] = none_left_out [] refl
 each_out f each (x ∷ xs) = out_both (f x) (flat_map f xs) (each x) (each_out f each xs)
 
-lines_out : (subpools : List OwnedSubpool) (ended : Option (Name × List Name)) → IsLeftOut (freed_lines subpools ended)
-lines_out subpools None = none_left_out [] refl
-lines_out subpools (Some e) = each_out (subpool_line e) (subpool_out e) subpools
+lines_out : (job : JobValue) (ended : Option (Name × List Name)) → IsLeftOut (freed_text job ended)
+lines_out job None = none_left_out [] refl
+lines_out job (Some e) = each_out (subpool_line e) (subpool_out e) (owned_subpools job.state e.0)
 
-freed_out : (asked : Bool) (subpools : List OwnedSubpool) (events : List Event) → IsLeftOut (freed_by asked subpools events)
-freed_out true subpools events = lines_out subpools (ended_by events)
-freed_out false subpools events = none_left_out [] refl
-
-freeing_out : (old : Option JobValue) (l : List ℕ) (events : List Event) (freed : List ℕ) → IsFreeing old l events freed → IsLeftOut freed
-freeing_out None l events freed e = none_left_out freed e
-freeing_out (Some job) l events freed (inl (said, is, (r, of, e))) = subst IsLeftOut (sym e) (freed_out (may_end said r) (surveyed job.state said) events)
-freeing_out (Some job) l events freed (inr (fault, is, e)) = none_left_out freed e
+freeing_out : (old : Option JobValue) (events : List Event) (freed : List ℕ) → IsFreeing old events freed → IsLeftOut freed
+freeing_out None events freed e = none_left_out freed e
+freeing_out (Some job) events freed e = subst IsLeftOut (sym e) (lines_out job (ended_by events))
 
 done_out : (b : Option Before) (l : Line) (new : Option JobValue) → IsLeftOut (done_text b l new)
 done_out None l new = none_left_out [] refl
@@ -223,26 +219,14 @@ naming_out : (n : Option Naming) → IsLeftOut (naming_text n)
 naming_out None = none_left_out [] refl
 naming_out (Some n) = line_out (naming_said n.addr n.name n.place n.number)
 
-named_out : (old : Option JobValue) (set : SetLines) (l named : List ℕ) → IsNamed old set l named → IsLeftOut named
-named_out None set l named e = none_left_out named e
-named_out (Some job) set l named (a, tells, (n, is, e)) = subst IsLeftOut (sym e) (naming_out n)
-
-unless_out : (events : List Event) (text : List ℕ) → IsLeftOut text → IsLeftOut (unless_granted events text)
-unless_out events text out = at (tells_grant events) where
-  at : (granted : Bool) → IsLeftOut (cond granted [] text)
-  at true = none_left_out [] refl
-  at false = out
-
-turn_out : (old : Option JobValue) (l : List ℕ) (events : List Event) (turn : List ℕ) → IsTurnTold old l events turn → IsLeftOut turn
-turn_out None l events turn e = none_left_out turn e
-turn_out (Some job) l events turn (inl (said, is, (r, t, of, behind, e))) = subst IsLeftOut (sym e) (unless_out events (reason_text job said t) (text_out job said t))
-turn_out (Some job) l events turn (inr (fault, is, e)) = none_left_out turn e
+named_out : (old : Option JobValue) (set : SetLines) (l : List ℕ) (events : List Event) (named : List ℕ) → IsNamed old set l events named → IsLeftOut named
+named_out None set l events named e = none_left_out named e
+named_out (Some job) set l events named (a, tells, (n, is, e)) = subst IsLeftOut (sym e) (naming_out n)
 
 behind_out : (old : Option JobValue) (set : SetLines) (l : List ℕ) (events : List Event) (new : Option JobValue) (text : List ℕ) → IsBehind old set l events new text → IsLeftOut text
-behind_out old set l events new text (why, named, turn, freed, done, is, names, turns, frees, grants, e) =
-    let end = out_both freed done (freeing_out old l events freed frees) (granting_out old l events new done grants) in
-    let last = out_both turn (freed ++ done) (turn_out old l events turn turns) end in
-    subst IsLeftOut (sym e) (out_both why (named ++ (turn ++ (freed ++ done))) (explanation_out old l why is) (out_both named (turn ++ (freed ++ done)) (named_out old set l named names) last))
+behind_out old set l events new text (why, named, freed, done, is, names, frees, grants, e) =
+    let end = out_both freed done (freeing_out old events freed frees) (granting_out old l events new done grants) in
+    subst IsLeftOut (sym e) (out_both why (named ++ (freed ++ done)) (explanation_out old l events why is) (out_both named (freed ++ done) (named_out old set l events named names) end))
 
 -- ---- a run
 

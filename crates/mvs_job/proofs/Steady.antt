@@ -14,18 +14,19 @@ use Rattle.mvs_model.specs.Place.{PlaceValue, place_at}
 use Rattle.mvs_model.specs.Pools.{Pool, cell_at}
 use Rattle.mvs_model.specs.Start.{start}
 use Rattle.mvs_model.specs.State.{State, granted}
-use Rattle.mvs_model.specs.Steps.{Step, IsRequest, all_granted, bytes_from}
+use Rattle.mvs_model.specs.Steps.{Step}
+use Rattle.mvs_model.specs.Requests.{IsRequest, all_granted, bytes_from}
 use Rattle.mvs_model.specs.View.{IsBounded}
 use Rattle.mvs_model.proofs.Below.{each_below}
 use Rattle.mvs_model.proofs.CellPlaces.{cell_inside}
-use Rattle.mvs_model.proofs.Going.{start_sized}
-use Rattle.mvs_model.proofs.Kept.{HasPlan, step_keeps, plan_in_range}
+use Rattle.mvs_laws.proofs.Going.{start_sized}
+use Rattle.mvs_laws.proofs.Kept.{HasPlan, step_keeps, plan_in_range}
 use Rattle.mvs_model.proofs.Operands.{HasBytes, bytes_put}
-use Rattle.mvs_model.proofs.PartsApart.{StaysApart, apart_closed, start_apart}
+use Rattle.mvs_laws.proofs.PartsApart.{StaysApart, apart_closed, start_apart}
 use Rattle.mvs_model.proofs.PartsTaken.{same_number}
 use Rattle.mvs_model.proofs.PoolPut.{put_here}
-use Rattle.mvs_model.proofs.RegionsKept.{regions_stay}
-use Rattle.mvs_model.proofs.WithinKept.{Placed, placed_closed, start_placed}
+use Rattle.mvs_laws.proofs.RegionsKept.{regions_stay}
+use Rattle.mvs_laws.proofs.WithinKept.{Placed, placed_closed, start_placed}
 use Rattle.job_script.specs.Areas.{IsArea}
 use Rattle.mvs_job.specs.Steady.{IsSteady}
 use Rattle.mvs_job.specs.Valued.{BuildsInRange}

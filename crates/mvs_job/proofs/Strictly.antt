@@ -1,51 +1,43 @@
--- A script that is run strictly, a line at a time.
-use Rattle.std.proofs.Common.{◌≡◌, ℕ, ◌+◌, ◌-◌, List, [], ◌∷◌, ◌++◌, append_assoc, append-nil, arith, get_or, length, take, drop, Option, Some, None, Bool, true, false, Ok, Err, inl, refl, sym, ap, ◌∙◌, subst}
+-- A strict run: the lines that were not executed, by the entries of a trace.
+use Rattle.std.proofs.Common.{◌≡◌, ℕ, ◌+◌, ◌-◌, inl, inr, List, [], ◌∷◌, ◌++◌, append_assoc, append-nil, arith, get_or, length, length-append, Option, Some, None, Bool, true, false, Result, Ok, Err, MatchResult, refl, sym, ap, ◌∙◌, subst}
 use Rattle.std.specs.Prelude.{◌&&◌, not, is_some}
 use Rattle.std.specs.List.{list_all}
-use Rattle.std.proofs.lemmas.List.{drop-drop}
 use Rattle.std.proofs.Math.Seq.{get_or-append_seam}
+use Rattle.std.proofs.lemmas.Grind.{flat_map-append}
 use Rattle.std.proofs.lemmas.List.Folds.{list_all-append}
 use Rattle.std.specs.Io.KnownBytes.{Appends}
-use Rattle.std.proofs.KnownBytes.{Appends-nil, Appends-trans}
-use Rattle.mvs_model.specs.declared.line.Fault.{Fault}
+use Rattle.mvs_model.specs.declared.line.Line.{Line}
+use Rattle.mvs_model.specs.declared.line.Line.TheVariants as line
+use Rattle.mvs_model.specs.declared.line.Statement.TheVariants as says
+use Rattle.mvs_model.specs.declared.name.Name.{Name}
 use Rattle.mvs_model.specs.declared.outcome.Outcome.{Outcome}
-use Rattle.mvs_model.specs.declared.outcome.Outcome.TheVariants.{ScriptFault}
-use Rattle.mvs_model.specs.Answers.{Event}
+use Rattle.mvs_model.specs.Answers as answer
+use Rattle.mvs_model.specs.Answers.{Answer, Event, Faulted, StepEnded, Told}
+use Rattle.mvs_model.specs.Job.{JobValue}
 use Rattle.mvs_model.specs.Lines.{lines_of}
+use Rattle.mvs_model.specs.Memory.{TakesMemory}
 use Rattle.mvs_model.specs.Runs.{machine}
-use Rattle.mvs_model.specs.Texts.{printing}
-use Rattle.mvs_model.specs.Walk.{Closes}
-use Rattle.mvs_model.specs.Going.{Reaches}
-use Rattle.mvs_model.proofs.Going.{printed_both, reaches_next, reaches_then}
+use Rattle.mvs_model.specs.Walk.{Closes, Serves, ending}
+use Rattle.mvs_job.specs.declared.consumer.End.{End}
+use Rattle.mvs_job.specs.declared.consumer.End.TheVariants as end
 use Rattle.mvs_job.specs.declared.printing.Stop.{Stop}
+use Rattle.mvs_job.specs.declared.printing.Stop.TheVariants as stop
 use Rattle.mvs_job.specs.declared.strict.Unserved.{Unserved}
+use Rattle.mvs_job.specs.declared.strict.Unserved.TheVariants as why
 use Rattle.mvs_job.specs.declared.walk.LineTold.{LineTold}
 use Rattle.mvs_job.specs.declared.walk.LineTold.TheVariants as told
-use Rattle.mvs_job.specs.Serving.{RunsLine}
-use Rattle.mvs_job.specs.Streams.{Progress, PrintedUpTo}
-use Rattle.mvs_job.specs.Strict.{Grows, HearsFront, PrintsStrictly, RunsStrictly, Skipped, all_skipped, is_of_served, line_at, skipped_for, skipped_in}
-use Rattle.mvs_job.specs.Telling.{WalkValue, IsTold, closing, events_told, new_walk}
-use Rattle.mvs_job.proofs.Running.{progress_stopped}
-
--- ---- Booleans
-
-and_one : (a b : Bool) → b ≡ true → a ≡ (a && b)
-and_one true b e = sym e
-and_one false b e = refl
-
-and_none : (a b : Bool) → b ≡ false → false ≡ (a && b)
-and_none true b e = sym e
-and_none false b e = refl
-
--- ---- the end of a job
-
-closing_served : (number : ℕ) (o : Option Bool) → list_all is_of_served (closing number o) ≡ true
-closing_served number None = refl
-closing_served number (Some abended) = refl
+use Rattle.mvs_job.specs.Consuming.{IsEnd, IsEntry, Leaves}
+use Rattle.mvs_job.specs.Printed.{printed}
+use Rattle.mvs_job.specs.Streams.{PrintedUpTo}
+use Rattle.mvs_job.specs.Strict.{Grows, HearsFront, Observes, PrintsStrictly, Skipped, all_skipped, is_of_served, line_at, skipped_at, skipped_for, skipped_in}
+use Rattle.mvs_job.specs.Telling.{WalkValue, ended, events_told}
+use Rattle.mvs_job.specs.Trace.{Arrives, Ending, Ends, Entry, Exhausts, IsExecuted, IsTrace, Stops, Traces, events_of}
+use Rattle.mvs_job.proofs.Printed.{exhausted_is_front, exhausted_printing, front_printing, printed_events}
+use Rattle.mvs_job.proofs.Tracing.{trace_cut, trace_split, traces_are_runs, walk_of}
 
 -- ---- what is heard of
 
-grows_nil : {A : Type 0} (a : Option (List A)) → Grows a a []
+pub grows_nil : {A : Type 0} (a : Option (List A)) → Grows a a []
 grows_nil None = tt
 grows_nil (Some xs) = sym (append-nil xs)
 
@@ -59,142 +51,237 @@ skipped_both : (lines : ℕ → List ℕ) (xs ys : List Event) → all_skipped l
 skipped_both lines [] ys = refl
 skipped_both lines (x ∷ xs) ys = ap (λ more. skipped_in lines x ++ more) (skipped_both lines xs ys) ∙ sym (append_assoc (skipped_in lines x) (all_skipped lines xs) (all_skipped lines ys))
 
-closing_skipped : (lines : ℕ → List ℕ) (number : ℕ) (o : Option Bool) → all_skipped lines (closing number o) ≡ []
-closing_skipped lines number None = refl
-closing_skipped lines number (Some abended) = refl
+pub skipped_more : (xs ys : List Entry) → skipped_at (xs ++ ys) ≡ skipped_at xs ++ skipped_at ys
+skipped_more [] ys = refl
+skipped_more (e ∷ xs) ys = ap (λ more. all_skipped (λ number. e.bytes) e.events ++ more) (skipped_more xs ys) ∙ sym (append_assoc (all_skipped (λ number. e.bytes) e.events) (skipped_at xs) (skipped_at ys))
 
--- ---- a line
+-- ---- an entry more
 
-module _ (before after : Option (List ℕ)) (heard heard' : Option (List Skipped)) (w w' : WalkValue) (l : List ℕ) (all : Bool) where
-  abbrev IsServed : LineTold → Option Unserved → Type 0
-  IsServed t o = list_all is_of_served (events_told w.number w' t) ≡ not (is_some o)
+and_nested : (a b c : Bool) → ((a && b) && c) ≡ (a && (b && c))
+and_nested true b c = refl
+and_nested false b c = refl
 
-  abbrev IsSkipped : LineTold → Option Unserved → Type 0
-  IsSkipped t o = (lines : ℕ → List ℕ) → all_skipped lines (events_told w.number w' t) ≡ skipped_for w.number (lines w.number) o
+and_true : (a : Bool) → (a && true) ≡ a
+and_true true = refl
+and_true false = refl
 
-  grown : (t : LineTold) (o : Option Unserved) (why : Unserved) → o ≡ Some why → IsSkipped t o → Grows heard heard' (record { number = w.number; line = l; why = why } ∷ []) → (lines : ℕ → List ℕ) → lines w.number ≡ l → Grows heard heard' (all_skipped lines (events_told w.number w' t))
-  grown t o why is skipped grows lines e =
-      subst (λ (more : List Skipped). Grows heard heard' more) (sym (skipped lines ∙ ap (λ o. skipped_for w.number (lines w.number) o) is ∙ ap (λ line. skipped_for w.number line (Some why)) e)) grows
+module _ (all all' : Bool) (heard : Option (List Skipped)) (history : List Entry) where
+  pub observes_next : (heard1 heard2 : Option (List Skipped)) (b : Bool) (e : Entry) (more : List Skipped) → Observes all all' heard heard1 history → list_all is_of_served e.events ≡ b → all_skipped (λ number. e.bytes) e.events ≡ more → Grows heard1 heard2 more
+      → Observes all (all' && b) heard heard2 (history ++ e ∷ [])
+  observes_next heard1 heard2 b e more o is skipped grows = record {
+    served = ap (λ x. x && b) o.served ∙ and_nested all (list_all is_of_served (events_of history)) b ∙ ap (λ x. all && x) (ap (λ x. list_all is_of_served (events_of history) && x) (sym is ∙ ap (list_all is_of_served) (sym (append-nil e.events)))
+        ∙ sym (list_all-append is_of_served (events_of history) (e.events ++ []))
+        ∙ ap (list_all is_of_served) (sym (flat_map-append (λ e. e.events) history (e ∷ []))));
+    skipped = subst (λ (x : List Skipped). Grows heard heard2 x) (ap (λ x. skipped_at history ++ x) (sym skipped ∙ sym (append-nil (all_skipped (λ number. e.bytes) e.events))) ∙ sym (skipped_more history (e ∷ []))) (grows_trans heard heard1 heard2 (skipped_at history) more o.skipped grows);
+  }
 
-  ungrown : (t : LineTold) (o : Option Unserved) → o ≡ None → IsSkipped t o → (lines : ℕ → List ℕ) → lines w.number ≡ l → Grows heard heard (all_skipped lines (events_told w.number w' t))
-  ungrown t o is skipped lines e = subst (λ (more : List Skipped). Grows heard heard more) (sym (skipped lines ∙ ap (λ o. skipped_for w.number (lines w.number) o) is)) (grows_nil heard)
+-- ---- a line, by its number and by its bytes
 
-  pub line_unserved : (t : LineTold) (o : Option Unserved) (why : Unserved) → o ≡ Some why → IsServed t o → IsSkipped t o → Grows heard heard' (record { number = w.number; line = l; why = why } ∷ []) → IsTold w l t w' → Appends before after (printing (events_told w.number w' t))
-      → RunsStrictly before after heard heard' w l w' all false (Ok true)
-  line_unserved (told.Faulted fault) o why is served skipped grows h a = absurd (let f : true ≡ false = served ∙ ap (λ o. not (is_some o)) is in cc)
-  line_unserved told.Nothing o why is served skipped grows h a = ((events_told w.number w' told.Nothing, a, h), and_none all _ (served ∙ ap (λ o. not (is_some o)) is), grown told.Nothing o why is skipped grows)
-  line_unserved (told.Began end card) o why is served skipped grows h a =
-      ((events_told w.number w' (told.Began end card), a, h), and_none all _ (served ∙ ap (λ o. not (is_some o)) is), grown (told.Began end card) o why is skipped grows)
-  line_unserved (told.Answered t x) o why is served skipped grows h a =
-      ((events_told w.number w' (told.Answered t x), a, h), and_none all _ (served ∙ ap (λ o. not (is_some o)) is), grown (told.Answered t x) o why is skipped grows)
+told_skipped : (f g : ℕ → List ℕ) (n : ℕ) (t : Name) (a : Answer) → f n ≡ g n → all_skipped f (Told n t a ∷ []) ≡ all_skipped g (Told n t a ∷ [])
+told_skipped f g n t answer.NotRun e = ap (λ line. skipped_for n line (Some why.NotRun) ++ []) e
+told_skipped f g n t answer.NoName e = ap (λ line. skipped_for n line (Some why.NoName) ++ []) e
+told_skipped f g n t (answer.At a) e = refl
+told_skipped f g n t answer.Rc0 e = refl
+told_skipped f g n t (answer.Granted len) e = refl
+told_skipped f g n t answer.Rc4 e = refl
+told_skipped f g n t answer.Cell e = refl
+told_skipped f g n t answer.NoCell e = refl
+told_skipped f g n t answer.Attached e = refl
+told_skipped f g n t answer.Ended e = refl
+told_skipped f g n t answer.Done e = refl
+told_skipped f g n t (answer.Data bytes) e = refl
+told_skipped f g n t (answer.Abended code fallen) e = refl
+told_skipped f g n t (answer.Subpools lines) e = refl
+told_skipped f g n t (answer.Map runs) e = refl
+told_skipped f g n t (answer.Region card) e = refl
 
-  pub line_served : (t : LineTold) (o : Option Unserved) → ((fault : Fault) → t ≡ told.Faulted fault → ⊥) → o ≡ None → IsServed t o → IsSkipped t o → IsTold w l t w' → Appends before after (printing (events_told w.number w' t)) → RunsStrictly before after heard heard w l w' all all (Ok true)
-  line_served (told.Faulted fault) o other is served skipped h a = absurd (other fault refl)
-  line_served told.Nothing o other is served skipped h a = ((events_told w.number w' told.Nothing, a, h), and_one all _ (served ∙ ap (λ o. not (is_some o)) is), ungrown told.Nothing o is skipped)
-  line_served (told.Began end card) o other is served skipped h a = ((events_told w.number w' (told.Began end card), a, h), and_one all _ (served ∙ ap (λ o. not (is_some o)) is), ungrown (told.Began end card) o is skipped)
-  line_served (told.Answered t x) o other is served skipped h a = ((events_told w.number w' (told.Answered t x), a, h), and_one all _ (served ∙ ap (λ o. not (is_some o)) is), ungrown (told.Answered t x) o is skipped)
+step_skipped : (f : ℕ → List ℕ) (old : Option JobValue) → all_skipped f (ending machine old) ≡ []
+step_skipped f None = refl
+step_skipped f (Some job) = refl
 
-  pub line_faulted : (t : LineTold) (o : Option Unserved) (fault : Fault) → t ≡ told.Faulted fault → o ≡ None → IsServed t o → IsSkipped t o → IsTold w l t w' → Appends before after (printing (events_told w.number w' t)) → RunsStrictly before after heard heard w l w' all all (Ok false)
-  line_faulted (told.Faulted other) o fault e is served skipped h a = ((events_told w.number w' (told.Faulted other), a, (other, h.0, refl)), and_one all _ (served ∙ ap (λ o. not (is_some o)) is), ungrown (told.Faulted other) o is skipped)
-  line_faulted told.Nothing o fault e is served skipped h a = absurd (let f : told.Nothing ≡ told.Faulted fault = e in cc)
-  line_faulted (told.Began end card) o fault e is served skipped h a = absurd (let f : told.Began end card ≡ told.Faulted fault = e in cc)
-  line_faulted (told.Answered t x) o fault e is served skipped h a = absurd (let f : told.Answered t x ≡ told.Faulted fault = e in cc)
+module _ (f g : ℕ → List ℕ) (n : ℕ) (same : f n ≡ g n) (events : List Event) (new : Option JobValue) where
+  answered : (t : Name) (a : Answer) → events ≡ Told n t a ∷ [] → all_skipped f events ≡ all_skipped g events
+  answered t a e = ap (all_skipped f) e ∙ told_skipped f g n t a same ∙ ap (all_skipped g) (sym e)
 
-  pub line_stopped : (stop : Stop) → RunsLine before after w l w' (Err stop) → (all' : Bool) → RunsStrictly before after heard heard w l w' all all' (Err stop)
-  line_stopped stop r all' = (r, grows_nil heard)
+  served_skipped : (old : Option JobValue) (said : Line) → Serves machine n old said events new → all_skipped f events ≡ all_skipped g events
+  served_skipped old line.Nothing h = ap (all_skipped f) h.0 ∙ ap (all_skipped g) (sym h.0)
+  served_skipped old (line.Statement t (says.Region below above fill residence)) h =
+      let begun : (f : ℕ → List ℕ) → all_skipped f events ≡ [] = λ f. ap (all_skipped f) h.0 ∙ skipped_both f (ending machine old) _ ∙ ap (λ x. x ++ []) (step_skipped f old) in
+      begun f ∙ sym (begun g)
+  served_skipped None (line.Statement t (says.Request a)) h = absurd h
+  served_skipped None (line.Statement t (says.Where name)) h = absurd h
+  served_skipped None (line.Statement t says.ReportSubpools) h = absurd h
+  served_skipped None (line.Statement t says.ReportMap) h = absurd h
+  served_skipped (Some job) (line.Statement t (says.Request a)) h = answered t h.0 h.3
+  served_skipped (Some job) (line.Statement t (says.Where name)) h = answered t h.0 h.3
+  served_skipped (Some job) (line.Statement t says.ReportSubpools) h = answered t h.0 h.3
+  served_skipped (Some job) (line.Statement t says.ReportMap) h = answered t h.0 h.3
+
+executed_skipped : (f : ℕ → List ℕ) (n : ℕ) (old : Option JobValue) (l : List ℕ) (e : Entry) → f n ≡ l → IsExecuted n old l e → all_skipped f e.events ≡ all_skipped (λ number. e.bytes) e.events
+executed_skipped f n old l e at (said, events, new, of, serves, is) =
+    ap (λ e. all_skipped f e.events) is ∙ served_skipped f (λ number. l) n at events new old said serves ∙ ap (λ e. all_skipped (λ number. e.bytes) e.events) (sym is)
+
+-- ---- the last entry has no line that was not executed
+
+closes_skipped : (f : ℕ → List ℕ) (n : ℕ) (old : Option JobValue) (events : List Event) (outcome : Outcome) → Closes machine n old events outcome → all_skipped f events ≡ []
+closes_skipped f n None events outcome h = ap (all_skipped f) h.0
+closes_skipped f n (Some job) events outcome h = ap (all_skipped f) h.0
+
+takes_skipped : (f : ℕ → List ℕ) (old : Option JobValue) (said : Line) (events : List Event) → TakesMemory old said events → all_skipped f events ≡ []
+takes_skipped f old (line.Statement t (says.Region below above fill residence)) events h = ap (all_skipped f) h ∙ step_skipped f old
+takes_skipped f (Some job) (line.Statement t (says.Request a)) events h = ap (all_skipped f) h.0
+takes_skipped f None line.Nothing events h = absurd h
+takes_skipped f (Some job) line.Nothing events h = absurd h
+takes_skipped f None (line.Statement t (says.Request a)) events h = absurd h
+takes_skipped f None (line.Statement t (says.Where name)) events h = absurd h
+takes_skipped f None (line.Statement t says.ReportSubpools) events h = absurd h
+takes_skipped f None (line.Statement t says.ReportMap) events h = absurd h
+takes_skipped f (Some job) (line.Statement t (says.Where name)) events h = absurd h
+takes_skipped f (Some job) (line.Statement t says.ReportSubpools) events h = absurd h
+takes_skipped f (Some job) (line.Statement t says.ReportMap) events h = absurd h
+
+one_skipped : (f : ℕ → List ℕ) (e : Entry) (events : List Event) → e.events ≡ events → ((f : ℕ → List ℕ) → all_skipped f events ≡ []) → all_skipped f (events_of (e ∷ [])) ≡ skipped_at (e ∷ [])
+one_skipped f e events is none =
+    ap (all_skipped f) (append-nil e.events ∙ is) ∙ none f ∙ sym (append-nil (all_skipped (λ number. e.bytes) e.events) ∙ ap (all_skipped (λ number. e.bytes)) is ∙ none (λ number. e.bytes))
+
+last_skipped : (f : ℕ → List ℕ) (how : Ending) (n : ℕ) (old : Option JobValue) (lines : List (List ℕ)) (entries : List Entry) → Stops how n old lines entries → all_skipped f (events_of entries) ≡ skipped_at entries
+last_skipped f (Ends outcome) n old [] entries (e, (events, closes, is), same) =
+    subst (λ x. all_skipped f (events_of x) ≡ skipped_at x) (sym same) (one_skipped f e events (ap (λ e. e.events) is) (λ f. closes_skipped f n old events outcome closes))
+last_skipped f (Ends outcome) n old (l ∷ lines) entries (e, (fault, of, is), same, o) =
+    subst (λ x. all_skipped f (events_of x) ≡ skipped_at x) (sym same) (one_skipped f e (Faulted n fault ∷ []) (ap (λ e. e.events) is) (λ f. refl))
+last_skipped f Exhausts n old [] entries h = absurd h
+last_skipped f Exhausts n old (l ∷ lines) entries (e, (said, events, of, takes, is), same) =
+    subst (λ x. all_skipped f (events_of x) ≡ skipped_at x) (sym same) (one_skipped f e events (ap (λ e. e.events) is) (λ f. takes_skipped f old said events takes))
+last_skipped f (Arrives new) n old [] entries (same, to) = subst (λ x. all_skipped f (events_of x) ≡ skipped_at x) (sym same) refl
+last_skipped f (Arrives new) n old (l ∷ lines) entries h = absurd h
+
+-- ---- a trace
+
+-- the lines from this number on are these
+abbrev Numbers : (ℕ → List ℕ) → ℕ → List (List ℕ) → Type 0
+Numbers f n [] = Unit {0}
+Numbers f n (l ∷ lines) = (f n ≡ l) × Numbers f (n + 1) lines
+
+trace_skipped : (f : ℕ → List ℕ) (how : Ending) (n : ℕ) (old : Option JobValue) (lines : List (List ℕ)) (entries : List Entry) → Numbers f n lines → Traces how n old lines entries → all_skipped f (events_of entries) ≡ skipped_at entries
+trace_skipped f how n old [] entries at t = last_skipped f how n old [] entries t
+trace_skipped f how n old (l ∷ lines) entries at (inl t) = last_skipped f how n old (l ∷ lines) entries t
+trace_skipped f how n old (l ∷ lines) entries at (inr (e, rest, is, same, t)) =
+    subst (λ x. all_skipped f (events_of x) ≡ skipped_at x) (sym same)
+    (skipped_both f e.events (events_of rest) ∙ ap (λ x. x ++ all_skipped f (events_of rest)) (executed_skipped f n old l e at.0 is) ∙ ap (λ x. all_skipped (λ number. e.bytes) e.events ++ x) (trace_skipped f how (n + 1) e.after lines rest at.1 t))
+
+numbered : (all done lines : List (List ℕ)) (n : ℕ) → n ≡ 1 + length done → all ≡ done ++ lines → Numbers (λ number. get_or all (number - 1) []) n lines
+numbered all done [] n at is = tt
+numbered all done (l ∷ lines) n at is =
+    let k : n - 1 ≡ length done = omega (arith, at) in (
+      ap (λ k. get_or all k []) k ∙ ap (λ all. get_or all (length done) []) is ∙ get_or-append_seam done l lines [],
+      numbered all (done ++ l ∷ []) lines (n + 1) (let e = length-append done (l ∷ []) in omega (arith, at, e)) (is ∙ sym (append_assoc done (l ∷ []) lines)),
+    )
+
+script_skipped : (script : List ℕ) (how : Ending) (entries : List Entry) → IsTrace script entries how → all_skipped (line_at script) (events_of entries) ≡ skipped_at entries
+script_skipped script how entries t = trace_skipped (line_at script) how 1 None (lines_of script) entries (numbered (lines_of script) [] (lines_of script) 1 refl refl) t
+
+-- ---- a run
+
+first_numbers : (f : ℕ → List ℕ) (n : ℕ) (lines left : List (List ℕ)) → Numbers f n (lines ++ left) → Numbers f n lines
+first_numbers f n [] left at = tt
+first_numbers f n (l ∷ lines) left at = (at.0, first_numbers f (n + 1) lines left at.1)
+
+exhausted_none : (n : ℕ) (old : Option JobValue) (lines : List (List ℕ)) (entries : List Entry) → Stops Exhausts n old lines entries → skipped_at entries ≡ []
+exhausted_none n old [] entries h = absurd h
+exhausted_none n old (l ∷ lines) entries (e, (said, events, of, takes, is), same) =
+    ap skipped_at same ∙ append-nil (all_skipped (λ number. e.bytes) e.events) ∙ ap (all_skipped (λ number. e.bytes)) (ap (λ e. e.events) is) ∙ takes_skipped (λ number. e.bytes) old said events takes
+
+pub strict_stopped : {S : Type 0} (knows : S → List Entry → Type 0) (before after : Option (List ℕ)) (script : List ℕ) (s : S) (why : Stop) → Leaves printed knows before after script s (Err why) → PrintedUpTo why before after script
+strict_stopped knows before after script s stop.Write (text, a, w) = (text, a, front_printing script knows text s w)
+strict_stopped knows before after script s stop.Memory (text, a, w) = (text, a, exhausted_is_front script knows text s w, exhausted_printing script knows text s w)
+
+module _ (script : List ℕ) (heard heard' : Option (List Skipped)) where
+  -- what was heard of some lines that were executed
+  hears : (served left : List (List ℕ)) (n : ℕ) (step : Option JobValue) (entries : List Entry) → lines_of script ≡ served ++ left → n ≡ 1 + length served → Traces (Arrives step) 1 None served entries → Grows heard heard' (skipped_at entries) → HearsFront heard heard' script
+  hears served left n step entries cut at t grows =
+      let numbers = first_numbers (line_at script) 1 served left (subst (Numbers (line_at script) 1) cut (numbered (lines_of script) [] (lines_of script) 1 refl refl)) in (
+        events_of entries,
+        n,
+        step,
+        left,
+        record { served = served; lines = cut; counted = at; leads = walk_of (Arrives step) 1 None served entries t },
+        subst (λ (x : List Skipped). Grows heard heard' x) (sym (trace_skipped (line_at script) (Arrives step) 1 None served entries numbers t)) grows,
+      )
+
+  module _ {S : Type 0} (knows : S → List Entry → Type 0) (before after : Option (List ℕ)) (s : S) (all : Bool) (observed : (entries : List Entry) → knows s entries → Observes true all heard heard' entries) where
+    pub strict_ended : (outcome : Outcome) → Leaves printed knows before after script s (Ok outcome) → PrintsStrictly before after heard heard' script outcome all
+    strict_ended outcome (text, a, w) =
+        let o = observed w.entries w.known in (
+          events_of w.entries,
+          subst (Appends before after) (w.is ∙ printed_events [] w.entries) a,
+          traces_are_runs script w.entries outcome w.trace,
+          o.served,
+          subst (λ (x : List Skipped). Grows heard heard' x) (sym (script_skipped script (Ends outcome) w.entries w.trace)) o.skipped,
+        )
+
+    pub strict_heard : (why : Stop) → Leaves printed knows before after script s (Err why) → HearsFront heard heard' script
+    strict_heard stop.Write (text, a, w) =
+        let r = trace_cut w.how 1 None (lines_of script) w.entries w.next w.rest w.trace in
+        hears r.served r.left (1 + length r.served) r.step w.entries r.lines_are refl r.trace (observed w.entries w.known).skipped
+    strict_heard stop.Memory (text, a, w) =
+        let r = trace_split Exhausts 1 None (lines_of script) w.entries w.trace in
+        let same : skipped_at w.entries ≡ skipped_at r.before = ap skipped_at r.entries_are ∙ skipped_more r.before r.last ∙ ap (λ x. skipped_at r.before ++ x) (exhausted_none r.next r.step r.left r.last r.stops) ∙ append-nil (skipped_at r.before) in
+        hears r.served r.left r.next r.step r.before r.lines_are r.counted r.trace (subst (λ (x : List Skipped). Grows heard heard' x) same (observed w.entries w.known).skipped)
+
+-- what an observer was called for that is borrowed: it has a name for as long, and is at the end what the borrow leaves
+pub observed_at : {H X : Type 0} (heard : H → Option (List Skipped)) (b c : ℕ) (start first now last : H) (all all' : Bool) → (b ≡ c → last ≡ now) → first ≡ start → all ≡ true
+    → (entries : List Entry) → (b ≡ c) × X × Observes all all' (heard first) (heard now) entries → Observes true all' (heard start) (heard last) entries
+observed_at heard b c start first now last all all' ends same new entries (kept, x, o) = record {
+  served = o.served ∙ ap (λ x. x && list_all is_of_served (events_of entries)) new;
+  skipped = subst (λ (h : Option (List Skipped)). Grows (heard start) h (skipped_at entries)) (ap heard (sym (ends kept))) (subst (λ (h : Option (List Skipped)). Grows h (heard now) (skipped_at entries)) (ap heard same) o.skipped);
+}
+
+-- ---- a call
+
+-- the entry of the end
+ended_none : (n : ℕ) (how : End) (e : Entry) → IsEnd n how e → (list_all is_of_served e.events ≡ true) × (all_skipped (λ number. e.bytes) e.events ≡ [])
+ended_none n (end.Closed None) e is = (ap (list_all is_of_served) is.1, ap (all_skipped (λ number. e.bytes)) is.1)
+ended_none n (end.Closed (Some abended)) e is = (ap (list_all is_of_served) is.1, ap (all_skipped (λ number. e.bytes)) is.1)
+ended_none n (end.Exhausted None) e is = (ap (list_all is_of_served) is.1, ap (all_skipped (λ number. e.bytes)) is.1)
+ended_none n (end.Exhausted (Some abended)) e is = (ap (list_all is_of_served) is.1, ap (all_skipped (λ number. e.bytes)) is.1)
+
+pub observes_end : (all all' : Bool) (heard heard' : Option (List Skipped)) (history : List Entry) (n : ℕ) (how : End) (e : Entry) → IsEnd n how e → Observes all all' heard heard' history → Observes all all' heard heard' (history ++ e ∷ [])
+observes_end all all' heard heard' history n how e is o =
+    let none = ended_none n how e is in
+    subst (λ x. Observes all x heard heard' (history ++ e ∷ [])) (and_true all') (observes_next all all' heard history heard' heard' true e [] o none.0 none.1 (grows_nil heard'))
+
+-- the entry of a line
+and_false : (a : Bool) → (a && false) ≡ false
+and_false true = refl
+and_false false = refl
+
+bytes_of : (n : ℕ) (line : List ℕ) (w : WalkValue) (t : LineTold) (e : Entry) → IsEntry n line w t e → list_all is_of_served (events_told n w t) ≡ false → e.bytes ≡ line
+bytes_of n line w told.Nothing e is unserved = ap (λ e. e.bytes) (is.of_line).5
+bytes_of n line w (told.Began ended card) e is unserved = ap (λ e. e.bytes) (is.of_line).5
+bytes_of n line w (told.Answered t a) e is unserved = ap (λ e. e.bytes) (is.of_line).5
+bytes_of n line w (told.Faulted fault) e is unserved = absurd (let f : true ≡ false = unserved in cc)
+
+module _ (fa all : Bool) (heard heard1 : Option (List Skipped)) (history : List Entry) (n : ℕ) (line : List ℕ) (w : WalkValue) (t : LineTold) (e : Entry) (o : Option Unserved) (is : IsEntry n line w t e)
+    (served : list_all is_of_served (events_told n w t) ≡ not (is_some o)) (skipped : (lines : ℕ → List ℕ) → all_skipped lines (events_told n w t) ≡ skipped_for n (lines n) o) (before : Observes fa all heard heard1 history) where
+  pub unserved_next : (heard2 : Option (List Skipped)) (why : Unserved) → o ≡ Some why → Grows heard1 heard2 (record { number = n; line = line; why = why } ∷ []) → Observes fa false heard heard2 (history ++ e ∷ [])
+  unserved_next heard2 why some grows =
+      let none : list_all is_of_served (events_told n w t) ≡ false = served ∙ ap (λ o. not (is_some o)) some in
+      let bytes = bytes_of n line w t e is none in
+      subst (λ x. Observes fa x heard heard2 (history ++ e ∷ [])) (and_false all)
+      (observes_next fa all heard history heard1 heard2 false e (record { number = n; line = line; why = why } ∷ []) before (ap (list_all is_of_served) is.events ∙ none)
+      (ap (all_skipped (λ number. e.bytes)) is.events ∙ skipped (λ number. e.bytes) ∙ ap (skipped_for n e.bytes) some ∙ ap (λ line. skipped_for n line (Some why)) bytes) grows)
+
+  pub served_next : o ≡ None → Observes fa all heard heard1 (history ++ e ∷ [])
+  served_next none =
+      subst (λ x. Observes fa x heard heard1 (history ++ e ∷ [])) (and_true all)
+      (observes_next fa all heard history heard1 heard1 true e [] before (ap (list_all is_of_served) is.events ∙ served ∙ ap (λ o. not (is_some o)) none)
+      (ap (all_skipped (λ number. e.bytes)) is.events ∙ skipped (λ number. e.bytes) ∙ ap (skipped_for n e.bytes) none) (grows_nil heard1))
 
 pub none_of : (o : Option Unserved) → ((why : Unserved) → o ≡ Some why → ⊥) → o ≡ None
 none_of None other = refl
 none_of (Some why) other = absurd (other why refl)
 
--- ---- the lines so far
-
--- what is printed so far is the printing of a run up to here, each line was served, or not, and those that were not are heard of
-abbrev pub SoFar : Option (List ℕ) → Option (List ℕ) → Option (List Skipped) → Option (List Skipped) → List ℕ → WalkValue → List ℕ → Bool → Type 0
-SoFar start now first heard script w left all = (p : Progress start now script w (lines_of left)) × (all ≡ list_all is_of_served p.events) × Grows first heard (all_skipped (line_at script) p.events)
-
-pub so_far_start : (start : Option (List ℕ)) (heard : Option (List Skipped)) (script : List ℕ) (w : WalkValue) → w ≡ new_walk → SoFar start start heard heard script w script true
-so_far_start start heard script w e =
-    subst (λ w. SoFar start start heard heard script w script true) (sym e) (record { events = []; appended = Appends-nil start; reached = record { served = []; lines = refl; counted = refl; leads = (refl, refl) } }, refl, grows_nil heard)
-
-module _ (start before after : Option (List ℕ)) (first heard heard' : Option (List Skipped)) (script left : List ℕ) (w : WalkValue) (all all' : Bool) (s : SoFar start before first heard script w left all) where
-  both : (events : List Event) → Appends before after (printing events) → Appends start after (printing (s.0.events ++ events))
-  both events a = rw (printed_both s.0.events events) (Appends-trans start before after (printing s.0.events) (printing events) s.0.appended a)
-
-  joined : (events : List Event) → all' ≡ (all && list_all is_of_served events) → all' ≡ list_all is_of_served (s.0.events ++ events)
-  joined events e = e ∙ ap (λ b. b && list_all is_of_served events) s.1 ∙ sym (list_all-append is_of_served s.0.events events)
-
-  heard_both : (events : List Event) → Grows heard heard' (all_skipped (line_at script) events) → Grows first heard' (all_skipped (line_at script) (s.0.events ++ events))
-  heard_both events g =
-      subst (λ (more : List Skipped). Grows first heard' more) (sym (skipped_both (line_at script) s.0.events events)) (grows_trans first heard heard' (all_skipped (line_at script) s.0.events) (all_skipped (line_at script) events) s.2 g)
-
-  module _ (w' : WalkValue) (l : List ℕ) (lines : List (List ℕ)) (cut : lines_of left ≡ l ∷ lines) where
-    here : Reaches (lines_of script) s.0.events w.number w.step (l ∷ lines)
-    here = subst (Reaches (lines_of script) s.0.events w.number w.step) cut s.0.reached
-
-    is_here : line_at script w.number ≡ l
-    is_here =
-        let k : w.number - 1 ≡ length here.served = let e = here.counted in omega (arith, e) in
-        ap (λ k. get_or (lines_of script) k []) k ∙ ap (λ lines. get_or lines (length here.served) []) here.lines ∙ get_or-append_seam here.served l lines []
-
-    pub so_far_fault : RunsStrictly before after heard heard' w l w' all all' (Ok false) → PrintsStrictly start after first heard' script ScriptFault all'
-    so_far_fault (r, e, g) = (s.0.events ++ r.0, both r.0 r.1, reaches_then (lines_of script) ScriptFault s.0.events r.0 w.number w.step (l ∷ lines) here (inl (r.2, refl)), joined r.0 e, heard_both r.0 (g (line_at script) is_here))
-
-    pub so_far_stopped : (stop : Stop) → RunsStrictly before after heard heard' w l w' all all' (Err stop) → PrintedUpTo stop start after script
-    so_far_stopped stop r = progress_stopped start before after script w (lines_of left) s.0 w' l lines stop cut r.0
-
-    pub so_far_heard : (stop : Stop) → RunsStrictly before after heard heard' w l w' all all' (Err stop) → HearsFront first heard' script
-    so_far_heard stop r = (
-      s.0.events,
-      w.number,
-      w.step,
-      lines_of left,
-      s.0.reached,
-      subst (λ (more : List Skipped). Grows first heard' more) (append-nil (all_skipped (line_at script) s.0.events)) (grows_trans first heard heard' (all_skipped (line_at script) s.0.events) [] s.2 r.1),
-    )
-
-  pub so_far_next : (w' : WalkValue) (l more : List ℕ) → lines_of left ≡ l ∷ lines_of more → w'.number ≡ w.number + 1 → RunsStrictly before after heard heard' w l w' all all' (Ok true) → SoFar start after first heard' script w' more all'
-  so_far_next w' l more cut next (r, e, g) = (
-    record {
-      events = s.0.events ++ r.0;
-      appended = both r.0 r.1;
-      reached = subst (λ n. Reaches (lines_of script) (s.0.events ++ r.0) n w'.step (lines_of more)) (sym next) (reaches_next (lines_of script) s.0.events r.0 w.number w.step w'.step l (lines_of more) (here w' l (lines_of more) cut) r.2);
-    },
-    joined r.0 e,
-    heard_both r.0 (g (line_at script) (is_here w' l (lines_of more) cut)),
-  )
-
--- the end of the lines
-module _ (start before after : Option (List ℕ)) (first heard : Option (List Skipped)) (script left : List ℕ) (w : WalkValue) (all : Bool) (s : SoFar start before first heard script w left all) where
-  pub so_far_end : (end : Option Bool) (outcome : Outcome) → lines_of left ≡ [] → Closes machine w.number w.step (closing w.number end) outcome → Appends before after (printing (closing w.number end)) → PrintsStrictly start after first heard script outcome all
-  so_far_end end outcome none closes a = (
-    s.0.events ++ closing w.number end,
-    both start before after first heard heard script left w all all s (closing w.number end) a,
-    reaches_then (lines_of script) outcome s.0.events (closing w.number end) w.number w.step [] (subst (Reaches (lines_of script) s.0.events w.number w.step) none s.0.reached) closes,
-    joined start before after first heard heard script left w all all s (closing w.number end) (and_one all _ (closing_served w.number end)),
-    heard_both start before after first heard heard script left w all all s (closing w.number end) (subst (λ (more : List Skipped). Grows heard heard more) (sym (closing_skipped (line_at script) w.number end)) (grows_nil heard)),
-  )
-
-  pub so_far_hears : HearsFront first heard script
-  so_far_hears = (s.0.events, w.number, w.step, lines_of left, s.0.reached, s.2)
-
--- the line of a script at an index
-module _ (start before after : Option (List ℕ)) (first heard heard' : Option (List Skipped)) (script rest : List ℕ) (at end : ℕ) (w w' : WalkValue) (all all' : Bool) (is : rest ≡ drop at script) (cut : lines_of rest ≡ take end rest ∷ lines_of (drop (end + 1) rest))
-    (s : SoFar start before first heard script w (drop at script) all) where
-  here_cut : lines_of (drop at script) ≡ take end rest ∷ lines_of (drop (end + 1) rest)
-  here_cut = ap lines_of (sym is) ∙ cut
-
-  pub line_on : w'.number ≡ w.number + 1 → (b : Bool) → b ≡ true → RunsStrictly before after heard heard' w (take end rest) w' all all' (Ok b) → SoFar start after first heard' script w' (drop (at + (end + 1)) script) all'
-  line_on next b e x =
-      subst (λ left. SoFar start after first heard' script w' left all') (ap (drop (end + 1)) is ∙ drop-drop (end + 1) at script)
-      (so_far_next start before after first heard heard' script (drop at script) w all all' s w' (take end rest) (drop (end + 1) rest) here_cut next (subst (λ b. RunsStrictly before after heard heard' w (take end rest) w' all all' (Ok b)) e x))
-
-  pub line_fault : (b : Bool) → b ≡ false → RunsStrictly before after heard heard' w (take end rest) w' all all' (Ok b) → PrintsStrictly start after first heard' script ScriptFault all'
-  line_fault b e x =
-      so_far_fault start before after first heard heard' script (drop at script) w all all' s w' (take end rest) (lines_of (drop (end + 1) rest)) here_cut (subst (λ b. RunsStrictly before after heard heard' w (take end rest) w' all all' (Ok b)) e x)
-
-  pub line_gave_up : (stop : Stop) → RunsStrictly before after heard heard' w (take end rest) w' all all' (Err stop) → PrintedUpTo stop start after script
-  line_gave_up = so_far_stopped start before after first heard heard' script (drop at script) w all all' s w' (take end rest) (lines_of (drop (end + 1) rest)) here_cut
-
-  pub line_heard : (stop : Stop) → RunsStrictly before after heard heard' w (take end rest) w' all all' (Err stop) → HearsFront first heard' script
-  line_heard = so_far_heard start before after first heard heard' script (drop at script) w all all' s w' (take end rest) (lines_of (drop (end + 1) rest)) here_cut
+-- what is known after a call, by its result
+pub result_maps : {X E : Type 0} (r : Result X E) (P P' Q Q' : Type 0) → (P → P') → (Q → Q') → MatchResult r (λ _. P) (λ _. Q) → MatchResult r (λ _. P') (λ _. Q')
+result_maps (Ok x) P P' Q Q' f g h = f h
+result_maps (Err e) P P' Q Q' f g h = g h

@@ -7,7 +7,7 @@ use Rattle.mvs_job.specs.Explaining.{IsBehind}
 use Rattle.mvs_job.specs.Naming.{SetLines}
 use Rattle.mvs_job.specs.Telling.{WalkValue, events_told}
 
--- What stands between two moments of a writer is the text behind what a line tells that has no fault.
+-- The text between two moments of a writer is the explanation of a line that has no fault.
 abbrev pub StandsBehind : Option (List ℕ) → Option (List ℕ) → WalkValue → SetLines → List ℕ → WalkValue → LineTold → Type 0
 StandsBehind before after w set line new (told.Faulted fault) = Unit {0}
 StandsBehind before after w set line new t = (text : List ℕ) × Appends before after text × IsBehind w.step set line (events_told w.number new t) new.step text

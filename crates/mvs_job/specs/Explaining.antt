@@ -1,18 +1,15 @@
--- A run of a script with reasons: behind what a line tells stands why its request is refused, if it is, and what goes where it ends a task.
-use Rattle.std.specs.Prelude.{◌≡◌, ◌⊎◌, ℕ, ◌+◌, ◌==◌, List, [], ◌∷◌, ◌++◌, slice_index, Option, Some, None, Result, Ok, Err, Bool, true, false, not, if◌then◌else◌}
+-- A run of a script with explanations: after the events of a line comes why its request was refused, if it was, and what was freed
+-- if it ended a task.
+use Rattle.std.specs.Prelude.{◌≡◌, ◌⊎◌, ℕ, ◌+◌, ◌==◌, List, [], ◌∷◌, ◌++◌, slice_index, Option, Some, None, Result, Ok, Err, Bool, true, false, not}
 use Rattle.std.specs.List.{filter}
 use Rattle.std.specs.Io.KnownBytes.{Appends, Keeps}
-use Rattle.mvs_model.specs.declared.name.Name.{Name}
 use Rattle.mvs_model.specs.declared.line.Line.{Line}
 use Rattle.mvs_model.specs.declared.line.Line.TheVariants as line
 use Rattle.mvs_model.specs.declared.line.Fault.{Fault}
-use Rattle.mvs_model.specs.declared.line.Statement.{Statement}
 use Rattle.mvs_model.specs.declared.line.Statement.TheVariants as says
-use Rattle.mvs_model.specs.declared.line.Written.{Written}
 use Rattle.mvs_model.specs.declared.outcome.Outcome.{Outcome}
 use Rattle.mvs_model.specs.declared.outcome.Outcome.TheVariants.{ScriptFault}
-use Rattle.mvs_model.specs.declared.reason.Reason.{Reason}
-use Rattle.mvs_model.specs.declared.reason.Reason.TheVariants.{NotActive, NotSet}
+use Rattle.mvs_model.specs.declared.reason.LineReason.{LineReason}
 use Rattle.mvs_model.specs.declared.request.Request.{Request}
 use Rattle.mvs_model.specs.declared.request.Request.TheVariants.{Return}
 use Rattle.mvs_model.specs.Answers.{Event}
@@ -28,70 +25,54 @@ use Rattle.job_script.specs.ReasonTexts.{reason_line}
 use Rattle.job_script.specs.Writing.{AppendsFront}
 use Rattle.mvs_job.specs.declared.printing.Stop.{Stop}
 use Rattle.mvs_job.specs.declared.printing.Stop.TheVariants as stop
-use Rattle.mvs_job.specs.Facts.{IsFreeing, freed_by}
+use Rattle.mvs_job.specs.Facts.{IsFreeing, ended_by, freed_lines}
 use Rattle.mvs_job.specs.declared.asking.Asking.{Asking}
-use Rattle.mvs_job.specs.Granting.{IsGranting, granted_text, tells_grant}
+use Rattle.mvs_job.specs.Granting.{IsGranting, granted_text}
 use Rattle.mvs_job.specs.Naming.{IsNamed, IsSetBehind, SetLines, naming_text, no_lines}
 use Rattle.mvs_job.specs.Telling.{WalkValue}
-use Rattle.mvs_job.specs.Why.{OfLine, TurnBehind, spoken}
+use Rattle.mvs_job.specs.Why.{OfRead, spoken}
 
 -- ---- a line
 
 -- what is printed of the reason of a line
-abbrev pub reason_text : JobValue → Line → Option Reason → List ℕ
+abbrev pub reason_text : JobValue → Line → Option LineReason → List ℕ
 reason_text job l None = []
 reason_text job line.Nothing (Some reason) = []
 reason_text job (line.Statement t (says.Request a)) (Some reason) = reason_line t (spoken (resolved job.names a)) reason
 reason_text job (line.Statement t s) (Some reason) = reason_line t Return reason
 
--- The text says why the next line is refused, by the step before it: nothing before the first step, of a line with a fault, and
--- of a line that has no reason.
-abbrev pub IsExplanation : Option JobValue → List ℕ → List ℕ → Type 0
-IsExplanation None bytes text = text ≡ []
-IsExplanation (Some job) bytes text =
-    ((l : Line) × LineOf false bytes l × ((r : Option Reason) × OfLine job l r × (text ≡ reason_text job l r)))
+-- The text says why the next line, which has these events, is refused, by the step before it: nothing before the first step, of a
+-- line with a fault, and of a line that has no reason.
+abbrev pub IsExplanation : Option JobValue → List ℕ → List Event → List ℕ → Type 0
+IsExplanation None bytes events text = text ≡ []
+IsExplanation (Some job) bytes events text =
+    ((l : Line) × LineOf false bytes l × ((r : Option LineReason) × OfRead job l events r × (text ≡ reason_text job l r)))
     ⊎ ((fault : Fault) × FaultOf false bytes fault × (text ≡ []))
-
--- a text that stands behind these events, where they do not say that a request was granted
-abbrev pub unless_granted : List Event → List ℕ → List ℕ
-unless_granted events text = if tells_grant events then [] else text
-
--- The text says at which member the list of the next line, which tells these events, is refused once those in front are granted: by
--- the step before it, of a line that has no other reason.
-abbrev pub IsTurnTold : Option JobValue → List ℕ → List Event → List ℕ → Type 0
-IsTurnTold None bytes events text = text ≡ []
-IsTurnTold (Some job) bytes events text =
-    ((l : Line) × LineOf false bytes l
-    × ((r : Option Reason) × (turn : Option Reason) × OfLine job l r × TurnBehind job l r turn × (text ≡ unless_granted events (reason_text job l turn))))
-    ⊎ ((fault : Fault) × FaultOf false bytes fault × (text ≡ []))
-
--- A reason of a statement speaks of this request, but that the task is not active, or a name is not set.
-abbrev pub SpeaksOf : JobValue → Statement → Request → Reason → Type 0
-SpeaksOf job s request reason = (reason ≡ NotActive) ⊎ ((name : Name) × (reason ≡ NotSet name)) ⊎ ((a : Written) × (s ≡ says.Request a) × (resolved job.names a ≡ Some request))
 
 -- what is printed of the reason of a line that says this and asks for this request
-abbrev pub said_of : Line → Request → Option Reason → List ℕ
+abbrev pub said_of : Line → Request → Option LineReason → List ℕ
 said_of l request None = []
 said_of line.Nothing request (Some reason) = []
 said_of (line.Statement t s) request (Some reason) = reason_line t request reason
 
 -- ---- a run
 
--- The text stands behind these events of the next line, which leads to this step: why it is refused, which name has the address of
--- that in its place, at which member its list is refused, which subpools go where it ends a task, and what it did where it was granted.
+-- The text comes after these events of the next line, which leads to this step: why it was refused, the name that has the address
+-- of the reason, the subpools that were freed if it ended a task, and what it changed if it was granted.
 abbrev pub IsBehind : Option JobValue → SetLines → List ℕ → List Event → Option JobValue → List ℕ → Type 0
 IsBehind old set bytes events new text =
-    (why : List ℕ) × (named : List ℕ) × (turn : List ℕ) × (freed : List ℕ) × (done : List ℕ)
-    × IsExplanation old bytes why × IsNamed old set bytes named × IsTurnTold old bytes events turn × IsFreeing old bytes events freed × IsGranting old bytes events new done
-    × (text ≡ why ++ (named ++ (turn ++ (freed ++ done))))
+    (why : List ℕ) × (named : List ℕ) × (freed : List ℕ) × (done : List ℕ)
+    × IsExplanation old bytes events why × IsNamed old set bytes events named × IsFreeing old events freed × IsGranting old bytes events new done
+    × (text ≡ why ++ (named ++ (freed ++ done)))
 
--- A line may tell these events and lead to this step; one with a fault leads nowhere.
+-- A line may have these events and lead to this step. One with a fault leads nowhere.
 abbrev pub LeadsTo : ℕ → Option JobValue → List ℕ → List Event → Option JobValue → Type 0
 LeadsTo number old bytes events new = ServesLine machine number old bytes events new ⊎ Faults number (is_first old) bytes events
 
--- How a run with reasons may stop, at the number of the next line, in this step or before the first, behind lines that set these
--- names, with these lines left, when this text is written last: it ends so, at a line with a fault or behind the last line; a write fails, when nothing or a front
--- of what a line tells and of what stands behind it is written; or memory is wanting for the answer to a line.
+-- How a run with explanations may stop, with the number of the next line, in this step or before the first, after lines that set
+-- these names, with these lines left, and this last text: it ends so, at a line with a fault or after the last line; a write fails,
+-- after nothing or the beginning of the events and explanations of a line was written; or memory is exhausted at the answer to a
+-- line.
 abbrev pub StopsSo : Result Outcome Stop → ℕ → Option JobValue → SetLines → List (List ℕ) → List ℕ → Type 0
 StopsSo (Ok outcome) number old set [] text = (events : List Event) × Closes machine number old events outcome × (text ≡ printing events)
 StopsSo (Ok outcome) number old set (l ∷ lines) text = (events : List Event) × Faults number (is_first old) l events × (outcome ≡ ScriptFault) × (text ≡ printing events)
@@ -103,8 +84,8 @@ StopsSo (Err stop.Write) number old set (l ∷ lines) text =
 StopsSo (Err stop.Memory) number old set [] text = ⊥
 StopsSo (Err stop.Memory) number old set (l ∷ lines) text = (events : List Event) × StopsForMemory number old (l ∷ lines) events × (text ≡ printing events)
 
--- From the line of this number on this text may be written, until the run stops: it stops before the first of the lines, or that
--- line is served, what it tells is printed, why it is refused and what goes stands behind that, and the run goes on.
+-- From the line with this number on, this text may be written until the run stops: it stops before the first of the lines, or that
+-- line is executed, its events are printed and its explanations after them, and the run continues.
 abbrev pub Explains : Result Outcome Stop → ℕ → Option JobValue → SetLines → List (List ℕ) → List ℕ → Type 0
 Explains how number old set [] text = StopsSo how number old set [] text
 Explains how number old set (l ∷ lines) text =
@@ -117,7 +98,7 @@ Explains how number old set (l ∷ lines) text =
 abbrev pub IsExplained : List ℕ → List ℕ → Result Outcome Stop → Type 0
 IsExplained script text how = Explains how 1 None no_lines (lines_of script) text
 
--- what stands between two moments of a writer is such a text
+-- the text between two moments of a writer is such a text
 abbrev pub WritesExplained : Option (List ℕ) → Option (List ℕ) → List ℕ → Result Outcome Stop → Type 0
 WritesExplained before after script how = (text : List ℕ) × Appends before after text × IsExplained script text how
 
@@ -133,13 +114,13 @@ NoLineIsStarred = (script text : List ℕ) (outcome : Outcome) → IsPrinting sc
 
 -- ---- what calls do
 
--- the text that is printed behind a line that was asked about, which tells these events and leads to this step
+-- the explanations of the last line, which has these events and leads to this step
 abbrev pub behind_said : Asking → List Event → Option JobValue → List ℕ
 behind_said x events new =
-    said_of x.why.read x.why.request x.asked.reason
-    ++ (naming_text x.naming ++ (unless_granted events (said_of x.why.read x.why.request x.turn) ++ (freed_by x.asked.ends x.subpools events ++ granted_text x.asked.before x.why.read events new)))
+    said_of x.why.read x.why.request x.reason ++ (naming_text x.naming ++ (freed_lines x.why.subpools (ended_by events) ++ granted_text x.why.before x.why.read events new))
 
--- What the call for one line does, between two moments of a writer; where the line was served, which lines have set names behind it.
+-- The effect of the call for one line, between two moments of a writer; if the line was executed, the lines that have set names
+-- after it.
 abbrev pub ExplainsLine : Option (List ℕ) → Option (List ℕ) → WalkValue → SetLines → List ℕ → WalkValue → SetLines → Result Bool Stop → Type 0
 ExplainsLine before after w set line new later (Ok true) =
     (events : List Event) × (why : List ℕ) × Appends before after (printing events ++ why)
@@ -149,7 +130,7 @@ ExplainsLine before after w set line new later (Err stop.Write) =
     Keeps before after ⊎ ((events : List Event) × (why : List ℕ) × (end : Option JobValue) × LeadsTo w.number w.step line events end × IsBehind w.step set line events end why × AppendsFront before after (printing events ++ why))
 ExplainsLine before after w set line new later (Err stop.Memory) = (events : List Event) × Appends before after (printing events) × StopsForMemory w.number w.step (line ∷ []) events
 
--- What stands between two moments of a writer is written behind the lines before, in whatever way the run stops behind it.
+-- The text between two moments of a writer comes after that of the lines before, in whatever way the run stops after it.
 abbrev pub SoFar : Option (List ℕ) → Option (List ℕ) → List ℕ → ℕ → Option JobValue → SetLines → List ℕ → Type 0
 SoFar before after script number step set left =
     (written : List ℕ) × Appends before after written

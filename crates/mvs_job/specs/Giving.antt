@@ -1,4 +1,4 @@
--- What a job says that gives up. (this project's choice)
+-- The message of a job that stops with an error. (this project's choice)
 use Rattle.std.specs.Prelude.{ℕ, List, codes}
 use Rattle.mvs_job.specs.declared.run.RunFault.{RunFault}
 use Rattle.mvs_job.specs.declared.run.RunFault.TheVariants.{Read, Write, Memory, ReadTooLong}

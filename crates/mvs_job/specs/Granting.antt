@@ -1,4 +1,4 @@
--- What is told of a request that was granted: what it did, by the step before it and the step behind it.
+-- What is reported of a granted request: its changes, from the steps before and after it.
 use Rattle.std.specs.Prelude.{◌≡◌, ◌⊎◌, ℕ, ◌+◌, ◌-◌, ◌==◌, nat_lt, Bool, true, false, List, [], ◌∷◌, ◌++◌, length, slice_get, flat_map, Option, Some, None, is_some, unwrap_or, option_map, if◌then◌else◌}
 use Rattle.std.specs.Option.{option_and_then}
 use Rattle.std.specs.FinMap.{get}
@@ -23,8 +23,8 @@ use Rattle.mvs_model.specs.Reading.{LineOf, FaultOf}
 use Rattle.mvs_model.specs.Reports.{each_below}
 use Rattle.mvs_model.specs.State.{State}
 use Rattle.job_script.specs.FactTexts.{fact_line}
-use Rattle.step_machine.specs.Facts.{listed}
-use Rattle.step_machine.specs.Standing.{free_above, free_below, label_had, label_meant}
+use Rattle.request_forms.specs.Facts.{listed}
+use Rattle.request_forms.specs.Standing.{free_above, free_below, label_had, label_meant}
 use Rattle.mvs_job.specs.declared.granting.Before.{Before}
 
 -- ---- the step before
@@ -41,7 +41,7 @@ looked_at job had parts = record { below = free_below job.state; above = free_ab
 abbrev pub means : JobValue → Name → ℕ → Bool
 means job t number = is_some (label_meant job.state.owners t number)
 
--- what is looked at before a task's request; nothing, where what it did is not told
+-- what is looked up before the request of a task; nothing, if its changes are not reported
 abbrev pub before_request : JobValue → Name → Written → Option Before
 before_request job t (Obtain form number ask variable area) = Some (looked_at job (means job t number) 0)
 before_request job t (ObtainList form number lengths start areas) = Some (looked_at job (means job t number) 0)
@@ -102,7 +102,7 @@ emptied_fact new t number = option_map (λ l. Emptied l.0 l.1) (label_meant new.
 abbrev pub last_part : Name → Pool → Option Fact
 last_part name pool = option_map (λ part. PartAdded name part.count pool.cell_size part.place) (slice_get pool.parts (length pool.parts - 1))
 
--- the same of a pool that has another number of parts than before
+-- a pool that has another number of parts than before
 abbrev pub part_fact : Before → JobValue → Name → Option Fact
 part_fact b new name = option_and_then (λ pool. if length pool.parts == b.parts then None else last_part name pool) (get new.state.pools name)
 
@@ -144,7 +144,7 @@ abbrev pub tells_grant : List Event → Bool
 tells_grant (Told number t a ∷ []) = is_grant a
 tells_grant _ = false
 
--- what is printed of what a line did, which says this, by the step behind it
+-- the lines for the changes of a line with this meaning, from the step after it
 abbrev pub done_text : Option Before → Line → Option JobValue → List ℕ
 done_text None l new = []
 done_text (Some b) l None = []
@@ -156,7 +156,7 @@ done_text (Some b) (line.Statement t s) (Some new) = []
 abbrev pub granted_text : Option Before → Line → List Event → Option JobValue → List ℕ
 granted_text b l events new = if tells_grant events then done_text b l new else []
 
--- The text says what the next line did, where it tells these events: by the step before it and the step behind it.
+-- The text is the changes of the next line, if it has these events: from the steps before and after it.
 abbrev pub IsGranting : Option JobValue → List ℕ → List Event → Option JobValue → List ℕ → Type 0
 IsGranting old bytes events new text =
     ((l : Line) × LineOf false bytes l × (text ≡ granted_text (before_line old l) l events new)) ⊎ ((old ≡ None) × (text ≡ [])) ⊎ ((fault : Fault) × FaultOf false bytes fault × (text ≡ []))

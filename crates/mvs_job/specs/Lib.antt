@@ -1,10 +1,12 @@
 pub mod Apart
+pub mod Asking
 pub mod Exchanging
 pub mod Facts
 pub mod Granting
 pub mod Explaining
 pub mod Giving
 pub mod Naming
+pub mod Observing
 pub mod Serving
 pub mod Sessions
 pub mod Steady
@@ -13,3 +15,6 @@ pub mod Strict
 pub mod Telling
 pub mod Valued
 pub mod Why
+pub mod Trace
+pub mod Consuming
+pub mod Printed

@@ -1,4 +1,4 @@
--- Which line set a name last, and what is told by that of the address of a reason: the name that has it in its place.
+-- The line that set a name last, and the name that has the address of a reason.
 use Rattle.std.specs.Prelude.{◌≡◌, ◌⊎◌, ◌≢◌, ◌≤◌, ℕ, nat_lt, Bool, true, false, List, [], ◌∷◌, Option, Some, None, if◌then◌else◌}
 use Rattle.std.specs.Option.{option_and_then}
 use Rattle.std.specs.FinMap.{FinMap, get, insert, empty}
@@ -10,7 +10,9 @@ use Rattle.mvs_model.specs.declared.line.Written.{Written}
 use Rattle.mvs_model.specs.declared.line.Written.TheVariants.{ObtainList}
 use Rattle.mvs_model.specs.declared.name.Name.{Name}
 use Rattle.mvs_model.specs.declared.reason.Reason.{Reason}
-use Rattle.mvs_model.specs.declared.reason.Reason.TheVariants.{OffDoubleword, NotHeld, Overlap, NoTakenCell, NoAccess}
+use Rattle.mvs_model.specs.declared.reason.LineReason.{LineReason}
+use Rattle.mvs_model.specs.declared.reason.LineReason.TheVariants.{Refused}
+use Rattle.mvs_model.specs.declared.reason.Reason.TheVariants.{NotActive, InvalidNumber, Shortage, NoMember, NoPart, OffDoubleword, NoSubpool, NotHeld, Overlap, WholeOfZero, PoolInUse, TooManyPools, NoPool, NoFreeCell, NoTakenCell, TaskInUse, TooManyTasks, NotOwned, ActiveSubtask, Asked, NoAccess}
 use Rattle.mvs_model.specs.declared.request.Request.{Request}
 use Rattle.mvs_model.specs.Answers.{Event}
 use Rattle.mvs_model.specs.Job.{JobValue}
@@ -26,7 +28,7 @@ use Rattle.mvs_job.specs.declared.walk.LineTold.{LineTold}
 use Rattle.mvs_job.specs.declared.walk.LineTold.TheVariants as told
 use Rattle.mvs_job.specs.Granting.{tells_grant}
 use Rattle.mvs_job.specs.Telling.{WalkValue, events_told}
-use Rattle.mvs_job.specs.Why.{OfLine, spoken}
+use Rattle.mvs_job.specs.Why.{OfRead, spoken}
 
 -- ---- the lines that set names
 
@@ -38,42 +40,57 @@ SetLines = FinMap name_cmp ℕ
 abbrev pub no_lines : SetLines
 no_lines = empty
 
--- the same behind a line of this number that sets these names
+-- the names after a line with this number that sets these names
 abbrev pub set_by : ℕ → SetLines → List Name → SetLines
 set_by number set [] = set
 set_by number set (name ∷ names) = set_by number (insert set name number) names
 
--- the same behind a line that says this and tells these events: a step begins with none, and a granted request sets its names
+-- the names after a line with this meaning and these events: a step begins with none, and a granted request sets its names
 abbrev pub set_behind : ℕ → SetLines → Line → List Event → SetLines
 set_behind number set (line.Statement t (says.Region below above fill residence)) events = no_lines
 set_behind number set (line.Statement t (says.Request a)) events = if tells_grant events then set_by number set (names_set a) else set
 set_behind number set l events = set
 
--- The same behind the next line, which has no fault: before the first step none was set.
+-- The names after the next line, which has no fault: before the first step there are none.
 abbrev pub IsSetBehind : ℕ → Option JobValue → SetLines → List ℕ → List Event → SetLines → Type 0
 IsSetBehind number None set bytes events new = new ≡ no_lines
 IsSetBehind number (Some job) set bytes events new = (l : Line) × LineOf false bytes l × (new ≡ set_behind number set l events)
 
 -- ---- the address of a reason
 
--- the address that the reason of a request tells, if it tells one
+-- the address in the reason of a request, if there is one
 abbrev pub address_told : Request → Reason → Option ℕ
 address_told request (OffDoubleword a) = Some a
 address_told request (NotHeld a holder) = Some a
 address_told request (Overlap one other a) = Some a
 address_told request (NoTakenCell spot) = Some (cell_of request)
 address_told request (NoAccess a holder) = Some a
-address_told request _ = None
+address_told request NotActive = None
+address_told request InvalidNumber = None
+address_told request (Shortage room) = None
+address_told request (NoMember k short) = None
+address_told request (NoPart cells size room) = None
+address_told request (NoSubpool keeper) = None
+address_told request WholeOfZero = None
+address_told request PoolInUse = None
+address_told request TooManyPools = None
+address_told request NoPool = None
+address_told request NoFreeCell = None
+address_told request TaskInUse = None
+address_told request TooManyTasks = None
+address_told request (NotOwned number owner) = None
+address_told request (ActiveSubtask subtask) = None
+address_told request Asked = None
 
--- the same of the reason of a line
-abbrev pub address_in : JobValue → Line → Option Reason → Option ℕ
-address_in job (line.Statement t (says.Request a)) r = option_and_then (address_told (spoken (resolved job.names a))) r
+-- the address in the reason of a line
+abbrev pub address_in : JobValue → Line → Option LineReason → Option ℕ
+address_in job (line.Statement t (says.Request a)) (Some (Refused reason)) = address_told (spoken (resolved job.names a)) reason
 address_in job l r = None
 
--- The reason of the next line of a step tells this address: none, where it has a fault.
-abbrev pub IsAddress : JobValue → List ℕ → Option ℕ → Type 0
-IsAddress job bytes a =
-    ((l : Line) × LineOf false bytes l × ((r : Option Reason) × OfLine job l r × (a ≡ address_in job l r)))
+-- The reason of the next line of a step, which has these events, has this address: none, if it has a fault.
+abbrev pub IsAddress : JobValue → List ℕ → List Event → Option ℕ → Type 0
+IsAddress job bytes events a =
+    ((l : Line) × LineOf false bytes l × ((r : Option LineReason) × OfRead job l events r × (a ≡ address_in job l r)))
     ⊎ ((fault : Fault) × FaultOf false bytes fault × (a ≡ None))
 
 -- ---- the name that has it
@@ -89,7 +106,7 @@ IsNaming job set a (Some n) =
     (n.addr ≡ a) × IsSetTo job set n.name n.place n.number × (has_address n.place a ≡ true)
     × ((name : Name) (p : PlaceValue) (number : ℕ) → IsSetTo job set name p number → has_address p a ≡ true → number ≤ n.number)
 
--- the same of an address that may not be told
+-- the name that has an address, if there is an address
 abbrev pub IsNamingOf : JobValue → SetLines → Option ℕ → Option Naming → Type 0
 IsNamingOf job set None n = n ≡ None
 IsNamingOf job set (Some a) n = IsNaming job set a n
@@ -99,10 +116,10 @@ abbrev pub naming_text : Option Naming → List ℕ
 naming_text None = []
 naming_text (Some n) = naming_line n.addr n.name n.place n.number
 
--- The text says which name has the address that the reason of the next line tells: nothing before the first step.
-abbrev pub IsNamed : Option JobValue → SetLines → List ℕ → List ℕ → Type 0
-IsNamed None set bytes text = text ≡ []
-IsNamed (Some job) set bytes text = (a : Option ℕ) × IsAddress job bytes a × ((n : Option Naming) × IsNamingOf job set a n × (text ≡ naming_text n))
+-- The text is the name that has the address in the reason of the next line, which has these events: empty before the first step.
+abbrev pub IsNamed : Option JobValue → SetLines → List ℕ → List Event → List ℕ → Type 0
+IsNamed None set bytes events text = text ≡ []
+IsNamed (Some job) set bytes events text = (a : Option ℕ) × IsAddress job bytes events a × ((n : Option Naming) × IsNamingOf job set a n × (text ≡ naming_text n))
 
 -- ---- what calls do
 
@@ -111,12 +128,7 @@ abbrev pub lines_before : Option JobValue → SetLines → SetLines
 lines_before None set = no_lines
 lines_before (Some job) set = set
 
--- the same of the address that the reason of a line tells: nothing before the first step
-abbrev pub IsNamingIn : Option JobValue → SetLines → Option ℕ → Option Naming → Type 0
-IsNamingIn None set a n = n ≡ None
-IsNamingIn (Some job) set a n = IsNamingOf job set a n
-
--- the lines that set names are kept behind a line that has no fault
+-- the lines that set names are recorded after a line that has no fault
 abbrev pub KeepsLines : WalkValue → SetLines → List ℕ → WalkValue → LineTold → SetLines → Type 0
 KeepsLines w set bytes new (told.Faulted fault) later = Unit {0}
 KeepsLines w set bytes new t later = IsSetBehind w.number w.step set bytes (events_told w.number new t) later
@@ -135,7 +147,7 @@ SetsSome _ = ⊥
 abbrev pub naming_at : JobValue → ℕ → Name × ℕ → Option Naming
 naming_at job a e = option_and_then (λ p. if has_address p a then Some (record { addr = a; name = e.0; place = p; number = e.1 }) else None) (get job.names e.0)
 
--- whether a line is behind that of another name, if there is one
+-- whether a line is after that of another name, if there is one
 abbrev pub is_behind : Option Naming → ℕ → Bool
 is_behind None number = true
 is_behind (Some n) number = nat_lt n.number number

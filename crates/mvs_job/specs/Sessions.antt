@@ -1,9 +1,9 @@
--- A job that is told its lines one by one.
+-- A job that gets its lines one by one.
 use Rattle.std.specs.Prelude.{refl, Bool, true}
 use Rattle.std.specs.Coded.{Coded, code_by, coded×, coded_bool}
 use Rattle.mvs_job.specs.Telling.{WalkValue, walk_code, new_walk}
 
--- how the job stands, and whether it goes on
+-- the state of the job, and whether it continues
 pub record SessionValue : Type 0 where
   pub walk : WalkValue
   pub goes_on : Bool
@@ -12,6 +12,6 @@ pub record SessionValue : Type 0 where
 abbrev pub session_code : Coded SessionValue
 session_code = code_by (WalkValue × Bool) (coded× walk_code coded_bool) (λ s. (s.walk, s.goes_on)) (λ p. record { walk = p.0; goes_on = p.1 }) (λ _. refl)
 
--- a session that was told no line
+-- a session before its first line
 abbrev pub new_session : SessionValue
 new_session = record { walk = new_walk; goes_on = true }

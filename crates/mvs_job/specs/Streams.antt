@@ -1,30 +1,23 @@
 -- A job that takes its script as it comes.
-use Rattle.std.specs.Prelude.{◌≡◌, ◌⊎◌, ℕ, ◌+◌, ◌≤◌, List, None, ◌++◌, length, take, ◌<◌, Option, Result, Bool, MatchBool, MatchOption, MatchResult}
+use Rattle.std.specs.Prelude.{◌≡◌, ℕ, ◌+◌, ◌≤◌, List, None, ◌++◌, length, take, ◌<◌, Option, Result, Ok, Err, Bool, MatchBool, MatchOption, MatchResult}
 use Rattle.std.specs.List.{AllByRecursion}
 use Rattle.std.specs.Io.KnownBytes.{Appends, Consumes}
 use Rattle.mvs_model.specs.declared.outcome.Outcome.{Outcome}
 use Rattle.mvs_model.specs.declared.outcome.Outcome.TheVariants.{ScriptFault}
-use Rattle.mvs_model.specs.Lines.{lines_of, ended_text, IsUnended}
-use Rattle.mvs_model.specs.Answers.{Event}
-use Rattle.mvs_model.specs.Texts.{printing}
-use Rattle.mvs_model.specs.Walk.{Leads}
-use Rattle.mvs_model.specs.Runs.{machine, IsPrinting, IsPrintingFront, IsAnswered}
+use Rattle.mvs_model.specs.Lines.{ended_text, IsUnended}
+use Rattle.mvs_model.specs.Job.{JobValue}
+use Rattle.mvs_model.specs.Runs.{IsPrinting, IsPrintingFront}
 use Rattle.mvs_model.specs.Memory.{IsPrintingBefore}
-use Rattle.mvs_model.specs.Going.{Reaches}
 use Rattle.mvs_job.specs.declared.printing.Stop.{Stop}
 use Rattle.mvs_job.specs.declared.printing.Stop.TheVariants as stop
 use Rattle.mvs_job.specs.declared.run.RunFault.{RunFault}
 use Rattle.mvs_job.specs.declared.run.RunFault.TheVariants.{Read, Write, Memory, ReadTooLong}
 use Rattle.mvs_job.specs.declared.stream.Turn.{Turn}
 use Rattle.mvs_job.specs.declared.stream.Turn.TheVariants.{On, Ended}
+use Rattle.mvs_job.specs.Consuming.{HasRun, IsFront, IsWritten, Leaves, Piece, written}
 use Rattle.mvs_job.specs.Exchanging.{Exchanges}
 use Rattle.mvs_job.specs.Telling.{WalkValue}
-
--- What stands between two moments of a writer is the printing of a run up to here.
-pub record Progress (start now : Option (List ℕ)) (script : List ℕ) (w : WalkValue) (left : List (List ℕ)) : Type 0 where
-  pub events : List Event
-  pub appended : Appends start now (printing events)
-  pub reached : Reaches (lines_of script) events w.number w.step left
+use Rattle.mvs_job.specs.Trace.{Arrives, Ends, Entry, Exhausts, Traces}
 
 -- the whole printing, or a front of one
 abbrev pub Printed : Option (List ℕ) → Option (List ℕ) → List ℕ → Outcome → Type 0
@@ -37,69 +30,81 @@ PrintedFront start now script = (written : List ℕ) × Appends start now writte
 abbrev pub PrintedBefore : Option (List ℕ) → Option (List ℕ) → List ℕ → Type 0
 PrintedBefore start now script = (written : List ℕ) × Appends start now written × IsPrintingFront script written × IsPrintingBefore script written
 
--- what stands there where the job stopped
+-- the text when the job stopped
 abbrev pub PrintedUpTo : Stop → Option (List ℕ) → Option (List ℕ) → List ℕ → Type 0
 PrintedUpTo stop.Write start now script = PrintedFront start now script
 PrintedUpTo stop.Memory start now script = PrintedBefore start now script
 
--- After the bytes that were told the job stands here: the lines that have ended in them are answered, what stands between the two
--- moments of the writer is the printing of that, and these bytes are kept of a line that has not ended.
-pub record Stands (start now : Option (List ℕ)) (told : List ℕ) (w : WalkValue) (kept : List ℕ) : Type 0 where
+-- After the consumed bytes the job is in this state: the complete lines in them have run, the text between the two moments of the
+-- writer is what the consumer writes for them, and these bytes are kept of an incomplete line.
+pub record Stands (piece : Piece) {S : Type 0} (knows : S → List Entry → Type 0) (start now : Option (List ℕ)) (consumed : List ℕ) (w : WalkValue) (kept : List ℕ) (s : S) : Type 0 where
   pub lines : List (List ℕ)
-  pub cut : told ≡ ended_text lines ++ kept
+  pub cut : consumed ≡ ended_text lines ++ kept
   pub each : AllByRecursion IsUnended lines
   pub unended : IsUnended kept
-  pub counted : w.number ≡ 1 + length lines
-  pub events : List Event
-  pub leads : Leads machine 1 None lines events w.step
-  pub appended : Appends start now (printing events)
+  pub run : HasRun piece knows start now lines w s
 
--- What the next bytes do to a job that stands somewhere: it goes on behind them, or it has printed a fault, or it stops.
-abbrev pub Feeds : Option (List ℕ) → Option (List ℕ) → List ℕ → WalkValue → List ℕ → WalkValue → List ℕ → Result Bool Stop → Type 0
-Feeds before after bytes w kept w' kept' result =
-    (start : Option (List ℕ)) (told : List ℕ) → Stands start before told w kept → MatchResult result
-    (λ goes_on. MatchBool goes_on (Stands start after (told ++ bytes) w' kept') ((more : List ℕ) → Printed start after (told ++ (bytes ++ more)) ScriptFault))
-    (λ reason. (more : List ℕ) → PrintedUpTo reason start after (told ++ (bytes ++ more)))
+-- The effect of the next bytes on a job, which is in the second state then: it continues after them, or a line had a fault, or it
+-- stops. The script may go on with any bytes.
+abbrev pub Feeds : {S : Type 0} → Piece → (S → List Entry → Type 0) → Option (List ℕ) → Option (List ℕ) → List ℕ → WalkValue → List ℕ → S → WalkValue → List ℕ → S → Result Bool Stop → Type 0
+Feeds piece knows before after bytes w kept s w' kept' s' result =
+    (start : Option (List ℕ)) (consumed : List ℕ) → Stands piece knows start before consumed w kept s → MatchResult result
+    (λ goes_on. MatchBool goes_on (Stands piece knows start after (consumed ++ bytes) w' kept' s') ((more : List ℕ) → Leaves piece knows start after (consumed ++ (bytes ++ more)) s' (Ok ScriptFault)))
+    (λ stop. (more : List ℕ) → Leaves piece knows start after (consumed ++ (bytes ++ more)) s' (Err stop))
 
--- The same of the first of some bytes, as many as the result says.
-abbrev pub FeedsSome : Option (List ℕ) → Option (List ℕ) → List ℕ → WalkValue → List ℕ → WalkValue → List ℕ → Result (Option ℕ) Stop → Type 0
-FeedsSome before after bytes w kept w' kept' result =
-    (start : Option (List ℕ)) (told : List ℕ) → Stands start before told w kept → MatchResult result
-    (λ taken. MatchOption taken ((more : List ℕ) → Printed start after (told ++ (bytes ++ more)) ScriptFault) (λ n. Stands start after (told ++ take n bytes) w' kept'))
-    (λ reason. (more : List ℕ) → PrintedUpTo reason start after (told ++ (bytes ++ more)))
+-- The effect of the first of some bytes, as many as the result says.
+abbrev pub FeedsSome : {S : Type 0} → Piece → (S → List Entry → Type 0) → Option (List ℕ) → Option (List ℕ) → List ℕ → WalkValue → List ℕ → S → WalkValue → List ℕ → S → Result (Option ℕ) Stop → Type 0
+FeedsSome piece knows before after bytes w kept s w' kept' s' result =
+    (start : Option (List ℕ)) (consumed : List ℕ) → Stands piece knows start before consumed w kept s → MatchResult result
+    (λ taken. MatchOption taken ((more : List ℕ) → Leaves piece knows start after (consumed ++ (bytes ++ more)) s' (Ok ScriptFault)) (λ n. Stands piece knows start after (consumed ++ take n bytes) w' kept' s'))
+    (λ stop. (more : List ℕ) → Leaves piece knows start after (consumed ++ (bytes ++ more)) s' (Err stop))
 
--- What the end of the script does.
-abbrev pub Finishes : Option (List ℕ) → Option (List ℕ) → WalkValue → List ℕ → Result Outcome Stop → Type 0
-Finishes before after w kept result = (start : Option (List ℕ)) (told : List ℕ) → Stands start before told w kept →
-    MatchResult result (λ outcome. Printed start after told outcome) (λ reason. PrintedUpTo reason start after told)
+-- The effect of the end of the script.
+abbrev pub Finishes : {S : Type 0} → Piece → (S → List Entry → Type 0) → Option (List ℕ) → Option (List ℕ) → WalkValue → List ℕ → S → S → Result Outcome Stop → Type 0
+Finishes piece knows before after w kept s s' result = (start : Option (List ℕ)) (consumed : List ℕ) → Stands piece knows start before consumed w kept s → Leaves piece knows start after consumed s' result
 
--- Of the bytes that were unread, count were told, and the job stands behind them.
-abbrev pub IsUnderWay : Option (List ℕ) → Option (List ℕ) → Option (List ℕ) → Option (List ℕ) → ℕ → WalkValue → List ℕ → Type 0
-IsUnderWay unread left start now count w kept =
-    (told : List ℕ) × Consumes unread left told × (length told ≡ count) × Stands start now told w kept
+-- Of the unread bytes, count were consumed, and the job is after them. An incomplete line is not too long yet.
+abbrev pub IsUnderWay : {S : Type 0} → Piece → (S → List Entry → Type 0) → Option (List ℕ) → Option (List ℕ) → Option (List ℕ) → Option (List ℕ) → ℕ → WalkValue → List ℕ → S → Type 0
+IsUnderWay piece knows unread left start now count w kept s =
+    (consumed : List ℕ) × Consumes unread left consumed × (length consumed ≡ count) × Stands piece knows start now consumed w kept s × (length kept < 256)
 
--- The job ended so, or broke off, when at most so many bytes were told.
-abbrev pub HasEnded : Option (List ℕ) → Option (List ℕ) → Option (List ℕ) → Option (List ℕ) → ℕ → Outcome → Type 0
-HasEnded unread left start now most outcome = Exchanges unread left start now (λ told script written. (length told ≤ most) × IsPrinting script written outcome)
+-- All lines that have ended in some bytes of a script have run, and the text is what the consumer writes for them. The rest may still
+-- become a line.
+pub record HasAnswered (piece : Piece) {S : Type 0} (knows : S → List Entry → Type 0) (consumed text : List ℕ) (s : S) : Type 0 where
+  pub lines : List (List ℕ)
+  pub kept : List ℕ
+  pub cut : consumed ≡ ended_text lines ++ kept
+  pub each : AllByRecursion IsUnended lines
+  pub unended : IsUnended kept
+  pub short : length kept < 256
+  pub entries : List Entry
+  pub step : Option JobValue
+  pub trace : Traces (Arrives step) 1 None lines entries
+  pub known : knows s entries
+  pub is : text ≡ written piece entries
 
-abbrev pub HasBroken : Option (List ℕ) → Option (List ℕ) → Option (List ℕ) → Option (List ℕ) → ℕ → RunFault → Type 0
-HasBroken unread left start now most fault =
-    Exchanges unread left start now (λ told script written. (length told ≤ most) × IsPrintingFront script written
-    × (fault ≡ Memory → IsPrintingBefore script written) × (fault ≡ Read → IsAnswered told written))
+-- What a run has written that stopped for a fault, after at most a number of bytes was consumed, or one more if the script is too long.
+abbrev pub GivesUp : {S : Type 0} → Piece → (S → List Entry → Type 0) → ℕ → List ℕ → List ℕ → List ℕ → S → RunFault → Type 0
+GivesUp piece knows most consumed script text s Memory = (length consumed ≤ most) × IsWritten piece knows script text Exhausts s
+GivesUp piece knows most consumed script text s Write = (length consumed ≤ most) × IsFront piece knows script text s
+GivesUp piece knows most consumed script text s Read = (length consumed ≤ most) × IsFront piece knows script text s × HasAnswered piece knows consumed text s
+GivesUp piece knows most consumed script text s ReadTooLong = (length consumed ≡ most + 1) × IsFront piece knows script text s × HasAnswered piece knows (take most consumed) text s
 
--- What one read of at most so many bytes and what it told did, to a job that had been told count bytes.
-abbrev pub Takes : Option (List ℕ) → Option (List ℕ) → Option (List ℕ) → Option (List ℕ) → ℕ → ℕ → WalkValue → List ℕ → Turn → Type 0
-Takes unread left start now count room w kept (On n) = IsUnderWay unread left start now (count + n) w kept
-Takes unread left start now count room w kept (Ended outcome) = HasEnded unread left start now (count + room) outcome
+-- The job ended so, after at most a number of bytes was consumed.
+abbrev pub HasEnded : {S : Type 0} → Piece → (S → List Entry → Type 0) → Option (List ℕ) → Option (List ℕ) → Option (List ℕ) → Option (List ℕ) → ℕ → S → Outcome → Type 0
+HasEnded piece knows unread left start now most s outcome =
+    Exchanges unread left start now (λ consumed script text. (length consumed ≤ most) × IsWritten piece knows script text (Ends outcome) s)
 
--- The job gave up behind so many bytes that were told, or behind one more, which made the script too long.
-abbrev pub HasGivenUp : Option (List ℕ) → Option (List ℕ) → Option (List ℕ) → Option (List ℕ) → ℕ → RunFault → Type 0
-HasGivenUp unread left start now count fault =
-    Exchanges unread left start now (λ told script written. (length told ≤ count + 1) × IsPrintingFront script written
-    × (fault ≡ ReadTooLong → count < length told) × (fault ≡ Memory → IsPrintingBefore script written)
-    × ((fault ≡ Read) ⊎ (fault ≡ ReadTooLong) → IsAnswered (take count told) written))
+-- The job stopped for a fault.
+abbrev pub HasGivenUp : {S : Type 0} → Piece → (S → List Entry → Type 0) → Option (List ℕ) → Option (List ℕ) → Option (List ℕ) → Option (List ℕ) → ℕ → S → RunFault → Type 0
+HasGivenUp piece knows unread left start now most s fault = Exchanges unread left start now (λ consumed script text. GivesUp piece knows most consumed script text s fault)
 
--- why a job gives up that stops
+-- The effect of one read of at most a number of bytes on a job that had consumed count bytes.
+abbrev pub Takes : {S : Type 0} → Piece → (S → List Entry → Type 0) → Option (List ℕ) → Option (List ℕ) → Option (List ℕ) → Option (List ℕ) → ℕ → ℕ → WalkValue → List ℕ → S → Turn → Type 0
+Takes piece knows unread left start now count room w kept s (On n) = IsUnderWay piece knows unread left start now (count + n) w kept s
+Takes piece knows unread left start now count room w kept s (Ended outcome) = HasEnded piece knows unread left start now (count + room) s outcome
+
+-- the error of a job that stops
 abbrev pub fault_of : Stop → RunFault
 fault_of stop.Write = Write
 fault_of stop.Memory = Memory

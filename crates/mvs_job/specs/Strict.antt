@@ -1,21 +1,19 @@
 -- Lines that are easily overlooked: nothing was done, since their task was not active, or a name in them was not set.
-use Rattle.std.specs.Prelude.{◌≡◌, ℕ, ◌-◌, ◌&&◌, List, [], ◌∷◌, ◌++◌, get_or, Option, Some, None, Result, Ok, Err, Bool, true, false}
+use Rattle.std.specs.Prelude.{◌≡◌, ℕ, ◌-◌, ◌&&◌, List, [], ◌∷◌, ◌++◌, get_or, Option, Some, None, Bool, true, false}
 use Rattle.std.specs.List.{list_all}
 use Rattle.std.specs.Io.KnownBytes.{Appends}
 use Rattle.mvs_model.specs.declared.answer.Answer.{Answer as Short}
 use Rattle.mvs_model.specs.declared.answer.Answer.TheVariants as short
 use Rattle.mvs_model.specs.declared.outcome.Outcome.{Outcome}
 use Rattle.mvs_model.specs.Answers.{Answer, NotRun, NoName, Event, Told}
-use Rattle.mvs_model.specs.Going.{Reaches}
+use Rattle.mvs_laws.specs.Going.{Reaches}
 use Rattle.mvs_model.specs.Job.{JobValue}
 use Rattle.mvs_model.specs.Lines.{lines_of}
 use Rattle.mvs_model.specs.Runs.{IsRun}
 use Rattle.mvs_model.specs.Texts.{printing}
-use Rattle.mvs_job.specs.declared.printing.Stop.{Stop}
 use Rattle.mvs_job.specs.declared.strict.Unserved.{Unserved}
 use Rattle.mvs_job.specs.declared.strict.Unserved.TheVariants as why
-use Rattle.mvs_job.specs.Serving.{RunsLine}
-use Rattle.mvs_job.specs.Telling.{WalkValue}
+use Rattle.mvs_job.specs.Trace.{Entry, events_of}
 
 -- whether a line that is answered so was served
 abbrev pub serves : Answer → Bool
@@ -23,7 +21,7 @@ serves NotRun = false
 serves NoName = false
 serves answer = true
 
--- whether an event tells of no line that was not served
+-- whether an event is not that of a line that was not executed
 abbrev pub is_of_served : Event → Bool
 is_of_served (Told number t answer) = serves answer
 is_of_served event = true
@@ -51,13 +49,13 @@ abbrev pub skipped_for : ℕ → List ℕ → Option Unserved → List Skipped
 skipped_for number line None = []
 skipped_for number line (Some why) = record { number = number; line = line; why = why } ∷ []
 
--- what an event tells of a line that was not served, where each number stands for a line
+-- the line that was not executed, for its event, where each number has a line
 abbrev pub skipped_in : (ℕ → List ℕ) → Event → List Skipped
 skipped_in line (Told number t NotRun) = skipped_for number (line number) (Some why.NotRun)
 skipped_in line (Told number t NoName) = skipped_for number (line number) (Some why.NoName)
 skipped_in line event = []
 
--- all lines that were not served, in the order in which the events tell them
+-- all lines that were not executed, in the order of the events
 abbrev pub all_skipped : (ℕ → List ℕ) → List Event → List Skipped
 all_skipped line [] = []
 all_skipped line (event ∷ events) = skipped_in line event ++ all_skipped line events
@@ -66,8 +64,8 @@ all_skipped line (event ∷ events) = skipped_in line event ++ all_skipped line 
 abbrev pub line_at : List ℕ → ℕ → List ℕ
 line_at script number = get_or (lines_of script) (number - 1) []
 
--- What stands between two moments of a writer is the printing of a run of the script, which ends so; each line was served, or not; and
--- just the lines that were not are heard of, in their order.
+-- The text between two moments of a writer is the printing of a run of the script, which ends so; each line was executed, or not;
+-- and the observer was called for exactly the lines that were not, in order.
 abbrev pub PrintsStrictly : Option (List ℕ) → Option (List ℕ) → Option (List Skipped) → Option (List Skipped) → List ℕ → Outcome → Bool → Type 0
 PrintsStrictly before after heard heard' script outcome all =
     (events : List Event) × Appends before after (printing events) × IsRun script events outcome × (all ≡ list_all is_of_served events) × Grows heard heard' (all_skipped (line_at script) events)
@@ -77,10 +75,13 @@ abbrev pub HearsFront : Option (List Skipped) → Option (List Skipped) → List
 HearsFront heard heard' script =
     (events : List Event) × (number : ℕ) × (step : Option JobValue) × (left : List (List ℕ)) × Reaches (lines_of script) events number step left × Grows heard heard' (all_skipped (line_at script) events)
 
--- What the call for one line does, where each line before was served, or not.
-abbrev pub RunsStrictly : Option (List ℕ) → Option (List ℕ) → Option (List Skipped) → Option (List Skipped) → WalkValue → List ℕ → WalkValue → Bool → Bool → Result Bool Stop → Type 0
-RunsStrictly before after heard heard' w line new all all' (Ok true) =
-    (ran : RunsLine before after w line new (Ok true)) × (all' ≡ (all && list_all is_of_served ran.0)) × ((lines : ℕ → List ℕ) → lines w.number ≡ line → Grows heard heard' (all_skipped lines ran.0))
-RunsStrictly before after heard heard' w line new all all' (Ok false) =
-    (ran : RunsLine before after w line new (Ok false)) × (all' ≡ (all && list_all is_of_served ran.0)) × ((lines : ℕ → List ℕ) → lines w.number ≡ line → Grows heard heard' (all_skipped lines ran.0))
-RunsStrictly before after heard heard' w line new all all' (Err stop) = RunsLine before after w line new (Err stop) × Grows heard heard' []
+-- the lines of some entries that were not executed, in order
+abbrev pub skipped_at : List Entry → List Skipped
+skipped_at [] = []
+skipped_at (e ∷ entries) = all_skipped (λ number. e.bytes) e.events ++ skipped_at entries
+
+-- From one moment to another these entries were observed: each line of them was executed, or not, and the observer was called for
+-- exactly the lines that were not, in order.
+pub record Observes (all all' : Bool) (heard heard' : Option (List Skipped)) (entries : List Entry) : Type 0 where
+  pub served : all' ≡ (all && list_all is_of_served (events_of entries))
+  pub skipped : Grows heard heard' (skipped_at entries)

@@ -1,4 +1,4 @@
--- What a line tells, and how a job stands between two lines.
+-- The events of a line, and the state of a job between two lines.
 use Rattle.std.specs.Prelude.{refl, ◌≡◌, ◌≤◌, ℕ, List, [], ◌∷◌, ◌++◌, Option, Some, None, Bool, true, false, Result, Ok, Err, MatchOption}
 use Rattle.std.specs.Bool.{MatchBool}
 use Rattle.std.specs.Coded.{Coded, code_by, coded×, coded_bool, coded_ℕ, coded_option}
@@ -70,19 +70,19 @@ abbrev pub closing : ℕ → Option Bool → List Event
 closing number None = Faulted number OutOfPlace ∷ []
 closing number (Some abended) = StepEnded abended ∷ []
 
--- the answer to a statement of a task, of which the job lends the long parts; it is told in a step
+-- the answer to a statement of a task, with the long data of the job; it is in a step
 abbrev pub lent_in : Option JobValue → List Name → Name → Short → Answer
 lent_in None fallen t a = NotRun
 lent_in (Some job) fallen t a = lent job.state fallen t a
 
--- the events of a line of this number, behind which the job stands so
+-- the events of the line with this number, after which the job is in this state
 abbrev pub events_told : ℕ → WalkValue → LineTold → List Event
 events_told number w told.Nothing = []
 events_told number w (told.Began end card) = ended end ++ Told number card.name (Region card) ∷ []
 events_told number w (told.Answered t a) = Told number t (lent_in w.step (fallen_in w.reply) t a) ∷ []
 events_told number w (told.Faulted fault) = Faulted number fault ∷ []
 
--- The line tells this: it has a fault, and the step is as before; or it is served, by a step that meets the condition where it
+-- The line has this result: it has a fault, and the step is as before; or it is executed, by a step that meets the condition if it
 -- makes a request.
 abbrev pub IsToldBy : Condition → WalkValue → List ℕ → LineTold → WalkValue → Type 0
 IsToldBy P old bytes (told.Faulted fault) new = FaultOf (is_first old.step) bytes fault × (new.step ≡ old.step)
@@ -96,31 +96,31 @@ IsTold = IsToldBy Any
 abbrev pub Replies : Reply → Condition
 Replies kept old t r answered new = answered ≡ kept
 
--- The reply that is kept behind a statement of a task: it is that of the step where the statement makes a request, since the task is
--- active and all its names are set; and else it is the one before.
+-- The reply that is kept after a statement of a task: that of the step if the statement makes a request, because the task is active
+-- and all its names are set; otherwise the one before.
 abbrev pub KeepsReply : JobValue → Name → Statement → Reply → Answer → Reply → JobValue → Type 0
 KeepsReply old t (says.Request a) before answer reply new =
     MatchBool (is_active old.state.owners t) (MatchOption (resolved old.names a) (reply ≡ before) (λ r. Makes (Replies reply) old t a r answer new)) (reply ≡ before)
 KeepsReply old t s before answer reply new = reply ≡ before
 
--- The same of a line: one that is no statement of a step makes no request.
+-- The reply that is kept after a line: one that is not a statement of a step makes no request.
 abbrev pub KeepsReplyOf : WalkValue → List ℕ → LineTold → WalkValue → Type 0
 KeepsReplyOf old bytes (told.Answered t a) new =
     (s : Statement) × (job : JobValue) × (later : JobValue) × LineOf (is_first old.step) bytes (line.Statement t s) × (old.step ≡ Some job) × (new.step ≡ Some later)
     × KeepsReply job t s old.reply (lent later.state (fallen_in new.reply) t a) new.reply later
 KeepsReplyOf old bytes told new = new.reply ≡ old.reply
 
--- The bytes of which an answer speaks may be read, and are few.
+-- The bytes of an answer can be read, and are few.
 abbrev pub IsLentBy : State → Short → Type 0
 IsLentBy st (short.Data p) = Granted st p × (p.len ≤ most_shown)
 IsLentBy st _ = Unit {0}
 
--- A step lends what an answer speaks of.
+-- A step has the long data of an answer.
 abbrev pub IsLent : WalkValue → LineTold → Type 0
 IsLent w (told.Answered t a) = (job : JobValue) × (w.step ≡ Some job) × IsLentBy job.state a
 IsLent w _ = Unit {0}
 
--- whether a job goes on behind a line
+-- whether a job continues after a line
 abbrev pub goes_on : Result LineTold Stopped → Bool
 goes_on (Ok (told.Faulted fault)) = false
 goes_on (Ok told) = true

@@ -9,7 +9,8 @@ use Rattle.mvs_model.specs.Changes.{Granted, Writes}
 use Rattle.mvs_model.specs.Job.{JobValue}
 use Rattle.mvs_model.specs.Place.{PlaceValue}
 use Rattle.mvs_model.specs.Replies.{is_abend}
-use Rattle.mvs_model.specs.Steps.{Step, bytes_from}
+use Rattle.mvs_model.specs.Steps.{Step}
+use Rattle.mvs_model.specs.Requests.{bytes_from}
 use Rattle.mvs_job.specs.Telling.{WalkValue}
 
 -- The numbers of a pool that is built are in their ranges.

@@ -1,5 +1,5 @@
--- Why the next line of a job is refused.
-use Rattle.std.specs.Prelude.{◌≡◌, ◌⊎◌, false, not, List, ℕ, Option, Some, None, MatchOption}
+-- Why a line is not executed as it asks.
+use Rattle.std.specs.Prelude.{◌≡◌, ◌⊎◌, Bool, false, not, List, [], ◌∷◌, ℕ, Option, Some, None, MatchOption, is_some}
 use Rattle.std.specs.Option.{option_map}
 use Rattle.std.specs.Bool.{MatchBool}
 use Rattle.std.specs.FinMap.{get}
@@ -10,70 +10,119 @@ use Rattle.mvs_model.specs.declared.line.Statement.{Statement}
 use Rattle.mvs_model.specs.declared.line.Statement.TheVariants as says
 use Rattle.mvs_model.specs.declared.line.Fault.{Fault}
 use Rattle.mvs_model.specs.declared.line.Written.{Written}
+use Rattle.mvs_model.specs.declared.line.Written.TheVariants as written
+use Rattle.mvs_model.specs.declared.refusal.Consequence.TheVariants.{Abend}
+use Rattle.mvs_model.specs.declared.refusal.Refusal.{Refusal}
+use Rattle.mvs_model.specs.declared.code.Code.{Code}
+use Rattle.mvs_model.specs.declared.answer.Answer.{Answer as Short}
+use Rattle.mvs_model.specs.declared.answer.Answer.TheVariants as short
 use Rattle.mvs_model.specs.declared.request.Request.{Request}
 use Rattle.mvs_model.specs.declared.request.Request.TheVariants.{Return}
 use Rattle.mvs_model.specs.declared.reason.Reason.{Reason}
-use Rattle.mvs_model.specs.declared.reason.Reason.TheVariants.{NotActive, NotSet}
+use Rattle.mvs_model.specs.declared.reason.Reason.TheVariants.{NotActive}
+use Rattle.mvs_model.specs.declared.reason.LineReason.{LineReason}
+use Rattle.mvs_model.specs.declared.reason.LineReason.TheVariants.{NotSet, Refused}
+use Rattle.mvs_model.specs.Answers.{Event, Told}
+use Rattle.mvs_model.specs.Consequences.{reply_to}
 use Rattle.mvs_model.specs.Job.{JobValue}
 use Rattle.mvs_model.specs.Owners.{is_active}
 use Rattle.mvs_model.specs.Reading.{LineOf, FaultOf}
-use Rattle.mvs_model.specs.Reasons.{IsTurn, OfRequest}
+use Rattle.mvs_model.specs.Reasons.{Explains, IsReason}
 use Rattle.mvs_model.specs.Resolving.{first_unset, looked_up, resolved}
+use Rattle.request_forms.specs.Facts.{owned_subpools}
+use Rattle.request_forms.specs.declared.facts.OwnedSubpool.{OwnedSubpool}
+use Rattle.mvs_job.specs.declared.walk.LineTold.{LineTold}
+use Rattle.mvs_job.specs.declared.walk.LineTold.TheVariants as told
+use Rattle.mvs_job.specs.declared.why.Why.{Why}
+use Rattle.mvs_job.specs.Observing.{is_refusal}
 
--- the request of which a reason speaks; where no request is made, none speaks of one
+-- the request that a reason refers to; none if no request is made
 abbrev pub spoken : Option Request → Request
 spoken None = Return
 spoken (Some request) = request
 
+-- the reason of a line whose request is refused
+abbrev pub refused : Option Reason → Option LineReason
+refused = option_map (λ reason. Refused reason)
+
 -- Why a request is refused whose names are looked up: where one is not set, this is the reason.
-abbrev pub OfAsked : JobValue → Name → Written → Option Request → Option Reason → Type 0
+abbrev pub OfAsked : JobValue → Name → Written → Option Request → Option LineReason → Type 0
 OfAsked job t a None r = r ≡ option_map (λ name. NotSet name) (first_unset job.names (looked_up a))
-OfAsked job t a (Some request) r = OfRequest job.state t request r
+OfAsked job t a (Some request) r = (reason : Option Reason) × IsReason job.state t request reason × (r ≡ refused reason)
 
 -- Why an active task's statement is refused: a report never is, and the question after a name where it is not set.
-abbrev pub OfSaid : JobValue → Name → Statement → Option Reason → Type 0
+abbrev pub OfSaid : JobValue → Name → Statement → Option LineReason → Type 0
 OfSaid job t (says.Request a) r = OfAsked job t a (resolved job.names a) r
 OfSaid job t (says.Where name) r = MatchOption (get job.names name) (r ≡ Some (NotSet name)) (λ _. r ≡ None)
 OfSaid job t _ r = r ≡ None
 
 -- Why a task's statement is refused: the task is not active, or for what it says.
-abbrev pub OfStatement : JobValue → Name → Statement → Option Reason → Type 0
-OfStatement job t s r = MatchBool (not (is_active job.state.owners t)) (r ≡ Some NotActive) (OfSaid job t s r)
+abbrev pub OfStatement : JobValue → Name → Statement → Option LineReason → Type 0
+OfStatement job t s r = MatchBool (not (is_active job.state.owners t)) (r ≡ Some (Refused NotActive)) (OfSaid job t s r)
 
 -- Why a line is refused: REGION is of no step, and so never is.
-abbrev pub OfLine : JobValue → Line → Option Reason → Type 0
+abbrev pub OfLine : JobValue → Line → Option LineReason → Type 0
 OfLine job line.Nothing r = r ≡ None
 OfLine job (line.Statement t (says.Region below above fill residence)) r = r ≡ None
 OfLine job (line.Statement t s) r = OfStatement job t s r
 
--- Why an active task's list is refused, if its members in front are granted: none where a name is not set, and of the others.
-abbrev pub TurnAsked : JobValue → Name → Option Request → Option Reason → Type 0
-TurnAsked job t None r = r ≡ None
-TurnAsked job t (Some request) r = IsTurn job.state t request r
+-- whether the events of a line say that it was refused
+abbrev pub tells_refusal : List Event → Bool
+tells_refusal (Told number t answer ∷ []) = is_refusal answer
+tells_refusal _ = false
 
--- The same of what a task writes.
-abbrev pub TurnWritten : JobValue → Name → Written → Option Reason → Type 0
-TurnWritten job t a r = MatchBool (not (is_active job.state.owners t)) (r ≡ None) (TurnAsked job t (resolved job.names a) r)
+-- Why the line that was read as this is refused, which has these events: there is a reason just where they say so.
+abbrev pub OfRead : JobValue → Line → List Event → Option LineReason → Type 0
+OfRead job l events r = OfLine job l r × (is_some r ≡ tells_refusal events)
 
--- The same of a line; those that are no request have none.
-abbrev pub TurnOf : JobValue → Line → Option Reason → Type 0
-TurnOf job (line.Statement t (says.Request a)) r = TurnWritten job t a r
-TurnOf job l r = r ≡ None
+-- The same by the text of a line; one with a fault is not executed.
+abbrev pub OfBytes : JobValue → List ℕ → List Event → Option LineReason → Type 0
+OfBytes job bytes events r = ((l : Line) × LineOf false bytes l × OfRead job l events r) ⊎ ((fault : Fault) × FaultOf false bytes fault × (r ≡ None))
 
--- Why a list that has this reason or none is refused, if its members in front are granted: it is asked where there is none.
-abbrev pub TurnBehind : JobValue → Line → Option Reason → Option Reason → Type 0
-TurnBehind job l r turn = MatchOption r (TurnOf job l turn) (λ _. turn ≡ None)
+-- The reason of the next line of a job, which has these events: before its first step nothing is refused.
+abbrev pub OfNext : Option JobValue → List ℕ → List Event → Option LineReason → Type 0
+OfNext None bytes events r = r ≡ None
+OfNext (Some job) bytes events r = OfBytes job bytes events r
 
--- The same in a step, if there is one.
-abbrev pub TurnIn : Option JobValue → Line → Option Reason → Option Reason → Type 0
-TurnIn None l r turn = turn ≡ None
-TurnIn (Some job) l r turn = TurnBehind job l r turn
+-- ---- what calls do
 
--- The same of a line as it is written; one with a fault is not served.
-abbrev pub OfBytes : JobValue → List ℕ → Option Reason → Type 0
-OfBytes job bytes r = ((l : Line) × LineOf false bytes l × OfLine job l r) ⊎ ((fault : Fault) × FaultOf false bytes fault × (r ≡ None))
+-- The request of the line that was read is this one, where its names are set.
+abbrev pub IsRequestOf : JobValue → Line → Request → Type 0
+IsRequestOf job (line.Statement t (says.Request a)) request = (r : Request) → resolved job.names a ≡ Some r → request ≡ r
+IsRequestOf job l request = Unit {0}
 
--- The same of the next line of a job: before its first step nothing is refused.
-abbrev pub OfNext : Option JobValue → List ℕ → Option Reason → Type 0
-OfNext None bytes r = r ≡ None
-OfNext (Some job) bytes r = OfBytes job bytes r
+-- What is kept of a refusal that is heard of: the reason, the request, and the subpools, if the task ends.
+pub record KeepsWhy (old : Why) (job : JobValue) (t : Name) (request : Request) (refusal : Refusal) (new : Why) : Type 0 where
+  pub read : new.read ≡ old.read
+  pub before : new.before ≡ old.before
+  pub reason : Reason
+  pub told : new.reason ≡ Some reason
+  pub explains : Explains job.state t request refusal reason
+  pub asks : IsRequestOf job old.read new.request
+  pub subpools : (code : Code) → reply_to request refusal ≡ Abend code → new.subpools ≡ owned_subpools job.state t
+
+-- The subpools are those that the tasks of the step own, before a line in which a task returns.
+abbrev pub IsSurvey : Option JobValue → Line → List OwnedSubpool → Type 0
+IsSurvey step read subpools = (job : JobValue) → step ≡ Some job → (t : Name) → read ≡ line.Statement t (says.Request written.Return) → subpools ≡ owned_subpools job.state t
+
+-- the name that is not set in a line
+abbrev pub unset_in : JobValue → Line → Option Name
+unset_in job (line.Statement t (says.Request a)) = first_unset job.names (looked_up a)
+unset_in job (line.Statement t (says.Where name)) = Some name
+unset_in job l = None
+
+-- the same in a step, if there is one
+abbrev pub unset_of : Option JobValue → Line → Option LineReason
+unset_of None l = None
+unset_of (Some job) l = option_map (λ name. NotSet name) (unset_in job l)
+
+-- why a line that was answered so was not executed as it asks, where this was heard of its refusal
+abbrev pub answer_reason : Option JobValue → Line → Option Reason → Short → Option LineReason
+answer_reason step l reason short.NotRun = Some (Refused NotActive)
+answer_reason step l reason short.NoName = unset_of step l
+answer_reason step l reason answer = refused reason
+
+-- the same by what the line led to
+abbrev pub line_reason : Option JobValue → Line → Option Reason → LineTold → Option LineReason
+line_reason step l reason (told.Answered t answer) = answer_reason step l reason answer
+line_reason step l reason told = None

@@ -1,16 +1,19 @@
-//! Serves lines with their reasons, which are printed apart from what the lines tell.
+//! Executes lines with explanations, which are printed separately from their events.
 
-ghost use Rattle.std.specs.Prelude.{◌≡◌, ◌<◌, ◌+◌, ◌^◌, ◌⊎◌, true, IfOk, IsErrOf};
+ghost use Rattle.std.specs.Prelude.{◌≡◌, ◌<◌, ◌+◌, ◌^◌, ◌⊎◌, ◌∷◌, [], true, IfOk, IsErrOf, MatchResult};
 ghost use Rattle.std.specs.Io.KnownBytes.{Appends};
+ghost use Rattle.mvs_model.specs.Memory.{StopsForMemory};
 ghost use Rattle.mvs_model.specs.Texts.{printing};
 ghost use Rattle.mvs_job.specs.Apart.{StandsBehind};
 ghost use Rattle.mvs_job.specs.Naming.{KeepsLines, no_lines};
 ghost use Rattle.mvs_job.specs.Serving.{RunsLine};
-ghost use Rattle.mvs_job.specs.Telling.{IsLent, IsTold, events_told};
+ghost use Rattle.mvs_job.specs.Telling.{IsLent, IsTold, ended, events_told};
+ghost use Rattle.mvs_job.specs.Why.{OfNext};
 
 use crate::asking::Asking;
 use crate::printing::Stop;
-use crate::walk::{LineTold, Walk};
+use crate::walk::{LineTold, Stopped, Walk};
+use mvs_model::reason::LineReason;
 use mvs_model::watched::Watched;
 use std::alloc::Global;
 use std::io::Write;
@@ -37,7 +40,7 @@ impl Model for Explainer {
 }
 
 impl Explainer {
-    /// No name was set. This takes no memory.
+    /// Makes the record of a step in which no name was set. It allocates no memory.
     pub fn new(alloc: Global) -> Explainer
         ensures { result ≡ no_lines }
     {
@@ -46,8 +49,32 @@ impl Explainer {
         }
     }
 
-    /// Serves one line, and answers what it tells. That is printed by one writer, and by another the lines that stand behind it
-    /// where reasons are asked for: none, where the line has a fault.
+    /// Executes one line, and returns its events, and why it was not executed as it asks: a line with a fault has no such reason,
+    /// and neither has one before the first step.
+    pub fn line(
+        &mut self,
+        walk: &mut Walk,
+        line: &[u8],
+    ) -> Result<(LineTold, Option<LineReason>), Stopped>
+        requires { walk.old.number + 1 < 2 ^ 32 }
+        ensures told { MatchResult result (λ r. IsTold walk.old line.now r.0 walk.new)
+            (λ stopped. StopsForMemory walk.old.number walk.old.step (line.now ∷ [])
+            (ended stopped.ended)) }
+        ensures reason { IfOk result
+            (λ r. OfNext walk.old.step line.now (events_told walk.old.number walk.new r.0) r.1) }
+        ensures lines { IfOk result
+            (λ r. KeepsLines walk.old self.old line.now walk.new r.0 self.new) }
+        ensures lent { IfOk result (λ r. IsLent walk.new r.0) }
+        ensures number { walk.new.number ≡ walk.old.number + 1 }
+    {
+        match self.asking.serve(walk, line) {
+            Ok(told) => Ok((told, self.asking.reason)),
+            Err(stopped) => Err(stopped),
+        }
+    }
+
+    /// Executes one line, and returns its events. They are printed by one writer, and the explanations by another: none, if the
+    /// line has a fault.
     pub fn serve<W: Write, V: Write>(
         &mut self,
         walk: &mut Walk,

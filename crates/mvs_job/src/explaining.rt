@@ -1,4 +1,5 @@
-//! Runs a script with reasons: behind what a line tells stands why its request is refused, and what goes where it ends a task.
+//! Runs a script with explanations: after the events of a line comes why its request was refused, and what was freed if it ended a
+//! task.
 
 ghost use Rattle.std.specs.Prelude.{◌≡◌, ◌≢◌, ◌<◌, ◌≤◌, ◌+◌, ◌^◌, ◌∷◌, ℕ, List, length, take, drop, slice_index, true, OnOk, IfOk, IsErrOf, MatchOption};
 ghost use Rattle.mvs_model.specs.Lines.{lines_of};
@@ -18,8 +19,8 @@ use mvs_model::watched::Watched;
 use std::alloc::Global;
 use std::io::Write;
 
-// Serves one line, and prints what it tells, why it is refused, which subpools go where it ends a task, and what it did where it
-// was granted. Answers whether the job goes on.
+// Executes one line, and prints its events, why it was refused, the subpools that were freed if it ended a task, and what it
+// changed if it was granted. Returns whether the job continues.
 fn explain_line<W: Write>(
     asking: &mut Asking,
     walk: &mut Walk,
@@ -69,9 +70,9 @@ pub fn line_end(script: &[u8]) -> usize
     }
 }
 
-/// Runs a script, and prints behind what a line tells lines that begin with `*`: one that says why its request is refused, if it
-/// is and there is a reason, one that says which name has the address of that in its place, if one has, and one for each subpool
-/// that goes with a task that it ends. It takes 16,777,215 bytes at most.
+/// Runs a script, and prints lines that begin with `*` after the events of each line: why its request was refused, if there is a
+/// reason; the name that has the address of the reason, if there is one; and one for each subpool that was freed with a task. The
+/// script has at most 16,777,215 bytes.
 pub fn explain_script<W: Write>(
     alloc: Global,
     script: &[u8],
@@ -79,8 +80,8 @@ pub fn explain_script<W: Write>(
     placement: Placement,
 ) -> Result<Outcome, Stop>
     requires { length script.now ≤ most_script_bytes }
-    // Each reason stands behind what its line tells, and is that of the step before the line; so are the names and the subpools
-    // that go.
+    // Each reason comes after the events of its line, and is that of the step before the line; so are the names and the freed
+    // subpools.
     ensures explained { WritesExplained (W.contents writer.old.inner)
         (W.contents writer.new.inner) script.now result }
     // Without the lines that begin with an asterisk it is the printing of a run.

@@ -1,4 +1,4 @@
-//! What a request did that was granted: what is looked at before it, and what is told behind it.
+//! What a granted request changed: what is looked up before it, and what is reported after it.
 
 ghost use Rattle.std.specs.Prelude.{◌≡◌, ◌≤◌, ◌<◌, ◌+◌, ◌^◌, ◌++◌, [], ◌∷◌, ℕ, List, length, flat_map};
 ghost use Rattle.mvs_model.specs.Lent.{lent};
@@ -8,7 +8,7 @@ ghost use Rattle.mvs_model.specs.State.{State};
 ghost use Rattle.mvs_model.specs.declared.name.Name.{Name as TaskName};
 ghost use Rattle.job_script.specs.FactTexts.{fact_line};
 ghost use Rattle.job_script.specs.Writing.{Prints};
-ghost use Rattle.step_machine.specs.Facts.{listed};
+ghost use Rattle.request_forms.specs.Facts.{listed};
 ghost use Rattle.mvs_job.specs.Granting.{area_fact, area_facts, before_request, cell_fact, emptied_fact, facts_of, free_in, freed_fact, greater_fact, is_grant, looked_at, means, part_fact, part_pages, parts_at, subpool_fact, subtask_fact, taken_fact};
 
 use crate::ends::is_same;
@@ -42,7 +42,7 @@ const MOST_FACTS: usize = 160;
 /// What a request did.
 pub(crate) type Facts = ShortList<Fact, 0, MOST_FACTS>;
 
-// What is looked at before a request, for which a task means a subpool or not, and which is for a pool of so many parts.
+// What is looked up before a request: whether the task has the subpool, and the number of parts of the pool.
 fn looked_at(job: &Job, had: bool, parts: u32) -> Before
     ensures { result ≡ looked_at job.now had parts }
 {
@@ -72,7 +72,7 @@ fn parts_at(job: &Job, pool: &Name) -> u32
     }
 }
 
-/// What is looked at before a task's request; None where it is not told what the request did.
+/// Returns what is looked up before the request of a task, or None if its changes are not reported.
 pub(crate) fn before_request(job: &Job, task: &Name, written: &Written) -> Option<Before>
     ensures { result ≡ before_request job.now task.now written.now }
 {
@@ -179,7 +179,7 @@ fn freed_fact(before: &Before, job: &Job) -> Option<Fact>
     Some(Fact::PagesFreed(freed))
 }
 
-// The subpool that the task means by the number, of which all was released.
+// Returns the subpool of the number of the task, all of which was released.
 fn emptied_fact(job: &Job, task: &Name, number: u8) -> Option<Fact>
     ensures { result ≡ emptied_fact job.now task.now number }
 {
@@ -259,7 +259,7 @@ pub(crate) fn no_facts() -> Facts
     Facts::empty(Fact::PagesTaken(0))
 }
 
-// Puts a fact behind others, if there is one.
+// Appends a fact, if there is one.
 fn push_some(facts: &mut Facts, fact: Option<Fact>)
     requires { length facts.old < 160 }
     ensures facts { facts.new ≡ facts.old ++ listed fact }
@@ -270,7 +270,7 @@ fn push_some(facts: &mut Facts, fact: Option<Fact>)
     }
 }
 
-// Puts the areas of a list behind other facts.
+// Appends the areas of a list.
 fn push_areas(
     facts: &mut Facts,
     job: &Job,

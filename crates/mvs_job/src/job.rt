@@ -1,8 +1,7 @@
-//! A step with the names that it has set: it serves statements, and lends what their answers speak of.
+//! A step with the names that it has set. It executes statements, and has the long data of their answers.
 
-ghost use Rattle.std.specs.Prelude.{◌≡◌, ◌≢◌, ◌||◌, ◌<◌, ◌≤◌, ◌↔◌, ℕ, List, [], ◌+◌, true, false, None, Some, IfOk, IfSome, IsSome, MatchOption, MatchResult, length, slice_get};
+ghost use Rattle.std.specs.Prelude.{◌≡◌, ◌≢◌, ◌⊎◌, ◌||◌, ◌<◌, ◌≤◌, ◌↔◌, ℕ, List, [], ◌+◌, true, false, None, Some, IfOk, IfSome, IsSome, MatchOption, MatchResult, length, slice_get};
 ghost use Rattle.std.specs.FinMap.{get};
-ghost use Rattle.std.specs.Option.{option_map};
 ghost use Rattle.mvs_model.specs.declared.line.Line.TheVariants as line;
 ghost use Rattle.mvs_model.specs.declared.name.Name.{Name as TaskName};
 ghost use Rattle.mvs_model.specs.Card.{IsCard};
@@ -16,37 +15,41 @@ ghost use Rattle.mvs_model.specs.Owners.{is_active};
 ghost use Rattle.mvs_model.specs.Place.{PlaceValue};
 ghost use Rattle.mvs_model.specs.Newest.{IsNewest};
 ghost use Rattle.mvs_model.specs.Pools.{Pool};
-ghost use Rattle.step_machine.specs.Standing.{free_above, free_below, label_had, label_meant};
+ghost use Rattle.request_forms.specs.Standing.{free_above, free_below, label_had, label_meant};
 ghost use Rattle.mvs_model.specs.Replies as replies;
-ghost use Rattle.mvs_model.specs.declared.reason.Reason.TheVariants.{NotSet};
 ghost use Rattle.mvs_model.specs.Resolving.{first_unset, looked_up, resolved};
 ghost use Rattle.mvs_model.specs.Runs.{Asks, Does, Makes};
 ghost use Rattle.mvs_model.specs.State.{State};
 ghost use Rattle.mvs_model.specs.View.{IsBounded};
 ghost use Rattle.mvs_model.specs.NextOwned.{IsNextOwned};
-ghost use Rattle.step_machine.specs.Facts.{owned_at};
-ghost use Rattle.step_machine.specs.Taking.{Takes};
-ghost use Rattle.step_machine.specs.Reports.{HasNone, IsMapEnd, IsMapRun, IsSubpoolLine};
+ghost use Rattle.request_forms.specs.Facts.{owned_at};
+ghost use Rattle.request_forms.specs.Taking.{Takes};
+ghost use Rattle.request_forms.specs.Reports.{HasNone, IsMapEnd, IsMapRun, IsSubpoolLine};
 ghost use Rattle.mvs_job.specs.Telling.{IsLentBy, KeepsReply, Replies, card_said};
-ghost use Rattle.mvs_job.specs.Explaining.{SpeaksOf};
 ghost use Rattle.mvs_job.specs.Valued.{BuildsInRange, MayWrite, Requests};
-ghost use Rattle.mvs_job.specs.Why.{OfStatement, TurnWritten};
+ghost use Rattle.mvs_model.specs.Causes.{IsRefused};
+ghost use Rattle.mvs_model.specs.Reasons.{Explains};
+ghost use Rattle.mvs_model.specs.Steps.{Step as MachineStep};
+ghost use Rattle.mvs_job.specs.Observing.{Fails, Hears, IsRestKept, LeftFor, Observes, Passes};
 
+use crate::observer::Observer;
 use job_script::{Names, resolve, set_names, unset};
+use job_step::Step;
 use mvs_model::answer::Answer;
 use mvs_model::card::Card;
 use mvs_model::error::OutOfMemory;
 use mvs_model::line::{Statement, Written};
 use mvs_model::name::Name;
 use mvs_model::place::{Addr, Place};
-use mvs_model::reason::Reason;
+use mvs_model::reason::{Reason, Shortfall};
+use mvs_model::refusal::Refusal;
 use mvs_model::report::{MapRun, Newest, SubpoolLine};
 use mvs_model::request::{Reply, Request};
 use mvs_model::subpool::{SubNo, SubpoolId};
 use mvs_model::want::Placement;
+use request_forms::{FreePages, OwnedSubpool, no_shortfall};
 use std::alloc::Global;
 use std::marker::Model;
-use step_machine::{FreePages, OwnedSubpool, Step};
 
 /// A step with the names that it has set, and what became of the former steps.
 #[derive(Drop)]
@@ -85,7 +88,7 @@ fn builds_in_range(request: &Request)
     }
 }
 
-// What a grant tells: its length, where the request is variable.
+// Returns the answer of a grant: its length, if the request is variable.
 fn grant_answer(written: &Written, place: &Place) -> Answer
     ensures answer { (st : State) (fallen : List TaskName) (t : TaskName)
         → lent st fallen t result ≡ replies.grant_answer written.now place.now }
@@ -97,7 +100,7 @@ fn grant_answer(written: &Written, place: &Place) -> Answer
     }
 }
 
-// What a request tells that read or wrote bytes: SHOW lends what it read.
+// Returns the answer of a request that read or wrote bytes: the job has what SHOW read.
 fn done_answer(request: &Request) -> Answer
     ensures answer { (st : State) (fallen : List TaskName) (t : TaskName)
         → lent st fallen t result ≡ replies.done_answer st request.now }
@@ -110,7 +113,7 @@ fn done_answer(request: &Request) -> Answer
     }
 }
 
-// What the reply to a request tells.
+// Returns the answer for the reply to a request.
 fn answer_of(written: &Written, request: &Request, reply: &Reply) -> Answer
     ensures answer { (st : State) (t : TaskName)
         → lent st (fallen_in reply.now) t result
@@ -133,7 +136,7 @@ fn answer_of(written: &Written, request: &Request, reply: &Reply) -> Answer
     }
 }
 
-// What WHERE tells of a name.
+// Returns the answer to WHERE.
 fn where_answer(place: Option<Place>) -> Answer
     ensures answer { (st : State) (fallen : List TaskName) (t : TaskName)
         → lent st fallen t result ≡ replies.where_answer place }
@@ -142,27 +145,6 @@ fn where_answer(place: Option<Place>) -> Answer
     match place {
         Some(place) => Answer::At(place.addr()),
         None => Answer::NoName,
-    }
-}
-
-// Why WHERE tells no address of a name.
-fn where_reason(name: &Name, place: Option<Place>) -> Option<Reason>
-    ensures { MatchOption place (result ≡ Some (NotSet name.now)) (λ _. result ≡ None) }
-{
-    match place {
-        Some(_) => None,
-        None => Some(Reason::NotSet(*name)),
-    }
-}
-
-// Why no request is made: the first name that is not set.
-fn unset_reason(names: &Names, written: &Written) -> Option<Reason>
-    ensures { result
-        ≡ option_map (λ name. NotSet name) (first_unset names.now (looked_up written.now)) }
-{
-    match unset(names, written) {
-        Some(name) => Some(Reason::NotSet(name)),
-        None => None,
     }
 }
 
@@ -272,7 +254,7 @@ impl Job {
         self.step.label_meant(task, number)
     }
 
-    /// The subpool that an active task has under a number, said in the same way.
+    /// Returns the subpool that an active task has for a number: its owner's number for it, and the owner.
     pub fn label_had(&self, task: &Name, number: SubNo) -> Option<(SubNo, Name)>
         ensures { result ≡ label_had self.now.state.owners task.now number }
     {
@@ -296,44 +278,27 @@ impl Job {
         resolve(&self.names, written, request)
     }
 
-    /// Why a statement of the step is refused, if it is, asked before it is served. The request that it asks for is written
-    /// over `request`.
-    pub fn reason(
-        &self,
-        task: &Name,
-        statement: &Statement,
-        request: &mut Request,
-    ) -> Option<Reason>
-        ensures reason { OfStatement self.now task.now statement.now result }
-        ensures request { IfSome result (SpeaksOf self.now statement.now request.new) }
+    /// The first name that a request looks up and that is not set, from the left.
+    pub fn unset(&self, written: &Written) -> Option<Name>
+        ensures { result ≡ first_unset self.now.names (looked_up written.now) }
     {
-        let active = self.step.is_active(task);
-        if !active {
-            return Some(Reason::NotActive);
-        }
-        let written = match statement {
-            Statement::Request(written) => written,
-            Statement::Where(name) => return where_reason(name, self.names.get(name)),
-            _ => return None,
-        };
-        let Some(()) = resolve(&self.names, written, request) else {
-            return unset_reason(&self.names, written);
-        };
-        self.step.reason(task, request)
+        unset(&self.names, written)
     }
 
-    /// Why a task's request for a list is refused, if its members in front are granted, asked before it is served. They are granted
-    /// and taken back.
-    pub fn turn(&mut self, task: &Name, written: &Written, request: &mut Request) -> Option<Reason>
-        ensures turn { TurnWritten self.old task.now written.now result }
-        ensures unchanged { self.new ≡ self.old }
+    /// Says what the refusal of a task's request is about, in the state that the refusal has left as it was. `left` is what a member
+    /// of a list lacks, where one has no place.
+    pub fn details(
+        &self,
+        task: &Name,
+        request: &Request,
+        refusal: Refusal,
+        left: &Shortfall,
+    ) -> Reason
+        requires refused { IsRefused self.now.state task.now request.now refusal }
+        requires left { LeftFor self.now task.now request.now refusal left.now }
+        ensures { Explains self.now.state task.now request.now refusal result }
     {
-        let active = self.step.is_active(task);
-        if !active {
-            return None;
-        }
-        resolve(&self.names, written, request)?;
-        self.step.turn(task, request)
+        self.step.details(task, request, refusal, left)
     }
 
     /// Serves a request that is given by values, and writes the reply to it over another one. It sets no name.
@@ -341,11 +306,7 @@ impl Job {
         ensures { Requests self.old task.now request.now reply.new self.new }
     {
         builds_in_range(request);
-        if self.step.is_active(task) {
-            self.step.request(task, request, &[], reply);
-        } else {
-            *reply = Reply::NotRun;
-        }
+        self.step.request(task, request, &[], reply);
     }
 
     /// Writes bytes over those of a place, and answers whether it did: where one of them may not be written, all stay.
@@ -356,14 +317,41 @@ impl Job {
         self.step.write(place, bytes)
     }
 
+    // Attempts a task's request. Where it is refused, the observer hears of that before it is settled.
+    fn settle_or_do<O: Observer>(
+        &mut self,
+        task: &Name,
+        request: &Request,
+        told: &[Addr],
+        reply: &mut Reply,
+        observer: &mut O,
+    )
+        ensures step { MachineStep self.old.state task.now request.now reply.new self.new.state }
+        ensures rest { IsRestKept self.old reply.new self.new }
+        ensures told { Takes told.now self.old.state task.now request.now reply.new self.new.state }
+        ensures observed { Hears O.heard observer.old self.old task.now request.now reply.new
+            self.new.state observer.new }
+    {
+        builds_in_range(request);
+        let mut left = no_shortfall();
+        match self.step.attempt(task, request, told, reply, &mut left) {
+            Ok(()) => {}
+            Err(refusal) => {
+                observer.refused(self, task, request, refusal, &left);
+                self.step.settle(task, request, refusal, reply);
+            }
+        }
+    }
+
     // Serves a request of an active task.
-    fn ask(
+    fn ask<O: Observer>(
         &mut self,
         task: &Name,
         written: &Written,
         told: &[Addr],
         request: &mut Request,
         reply: &mut Reply,
+        observer: &mut O,
     ) -> Result<Answer, OutOfMemory>
         requires written { IsWritten written.now }
         requires active { is_active self.old.state.owners task.now ≡ true }
@@ -376,29 +364,35 @@ impl Job {
             (λ answer. MatchOption (resolved self.old.names written.now) (reply.new ≡ reply.old)
             (λ asked. Makes (Replies reply.new) self.old task.now written.now asked
             (lent self.new.state (fallen_in reply.new) task.now answer) self.new)) }
+        ensures observed { IfOk result
+            (λ answer. MatchOption (resolved self.old.names written.now)
+            (observer.new ≡ observer.old)
+            (λ asked. let said = lent self.new.state (fallen_in reply.new) task.now answer in
+            Passes observer.old self.old task.now asked said observer.new
+            ⊎ Fails O.heard observer.old self.old task.now asked said observer.new)) }
         ensures lent { IfOk result (IsLentBy self.new.state) }
     {
         let Some(()) = resolve(&self.names, written, request) else {
             return Ok(Answer::NoName);
         };
-        self.step.request(task, request, told, reply);
+        self.settle_or_do(task, request, told, reply, observer);
         let Ok(()) = set_names(&mut self.names, written, reply) else {
             return Err(OutOfMemory);
         };
         Ok(answer_of(written, request, reply))
     }
 
-    /// Serves a statement of the step, which is not REGION. The request that it asks for and the reply to that are written over
-    /// `request` and `reply`, which are long; the reply has the names of the tasks that ended with one that abended. An area that
-    /// is granted lies at the address that is told, where the machine allows that; those of a list lie each at its own, and so does a
-    /// cell.
-    pub fn serve(
+    /// Executes a statement of the step, which is not REGION. Its request and the reply are written over `request` and `reply`,
+    /// which are large; the reply has the names of the tasks that ended with one that abended. Areas and cells are placed at the
+    /// hinted addresses if the machine allows that. The observer hears of a request that is refused.
+    pub fn serve<O: Observer>(
         &mut self,
         task: &Name,
         statement: &Statement,
         told: &[Addr],
         request: &mut Request,
         reply: &mut Reply,
+        observer: &mut O,
     ) -> Result<Answer, OutOfMemory>
         requires in_range { IsStatement false task.now statement.now }
         requires of_step { card_said task.now statement.now ≡ None }
@@ -409,13 +403,18 @@ impl Job {
         ensures reply { IfOk result
             (λ answer. KeepsReply self.old task.now statement.now reply.old
             (lent self.new.state (fallen_in reply.new) task.now answer) reply.new self.new) }
+        ensures observed { IfOk result
+            (λ answer. Observes O.heard observer.old self.old task.now statement.now
+            (lent self.new.state (fallen_in reply.new) task.now answer) observer.new) }
         ensures lent { IfOk result (IsLentBy self.new.state) }
     {
         if !self.step.is_active(task) {
             return Ok(Answer::NotRun);
         }
         match statement {
-            Statement::Request(written) => self.ask(task, written, told, request, reply),
+            Statement::Request(written) => {
+                self.ask(task, written, told, request, reply, observer)
+            }
             Statement::Where(name) => Ok(where_answer(self.names.get(name))),
             Statement::ReportSubpools => Ok(Answer::Subpools),
             Statement::ReportMap => Ok(Answer::Map),

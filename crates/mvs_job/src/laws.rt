@@ -1,8 +1,9 @@
-//! Laws of runs with reasons: each function does nothing, and its contract is the law.
+//! Laws of runs with reasons, and of traces: each function does nothing, and its contract is the law.
 
 ghost use Rattle.mvs_job.specs.Explaining.{NoLineIsStarred};
+ghost use Rattle.mvs_job.specs.Trace.{RunsHaveTraces, TracesAreRuns};
 
-use mvs_model::laws::well_formed;
+use mvs_laws::laws::well_formed;
 
 /// No line of a printing begins with an asterisk: each begins with a number or a letter, and no name in it has a line feed.
 pub fn no_line_is_starred()
@@ -10,3 +11,13 @@ pub fn no_line_is_starred()
 {
     well_formed();
 }
+
+/// The events of a trace are those of a run.
+pub fn traces_are_runs()
+    ensures { TracesAreRuns }
+{}
+
+/// Each run is that of a trace.
+pub fn runs_have_traces()
+    ensures { RunsHaveTraces }
+{}

@@ -65,7 +65,7 @@ fn cell(request: &Request) -> Addr
     }
 }
 
-/// The address that the reason of a request tells.
+/// Returns the address in the reason of a request.
 pub(crate) fn address_told(request: &Request, reason: &Reason) -> Option<Addr>
     ensures { result ≡ address_told request.now reason.now }
 {
@@ -75,11 +75,26 @@ pub(crate) fn address_told(request: &Request, reason: &Reason) -> Option<Addr>
         | Reason::Overlap(_, _, addr)
         | Reason::NoAccess(addr, _) => Some(*addr),
         Reason::NoTakenCell(_) => Some(cell(request)),
-        _ => None,
+        Reason::NotActive
+        | Reason::InvalidNumber
+        | Reason::Shortage(_)
+        | Reason::NoMember(..)
+        | Reason::NoPart(..)
+        | Reason::NoSubpool(_)
+        | Reason::WholeOfZero
+        | Reason::PoolInUse
+        | Reason::TooManyPools
+        | Reason::NoPool
+        | Reason::NoFreeCell
+        | Reason::TaskInUse
+        | Reason::TooManyTasks
+        | Reason::NotOwned(..)
+        | Reason::ActiveSubtask(_)
+        | Reason::Asked => None,
     }
 }
 
-// Whether an address lies in a place.
+// Returns whether an address is in a place.
 fn has_address(place: Place, addr: Addr) -> bool
     ensures { result ≡ has_address place addr }
 {
@@ -105,7 +120,7 @@ fn naming_at(job: &Job, addr: Addr, name: &Name, number: u32) -> Option<Naming>
     None
 }
 
-// Whether a line is behind that of another name, if there is one.
+// Returns whether a line is after that of another name, if there is one.
 fn is_behind(latest: &Option<Naming>, number: u32) -> bool
     ensures { result ≡ is_behind latest.now number }
 {
@@ -128,7 +143,7 @@ fn later(latest: Option<Naming>, job: &Job, addr: Addr, name: &Name, number: u32
     }
 }
 
-// A list that is wanted has a length, as its type says.
+// A requested list has a length, as its type says.
 fn has_lengths(written: &Written)
     ensures { HasLengths written.now }
 {
@@ -138,7 +153,7 @@ fn has_lengths(written: &Written)
 }
 
 impl SetLines {
-    /// No name was set. This takes no memory.
+    /// Makes the record of a step in which no name was set. It allocates no memory.
     pub(crate) fn new(alloc: Global) -> SetLines
         ensures { result ≡ no_lines }
     {
@@ -186,8 +201,8 @@ impl SetLines {
         self.put_all(names, number)
     }
 
-    /// Keeps which names the line of a number sets that was read as this and told this. It takes memory where the line is granted
-    /// a request that sets a name.
+    /// Records the names that a line with this number, this meaning and these events sets. It allocates memory if the line is a
+    /// granted request that sets a name.
     pub(crate) fn keep(
         &mut self,
         number: u32,

@@ -1,15 +1,18 @@
-//! Prints what lines tell, and how a job ends.
+//! Prints the events of lines, and the end of a job.
 
 ghost use Rattle.std.specs.Prelude.{◌≡◌, ◌<◌, ◌+◌, ◌^◌, ◌∷◌, [], List, true, IfOk, OnOk, IsErrOf};
 ghost use Rattle.mvs_model.specs.declared.name.Name.{Name as TaskName};
 ghost use Rattle.mvs_model.specs.Lent.{lent};
 ghost use Rattle.mvs_model.specs.Texts.{answer_text, printing};
 ghost use Rattle.job_script.specs.Writing.{Prints};
-ghost use Rattle.mvs_job.specs.Serving.{RunsLine, ServesOrStops, TellsLine};
+ghost use Rattle.mvs_job.specs.Serving.{RunsLine, ServesOrStops};
 ghost use Rattle.mvs_job.specs.Telling.{IsLent, IsLentBy, closing, ended, events_told};
 
+use crate::driver::run_entry;
 use crate::job::Job;
+use crate::printer::Printer;
 use crate::reports::{print_map, print_subpools};
+use crate::stream::fault_of;
 use crate::walk::{LineTold, Walk};
 use job_script::{print_abend, print_data, print_fault, print_region, print_said, print_step_end};
 use mvs_model::answer::Answer;
@@ -18,16 +21,21 @@ use mvs_model::name::Name;
 use mvs_model::place::{Addr, Place};
 use mvs_model::watched::{Failed, Watched};
 use std::io::Write;
+use thiserror::Error;
 
 /// Why a job stops before its end.
-#[derive(Clone, Copy, Debug, PartialEq, Eq)]
+#[derive(Clone, Copy, Debug, PartialEq, Eq, Error)]
+#[error("{}", fault_of(*self))]
 pub enum Stop {
     Write,
     Memory,
 }
 
-// Prints the end of a step, if one ended.
-fn print_ended<W: Write>(writer: &mut Watched<W>, end: Option<bool>) -> Result<(), Failed>
+/// Prints the end of a step, if one ended.
+pub(crate) fn print_ended<W: Write>(
+    writer: &mut Watched<W>,
+    end: Option<bool>,
+) -> Result<(), Failed>
     ensures { Prints W.contents writer.old writer.new result (printing (ended end)) }
 {
     match end {
@@ -56,7 +64,7 @@ fn print_shown<W: Write>(
     }
 }
 
-// Prints the answer to a statement of a task, of which the job lends the long parts.
+// Prints the answer to a statement of a task, with the long data of the job.
 fn print_answer<W: Write>(
     writer: &mut Watched<W>,
     line_number: u32,
@@ -78,7 +86,7 @@ fn print_answer<W: Write>(
     }
 }
 
-/// Prints what a line told, of which the job lends the long parts.
+/// Prints the events of a line, with the long data of the job.
 pub fn print_line<W: Write>(
     writer: &mut Watched<W>,
     line_number: u32,
@@ -103,7 +111,7 @@ pub fn print_line<W: Write>(
     }
 }
 
-/// Serves one line. Where memory is wanting it prints what is told before the answer.
+/// Executes one line. If memory is exhausted it prints the events before the answer.
 #[inline(always)]
 pub(crate) fn serve_line<W: Write>(
     walk: &mut Walk,
@@ -128,34 +136,7 @@ pub(crate) fn serve_line<W: Write>(
     }
 }
 
-/// Serves one line, prints what it tells, and answers that.
-#[inline(always)]
-pub fn tell_line<W: Write>(
-    walk: &mut Walk,
-    line: &[u8],
-    told: &[Addr],
-    writer: &mut Watched<W>,
-) -> Result<LineTold, Stop>
-    requires { walk.old.number + 1 < 2 ^ 32 }
-    ensures ran { TellsLine (W.contents writer.old.inner) (W.contents writer.new.inner) walk.old
-        line.now walk.new result }
-    ensures lent { IfOk result (IsLent walk.new) }
-    ensures number { walk.new.number ≡ walk.old.number + 1 }
-    ensures ok { OnOk result (writer.new.failed ≡ writer.old.failed) }
-    ensures write { IsErrOf result Stop.Write → writer.new.failed ≡ true }
-{
-    let line_number = walk.number();
-    let told = match serve_line(walk, line, told, writer) {
-        Ok(told) => told,
-        Err(stop) => return Err(stop),
-    };
-    match print_line(writer, line_number, walk, &told) {
-        Ok(()) => Ok(told),
-        Err(_) => Err(Stop::Write),
-    }
-}
-
-/// Serves one line, and prints what it tells. Answers whether the job goes on.
+/// Executes one line, and prints its events. Returns whether the job continues.
 pub fn run_line<W: Write>(
     walk: &mut Walk,
     line: &[u8],
@@ -169,10 +150,7 @@ pub fn run_line<W: Write>(
     ensures ok { OnOk result (writer.new.failed ≡ writer.old.failed) }
     ensures write { IsErrOf result Stop.Write → writer.new.failed ≡ true }
 {
-    match tell_line(walk, line, told, writer) {
-        Ok(told) => Ok(!matches!(told, LineTold::Faulted(_))),
-        Err(stop) => Err(stop),
-    }
+    run_entry(walk, line, told, writer, &mut Printer)
 }
 
 /// Prints the end of a job that has no more lines.

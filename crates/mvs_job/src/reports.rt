@@ -5,7 +5,7 @@ ghost use Rattle.std.specs.List.{flat_map};
 ghost use Rattle.mvs_model.specs.Answers.{Map, Subpools};
 ghost use Rattle.mvs_model.specs.Reports.{page_map, subpool_lines_of};
 ghost use Rattle.mvs_model.specs.Texts.{answer_text, reply_line, subpool_text};
-ghost use Rattle.step_machine.specs.Reports.{IsSubpoolLine};
+ghost use Rattle.request_forms.specs.Reports.{IsSubpoolLine};
 ghost use Rattle.job_script.specs.Writing.{Prints};
 
 use crate::job::Job;
@@ -17,7 +17,7 @@ use mvs_model::report::SubpoolLine;
 use mvs_model::watched::{Failed, Watched};
 use std::io::Write;
 
-// Prints a line for each number that the task has, the first of which is told.
+// Prints a line for each number that the task has, beginning with a given one.
 fn print_numbers<W: Write>(
     writer: &mut Watched<W>,
     line_number: u32,

@@ -1,15 +1,19 @@
 //! The whole job, from a reader to a writer.
 
-ghost use Rattle.std.specs.Prelude.{◌≡◌, ◌≢◌, ◌⊎◌, ◌+◌, ◌<◌, ◌≤◌, length, take, true, false, IfOk, IfErr, OnOk, IsErrOf};
+ghost use Rattle.std.specs.Prelude.{◌≡◌, ◌≢◌, ◌⊎◌, ◌+◌, ◌<◌, ◌≤◌, [], List, Option, ℕ, length, take, true, false, IfOk, IfErr, OnOk, IsErrOf};
 ghost use Rattle.std.specs.Io.KnownBytes.{IsAtEnd};
 ghost use Rattle.mvs_model.specs.Runs.{IsAnswered, IsPrinting, IsPrintingFront};
-ghost use Rattle.mvs_model.specs.Labels.{IsLabelText};
+ghost use Rattle.mvs_laws.specs.Labels.{IsLabelText};
 ghost use Rattle.mvs_model.specs.Memory.{IsPrintingBefore};
 ghost use Rattle.mvs_model.specs.Numbers.{most_script_bytes};
-ghost use Rattle.mvs_model.specs.Tidy.{Tidy, IsPrintingInFull};
+ghost use Rattle.mvs_laws.specs.Tidy.{Tidy, IsPrintingInFull};
 ghost use Rattle.mvs_job.specs.Exchanging.{Exchanges};
 ghost use Rattle.mvs_job.specs.Giving.{fault_text};
+ghost use Rattle.mvs_job.specs.Streams.{HasEnded, HasGivenUp};
 
+use crate::consumer::Consumer;
+use crate::printer::Printer;
+use crate::source::Source;
 use crate::stream::{Stream, Turn};
 use crate::told::Told;
 use mvs_model::numbers::MOST_SCRIPT_BYTES;
@@ -17,12 +21,12 @@ use mvs_model::outcome::Outcome;
 use mvs_model::want::Placement;
 use mvs_model::watched::Watched;
 use std::alloc::Global;
-use std::error::Error;
-use std::fmt;
 use std::io::{Read, Write};
+use thiserror::Error;
 
-/// Why a job gave up.
-#[derive(Clone, Copy, Debug, PartialEq, Eq)]
+/// Why a job stopped with an error.
+#[derive(Clone, Copy, Debug, PartialEq, Eq, Error)]
+#[error("{}", self.text())]
 pub enum RunFault {
     /// A read failed.
     Read,
@@ -35,7 +39,7 @@ pub enum RunFault {
 }
 
 impl RunFault {
-    /// What is said of it, in lower case and without a full stop. This project's choice.
+    /// Returns the text that is printed of it, in lower case and without a full stop. This project's choice.
     pub fn text(self) -> &'static str
         ensures { result.now ≡ fault_text self }
     {
@@ -48,16 +52,102 @@ impl RunFault {
     }
 }
 
-impl fmt::Display for RunFault {
-    fn fmt<W: fmt::Write>(&self, f: &mut fmt::Formatter<W>) -> fmt::Result {
-        f.write_str(self.text())
-    }
-}
-
-impl Error for RunFault {}
-
 /// How many bytes a read asks for at most.
 const CHUNK: usize = 65_536;
+
+/// Runs a script as it comes from any source, as `run_job` does from a reader, and gives each entry of the run to a consumer.
+pub fn run_source<S: Source, W: Write, C: Consumer>(
+    alloc: Global,
+    reader: &mut S,
+    writer: &mut Watched<W>,
+    placement: Placement,
+    hints: Told,
+    consumer: &mut C,
+) -> Result<Outcome, RunFault>
+    requires reader { S.failed reader.old ≡ false }
+    requires writer { writer.old.failed ≡ false }
+    requires new { C.knows consumer.old consumer.old [] }
+    // What is written is what the consumer writes for a trace of the script: of what was consumed and what the reader has left.
+    ensures ok { IfOk result
+        (HasEnded C.piece (C.knows consumer.old) (S.left reader.old) (S.left reader.new)
+        (W.contents writer.old.inner) (W.contents writer.new.inner) most_script_bytes consumer.new) }
+    // Else it is a front of that; if memory is exhausted, all up to the answer for which there was none.
+    ensures fault { IfErr result
+        (HasGivenUp C.piece (C.knows consumer.old) (S.left reader.old) (S.left reader.new)
+        (W.contents writer.old.inner) (W.contents writer.new.inner) most_script_bytes consumer.new) }
+    // All was read, or the script has a fault.
+    ensures end { IfOk result
+        (λ outcome. outcome ≢ Outcome.ScriptFault → S.is_at_end reader.new) }
+    ensures healthy { OnOk result ((S.failed reader.new ≡ false) × (writer.new.failed ≡ false)) }
+    ensures read { IsErrOf result RunFault.Read → S.failed reader.new ≡ true }
+    ensures write { IsErrOf result RunFault.Write → writer.new.failed ≡ true }
+    ensures since { (start : Option (List ℕ)) → S.since start reader.old → S.since start reader.new }
+{
+    let mut stream = Stream::new(alloc, placement, hints);
+    let mut chunk = [0u8; CHUNK];
+    let mut count = 0usize;
+    'reading: while count < MOST_SCRIPT_BYTES {
+        let room = (MOST_SCRIPT_BYTES - count).min(CHUNK);
+        match stream.turn(reader, writer, consumer, &mut chunk[..room])? {
+            Turn::On(told) => count += told,
+            Turn::Ended(outcome) => return Ok(outcome),
+        }
+    }
+    stream.last_turn(reader, writer, consumer)
+}
+
+/// Runs a script as it comes from any source, and prints it, as `run_job` does from a reader.
+pub fn run_from<S: Source, W: Write>(
+    alloc: Global,
+    reader: &mut S,
+    writer: &mut Watched<W>,
+    placement: Placement,
+    hints: Told,
+) -> Result<Outcome, RunFault>
+    requires reader { S.failed reader.old ≡ false }
+    requires writer { writer.old.failed ≡ false }
+    // What is written is the printing of a run of the script: of what was consumed and what the reader has left.
+    ensures ok { IfOk result
+        (λ outcome. Exchanges (S.left reader.old) (S.left reader.new)
+        (W.contents writer.old.inner) (W.contents writer.new.inner)
+        (λ consumed script written. (length consumed ≤ most_script_bytes)
+        × IsPrinting script written outcome)) }
+    // If a tidy script was granted in full, it is what the label machine prints, wherever the areas are.
+    ensures tidy { IfOk result
+        (λ outcome. Exchanges (S.left reader.old) (S.left reader.new)
+        (W.contents writer.old.inner) (W.contents writer.new.inner)
+        (λ consumed script written. IsPrinting script written outcome
+        × (Tidy script → IsPrintingInFull script written outcome
+        → IsLabelText script written))) }
+    // All was read, or the script has a fault.
+    ensures end { IfOk result
+        (λ outcome. outcome ≢ Outcome.ScriptFault → S.is_at_end reader.new) }
+    ensures healthy { OnOk result ((S.failed reader.new ≡ false) × (writer.new.failed ≡ false)) }
+    // Else it is a front of such a printing.
+    ensures fault { IfErr result
+        (λ fault. Exchanges (S.left reader.old) (S.left reader.new)
+        (W.contents writer.old.inner) (W.contents writer.new.inner)
+        (λ consumed script written. (length consumed ≤ most_script_bytes + 1)
+        × IsPrintingFront script written
+        × (fault ≡ RunFault.ReadTooLong → most_script_bytes < length consumed))) }
+    // For want of memory it is the whole printing before the reply to a REGION statement, or to a granted request that sets a name.
+    ensures memory { IfErr result
+        (λ fault. fault ≡ RunFault.Memory
+        → Exchanges (S.left reader.old) (S.left reader.new)
+        (W.contents writer.old.inner) (W.contents writer.new.inner)
+        (λ consumed script written. IsPrintingBefore script written)) }
+    // Before a read that failed, and before the byte that is too many, all lines that have ended are answered.
+    ensures answered { IfErr result
+        (λ fault. (fault ≡ RunFault.Read) ⊎ (fault ≡ RunFault.ReadTooLong)
+        → Exchanges (S.left reader.old) (S.left reader.new)
+        (W.contents writer.old.inner) (W.contents writer.new.inner)
+        (λ consumed script written. IsAnswered (take most_script_bytes consumed) written)) }
+    ensures read { IsErrOf result RunFault.Read → S.failed reader.new ≡ true }
+    ensures write { IsErrOf result RunFault.Write → writer.new.failed ≡ true }
+    ensures since { (start : Option (List ℕ)) → S.since start reader.old → S.since start reader.new }
+{
+    run_source(alloc, reader, writer, placement, hints, &mut Printer)
+}
 
 /// Runs a script as it comes: 16,777,215 bytes at most, and a byte more to see that there are too many. It keeps no more of it than a
 /// line, passes on what it printed before each read, and reads no further after a fault of the script. It tries the addresses of
@@ -77,7 +167,7 @@ pub fn run_job<R: Read, W: Write>(
         (W.contents writer.old.inner) (W.contents writer.new.inner)
         (λ consumed script written. (length consumed ≤ most_script_bytes)
         × IsPrinting script written outcome)) }
-    // Where a tidy script was granted in full, it is what the label machine prints, wherever the areas lie.
+    // If a tidy script was granted in full, it is what the label machine prints, wherever the areas are.
     ensures tidy { IfOk result
         (λ outcome. Exchanges (R.remaining reader.old.inner) (R.remaining reader.new.inner)
         (W.contents writer.old.inner) (W.contents writer.new.inner)
@@ -110,15 +200,5 @@ pub fn run_job<R: Read, W: Write>(
     ensures read { IsErrOf result RunFault.Read → reader.new.failed ≡ true }
     ensures write { IsErrOf result RunFault.Write → writer.new.failed ≡ true }
 {
-    let mut stream = Stream::new(alloc, placement, hints);
-    let mut chunk = [0u8; CHUNK];
-    let mut count = 0usize;
-    'reading: while count < MOST_SCRIPT_BYTES {
-        let room = (MOST_SCRIPT_BYTES - count).min(CHUNK);
-        match stream.turn(reader, writer, &mut chunk[..room])? {
-            Turn::On(told) => count += told,
-            Turn::Ended(outcome) => return Ok(outcome),
-        }
-    }
-    stream.last_turn(reader, writer)
+    run_from(alloc, reader, writer, placement, hints)
 }

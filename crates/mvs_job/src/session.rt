@@ -1,4 +1,4 @@
-//! A job that is told its lines one by one.
+//! A job that gets its lines one by one.
 
 ghost use Rattle.std.specs.Prelude.{◌≡◌, ◌≢◌, ◌<◌, ◌≤◌, ◌+◌, ◌^◌, ◌⊎◌, ◌↔◌, ◌∷◌, [], ℕ, true, false, None, Some, Ok, IfOk, IfSome, IsSome, MatchOption, MatchResult, length, slice_get};
 ghost use Rattle.std.specs.FinMap.{get};
@@ -9,12 +9,15 @@ ghost use Rattle.mvs_model.specs.Numbers.{subpool_numbers};
 ghost use Rattle.mvs_model.specs.Runs.{machine};
 ghost use Rattle.mvs_model.specs.Walk.{Closes};
 ghost use Rattle.mvs_job.specs.Sessions.{new_session};
-ghost use Rattle.mvs_job.specs.Telling.{IsLent, IsTold, KeepsReplyOf, closing, ended, goes_on};
+ghost use Rattle.mvs_job.specs.Telling.{IsLent, IsTold, KeepsReplyOf, closing, ended, events_told, goes_on};
+ghost use Rattle.mvs_job.specs.Why.{OfNext};
 ghost use Rattle.mvs_job.specs.Valued.{RequestsOf, WritesOf};
 
+use crate::apart::Explainer;
 use crate::walk::{Closing, LineTold, Stopped, Walk};
 use mvs_model::name::Name;
 use mvs_model::place::Place;
+use mvs_model::reason::LineReason;
 use mvs_model::request::Request;
 use mvs_model::want::Placement;
 use std::alloc::Global;
@@ -38,7 +41,7 @@ impl Model for Session {
 }
 
 impl Session {
-    /// A job that was told no line.
+    /// Makes a job before its first line.
     pub fn new(alloc: Global, placement: Placement) -> Session
         ensures { result ≡ new_session }
     {
@@ -48,7 +51,7 @@ impl Session {
         }
     }
 
-    /// Whether the job takes a line: it has not ended, and there is a number for the line behind.
+    /// Returns whether the job accepts a line: it has not ended, and there is a number for the next line.
     pub fn takes_line(&self) -> bool
         ensures yes { result ≡ true
             → (self.now.goes_on ≡ true) × (self.now.walk.number + 1 < 2 ^ 32) }
@@ -58,21 +61,22 @@ impl Session {
         self.goes_on && self.walk.number() < u32::MAX
     }
 
-    /// Whether the job goes on: no line had a fault, memory was not wanting, and it was not closed.
+    /// Returns whether the job continues: no line had a fault, memory was not exhausted, and it was not closed.
     pub fn goes_on(&self) -> bool
         ensures { result ≡ self.now.goes_on }
     {
         self.goes_on
     }
 
-    /// How the job stands: the number of the next line, and what the last answer lends.
+    /// Returns the state of the job: the number of the next line, and the long data of the last answer.
     pub fn walk(&self) -> &Walk
         ensures { result.now ≡ self.now.walk }
     {
         &self.walk
     }
 
-    /// Serves one line, which is given without its end, and answers what it tells. A fault ends the job, and so does want of memory.
+    /// Executes one line, which is given without its newline, and returns its events. A fault ends the job, and so does want of
+    /// memory.
     pub fn line(&mut self, line: &[u8]) -> Result<LineTold, Stopped>
         requires goes_on { self.old.goes_on ≡ true }
         requires number { self.old.walk.number + 1 < 2 ^ 32 }
@@ -88,6 +92,35 @@ impl Session {
         let told = self.walk.line(line, &[]);
         self.goes_on = match &told {
             Ok(LineTold::Faulted(_)) => false,
+            Ok(_) => true,
+            Err(_) => false,
+        };
+        told
+    }
+
+    /// Executes one line as `line` does, and returns its events and why it was not executed as it asks. The explainer has seen
+    /// each line of the session.
+    pub fn explain(
+        &mut self,
+        explainer: &mut Explainer,
+        line: &[u8],
+    ) -> Result<(LineTold, Option<LineReason>), Stopped>
+        requires goes_on { self.old.goes_on ≡ true }
+        requires number { self.old.walk.number + 1 < 2 ^ 32 }
+        ensures told { MatchResult result
+            (λ r. IsTold self.old.walk line.now r.0 self.new.walk)
+            (λ stopped. StopsForMemory self.old.walk.number self.old.walk.step (line.now ∷ [])
+            (ended stopped.ended)) }
+        ensures reason { IfOk result
+            (λ r. OfNext self.old.walk.step line.now
+            (events_told self.old.walk.number self.new.walk r.0) r.1) }
+        ensures lent { IfOk result (λ r. IsLent self.new.walk r.0) }
+        ensures number { self.new.walk.number ≡ self.old.walk.number + 1 }
+        ensures goes_on { IfOk result (λ r. self.new.goes_on ≡ goes_on (Ok r.0)) }
+    {
+        let told = explainer.line(&mut self.walk, line);
+        self.goes_on = match &told {
+            Ok((LineTold::Faulted(_), _)) => false,
             Ok(_) => true,
             Err(_) => false,
         };

@@ -2,12 +2,15 @@
 
 ghost use Rattle.std.specs.Prelude.{◌≡◌, ◌≢◌, ◌<◌, ◌≤◌, ◌+◌, ◌^◌, ◌++◌, ◌∷◌, [], List, ℕ, Option, length, take, slice_index, true, IfOk, IfSome, OnOk, IsErrOf, MatchResult};
 ghost use Rattle.std.specs.Io.KnownBytes.{Consumes, IsAtEnd, Keeps};
-ghost use Rattle.mvs_job.specs.Serving.{RunsLine};
+ghost use Rattle.mvs_job.specs.Consuming.{RunsNext};
 ghost use Rattle.mvs_job.specs.Telling.{new_walk};
-ghost use Rattle.mvs_job.specs.Streams.{Feeds, FeedsSome, Finishes, HasBroken, HasEnded, HasGivenUp, IsUnderWay, Printed, PrintedUpTo, Progress, Takes, fault_of};
+ghost use Rattle.mvs_job.specs.Streams.{Feeds, FeedsSome, Finishes, HasEnded, HasGivenUp, IsUnderWay, Takes, fault_of};
 
-use crate::printing::{Stop, print_closing, run_line};
+use crate::consumer::Consumer;
+use crate::driver::{run_end, run_entry};
+use crate::printing::Stop;
 use crate::run::RunFault;
+use crate::source::Source;
 use crate::told::Told;
 use crate::walk::Walk;
 use job_script::{LineBuffer, Pushed};
@@ -16,12 +19,12 @@ use mvs_model::outcome::Outcome;
 use mvs_model::want::Placement;
 use mvs_model::watched::Watched;
 use std::alloc::Global;
-use std::io::{Read, Write};
+use std::io::Write;
 
 /// What one read did.
 #[derive(Clone, Copy, Debug, PartialEq, Eq)]
 pub enum Turn {
-    /// So many bytes were told, and the job goes on.
+    /// This number of bytes was consumed, and the job continues.
     On(usize),
     /// The job has ended.
     Ended(Outcome),
@@ -31,29 +34,32 @@ pub enum Turn {
 #[derive(Drop)]
 pub struct Stream {
     walk: Walk,
-    /// What was told of a line that has not ended.
+    /// The consumed bytes of an incomplete line.
     line: LineBuffer,
     told: Told,
 }
 
 // What is written is passed on before a read that may wait.
-fn read<R: Read, W: Write>(
-    reader: &mut Watched<R>,
+fn read<S: Source, W: Write>(
+    reader: &mut S,
     writer: &mut Watched<W>,
     chunk: &mut [u8],
 ) -> Result<usize, RunFault>
     ensures room { length chunk.new ≡ length chunk.old }
     ensures bound { IfOk result (λ count. count ≤ length chunk.new) }
     ensures bytes { MatchResult result
-        (λ count. Consumes (R.remaining reader.old.inner) (R.remaining reader.new.inner)
+        (λ count. Consumes (S.left reader.old) (S.left reader.new)
         (take count chunk.new))
-        (λ _. Keeps (R.remaining reader.old.inner) (R.remaining reader.new.inner)) }
+        (λ _. Keeps (S.left reader.old) (S.left reader.new)) }
     ensures end { IfOk result
-        (λ count. count ≡ 0 → 0 < length chunk.new → IsAtEnd (R.remaining reader.new.inner)) }
+        (λ count. count ≡ 0 → 0 < length chunk.new → IsAtEnd (S.left reader.new)) }
+    ensures reached { IfOk result
+        (λ count. count ≡ 0 → 0 < length chunk.new → S.is_at_end reader.new) }
+    ensures since { (start : Option (List ℕ)) → S.since start reader.old → S.since start reader.new }
     ensures unwritten { Keeps (W.contents writer.old.inner) (W.contents writer.new.inner) }
     ensures healthy { OnOk result
-        ((reader.new.failed ≡ reader.old.failed) × (writer.new.failed ≡ writer.old.failed)) }
-    ensures read { IsErrOf result RunFault.Read → reader.new.failed ≡ true }
+        ((S.failed reader.new ≡ S.failed reader.old) × (writer.new.failed ≡ writer.old.failed)) }
+    ensures read { IsErrOf result RunFault.Read → S.failed reader.new ≡ true }
     ensures write { IsErrOf result RunFault.Write → writer.new.failed ≡ true }
     ensures not_long { ¬ IsErrOf result RunFault.ReadTooLong }
     ensures not_memory { ¬ IsErrOf result RunFault.Memory }
@@ -67,8 +73,8 @@ fn read<R: Read, W: Write>(
     }
 }
 
-// Why a job gives up that stops.
-fn fault_of(stop: Stop) -> RunFault
+/// Returns the fault of a job that stops so.
+pub(crate) fn fault_of(stop: Stop) -> RunFault
     ensures { result ≡ fault_of stop }
 {
     match stop {
@@ -91,27 +97,38 @@ impl Stream {
     }
 
     // Runs the line that is kept.
-    fn end_line<W: Write>(&mut self, writer: &mut Watched<W>) -> Result<bool, Stop>
+    fn end_line<W: Write, C: Consumer>(
+        &mut self,
+        writer: &mut Watched<W>,
+        consumer: &mut C,
+    ) -> Result<bool, Stop>
         requires { self.old.walk.number + 1 < 2 ^ 32 }
-        ensures ran { RunsLine (W.contents writer.old.inner) (W.contents writer.new.inner)
-            self.old.walk self.old.line self.new.walk result }
+        ensures ran { (first : C) → RunsNext C.piece (C.knows first) (W.contents writer.old.inner)
+            (W.contents writer.new.inner) self.old.walk self.old.line self.new.walk consumer.old
+            consumer.new result }
         ensures line { self.new.line ≡ [] }
         ensures number { self.new.walk.number ≡ self.old.walk.number + 1 }
         ensures ok { OnOk result (writer.new.failed ≡ writer.old.failed) }
         ensures write { IsErrOf result Stop.Write → writer.new.failed ≡ true }
     {
         let told = self.told.of(self.walk.number());
-        let goes_on = run_line(&mut self.walk, self.line.bytes(), told, writer);
+        let goes_on = run_entry(&mut self.walk, self.line.bytes(), told, writer, consumer);
         self.line.clear();
         goes_on
     }
 
-    // Takes the next byte, and answers whether the job goes on.
-    fn feed<W: Write>(&mut self, byte: u8, writer: &mut Watched<W>) -> Result<bool, Stop>
+    // Consumes the next byte, and returns whether the job continues.
+    fn feed<W: Write, C: Consumer>(
+        &mut self,
+        byte: u8,
+        writer: &mut Watched<W>,
+        consumer: &mut C,
+    ) -> Result<bool, Stop>
         requires room { length self.old.line < 256 }
         requires number { self.old.walk.number + 1 < 2 ^ 32 }
-        ensures bytes { Feeds (W.contents writer.old.inner) (W.contents writer.new.inner)
-            (byte ∷ []) self.old.walk self.old.line self.new.walk self.new.line result }
+        ensures bytes { (first : C) → Feeds C.piece (C.knows first) (W.contents writer.old.inner)
+            (W.contents writer.new.inner) (byte ∷ []) self.old.walk self.old.line consumer.old
+            self.new.walk self.new.line consumer.new result }
         ensures room { length self.new.line < 256 }
         ensures number { self.new.walk.number ≤ self.old.walk.number + 1 }
         ensures ok { OnOk result (writer.new.failed ≡ writer.old.failed) }
@@ -119,8 +136,8 @@ impl Stream {
     {
         match self.line.push(byte) {
             Pushed::More => Ok(true),
-            Pushed::Line => self.end_line(writer),
-            Pushed::Full => self.end_line(writer),
+            Pushed::Line => self.end_line(writer, consumer),
+            Pushed::Full => self.end_line(writer, consumer),
         }
     }
 
@@ -139,18 +156,20 @@ impl Stream {
     }
 
     // Takes the first line of some bytes, and answers how many bytes it took, or none where the job has ended.
-    fn feed_whole<W: Write>(
+    fn feed_whole<W: Write, C: Consumer>(
         &mut self,
         bytes: &[u8],
         end: usize,
         writer: &mut Watched<W>,
+        consumer: &mut C,
     ) -> Result<Option<usize>, Stop>
         requires kept { self.old.line ≡ [] }
         requires end { (end < length bytes.now) × (slice_index bytes.now end ≡ 10)
             × ((k : ℕ) → k < end → slice_index bytes.now k ≢ 10) }
         requires number { self.old.walk.number + 1 < 2 ^ 32 }
-        ensures bytes { FeedsSome (W.contents writer.old.inner) (W.contents writer.new.inner)
-            bytes.now self.old.walk self.old.line self.new.walk self.new.line result }
+        ensures bytes { (first : C) → FeedsSome C.piece (C.knows first) (W.contents writer.old.inner)
+            (W.contents writer.new.inner) bytes.now self.old.walk self.old.line consumer.old
+            self.new.walk self.new.line consumer.new result }
         ensures taken { IfOk result (λ taken. IfSome taken (λ n. n ≡ end + 1)) }
         ensures line { self.new.line ≡ [] }
         ensures number { self.new.walk.number ≡ self.old.walk.number + 1 }
@@ -158,7 +177,7 @@ impl Stream {
         ensures write { IsErrOf result Stop.Write → writer.new.failed ≡ true }
     {
         let told = self.told.of(self.walk.number());
-        match run_line(&mut self.walk, &bytes[..end], told, writer) {
+        match run_entry(&mut self.walk, &bytes[..end], told, writer, consumer) {
             Ok(true) => Ok(Some(end + 1)),
             Ok(false) => Ok(None),
             Err(stop) => Err(stop),
@@ -166,23 +185,25 @@ impl Stream {
     }
 
     // Takes the first of some bytes, and answers that it took one, or none where the job has ended.
-    fn feed_first<W: Write>(
+    fn feed_first<W: Write, C: Consumer>(
         &mut self,
         bytes: &[u8],
         writer: &mut Watched<W>,
+        consumer: &mut C,
     ) -> Result<Option<usize>, Stop>
         requires some { 0 < length bytes.now }
         requires room { length self.old.line < 256 }
         requires number { self.old.walk.number + 1 < 2 ^ 32 }
-        ensures bytes { FeedsSome (W.contents writer.old.inner) (W.contents writer.new.inner)
-            bytes.now self.old.walk self.old.line self.new.walk self.new.line result }
+        ensures bytes { (first : C) → FeedsSome C.piece (C.knows first) (W.contents writer.old.inner)
+            (W.contents writer.new.inner) bytes.now self.old.walk self.old.line consumer.old
+            self.new.walk self.new.line consumer.new result }
         ensures taken { IfOk result (λ taken. IfSome taken (λ n. n ≡ 1)) }
         ensures room { length self.new.line < 256 }
         ensures number { self.new.walk.number ≤ self.old.walk.number + 1 }
         ensures ok { OnOk result (writer.new.failed ≡ writer.old.failed) }
         ensures write { IsErrOf result Stop.Write → writer.new.failed ≡ true }
     {
-        match self.feed(bytes[0], writer) {
+        match self.feed(bytes[0], writer, consumer) {
             Ok(true) => Ok(Some(1)),
             Ok(false) => Ok(None),
             Err(stop) => Err(stop),
@@ -190,16 +211,18 @@ impl Stream {
     }
 
     // Takes the first line of some bytes, or the first byte, and answers how many bytes it took, or none where the job has ended.
-    fn feed_some<W: Write>(
+    fn feed_some<W: Write, C: Consumer>(
         &mut self,
         bytes: &[u8],
         writer: &mut Watched<W>,
+        consumer: &mut C,
     ) -> Result<Option<usize>, Stop>
         requires some { 0 < length bytes.now }
         requires room { length self.old.line < 256 }
         requires number { self.old.walk.number + 1 < 2 ^ 32 }
-        ensures bytes { FeedsSome (W.contents writer.old.inner) (W.contents writer.new.inner)
-            bytes.now self.old.walk self.old.line self.new.walk self.new.line result }
+        ensures bytes { (first : C) → FeedsSome C.piece (C.knows first) (W.contents writer.old.inner)
+            (W.contents writer.new.inner) bytes.now self.old.walk self.old.line consumer.old
+            self.new.walk self.new.line consumer.new result }
         ensures taken { IfOk result
             (λ taken. IfSome taken (λ n. (0 < n) × (n ≤ length bytes.now))) }
         ensures room { length self.new.line < 256 }
@@ -208,17 +231,23 @@ impl Stream {
         ensures write { IsErrOf result Stop.Write → writer.new.failed ≡ true }
     {
         match self.whole_line(bytes) {
-            Some(end) => self.feed_whole(bytes, end, writer),
-            None => self.feed_first(bytes, writer),
+            Some(end) => self.feed_whole(bytes, end, writer, consumer),
+            None => self.feed_first(bytes, writer, consumer),
         }
     }
 
-    // Takes the next bytes, and answers whether the job goes on.
-    fn feed_all<W: Write>(&mut self, bytes: &[u8], writer: &mut Watched<W>) -> Result<bool, Stop>
+    // Consumes the next bytes, and returns whether the job continues.
+    fn feed_all<W: Write, C: Consumer>(
+        &mut self,
+        bytes: &[u8],
+        writer: &mut Watched<W>,
+        consumer: &mut C,
+    ) -> Result<bool, Stop>
         requires room { length self.old.line < 256 }
         requires number { self.old.walk.number + length bytes.now < 2 ^ 32 }
-        ensures bytes { Feeds (W.contents writer.old.inner) (W.contents writer.new.inner) bytes.now
-            self.old.walk self.old.line self.new.walk self.new.line result }
+        ensures bytes { (first : C) → Feeds C.piece (C.knows first) (W.contents writer.old.inner)
+            (W.contents writer.new.inner) bytes.now self.old.walk self.old.line consumer.old
+            self.new.walk self.new.line consumer.new result }
         ensures room { length self.new.line < 256 }
         ensures number { self.new.walk.number ≤ self.old.walk.number + length bytes.now }
         ensures ok { OnOk result (writer.new.failed ≡ writer.old.failed) }
@@ -226,7 +255,7 @@ impl Stream {
     {
         let mut at = 0;
         while at < bytes.len() {
-            match self.feed_some(&bytes[at..], writer)? {
+            match self.feed_some(&bytes[at..], writer, consumer)? {
                 Some(taken) => at += taken,
                 None => return Ok(false),
             }
@@ -234,68 +263,58 @@ impl Stream {
         Ok(true)
     }
 
-    // Prints the end of a job that has no more lines.
-    fn close<W: Write>(&self, writer: &mut Watched<W>) -> Result<Outcome, Stop>
-        ensures closed { (start : Option (List ℕ)) (told : List ℕ)
-            → Progress start (W.contents writer.old.inner) told self.now.walk []
-            → MatchResult result
-            (λ outcome. Printed start (W.contents writer.new.inner) told outcome)
-            (λ reason. PrintedUpTo reason start (W.contents writer.new.inner) told) }
-        ensures ok { OnOk result (writer.new.failed ≡ writer.old.failed) }
-        ensures write { IsErrOf result Stop.Write → writer.new.failed ≡ true }
-    {
-        let closing = self.walk.close();
-        match print_closing(writer, self.walk.number(), closing.ended) {
-            Ok(()) => Ok(closing.outcome),
-            Err(_) => Err(Stop::Write),
-        }
-    }
-
     // Ends the job, after the last byte of the script.
-    fn finish<W: Write>(&mut self, writer: &mut Watched<W>) -> Result<Outcome, Stop>
+    fn finish<W: Write, C: Consumer>(
+        &mut self,
+        writer: &mut Watched<W>,
+        consumer: &mut C,
+    ) -> Result<Outcome, Stop>
         requires { self.old.walk.number + 1 < 2 ^ 32 }
-        ensures bytes { Finishes (W.contents writer.old.inner) (W.contents writer.new.inner)
-            self.old.walk self.old.line result }
+        ensures bytes { (first : C) → Finishes C.piece (C.knows first) (W.contents writer.old.inner)
+            (W.contents writer.new.inner) self.old.walk self.old.line consumer.old consumer.new
+            result }
         ensures ok { OnOk result (writer.new.failed ≡ writer.old.failed) }
         ensures write { IsErrOf result Stop.Write → writer.new.failed ≡ true }
     {
         if self.line.bytes().is_empty() {
-            return self.close(writer);
+            return run_end(&self.walk, writer, consumer);
         }
-        match self.end_line(writer) {
-            Ok(true) => self.close(writer),
+        match self.end_line(writer, consumer) {
+            Ok(true) => run_end(&self.walk, writer, consumer),
             Ok(false) => Ok(Outcome::ScriptFault),
             Err(stop) => Err(stop),
         }
     }
 
-    /// Makes one read into the chunk, and takes the bytes that it tells.
-    pub fn turn<R: Read, W: Write>(
+    /// Reads into the chunk once, and consumes the bytes.
+    pub fn turn<S: Source, W: Write, C: Consumer>(
         &mut self,
-        reader: &mut Watched<R>,
+        reader: &mut S,
         writer: &mut Watched<W>,
+        consumer: &mut C,
         chunk: &mut [u8],
     ) -> Result<Turn, RunFault>
         requires room { length self.old.line < 256 }
         requires number { self.old.walk.number + length chunk.old + 1 < 2 ^ 32 }
         requires chunk { 0 < length chunk.old }
-        ensures turn { (unread start : Option (List ℕ)) (count : ℕ)
-            → IsUnderWay unread (R.remaining reader.old.inner) start (W.contents writer.old.inner)
-            count self.old.walk self.old.line
+        ensures turn { (first : C) (unread start : Option (List ℕ)) (count : ℕ)
+            → IsUnderWay C.piece (C.knows first) unread (S.left reader.old) start
+            (W.contents writer.old.inner) count self.old.walk self.old.line consumer.old
             → MatchResult result
-            (λ turn. Takes unread (R.remaining reader.new.inner) start
+            (λ turn. Takes C.piece (C.knows first) unread (S.left reader.new) start
             (W.contents writer.new.inner) count (length chunk.old) self.new.walk
-            self.new.line turn)
-            (λ fault. HasBroken unread (R.remaining reader.new.inner) start
-            (W.contents writer.new.inner) (count + length chunk.old) fault) }
+            self.new.line consumer.new turn)
+            (λ fault. HasGivenUp C.piece (C.knows first) unread (S.left reader.new) start
+            (W.contents writer.new.inner) (count + length chunk.old) consumer.new fault) }
         ensures on { (n : ℕ) → result ≡ Ok (Turn.On n)
             → (0 < n) × (n ≤ length chunk.old) × (self.new.walk.number ≤ self.old.walk.number + n)
             × (length self.new.line < 256) }
         ensures end { (outcome : Outcome) → result ≡ Ok (Turn.Ended outcome)
-            → (outcome ≢ Outcome.ScriptFault) → IsAtEnd (R.remaining reader.new.inner) }
+            → (outcome ≢ Outcome.ScriptFault) → S.is_at_end reader.new }
+        ensures since { (start : Option (List ℕ)) → S.since start reader.old → S.since start reader.new }
         ensures healthy { OnOk result
-            ((reader.new.failed ≡ reader.old.failed) × (writer.new.failed ≡ writer.old.failed)) }
-        ensures read { IsErrOf result RunFault.Read → reader.new.failed ≡ true }
+            ((S.failed reader.new ≡ S.failed reader.old) × (writer.new.failed ≡ writer.old.failed)) }
+        ensures read { IsErrOf result RunFault.Read → S.failed reader.new ≡ true }
         ensures write { IsErrOf result RunFault.Write → writer.new.failed ≡ true }
         ensures not_long { ¬ IsErrOf result RunFault.ReadTooLong }
     {
@@ -304,12 +323,12 @@ impl Stream {
             Err(fault) => return Err(fault),
         };
         if count == 0 {
-            return match self.finish(writer) {
+            return match self.finish(writer, consumer) {
                 Ok(outcome) => Ok(Turn::Ended(outcome)),
                 Err(stop) => Err(fault_of(stop)),
             };
         }
-        match self.feed_all(&chunk[..count], writer) {
+        match self.feed_all(&chunk[..count], writer, consumer) {
             Ok(true) => Ok(Turn::On(count)),
             Ok(false) => Ok(Turn::Ended(Outcome::ScriptFault)),
             Err(stop) => Err(fault_of(stop)),
@@ -317,25 +336,26 @@ impl Stream {
     }
 
     /// Makes the last read, of one byte: there is none, or the script is too long.
-    pub fn last_turn<R: Read, W: Write>(
+    pub fn last_turn<S: Source, W: Write, C: Consumer>(
         &mut self,
-        reader: &mut Watched<R>,
+        reader: &mut S,
         writer: &mut Watched<W>,
+        consumer: &mut C,
     ) -> Result<Outcome, RunFault>
-        requires room { length self.old.line < 256 }
-        requires number { self.old.walk.number + 1 < 2 ^ 32 }
-        ensures turn { (unread start : Option (List ℕ)) (count : ℕ)
-            → IsUnderWay unread (R.remaining reader.old.inner) start (W.contents writer.old.inner)
-            count self.old.walk self.old.line
+        requires { self.old.walk.number + 1 < 2 ^ 32 }
+        ensures turn { (first : C) (unread start : Option (List ℕ)) (count : ℕ)
+            → IsUnderWay C.piece (C.knows first) unread (S.left reader.old) start
+            (W.contents writer.old.inner) count self.old.walk self.old.line consumer.old
             → MatchResult result
-            (λ outcome. HasEnded unread (R.remaining reader.new.inner) start
-            (W.contents writer.new.inner) count outcome)
-            (λ fault. HasGivenUp unread (R.remaining reader.new.inner) start
-            (W.contents writer.new.inner) count fault) }
-        ensures end { OnOk result (IsAtEnd (R.remaining reader.new.inner)) }
+            (λ outcome. HasEnded C.piece (C.knows first) unread (S.left reader.new) start
+            (W.contents writer.new.inner) count consumer.new outcome)
+            (λ fault. HasGivenUp C.piece (C.knows first) unread (S.left reader.new) start
+            (W.contents writer.new.inner) count consumer.new fault) }
+        ensures end { OnOk result (S.is_at_end reader.new) }
+        ensures since { (start : Option (List ℕ)) → S.since start reader.old → S.since start reader.new }
         ensures healthy { OnOk result
-            ((reader.new.failed ≡ reader.old.failed) × (writer.new.failed ≡ writer.old.failed)) }
-        ensures read { IsErrOf result RunFault.Read → reader.new.failed ≡ true }
+            ((S.failed reader.new ≡ S.failed reader.old) × (writer.new.failed ≡ writer.old.failed)) }
+        ensures read { IsErrOf result RunFault.Read → S.failed reader.new ≡ true }
         ensures write { IsErrOf result RunFault.Write → writer.new.failed ≡ true }
     {
         let mut last = [0u8; 1];
@@ -346,7 +366,7 @@ impl Stream {
         if count > 0 {
             return Err(RunFault::ReadTooLong);
         }
-        match self.finish(writer) {
+        match self.finish(writer, consumer) {
             Ok(outcome) => Ok(outcome),
             Err(stop) => Err(fault_of(stop)),
         }

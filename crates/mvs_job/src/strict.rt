@@ -1,19 +1,21 @@
-//! Runs a script, and lets someone hear of each line that was not served.
+//! Runs a script, and reports each line that was not executed to an observer.
 
 ghost use Rattle.std.specs.Prelude.{◌≡◌, ◌<◌, ◌≤◌, ◌+◌, ◌^◌, ◌∷◌, [], ℕ, List, Option, length, true, is_some, not, OnOk, IfOk, IfErr, IsErrOf};
 ghost use Rattle.std.specs.List.{list_all};
 ghost use Rattle.mvs_model.specs.Numbers.{most_script_bytes};
 ghost use Rattle.mvs_job.specs.Streams.{PrintedUpTo};
-ghost use Rattle.mvs_job.specs.Strict.{Grows, HearsFront, PrintsStrictly, RunsStrictly, Skipped, all_skipped, is_of_served, skipped_for, why_unserved};
+ghost use Rattle.mvs_job.specs.Strict.{Grows, HearsFront, Observes, PrintsStrictly, Skipped, all_skipped, is_of_served, skipped_for, why_unserved};
 ghost use Rattle.mvs_job.specs.Telling.{IsLent, events_told};
 
-use crate::explaining::line_end;
-use crate::printing::{Stop, print_closing, tell_line};
+use crate::consumer::{Consumer, End};
+use crate::driver::run_lines;
+use crate::printer::Printer;
+use crate::printing::Stop;
 use crate::walk::{LineTold, Walk};
 use mvs_model::answer::Answer;
 use mvs_model::outcome::Outcome;
 use mvs_model::want::Placement;
-use mvs_model::watched::Watched;
+use mvs_model::watched::{Failed, Watched};
 use std::alloc::Global;
 use std::io::Write;
 
@@ -26,12 +28,12 @@ pub enum Unserved {
     NoName,
 }
 
-/// Who hears of lines that were not served.
+/// An observer of lines that were not executed.
 pub trait Hears {
     // The lines that were heard of, where that is known.
     ghost heard: { Self → Option (List Skipped) };
 
-    /// Hears of a line, which is given without its end, and by its number. The job stands as before the line.
+    /// Is called for a line, with its text without the newline and its number. The job is as before the line.
     fn hear(&mut self, walk: &Walk, line_number: u32, line: &[u8], why: Unserved)
         ensures { Grows (heard self.old) (heard self.new)
             (record { number = line_number; line = line.now; why = why } ∷ []) };
@@ -55,7 +57,7 @@ fn why_unserved(answer: &Answer) -> Option<Unserved>
     }
 }
 
-// The same of what a line told.
+// Returns why a line was not executed, by its events, if it was not.
 fn why_of(walk: &Walk, told: &LineTold) -> Option<Unserved>
     requires { IsLent walk.now told.now }
     ensures served { (number : ℕ)
@@ -70,33 +72,62 @@ fn why_of(walk: &Walk, told: &LineTold) -> Option<Unserved>
     }
 }
 
-// Serves one line, prints what it tells, and lets it be heard of if it was not served; then not all are. Answers whether the job goes on.
-fn hear_line<W: Write, H: Hears>(
-    walk: &mut Walk,
-    line: &[u8],
-    writer: &mut Watched<W>,
-    hearer: &mut H,
-    all_served: &mut bool,
-) -> Result<bool, Stop>
-    requires { walk.old.number + 1 < 2 ^ 32 }
-    ensures ran { RunsStrictly (W.contents writer.old.inner) (W.contents writer.new.inner)
-        (H.heard hearer.old) (H.heard hearer.new) walk.old line.now walk.new all_served.old
-        all_served.new result }
-    ensures number { walk.new.number ≡ walk.old.number + 1 }
-    ensures ok { OnOk result (writer.new.failed ≡ writer.old.failed) }
-    ensures write { IsErrOf result Stop.Write → writer.new.failed ≡ true }
-{
-    let line_number = walk.number();
-    let told = match tell_line(walk, line, &[], writer) {
-        Ok(told) => told,
-        Err(stop) => return Err(stop),
-    };
-    if let Some(why) = why_of(walk, &told) {
-        hearer.hear(walk, line_number, line, why);
-        *all_served = false;
-        return Ok(true);
+/// A consumer with an observer of the lines that were not executed.
+#[derive(Drop)]
+pub struct Strict<'a, C, H> {
+    consumer: C,
+    hearer: &'a mut H,
+    all_served: bool,
+}
+
+impl<'a, C, H> Strict<'a, C, H> {
+    /// Wraps a consumer, before the first line.
+    pub fn new(consumer: C, hearer: &'a mut H) -> Strict<'a, C, H>
+        ensures consumer { result.consumer ≡ consumer }
+        ensures hearer { result.hearer ≡ hearer.entry }
+        ensures all_served { result.all_served ≡ true }
+    {
+        Strict {
+            consumer,
+            hearer,
+            all_served: true,
+        }
     }
-    Ok(!matches!(told, LineTold::Faulted(_)))
+}
+
+impl<'a, C: Consumer, H: Hears> Consumer for Strict<'a, C, H> {
+    ghost piece = { C.piece };
+
+    ghost knows = { λ first now entries.
+        (now.hearer.ghost_name ≡ first.hearer.ghost_name)
+        × C.knows first.consumer now.consumer entries
+        × Observes first.all_served now.all_served (H.heard first.hearer.now)
+        (H.heard now.hearer.now) entries };
+
+    fn entry<W: Write>(
+        &mut self,
+        writer: &mut Watched<W>,
+        line_number: u32,
+        line: &[u8],
+        walk: &Walk,
+        told: &LineTold,
+    ) -> Result<(), Failed> {
+        self.consumer.entry(writer, line_number, line, walk, told)?;
+        if let Some(why) = why_of(walk, told) {
+            self.hearer.hear(walk, line_number, line, why);
+            self.all_served = false;
+        }
+        Ok(())
+    }
+
+    fn end<W: Write>(
+        &mut self,
+        writer: &mut Watched<W>,
+        line_number: u32,
+        end: End,
+    ) -> Result<(), Failed> {
+        self.consumer.end(writer, line_number, end)
+    }
 }
 
 /// Runs a script, prints what it prints, and lets each line be heard of that was not served. It takes 16,777,215 bytes at most.
@@ -123,29 +154,10 @@ pub fn run_strictly<W: Write, H: Hears>(
     ensures ok { OnOk result (writer.new.failed ≡ writer.old.failed) }
     ensures write { IsErrOf result Stop.Write → writer.new.failed ≡ true }
 {
-    let mut walk = Walk::new(alloc, placement);
-    let mut all_served = true;
-    let mut at = 0;
-    'lines: while at < script.len() {
-        let rest = &script[at..];
-        let end = line_end(rest);
-        match hear_line(&mut walk, &rest[..end], writer, hearer, &mut all_served) {
-            Ok(true) => at += end + 1,
-            Ok(false) => {
-                return Ok(StrictEnd {
-                    outcome: Outcome::ScriptFault,
-                    all_served,
-                });
-            }
-            Err(stop) => return Err(stop),
-        }
-    }
-    let closing = walk.close();
-    match print_closing(writer, walk.number(), closing.ended) {
-        Ok(()) => Ok(StrictEnd {
-            outcome: closing.outcome,
-            all_served,
-        }),
-        Err(_) => Err(Stop::Write),
-    }
+    let mut strict = Strict::new(Printer, hearer);
+    let outcome = run_lines(alloc, script, writer, placement, &mut strict)?;
+    Ok(StrictEnd {
+        outcome,
+        all_served: strict.all_served,
+    })
 }

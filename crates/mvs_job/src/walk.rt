@@ -1,4 +1,4 @@
-//! The walk over the lines of a script: each line is read and served, and tells what it is answered.
+//! The walk over the lines of a script: each line is parsed and executed, and has events.
 
 ghost use Rattle.std.specs.Prelude.{◌≡◌, ◌<◌, ◌+◌, ◌^◌, ◌∷◌, [], Bool, Some, None, IfOk, IfSome, MatchOption, MatchResult, length};
 ghost use Rattle.mvs_model.specs.declared.line.Line.TheVariants as line;
@@ -9,27 +9,29 @@ ghost use Rattle.mvs_model.specs.Lines.{IsStatement};
 ghost use Rattle.mvs_model.specs.Memory.{StopsForMemory, TakesMemory};
 ghost use Rattle.mvs_model.specs.Runs.{Does, machine};
 ghost use Rattle.mvs_model.specs.Walk.{Closes, has_abended, is_first};
-ghost use Rattle.step_machine.specs.Taking.{Takes};
+ghost use Rattle.request_forms.specs.Taking.{Takes};
 ghost use Rattle.mvs_job.specs.Telling.{IsLent, IsLentBy, IsToldBy, KeepsReply, KeepsReplyOf, card_said, closing, end_told, ended, new_walk};
 ghost use Rattle.mvs_job.specs.Valued.{RequestsOf, WritesOf};
-ghost use Rattle.mvs_job.specs.Why.{TurnWritten};
+ghost use Rattle.mvs_job.specs.Observing.{ObservesLine};
 
 use crate::job::Job;
+use crate::observer::{Observer, Unobserved};
+use crate::run::RunFault;
 use job_script::read_line;
 use mvs_model::answer::Answer;
 use mvs_model::card::Card;
 use mvs_model::error::OutOfMemory;
-use mvs_model::line::{Fault, Line, Statement, Written};
+use mvs_model::line::{Fault, Line, Statement};
 use mvs_model::name::Name;
 use mvs_model::outcome::Outcome;
 use mvs_model::place::{Addr, Place};
-use mvs_model::reason::Reason;
 use mvs_model::request::{Reply, Request};
 use mvs_model::want::Placement;
 use std::alloc::Global;
 use std::marker::Model;
+use thiserror::Error;
 
-/// What a line told.
+/// The events of a line.
 #[derive(Clone, Copy, Debug, PartialEq, Eq)]
 pub enum LineTold {
     /// It is blank or a comment.
@@ -43,9 +45,10 @@ pub enum LineTold {
     Faulted(Fault),
 }
 
-/// Memory was wanting for a line. Of a REGION statement the step that ran, if one did, has ended, and a task of it had abended
-/// or not.
-#[derive(Clone, Copy, Debug, PartialEq, Eq)]
+/// Memory was exhausted at a line. For a REGION statement the running step, if there was one, has ended: whether a task of it had
+/// abended.
+#[derive(Clone, Copy, Debug, PartialEq, Eq, Error)]
+#[error("{}", RunFault::Memory)]
 pub struct Stopped {
     pub ended: Option<bool>,
 }
@@ -67,7 +70,7 @@ pub struct Walk {
     job: Option<Job>,
     /// The number of the next line.
     number: u32,
-    /// What the last line said, and what was asked and answered last. They are long, so they stay in their places.
+    /// The last line, and the last request and reply. They are large, so they stay in place.
     read: Line,
     request: Request,
     reply: Reply,
@@ -84,7 +87,7 @@ impl Model for Walk {
 }
 
 // The card of a REGION statement of a task; the other statements have none.
-pub(crate) fn card_of(task: &Name, statement: &Statement) -> Option<Card>
+fn card_of(task: &Name, statement: &Statement) -> Option<Card>
     requires { (first : Bool) × IsStatement first task.now statement.now }
     ensures card { result ≡ card_said task.now statement.now }
     ensures in_range { IfSome result IsCard }
@@ -139,36 +142,6 @@ fn begin(
             Ok(ended)
         }
         Err(_) => Err(Stopped { ended }),
-    }
-}
-
-// Serves a statement of the step that runs, which is not REGION.
-fn serve(
-    job: &mut Option<Job>,
-    task: &Name,
-    statement: &Statement,
-    told: &[Addr],
-    request: &mut Request,
-    reply: &mut Reply,
-) -> Result<Answer, OutOfMemory>
-    requires in_range { IsStatement (is_first job.old) task.now statement.now }
-    requires of_step { card_said task.now statement.now ≡ None }
-    ensures served { MatchResult result
-        (λ answer. (step : JobValue) × (later : JobValue) × (job.old ≡ Some step)
-        × (job.new ≡ Some later)
-        × Does (Takes told.now) step task.now statement.now
-        (lent later.state (fallen_in reply.new) task.now answer) later
-        × IsLentBy later.state answer)
-        (λ _. TakesMemory job.old (line.Statement task.now statement.now) []) }
-    ensures reply { IfOk result
-        (λ answer. (step : JobValue) × (later : JobValue) × (job.old ≡ Some step)
-        × (job.new ≡ Some later)
-        × KeepsReply step task.now statement.now reply.old
-        (lent later.state (fallen_in reply.new) task.now answer) reply.new later) }
-{
-    match job {
-        Some(job) => job.serve(task, statement, told, request, reply),
-        None => unreachable!(),
     }
 }
 
@@ -232,19 +205,6 @@ impl Walk {
         }
     }
 
-    /// Why a task's request for a list is refused, if its members in front are granted; None where no step runs. The job stands as
-    /// before.
-    pub fn turn(&mut self, task: &Name, written: &Written, request: &mut Request) -> Option<Reason>
-        ensures turn { MatchOption self.old.step (result ≡ None)
-            (λ job. TurnWritten job task.now written.now result) }
-        ensures unchanged { self.new ≡ self.old }
-    {
-        match &mut self.job {
-            Some(job) => job.turn(task, written, request),
-            None => None,
-        }
-    }
-
     /// Writes bytes over those of a place, and answers whether it did: not where no step runs, nor where one of them may not be
     /// written, and then all stay.
     pub fn write(&mut self, place: Place, bytes: &[u8]) -> bool
@@ -257,8 +217,8 @@ impl Walk {
         }
     }
 
-    /// Serves one line, which is given without its end. The areas and cells that it is granted lie at the addresses that are told,
-    /// where the machine allows that.
+    /// Executes one line, which is given without its newline. Areas and cells are placed at the hinted addresses if the machine
+    /// allows that.
     pub fn line(&mut self, line: &[u8], told: &[Addr]) -> Result<LineTold, Stopped>
         requires { self.old.number + 1 < 2 ^ 32 }
         ensures told { MatchResult result (λ answered. IsToldBy (Takes told.now) self.old line.now answered self.new)
@@ -266,6 +226,27 @@ impl Walk {
             (ended stopped.ended)) }
         // Where the line makes a request, the reply that is kept is the one to that, and else the one before.
         ensures reply { IfOk result (λ answered. KeepsReplyOf self.old line.now answered self.new) }
+        ensures lent { IfOk result (IsLent self.new) }
+        ensures number { self.new.number ≡ self.old.number + 1 }
+    {
+        self.observed_line(line, told, &mut Unobserved)
+    }
+
+    /// Executes one line as `line` does, and lets an observer hear of its request where that is refused.
+    pub fn observed_line<O: Observer>(
+        &mut self,
+        line: &[u8],
+        told: &[Addr],
+        observer: &mut O,
+    ) -> Result<LineTold, Stopped>
+        requires { self.old.number + 1 < 2 ^ 32 }
+        ensures told { MatchResult result (λ answered. IsToldBy (Takes told.now) self.old line.now answered self.new)
+            (λ stopped. StopsForMemory self.old.number self.old.step (line.now ∷ [])
+            (ended stopped.ended)) }
+        ensures reply { IfOk result (λ answered. KeepsReplyOf self.old line.now answered self.new) }
+        ensures observed { IfOk result
+            (λ answered. ObservesLine O.heard observer.old self.old line.now answered self.new
+            observer.new) }
         ensures lent { IfOk result (IsLent self.new) }
         ensures number { self.new.number ≡ self.old.number + 1 }
     {
@@ -283,13 +264,16 @@ impl Walk {
                 Err(stopped) => Err(stopped),
             };
         }
-        let served = serve(
-            &mut self.job,
+        let Some(job) = &mut self.job else {
+            unreachable!();
+        };
+        let served = job.serve(
             task,
             statement,
             told,
             &mut self.request,
             &mut self.reply,
+            observer,
         );
         let Ok(answer) = served else {
             return Err(Stopped { ended: None });

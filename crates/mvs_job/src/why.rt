@@ -1,189 +1,199 @@
-//! Why the next line of a job is refused.
+//! Why the line of a job is refused, and what it did otherwise.
 
-ghost use Rattle.std.specs.Prelude.{◌≡◌, ℕ, None, Some, IfSome};
-ghost use Rattle.std.specs.Option.{option_and_then};
-ghost use Rattle.mvs_model.specs.declared.line.Line.TheVariants as line;
+ghost use Rattle.std.specs.Prelude.{◌≡◌, ℕ, None, Some};
 ghost use Rattle.job_script.specs.Writing.{Prints};
-ghost use Rattle.mvs_job.specs.Explaining.{IsExplanation, said_of, unless_granted};
-ghost use Rattle.mvs_job.specs.Facts.{IsAsked, IsSurvey};
+ghost use Rattle.mvs_job.specs.Explaining.{said_of};
 ghost use Rattle.mvs_job.specs.Granting.{IsReadIn, before_line, granted_text, tells_grant};
-ghost use Rattle.mvs_job.specs.Naming.{IsAddress, address_told};
-ghost use Rattle.mvs_job.specs.Telling.{IsLent, WalkValue, card_said, events_told};
-ghost use Rattle.mvs_job.specs.Why.{OfBytes, OfNext, TurnIn};
+ghost use Rattle.mvs_job.specs.Telling.{IsLent, WalkValue, events_told};
+ghost use Rattle.mvs_job.specs.Why.{IsRequestOf, IsSurvey, KeepsWhy, line_reason, unset_of};
 
-use crate::ends::{Asked, OwnedSubpools, put_owned, statement_ends};
+use crate::ends::{OwnedSubpools, no_subpools, put_owned};
 use crate::granting::{Before, Facts, before_request, is_grant, no_facts, print_facts, put_facts};
 use crate::job::Job;
-use crate::naming::address_told;
-use crate::walk::{LineTold, Walk, card_of};
+use crate::observer::Observer;
+use crate::walk::{LineTold, Walk};
 use job_script::{print_reason, read_line};
-use mvs_model::line::{Line, Statement};
+use mvs_model::answer::Answer;
+use mvs_model::line::{Line, Statement, Written};
 use mvs_model::name::Name;
-use mvs_model::place::Addr;
-use mvs_model::reason::Reason;
+use mvs_model::reason::{LineReason, Reason, Shortfall};
+use mvs_model::refusal::{Consequence, Refusal};
 use mvs_model::request::Request;
+use mvs_model::table::reply_to;
 use mvs_model::watched::{Failed, Watched};
 use std::io::Write;
 
-// What is looked at before a statement of a task, where it is told what that did.
-fn before_statement(job: &Job, task: &Name, statement: &Statement) -> Option<Before>
-    requires { card_said task.now statement.now ≡ None }
-    ensures { result ≡ before_line (Some job.now) (line.Statement task.now statement.now) }
+// Returns what is looked up before a line, to report its changes.
+fn before_line(job: &Job, read: &Line) -> Option<Before>
+    ensures { result ≡ before_line (Some job.now) read.now }
 {
-    match statement {
-        Statement::Request(written) => before_request(job, task, written),
-        _ => None,
+    match read {
+        Line::Statement(task, Statement::Request(written)) => before_request(job, task, written),
+        Line::Statement(
+            _,
+            Statement::Region { .. }
+            | Statement::Where(_)
+            | Statement::ReportSubpools
+            | Statement::ReportMap,
+        )
+        | Line::Nothing => None,
     }
 }
 
-/// Whether what a line told says that a request was granted.
+/// Returns whether the events of a line say that a request was granted.
 pub(crate) fn tells_grant(told: &LineTold) -> bool
     ensures { (number : ℕ) (walk : WalkValue) → IsLent walk told.now
         → result ≡ tells_grant (events_told number walk told.now) }
 {
     match told {
         LineTold::Answered { answer, .. } => is_grant(answer),
-        _ => false,
+        LineTold::Nothing | LineTold::Began { .. } | LineTold::Faulted(_) => false,
     }
 }
 
-/// Room for what a line says, for what it asks for, for the list that is tried, and for what that did, which are long, while it is
-/// asked why the line is refused.
+// Reads the next line: nothing, if no step runs or the line has a fault.
+fn read_in(walk: &Walk, line: &[u8], read: &mut Line)
+    ensures { IsReadIn walk.now.step line.now read.new }
+{
+    if walk.job().is_none() {
+        *read = Line::Nothing;
+        return;
+    }
+    let Ok(()) = read_line(line, false, read) else {
+        *read = Line::Nothing;
+        return;
+    };
+}
+
+// Writes the request of a line over another, where the names of the line are set.
+fn resolve(job: &Job, read: &Line, request: &mut Request)
+    ensures { IsRequestOf job.now read.now request.new }
+{
+    if let Line::Statement(_, Statement::Request(written)) = read {
+        let _ = job.request_of(written, request);
+    }
+}
+
+/// Room for what a line says, for its request, and for what that did, which are long; and what was heard of its refusal.
 #[derive(Drop)]
-pub struct Why {
-    read: Line,
-    request: Request,
-    tried: Request,
-    facts: Facts,
+pub(crate) struct Why {
+    pub(crate) read: Line,
+    pub(crate) request: Request,
+    pub(crate) facts: Facts,
+    /// What is looked up before the request, to report its changes.
+    pub(crate) before: Option<Before>,
+    /// The subpools that tasks own before a task ends.
+    pub(crate) subpools: OwnedSubpools,
+    /// Why the request was refused.
+    pub(crate) reason: Option<Reason>,
+}
+
+impl Observer for Why {
+    ghost heard = { λ old job t request refusal left new. KeepsWhy old job t request refusal new };
+
+    fn refused(
+        &mut self,
+        job: &Job,
+        task: &Name,
+        request: &Request,
+        refusal: Refusal,
+        left: &Shortfall,
+    ) {
+        self.reason = Some(job.details(task, request, refusal, left));
+        resolve(job, &self.read, &mut self.request);
+        if let Consequence::Abend(_) = reply_to(request, refusal) {
+            put_owned(job, task, &mut self.subpools);
+        }
+    }
 }
 
 impl Why {
-    pub fn new() -> Why {
+    pub(crate) fn new() -> Why {
         Why {
             read: Line::Nothing,
             request: Request::Return,
-            tried: Request::Return,
             facts: no_facts(),
+            before: None,
+            subpools: no_subpools(),
+            reason: None,
         }
     }
 
-    // Why a line is refused in a step, and whether it may end its task.
-    fn ask_in(&mut self, job: &Job, line: &[u8]) -> Asked
-        ensures reason { OfBytes job.now line.now result.reason }
-        ensures text { IsExplanation (Some job.now) line.now
-            (said_of self.new.read self.new.request result.reason) }
-        ensures address { IsAddress job.now line.now
-            (option_and_then (address_told self.new.request) result.reason) }
-        ensures asked { IsAsked (Some job.now) line.now self.new.read result }
-        ensures read { IsReadIn (Some job.now) line.now self.new.read }
-        ensures before { result.before ≡ before_line (Some job.now) self.new.read }
-    {
-        let Ok(()) = read_line(line, false, &mut self.read) else {
-            self.read = Line::Nothing;
-            return Asked::nothing();
-        };
-        let Line::Statement(task, statement) = &self.read else {
-            return Asked::nothing();
-        };
-        if card_of(task, statement).is_some() {
-            return Asked::nothing();
-        }
-        let reason = job.reason(task, statement, &mut self.request);
-        let ends = statement_ends(statement, &reason);
-        let before = before_statement(job, task, statement);
-        Asked {
-            reason,
-            ends,
-            before,
-        }
-    }
-
-    // Why the next line is refused, and what is printed of that; and whether it may end its task.
-    pub(crate) fn ask(&mut self, walk: &Walk, line: &[u8]) -> Asked
-        ensures reason { OfNext walk.now.step line.now result.reason }
-        ensures text { IsExplanation walk.now.step line.now
-            (said_of self.new.read self.new.request result.reason) }
-        ensures address { IfSome walk.now.step
-            (λ job. IsAddress job line.now
-            (option_and_then (address_told self.new.request) result.reason)) }
-        ensures asked { IsAsked walk.now.step line.now self.new.read result }
+    /// Looks at what is reported of the next line after it, before it is executed.
+    pub(crate) fn look(&mut self, walk: &Walk, line: &[u8])
         ensures read { IsReadIn walk.now.step line.now self.new.read }
-        ensures before { result.before ≡ before_line walk.now.step self.new.read }
+        ensures before { self.new.before ≡ before_line walk.now.step self.new.read }
+        ensures subpools { IsSurvey walk.now.step self.new.read self.new.subpools }
+        ensures reason { self.new.reason ≡ None }
     {
-        match walk.job() {
-            Some(job) => self.ask_in(job, line),
-            None => {
-                self.read = Line::Nothing;
-                Asked::nothing()
-            }
+        self.reason = None;
+        self.before = None;
+        read_in(walk, line, &mut self.read);
+        let Some(job) = walk.job() else {
+            return;
+        };
+        self.before = before_line(job, &self.read);
+        if let Line::Statement(task, Statement::Request(Written::Return)) = &self.read {
+            put_owned(job, task, &mut self.subpools);
         }
     }
 
-    /// What the line says that was asked about last.
-    pub(crate) fn read(&self) -> &Line
-        ensures { result.now ≡ self.now.read }
+    // The name that is not set in the line that was read.
+    fn unset(&self, walk: &Walk) -> Option<LineReason>
+        ensures { result ≡ unset_of walk.now.step self.now.read }
     {
-        &self.read
-    }
-
-    // The address that a reason of the line tells that was asked about last.
-    pub(crate) fn address(&self, reason: &Option<Reason>) -> Option<Addr>
-        ensures { result ≡ option_and_then (address_told self.now.request) reason.now }
-    {
-        match reason {
-            Some(reason) => address_told(&self.request, reason),
+        let Some(job) = walk.job() else {
+            return None;
+        };
+        let name = match &self.read {
+            Line::Statement(_, Statement::Request(written)) => job.unset(written),
+            Line::Statement(_, Statement::Where(name)) => Some(*name),
+            Line::Statement(
+                _,
+                Statement::Region { .. } | Statement::ReportSubpools | Statement::ReportMap,
+            )
+            | Line::Nothing => None,
+        };
+        match name {
+            Some(name) => Some(LineReason::NotSet(name)),
             None => None,
         }
     }
 
-    /// Why the next line, which is given without its end, is refused, if it is; the job stands as before. A line that asks for
-    /// nothing, or that has a fault, has no reason, and so has want of a place for a list whose members
-    /// each have one by itself.
-    pub fn reason(&mut self, walk: &Walk, line: &[u8]) -> Option<Reason>
-        ensures { OfNext walk.now.step line.now result }
+    /// Why the line was not executed as it asks, by its events.
+    pub(crate) fn line_reason(&self, walk: &Walk, told: &LineTold) -> Option<LineReason>
+        ensures { result ≡ line_reason walk.now.step self.now.read self.now.reason told.now }
     {
-        self.ask(walk, line).reason
-    }
-
-    // Why the list of the line is refused that was asked about last, if its members in front are granted and the line has no other
-    // reason.
-    pub(crate) fn turn(&mut self, walk: &mut Walk, reason: &Option<Reason>) -> Option<Reason>
-        ensures turn { TurnIn walk.old.step self.old.read reason.now result }
-        ensures read { self.new.read ≡ self.old.read }
-        ensures request { self.new.request ≡ self.old.request }
-        ensures unchanged { walk.new ≡ walk.old }
-    {
-        if reason.is_some() {
+        let LineTold::Answered { answer, .. } = told else {
             return None;
-        }
-        match &self.read {
-            Line::Statement(task, Statement::Request(written)) => {
-                walk.turn(task, written, &mut self.tried)
-            }
-            _ => None,
-        }
-    }
-
-    // Takes the subpools that the tasks of the step own, if they are asked for before the line that was asked about last.
-    pub(crate) fn survey(&self, walk: &Walk, asked: bool, subpools: &mut OwnedSubpools)
-        ensures { IsSurvey asked walk.now.step self.now.read subpools.new }
-    {
-        if !asked {
-            return;
-        }
-        let Some(job) = walk.job() else {
-            return;
         };
-        if let Line::Statement(task, _) = &self.read {
-            put_owned(job, task, subpools);
+        match answer {
+            Answer::NotRun => Some(LineReason::Refused(Reason::NotActive)),
+            Answer::NoName => self.unset(walk),
+            Answer::Rc0
+            | Answer::Rc4
+            | Answer::Granted(_)
+            | Answer::Cell
+            | Answer::NoCell
+            | Answer::Attached
+            | Answer::Ended
+            | Answer::Done
+            | Answer::Data(_)
+            | Answer::Abended(_)
+            | Answer::At(_)
+            | Answer::Subpools
+            | Answer::Map => match self.reason {
+                Some(reason) => Some(LineReason::Refused(reason)),
+                None => None,
+            },
         }
     }
 
-    // Prints why the line is refused that was asked about last.
+    // Prints why the line was refused.
     pub(crate) fn print<W: Write>(
         &self,
         writer: &mut Watched<W>,
-        reason: &Option<Reason>,
+        reason: &Option<LineReason>,
     ) -> Result<(), Failed>
         ensures { Prints W.contents writer.old writer.new result
             (said_of self.now.read self.now.request reason.now) }
@@ -197,44 +207,23 @@ impl Why {
         }
     }
 
-    // Prints at which member the list of the line is refused that was asked about last, where it does not tell that a request was
-    // granted.
-    pub(crate) fn print_turn<W: Write>(
-        &self,
-        writer: &mut Watched<W>,
-        turn: &Option<Reason>,
-        told: &LineTold,
-    ) -> Result<(), Failed>
-        ensures { (number : ℕ) (walk : WalkValue)
-            → IsLent walk told.now
-            → Prints W.contents writer.old writer.new result
-            (unless_granted (events_told number walk told.now)
-            (said_of self.now.read self.now.request turn.now)) }
-    {
-        if tells_grant(told) {
-            return Ok(());
-        }
-        self.print(writer, turn)
-    }
-
-    // Prints what the line did that was asked about last, where it tells that a request was granted.
+    // Prints what the line changed, if its request was granted.
     pub(crate) fn print_done<W: Write>(
         &mut self,
         writer: &mut Watched<W>,
-        before: &Option<Before>,
         walk: &Walk,
         told: &LineTold,
     ) -> Result<(), Failed>
         requires { IsLent walk.now told.now }
         ensures { (number : ℕ)
             → Prints W.contents writer.old writer.new result
-            (granted_text before.now self.old.read (events_told number walk.now told.now)
+            (granted_text self.old.before self.old.read (events_told number walk.now told.now)
             walk.now.step) }
     {
         if !tells_grant(told) {
             return Ok(());
         }
-        let Some(before) = before else {
+        let Some(before) = &self.before else {
             return Ok(());
         };
         let Some(job) = walk.job() else {
@@ -245,7 +234,14 @@ impl Why {
                 put_facts(&mut self.facts, before, task, written, job);
                 print_facts(writer, self.facts.as_slice())
             }
-            _ => Ok(()),
+            Line::Statement(
+                _,
+                Statement::Region { .. }
+                | Statement::Where(_)
+                | Statement::ReportSubpools
+                | Statement::ReportMap,
+            )
+            | Line::Nothing => Ok(()),
         }
     }
 }

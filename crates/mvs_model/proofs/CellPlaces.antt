@@ -9,6 +9,9 @@ use Rattle.mvs_model.specs.Pools.{Part, part_length, IsCellOf}
 pub has_is : (p : PlaceValue) (a : ℕ) → has_address p a ≡ true → (p.addr ≤ a) × (a < p.addr + p.len)
 has_is p a e = grind (arith, nat_tests)
 
+pub address_yes : (p : PlaceValue) (a : ℕ) → p.addr ≤ a → a < p.addr + p.len → has_address p a ≡ true
+address_yes p a low high = grind (arith, nat_tests)
+
 -- a place of whole doublewords has an address just where it has its doubleword
 pub whole_has : (p : PlaceValue) (a : ℕ) → IsWhole p → has_address p a ≡ covers p (a / 8)
 whole_has p a w = let u : p.addr % 8 ≡ 0 = w.0 in let v : p.len % 8 ≡ 0 = w.1 in grind (arith, nat_tests)

@@ -1,5 +1,5 @@
 -- A step is determined by the places that it grants.
-use Rattle.std.proofs.Common.{◌≡◌, ℕ, ◌+◌, ◌*◌, ◌/◌, ◌≤◌, ◌⊎◌, inl, inr, Bool, true, false, cond, List, [], ◌∷◌, map, length, Option, Some, None, arith, refl, sym, ap, ◌∙◌, subst}
+use Rattle.std.proofs.Common.{◌≡◌, ℕ, ◌≤◌, ◌⊎◌, inl, inr, Bool, true, false, cond, List, [], ◌∷◌, map, length, Option, Some, None, arith, refl, sym, ap, ◌∙◌, subst}
 use Rattle.std.specs.Prelude.{not, ◌&&◌, ◌==◌, ◌++◌, nat_le, if◌then◌else◌}
 use Rattle.std.specs.Bool.{MatchBool}
 use Rattle.std.specs.List.{list_all}
@@ -17,24 +17,29 @@ use Rattle.mvs_model.specs.declared.request.Request.{Request}
 use Rattle.mvs_model.specs.declared.request.Request.TheVariants.{Obtain, ObtainList, Release, ReleaseList, ReleaseWhole, Build, Get, Free, Delete, Attach, Return, Abend, Show, Put, Move}
 use Rattle.mvs_model.specs.declared.request.Reply.{Reply}
 use Rattle.mvs_model.specs.declared.request.Reply.TheVariants.{NotRun, Rc0, Rc4, Obtained, Listed, Cell, NoCell, Abended}
-use Rattle.mvs_model.specs.Place.{PlaceValue, place_at, round8}
+use Rattle.mvs_model.specs.Place.{PlaceValue, place_at}
 use Rattle.mvs_model.specs.Want.{WantValue, want_of, fixed_want}
 use Rattle.mvs_model.specs.Gifts.{GiftsValue}
 use Rattle.mvs_model.specs.Name.{same_name}
 use Rattle.mvs_model.specs.Finite.{kept}
 use Rattle.mvs_model.specs.Storage.{Regions, Chosen, NoPlace, covers, has_address}
-use Rattle.mvs_model.specs.Owners.{Owners, is_active, keeper, subpool_meant, Enters, Ends, ends_with, attach_refusal, has_subtask}
-use Rattle.mvs_model.specs.Pools.{Pool, Part, part_want, part_length, cell_at}
+use Rattle.mvs_model.specs.Owners.{Owners, is_active, keeper, subpool_meant, Enters, Ends, ends_with, has_subtask}
+use Rattle.mvs_model.proofs.ByCase.{attach_refusal}
+use Rattle.mvs_model.specs.Pools.{Pool, Part, part_want, cell_at}
 use Rattle.mvs_model.specs.State.{State, plain, holder, granted}
 use Rattle.mvs_model.specs.Codes.{family, is_conditional, short, not_held}
-use Rattle.mvs_model.specs.Changes.{GrantTo, ShortOf, ListGrant, ListShort, Frees, Drops, End, GivesCell, DropsPool, Extends, with_part, TakesCell, Writes}
-use Rattle.mvs_model.specs.Steps.{Plan, new_pool, Builds, BuildStep, Gets, GetsMore, GetsNone, GetStep, Abends, Refuses, Fails, side_for, is_invalid, ObtainStep, ObtainListStep, whole, on_doubleword, MayRelease, ReleaseStep, EmptiesEntry, ReleaseWholeStep, FreeStep, DeleteStep, Attaches, AttachCase, all_granted, Accesses, bytes_from, moved_from, Acts, IsRequest}
+use Rattle.mvs_model.specs.Changes.{GrantTo, ShortOf, ListGrant, Frees, Drops, End, GivesCell, DropsPool, Extends, with_part, TakesCell, Writes}
+use Rattle.mvs_model.proofs.ByCase.{ListShort}
+use Rattle.mvs_model.specs.Requests.{Plan, new_pool, Builds, Gets, GetsMore, side_for, is_invalid, whole, on_doubleword, EmptiesEntry, Attaches, all_granted, bytes_from, moved_from, IsRequest}
+use Rattle.mvs_model.proofs.ByCase.{BuildStep, GetsNone, GetStep, Fails, ObtainStep, ObtainListStep, MayRelease, ReleaseStep, ReleaseWholeStep, FreeStep, DeleteStep, AttachCase, Accesses, Acts}
+use Rattle.mvs_model.specs.Consequences.{Abends, Refuses}
 use Rattle.mvs_model.specs.Determined.{granted_at, granted_by, parts_at, picked, is_list, OneStep, NothingPicked}
 use Rattle.mvs_model.specs.Numbers.{most_pools}
 use Rattle.mvs_model.proofs.Tables.{same_maps}
 use Rattle.mvs_model.proofs.Orders.{name_cmp_total, name_cmp-IsAntisymmetric, same_name_self}
 use Rattle.mvs_model.proofs.OneOwners.{one_subpool, one_enters, one_attach, one_fallen, one_ends}
-use Rattle.mvs_model.proofs.StorageLaws.{shorter_place}
+use Rattle.mvs_model.proofs.StorageLaws.{none_chosen, part_some, round8_some}
+use Rattle.mvs_model.proofs.StepCases.{step_cases, no_grant}
 
 -- by cases on a test, of two that are decided by it
 pub by_two : {P Q S U R : Type 0} (b : Bool) → MatchBool b P Q → MatchBool b S U → (P → S → R) → (Q → U → R) → R
@@ -133,15 +138,6 @@ here name v w = ap (λ b. cond b v w) (same_name_self name)
 last_of : (parts : List Part) (p q : Part) → map (λ part. part.place.addr) (parts ++ p ∷ []) ≡ map (λ part. part.place.addr) (parts ++ q ∷ []) → p.place.addr ≡ q.place.addr
 last_of [] p q e = ap head_of e
 last_of (part ∷ parts) p q e = last_of parts p q (ap tail_of e)
-
--- where there is no place of the least length none is chosen
-pub none_chosen : (r : Regions) (h : ℕ → Option ℕ) (s : ℕ) (want : WantValue) (p : PlaceValue) → 1 ≤ want.least → NoPlace r h s want → Chosen r h s want p → ⊥
-none_chosen r h s want p some none c = none p.addr (shorter_place r h s want want.least p.len p.addr some c.length.least c.placed)
-
-part_some : (size count : ℕ) → 1 ≤ part_length size count
-part_some size count = at ((count + 63) / 64) (round8 (count * size)) where
-  at : (x y : ℕ) → 1 ≤ 16 + 8 * x + y
-  at x y = omega arith
 
 -- nor is a pool built then
 no_build : (old : State) (t name : Name) (number : ℕ) (plan : Plan) (new : State) → ShortOf old t number (part_want plan.cell_size plan.primary plan.side) → Builds old t name number plan new → ⊥
@@ -301,14 +297,7 @@ module _ (old : State) (t : Name) (one other : Reply) (a b : State) where
   acts_same (Move to from n) x y e = access_same (all_granted old (place_at to n) && all_granted old (place_at from n)) (Writes old (place_at to n) (moved_from old to from)) (one_writes old _ _ a b) x y
 
 pub one_step : OneStep
-one_step old t r one other a b x y e = by_two (not (is_active old.owners t)) x y (λ p q. refuses_same old t one other a b NotRun p q) (λ p q. acts_same old t one other a b r p q e)
-
-pub no_grant : (old : State) (t : Name) (number : ℕ) (want : WantValue) (p : PlaceValue) (new : State) → 1 ≤ want.least → ShortOf old t number want → GrantTo old t number want p new → ⊥
-no_grant old t number want p new some s g =
-    none_chosen old.regions (holder old) s.0 want p some s.2 (subst (λ u. Chosen old.regions (holder old) u want p) (one_subpool old.owners t number g.subpool s.0 g.is_subpool s.1) g.chosen)
-
-pub round8_some : (n : ℕ) → 1 ≤ n → 1 ≤ round8 n
-round8_some n l = omega arith
+one_step old t r one other a b x y e = by_two (not (is_active old.owners t)) (step_cases old t r one a x) (step_cases old t r other b y) (λ p q. refuses_same old t one other a b NotRun p q) (λ p q. acts_same old t one other a b r p q e)
 
 module _ (old : State) (t : Name) (one other : Reply) (a b : State) where
   abend_none : (code : Code) → Abends old t code other b → granted_at other ≡ []
@@ -395,5 +384,5 @@ module _ (old : State) (t : Name) (one other : Reply) (a b : State) where
 
 pub nothing_picked : NothingPicked
 nothing_picked old t r one other a b single is x y e =
-    by_two (not (is_active old.owners t)) x y (λ p q. let h = refuses_same old t one other a b NotRun p q in sym (λ i. granted_by r (h.0 i) (h.1 i)) ∙ e)
+    by_two (not (is_active old.owners t)) (step_cases old t r one a x) (step_cases old t r other b y) (λ p q. let h = refuses_same old t one other a b NotRun p q in sym (λ i. granted_by r (h.0 i) (h.1 i)) ∙ e)
     (λ p q. acts_none old t one other a b r single is p q e)

@@ -8,7 +8,7 @@ use Rattle.std.specs.Cmp.{first_so, second_so}
 use Rattle.mvs_model.specs.Place.{PlaceValue, place_at}
 use Rattle.mvs_model.specs.Storage.{IsWhole, has_address}
 use Rattle.mvs_model.specs.State.{State, granted}
-use Rattle.mvs_model.specs.Steps.{whole, on_doubleword, all_granted, bytes_from, moved_from}
+use Rattle.mvs_model.specs.Requests.{whole, on_doubleword, all_granted, bytes_from, moved_from}
 use Rattle.mvs_model.proofs.Below.{below_each}
 
 -- places that begin on doublewords are whole with their lengths rounded

@@ -12,7 +12,7 @@ use Rattle.mvs_model.specs.Storage.{IsWhole, has_address}
 use Rattle.mvs_model.specs.Pools.{Pool}
 use Rattle.mvs_model.specs.State.{State, Holding, plain, pooled, is_plain, in_cell, granted}
 use Rattle.mvs_model.specs.Changes.{HeldPlain, Releasable, any_covers, any_has, Frees, Drops, Writes}
-use Rattle.mvs_model.specs.Steps.{all_granted}
+use Rattle.mvs_model.specs.Requests.{all_granted}
 use Rattle.mvs_model.specs.WellFormed.{Apart}
 use Rattle.mvs_model.proofs.StorageLaws.{covers_is}
 use Rattle.mvs_model.proofs.Operands.{HasBytes, HasByte}

@@ -12,7 +12,7 @@ use Rattle.mvs_model.specs.Name.{name_cmp}
 use Rattle.mvs_model.specs.Pools.{Pool}
 use Rattle.mvs_model.specs.View.{in_pools, state_of}
 use Rattle.mvs_model.specs.Changes.{Granted, Writes}
-use Rattle.mvs_model.specs.Steps.{all_granted, bytes_from, moved_from}
+use Rattle.mvs_model.specs.Requests.{all_granted, bytes_from, moved_from}
 use Rattle.mvs_model.proofs.Tables.{same_maps}
 use Rattle.mvs_model.proofs.CellPlaces.{has_is}
 use Rattle.mvs_model.proofs.Seen.{held_as, granted_alike}

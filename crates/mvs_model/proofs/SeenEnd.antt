@@ -10,7 +10,7 @@ use Rattle.mvs_model.specs.Owners.{Owners, IsFallen, ends_with, Ends}
 use Rattle.mvs_model.specs.Pools.{Pool}
 use Rattle.mvs_model.specs.View.{state_of}
 use Rattle.mvs_model.specs.Changes.{End, Drops}
-use Rattle.mvs_model.specs.Steps.{Abends}
+use Rattle.mvs_model.specs.Consequences.{Abends}
 use Rattle.mvs_model.proofs.Elements.{one_of_contained, contained_one_of}
 use Rattle.mvs_model.proofs.SeenRelease.{drops_seen}
 use Rattle.mvs_model.proofs.Stand.{Stand}

@@ -4,9 +4,10 @@ use Rattle.std.specs.Prelude.{IfSome}
 use Rattle.std.proofs.Math.Pow.{shr_mono}
 use Rattle.std.proofs.lemmas.Bool.Decides.{nat_tests}
 use Rattle.std.specs.FinMap.{get}
-use Rattle.mvs_model.specs.Place.{PlaceValue, place_at}
+use Rattle.mvs_model.specs.Place.{PlaceValue, place_at, round8}
 use Rattle.mvs_model.specs.Want.{WantValue}
-use Rattle.mvs_model.specs.Storage.{Covers, covers, has_address, MayTake, Meets, Places, PageRule, Storage, Regions, holder, IsStorage, Grant, Release}
+use Rattle.mvs_model.specs.Pools.{part_length}
+use Rattle.mvs_model.specs.Storage.{Chosen, NoPlace, Covers, covers, has_address, MayTake, Meets, Places, PageRule, Storage, Regions, holder, IsStorage, Grant, Release}
 use Rattle.mvs_model.proofs.Tables.{same_maps}
 use Rattle.mvs_model.proofs.Tests.{true_false, else_some}
 
@@ -73,3 +74,15 @@ grant_keeps_pages old new s want p g rule = taking_keeps_pages (holder old) (hol
 
 pub release_keeps_pages : (old new : Storage) (s : ℕ) (p : PlaceValue) → Release old s p new → PageRule (holder old) → PageRule (holder new)
 release_keeps_pages old new s p r rule = fewer_keep_pages (holder old) (holder new) (λ d t e. else_some (covers p d) (holder old d) t (sym (r.held d) ∙ e)) rule
+
+-- where there is no place of the least length none is chosen
+pub none_chosen : (r : Regions) (h : ℕ → Option ℕ) (s : ℕ) (want : WantValue) (p : PlaceValue) → 1 ≤ want.least → NoPlace r h s want → Chosen r h s want p → ⊥
+none_chosen r h s want p some none c = none p.addr (shorter_place r h s want want.least p.len p.addr some c.length.least c.placed)
+
+pub part_some : (size count : ℕ) → 1 ≤ part_length size count
+part_some size count = at ((count + 63) / 64) (round8 (count * size)) where
+  at : (x y : ℕ) → 1 ≤ 16 + 8 * x + y
+  at x y = omega arith
+
+pub round8_some : (n : ℕ) → 1 ≤ n → 1 ≤ round8 n
+round8_some n l = omega arith

@@ -1,6 +1,6 @@
 -- The machine is never stuck: each request has a step in each state.
 use Rattle.std.proofs.Common.{◌≡◌, ℕ, ◌+◌, ◌*◌, ◌%◌, ◌<◌, ◌≤◌, ◌⊎◌, inl, inr, Bool, true, false, List, [], ◌∷◌, map, length, Option, Some, None, arith, refl, ap, sym, subst, ◌∙◌, not, ◌&&◌, nat_le, ◌==◌, MatchBool, Contains}
-use Rattle.std.specs.List.{AllByRecursion, list_all}
+use Rattle.std.specs.List.{list_all}
 use Rattle.std.proofs.lemmas.Bool.Decides.{nat_tests}
 use Rattle.std.specs.FinMap.{get, insert, nat_cmp-IsAntisymmetric, contains_key, len}
 use Rattle.std.specs.FinSet as set
@@ -8,15 +8,22 @@ use Rattle.mvs_model.proofs.Types.{Name, Side, Below, Residence, Form, Located, 
 use Rattle.mvs_model.specs.Place.{PlaceValue, place_at, round8}
 use Rattle.mvs_model.specs.Want.{WantValue, want_of, fixed_want}
 use Rattle.mvs_model.specs.Gifts.{GiftsValue}
-use Rattle.mvs_model.specs.Storage.{Chosen, NoPlace, covers, Covers, has_address}
-use Rattle.mvs_model.specs.Owners.{Owners, is_active, keeper, subpool_meant, SubpoolOf, Ends, ends_with, attach_refusal, has_subtask}
+use Rattle.mvs_model.specs.Storage.{Chosen, NoPlace, covers, has_address}
+use Rattle.mvs_model.specs.Owners.{Owners, is_active, keeper, subpool_meant, SubpoolOf, Ends, ends_with, has_subtask}
+use Rattle.mvs_model.proofs.ByCase.{attach_refusal}
 use Rattle.mvs_model.specs.Pools.{Pool, Part, part_want, part_length, first_cell, IsCellOf, IsFreeCell, cell_at, in_parts, in_taken}
-use Rattle.mvs_model.specs.State.{State, Holding, plain, pooled, holder, granted}
+use Rattle.mvs_model.specs.State.{State, plain, pooled, holder, granted}
 use Rattle.mvs_model.specs.Codes.{family, is_conditional, short, bad_subpool, bad_address, not_held}
-use Rattle.mvs_model.specs.Changes.{with_part, GrantTo, ShortOf, ListGrant, ListShort, HeldPlain, Misses, Disjoint, Frees, Drops, Empties, End, Extends, TakesCell, GivesCell, DropsPool, Writes, any_covers, any_has}
-use Rattle.mvs_model.specs.Steps.{Plan, Abends, Refuses, Fails, side_for, is_invalid, ObtainStep, ObtainListStep, whole, on_doubleword, MayRelease, ReleaseStep, EmptiesEntry, ReleaseWholeStep, new_pool, Builds, BuildStep, Gets, GetsMore, GetsNone, GetStep, FreeStep, DeleteStep, AttachCase, ReturnStep, all_granted, Accesses, bytes_from, moved_from, Acts, Step, IsRequest}
+use Rattle.mvs_model.specs.Changes.{with_part, GrantTo, ShortOf, ListGrant, HeldPlain, Frees, Drops, Empties, End, Extends, TakesCell, GivesCell, DropsPool, Writes, any_covers, any_has}
+use Rattle.mvs_model.proofs.ByCase.{ListShort}
+use Rattle.mvs_model.specs.Requests.{Plan, side_for, is_invalid, whole, on_doubleword, EmptiesEntry, new_pool, Builds, Gets, GetsMore, all_granted, bytes_from, moved_from, IsRequest}
+use Rattle.mvs_model.specs.Consequences.{Abends, Refuses}
+use Rattle.mvs_model.proofs.ByCase.{StepCase, Fails, ObtainStep, ObtainListStep, MayRelease, ReleaseStep, ReleaseWholeStep, BuildStep, GetsNone, GetStep, FreeStep, DeleteStep, AttachCase, ReturnStep, Accesses, Acts}
+use Rattle.mvs_model.specs.Steps.{Step}
 use Rattle.mvs_model.specs.WellFormed.{PoolsSized}
-use Rattle.mvs_model.proofs.Decide.{Decided, decided_and, decided_implies, decided_like, decided_lt, decided_all, decided_some}
+use Rattle.mvs_model.proofs.Holdings.{decided_held, decided_each, decided_disjoint}
+use Rattle.mvs_model.proofs.StepCases.{cases_step}
+use Rattle.mvs_model.proofs.Decide.{Decided, decided_and, decided_lt, decided_some}
 use Rattle.mvs_model.proofs.Elements.{later, first_or_later}
 use Rattle.mvs_model.proofs.Search.{chosen_or_none}
 use Rattle.mvs_model.proofs.Made.{made_values, made_changes, made_without, made_keeps, made_at, made_gone}
@@ -133,38 +140,8 @@ obtain_list_some old t form number start lengths = either_some (is_invalid numbe
     | inr g ↦ (Listed g.0, (g.1, inr (g.0, refl, g.2)))
   ]
 
-pooled_in : Option Holding → Option Bool
-pooled_in None = None
-pooled_in (Some h) = Some h.pooled
-
 pub decided_false : (b : Bool) → Decided (b ≡ false)
 decided_false b = grind (arith, nat_tests)
-
--- whether a place may be released
-decided_is : (o : Option Holding) (s : ℕ) → Decided (o ≡ Some (plain s))
-unfolding pooled_in
-decided_is o s = grind (arith, nat_tests)
-
-decided_covers : (p : PlaceValue) (d : ℕ) → Decided (Covers p d)
-decided_covers p d = decided_and (decided_lt p.addr (8 * d + 8)) (decided_lt (8 * d) (p.addr + p.len))
-
-decided_held : (st : State) (s : ℕ) (p : PlaceValue) → Decided (HeldPlain st s p)
-decided_held st s p =
-    decided_like (λ h d c. h d (let l : 8 * d < p.addr + p.len = c.1 in omega arith) c) (λ h d l c. h d c)
-    (decided_all (λ d. Covers p d → get st.held d ≡ Some (plain s)) (λ d. decided_implies (decided_covers p d) (decided_is (get st.held d) s)) (p.addr + p.len))
-
-decided_misses : (p q : PlaceValue) → Decided (Misses p q)
-decided_misses p q =
-    decided_like (λ h d c e. h d (let l : 8 * d < p.addr + p.len = c.1 in omega arith) c e) (λ h d l c e. h d c e)
-    (decided_all (λ d. Covers p d → Covers q d → ⊥) (λ d. decided_implies (decided_covers p d) (decided_implies (decided_covers q d) (inr (λ f. f)))) (p.addr + p.len))
-
-decided_each : {X : Type 0} → (P : X → Type 0) → ((x : X) → Decided (P x)) → (xs : List X) → Decided (AllByRecursion P xs)
-decided_each P decide [] = inl tt
-decided_each P decide (x ∷ xs) = decided_and (decide x) (decided_each P decide xs)
-
-decided_disjoint : (ps : List PlaceValue) → Decided (Disjoint ps)
-decided_disjoint [] = inl tt
-decided_disjoint (p ∷ ps) = decided_and (decided_each (Misses p) (decided_misses p) ps) (decided_disjoint ps)
 
 decided_may_release : (st : State) (o : Option ℕ) (ps : List PlaceValue) → Decided (MayRelease st o ps)
 decided_may_release st None ps = inr (λ h. h)
@@ -336,4 +313,6 @@ acts_some old t (Move to from n) w r = access_some old t (all_granted old (place
 
 -- Each request has a reply and a new state, where each pool has some cells in a part.
 pub step_some : (old : State) (t : Name) (request : Request) → PoolsSized old → IsRequest request → Some2 (Step old t request)
-step_some old t request w r = either_some (not (is_active old.owners t)) (λ _. refuses_some old NotRun) (λ _. acts_some old t request w r)
+step_some old t request w r =
+    let s : Some2 (StepCase old t request) = either_some (not (is_active old.owners t)) (λ _. refuses_some old NotRun) (λ _. acts_some old t request w r) in
+    (s.0, (s.1.0, cases_step old t request s.0 s.1.0 r s.1.1))

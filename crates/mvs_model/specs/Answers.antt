@@ -1,4 +1,4 @@
--- What a statement is answered, and what is told of a job, with nothing of the printing.
+-- The answer to a statement, and the events of a job, independent of their printing.
 use Rattle.std.specs.Prelude.{ℕ, Bool, List}
 use Rattle.mvs_model.specs.declared.name.Name.{Name}
 use Rattle.mvs_model.specs.declared.code.Code.{Code}
@@ -26,8 +26,8 @@ pub data Answer : Type 0 where
   Map : List MapRun → Answer
   Region : CardValue → Answer
 
--- What is told of a job: a statement's answer, with the number of its line and its task; the end of a step, of which a task has
--- abended or not; and the fault of a line, which ends the job.
+-- An event of a job: the answer to a statement, with the number of its line and its task; the end of a step, and whether a task of
+-- it abended; the fault of a line, which ends the job.
 pub data Event : Type 0 where
   Told : ℕ → Name → Answer → Event
   StepEnded : Bool → Event

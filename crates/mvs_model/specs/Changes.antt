@@ -1,5 +1,5 @@
 -- What the requests do to the state.
-use Rattle.std.specs.Prelude.{◌≡◌, ◌⊎◌, ℕ, ◌+◌, ◌<◌, ◌≤◌, Bool, true, not, ◌==◌, List, [], ◌∷◌, ◌++◌, Option, Some, None, if◌then◌else◌}
+use Rattle.std.specs.Prelude.{◌≡◌, ℕ, ◌+◌, ◌<◌, ◌≤◌, Bool, true, not, ◌==◌, List, [], ◌∷◌, ◌++◌, Option, Some, None, if◌then◌else◌}
 use Rattle.std.specs.List.{list_any, AllByRecursion}
 use Rattle.std.specs.FinMap.{get}
 use Rattle.std.specs.FinSet as set
@@ -13,8 +13,8 @@ use Rattle.mvs_model.specs.Owners.{Owners, SubpoolOf, Enters, IsFallen, Ends, en
 use Rattle.mvs_model.specs.Pools.{Pool, part_want, cell_at, in_parts, in_taken}
 use Rattle.mvs_model.specs.State.{State, plain, pooled, holder, granted}
 
--- A grant of one area under a number of the task: the place is as wanted; its doublewords are now of the task's subpool
--- under this number, made where there was none, and its bytes the fill byte; all else is as before. (Assembler Services
+-- A grant of one area for a number of the task: the place is as requested; the subpool of the task for this number holds its
+-- doublewords, and is created if it did not exist; the bytes are the fill byte; nothing else has changed. (Assembler Services
 -- Reference, GETMAIN)
 pub record GrantTo (old : State) (t : Name) (number : ℕ) (want : WantValue) (p : PlaceValue) (new : State) : Type 0 where
   pub subpool : ℕ
@@ -30,20 +30,13 @@ pub record GrantTo (old : State) (t : Name) (number : ℕ) (want : WantValue) (p
 abbrev pub ShortOf : State → Name → ℕ → WantValue → Type 0
 ShortOf old t number want = (s : ℕ) × SubpoolOf old.owners t number s × NoPlace old.regions (holder old) s want
 
--- Grants one after another, a place for each thing wanted. (Assembler Services Reference, GETMAIN, list requests; all or
--- none is this project's choice)
+-- Grants one after another, one place for each request. (Assembler Services Reference, GETMAIN, list requests; all or none is this
+-- project's choice)
 abbrev pub ListGrant : State → Name → ℕ → List WantValue → List PlaceValue → State → Type 0
 ListGrant old t number [] [] new = new ≡ old
 ListGrant old t number [] (p ∷ ps) new = ⊥
 ListGrant old t number (want ∷ wants) [] new = ⊥
 ListGrant old t number (want ∷ wants) (p ∷ ps) new = (mid : State) × GrantTo old t number want p mid × ListGrant mid t number wants ps new
-
--- After grants for some of the front there is no place for the next.
-abbrev pub ListShort : State → Name → ℕ → List WantValue → Type 0
-ListShort old t number [] = ⊥
-ListShort old t number (want ∷ wants) =
-    ShortOf old t number want
-    ⊎ ((p : PlaceValue) × (mid : State) × GrantTo old t number want p mid × ListShort mid t number wants)
 
 -- whether a place of the list has the doubleword
 abbrev pub any_covers : List PlaceValue → ℕ → Bool
@@ -92,7 +85,7 @@ pub record Empties (old : State) (s : ℕ) (new : State) : Type 0 where
   pub drops : Drops old (λ u. u == s) new
   pub owners : new.owners ≡ old.owners
 
--- The task ends with its descendants, and what they own goes. (Assembler Services Guide, owning and sharing subpools)
+-- The task ends with its descendants, and what they own is freed. (Assembler Services Guide, owning and sharing subpools)
 pub record End (old : State) (t : Name) (new : State) : Type 0 where
   pub fallen : List Name
   pub is_fallen : IsFallen old.owners t fallen
@@ -103,8 +96,8 @@ pub record End (old : State) (t : Name) (new : State) : Type 0 where
 abbrev pub with_part : Pool → ℕ → PlaceValue → Pool
 with_part pool count p = record pool { parts = pool.parts ++ record { place = p; count = count } ∷ [] }
 
--- A part of so many cells is put to the pool: its doublewords are now held for the pool, and the bytes are as before; the
--- owners are as said. (Assembler Services Reference, CPOOL)
+-- A part with this number of cells is added to the pool: its doublewords are now held for the pool, the bytes do not change, and
+-- these are the owners. (Assembler Services Reference, CPOOL)
 pub record Extends (old : State) (name : Name) (pool : Pool) (count : ℕ) (p : PlaceValue) (owners : Owners) (new : State) : Type 0 where
   pub chosen : Chosen old.regions (holder old) pool.subpool (part_want pool.cell_size count pool.side) p
   pub regions : new.regions ≡ old.regions
@@ -130,8 +123,8 @@ pub record GivesCell (old : State) (name : Name) (pool : Pool) (c : ℕ) (new : 
   pub owners : new.owners ≡ old.owners
   pub pools : Changes (get old.pools) (λ n. same_name n name) (Some (record pool { taken = set.remove pool.taken c })) (get new.pools)
 
--- The pool goes: its parts are free, the bytes of its taken cells are gone, and all else is as before. (Assembler Services
--- Reference, CPOOL DELETE)
+-- The pool is deleted: its parts are free, the bytes of its taken cells are removed, and nothing else has changed. (Assembler
+-- Services Reference, CPOOL DELETE)
 pub record DropsPool (old : State) (name : Name) (pool : Pool) (new : State) : Type 0 where
   pub regions : new.regions ≡ old.regions
   pub held : Changes (get old.held) (in_parts pool) None (get new.held)

@@ -90,14 +90,14 @@ no_such_cell = User 4001
 abbrev pub no_such_pool : Code
 no_such_pool = User 4002
 
--- ATTACH gives a subpool that the mother does not own; it goes beyond the most tasks. (this project's choice)
+-- ATTACH gives a subpool that the attaching task does not own; ATTACH exceeds the limit of tasks. (this project's choice)
 abbrev pub not_owned : Code
 not_owned = User 4003
 
 abbrev pub too_many_tasks : Code
 too_many_tasks = User 4005
 
--- all of subpool 0 is to be released. (this project's choice)
+-- a release of the whole of subpool 0. (this project's choice)
 abbrev pub whole_of_zero : Code
 whole_of_zero = User 4006
 

@@ -19,7 +19,8 @@ use Rattle.mvs_model.specs.Owners.{keeper}
 use Rattle.mvs_model.specs.Pools.{Pool}
 use Rattle.mvs_model.specs.State.{State}
 use Rattle.mvs_model.specs.Start.{start}
-use Rattle.mvs_model.specs.Steps.{Step, IsRequest, side_for}
+use Rattle.mvs_model.specs.Steps.{Step}
+use Rattle.mvs_model.specs.Requests.{IsRequest, side_for}
 use Rattle.mvs_model.specs.Lines.{lines_of, card_of}
 use Rattle.mvs_model.specs.Resolving.{places_in}
 use Rattle.mvs_model.specs.Answers.{Event}
@@ -35,8 +36,8 @@ abbrev pub parts_at : Option Pool → List ℕ
 parts_at None = []
 parts_at (Some pool) = map (λ part. part.place.addr) pool.parts
 
--- the addresses that a step picks: of the places that its reply grants, and of the parts that the pool has behind a request
--- that may obtain one. (no reply tells where a part lies)
+-- the addresses that a step picks: those of the places that its reply grants, and those of the parts of the pool after a request
+-- that may add one. (no reply shows where a part is)
 abbrev pub picked : Request → Reply → State → List ℕ
 picked (request.Build name number size primary secondary loc) reply new = parts_at (get new.pools name)
 picked (request.Get name conditional) reply new = granted_at reply ++ parts_at (get new.pools name)
@@ -58,7 +59,7 @@ abbrev pub granted_by : Request → Reply → State → List ℕ
 granted_by (request.Build name number size primary secondary loc) reply new = parts_at (get new.pools name)
 granted_by _ reply new = granted_at reply
 
--- A request that may be refused is not granted, wherever its places might lie; a request for a list aside.
+-- If a request that is not for a list may be refused, it is not granted, wherever places are.
 abbrev pub NothingPicked : Type 0
 NothingPicked =
     (old : State) (t : Name) (r : Request) (one other : Reply) (a b : State)
@@ -72,8 +73,8 @@ one_page t = start (card_of t 1 0 0 residence.Below)
 abbrev pub page_list : Request
 page_list = request.ObtainList form.Lc 0 (8 ∷ 4088 ∷ []) 3
 
--- That is not so of a list: where its first members lie may decide whether there is a place for the next. Two members that
--- fill an empty page may be granted, and may be refused.
+-- For a list this is different: the places of its first members can decide whether the next one fits. Two members that fill an
+-- empty page may be granted, and may be refused.
 pub record ListEitherWay : Type 0 where
   pub refused : (t : Name) → Step (one_page t) t page_list Rc4 (one_page t)
   pub granted : (t : Name) → (ps : List PlaceValue) × (new : State) × Step (one_page t) t page_list (Listed ps) new
@@ -107,21 +108,21 @@ PlacesDetermine =
 abbrev pub Needs : Entered
 Needs at old t r reply new = (picked r reply new ≡ at) × (at ≡ [] → (other : Reply) (later : State) → Step old t r other later → picked r other later ≡ [])
 
--- The step picks the addresses that it is told, where some step does.
+-- The step picks the hinted addresses, if some step does.
 abbrev pub Obeys : Entered
 Obeys told old t r reply new = told ≢ [] → (other : Reply) (later : State) → Step old t r other later → picked r other later ≡ told → picked r reply new ≡ told
 
--- A run that is told the addresses of another, which refuses no list that could be granted, is answered the same.
+-- A run that obeys the addresses of another one, which refuses no list that could be granted, has the same events.
 abbrev pub ToldDecide : Type 0
 ToldDecide =
     (entries : ℕ → List ℕ) (script : List ℕ) (one other : List Event) (o p : Outcome)
     → IsRunWhere Needs entries script one o → IsRunWhere Obeys entries script other p → (one ≡ other) × (o ≡ p)
 
--- A grant takes the address that it is told, where a place there can be granted.
+-- A grant uses the hinted address, if a place there can be granted.
 abbrev pub TakesTold : State → Name → ℕ → WantValue → ℕ → PlaceValue → Type 0
 TakesTold old t number want told p = (q : PlaceValue) (later : State) → GrantTo old t number want q later → q.addr ≡ told → p.addr ≡ told
 
--- Grants one after another, each of which takes the address that it is told.
+-- Grants one after another, each of which uses its hint.
 abbrev pub ListTakesTold : State → Name → ℕ → List WantValue → List ℕ → List PlaceValue → State → Type 0
 ListTakesTold old t number [] told [] new = new ≡ old
 ListTakesTold old t number [] told (p ∷ ps) new = ⊥
@@ -137,8 +138,8 @@ ListStops old t number (want ∷ wants) [] = ⊥
 ListStops old t number (want ∷ wants) (a ∷ told) =
     ShortOf old t number want ⊎ ((p : PlaceValue) × (mid : State) × GrantTo old t number want p mid × TakesTold old t number want a p × ListStops mid t number wants told)
 
--- A request for an area obeys, which takes the address that it is told. One for a list obeys, which takes each; and no list can
--- be granted at the addresses at which one stops that takes each.
+-- A request for an area obeys if it uses its hint. A request for a list obeys if each member does, and it is refused only if no
+-- list can be granted at these addresses.
 pub record TakingObeys : Type 0 where
   pub area : (old : State) (t : Name) (form : Form) (number : ℕ) (ask : AskValue) (a : ℕ) (p : PlaceValue) (new : State)
       → TakesTold old (keeper old.owners t number) number (want_of ask (side_for old t form ask.loc)) a p → Obeys (a ∷ []) old t (request.Obtain form number ask) (Obtained p) new

@@ -3,7 +3,7 @@
 -- others, and which operand a form takes under which name, are this project's choice)
 use Rattle.std.specs.Prelude.{ℕ, List, [], ◌∷◌, Bool, true, false, codes}
 
--- what an operand may be, behind its `=` where it has a key
+-- what an operand can be, after its `=` if it has a keyword
 pub data Kind : Type 0 where
   -- a number from a least to a greatest one
   Number : ℕ → ℕ → Kind
@@ -15,19 +15,19 @@ pub data Kind : Type 0 where
   Name : Kind
   -- NAME, NAME+number or X'h..h'
   Address : Kind
-  -- X'h..h', 1 to so many bytes
+  -- X'h..h', at least 1 and at most this number of bytes
   Bytes : ℕ → Kind
   -- (l,s): a largest and a smallest number from a least to a greatest one
   Pair : ℕ → ℕ → Kind
   -- n or (l,s)
   NumberOrPair : ℕ → ℕ → Kind
-  -- a list of at most so many numbers, each from a least to a greatest one
+  -- a list of at most this number of numbers, each in a range
   Numbers : ℕ → ℕ → ℕ → Kind
-  -- a list of numbers of which none stands twice, each from a least to a greatest one
+  -- a list of numbers without duplicates, each in a range
   DistinctNumbers : ℕ → ℕ → Kind
-  -- a list of at most so many names of which none stands twice
+  -- a list of at most this number of names, without duplicates
   DistinctNames : ℕ → Kind
-  -- a list of at most so many addresses
+  -- a list of at most this number of addresses
   Addresses : ℕ → Kind
 
 -- a keyword operand KEY=value, and whether it is required
@@ -49,7 +49,7 @@ pub data Rule : Type 0 where
   Excludes : List ℕ → List ℕ → Rule
   -- the two lists have as many items
   SameLength : List ℕ → List ℕ → Rule
-  -- no number stands under one of the first two keywords and under one of the last two
+  -- no number is given with one of the first two keywords and one of the last two
   Apart : List ℕ → List ℕ → List ℕ → List ℕ → Rule
 
 -- what a statement is: the statements of the model, with the keys that differ between operations
@@ -75,8 +75,8 @@ pub data Meaning : Type 0 where
   AsksWhere : Meaning
   Reports : Meaning
 
--- a row: an operation, its forms (none where it takes none), whether it has an operand field, its positional operands behind the
--- form, its keywords, what holds between them, and what the statement is
+-- a row: an operation, its forms (none if it has none), whether it has operands, its positional operands after the form, its
+-- keywords, the rules between them, and which statement it is
 pub record Row : Type 0 where
   pub operation : List ℕ
   pub forms : List (List ℕ)
@@ -86,7 +86,7 @@ pub record Row : Type 0 where
   pub rules : List Rule
   pub meaning : Meaning
 
--- a keyword that is required, one that may be left out; the same of a positional operand
+-- a required keyword, an optional one; a required positional operand, an optional one
 abbrev pub needs : List ℕ → Kind → Keyword
 needs key kind = record { key = key; kind = kind; required = true }
 

@@ -1,4 +1,4 @@
--- A step as it stands between two lines.
+-- A step between two lines.
 use Rattle.std.specs.Prelude.{Bool, false}
 use Rattle.std.specs.FinMap.{FinMap, empty}
 use Rattle.mvs_model.specs.Place.{PlaceValue}
@@ -15,6 +15,6 @@ pub record JobValue : Type 0 where
   pub abended : Bool
   pub former : Bool
 
--- the step that begins with a card, behind steps of which a task has abended or not
+-- the step that begins with a card; whether a task of an earlier step has abended
 abbrev pub job_at : CardValue → Bool → JobValue
 job_at card former = record { state = start card; names = empty; abended = false; former = former }

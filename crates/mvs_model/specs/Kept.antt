@@ -10,10 +10,9 @@ use Rattle.mvs_model.specs.Numbers.{most_tasks, most_subpools}
 abbrev pub IsFirst : Owners → Name → Type 0
 IsFirst o t = (task : Task) × (get o.tasks t ≡ Some task) × (task.mother ≡ None)
 
--- At most 32 tasks are active. If any is, they are one family: one of them has no mother, all the others descend from it,
--- and none descends from itself.
--- The subpools that the tasks have are those that have an owner: each stands under one number, and its owner has it there.
--- Under 131 and 132 only the task without a mother has any.
+-- At most 32 tasks are active. If there are any, they are one tree: one of them has no mother, all others descend from it, and none
+-- descends from itself. The subpools that the tasks have are those that have an owner. Each has one number, and its owner has it.
+-- Only the task without a mother has the numbers 131 and 132.
 pub record OwnersKept (o : Owners) : Type 0 where
   pub few : len o.tasks ≤ most_tasks
   pub mothers : (t x : Name) → IsMother o t x → is_active o t ≡ true

@@ -1,4 +1,4 @@
--- What an answer stands for whose long parts a job lends.
+-- The answer of the definitions for an answer whose long data belongs to the job.
 use Rattle.std.specs.Prelude.{List, [], Bool, true, false}
 use Rattle.mvs_model.specs.declared.name.Name.{Name}
 use Rattle.mvs_model.specs.declared.answer.Answer.{Answer as Short}
@@ -10,7 +10,7 @@ use Rattle.mvs_model.specs.Answers.{Answer, NotRun, NoName, At, Rc0, Granted, Rc
 use Rattle.mvs_model.specs.Reports.{subpool_lines_of, page_map}
 use Rattle.mvs_model.specs.Replies.{bytes_at}
 
--- the answer to a statement of a task, in the state behind it, where these tasks ended with the one that abended
+-- the answer to a statement of a task, in the state after it; these tasks ended with the one that abended
 abbrev pub lent : State → List Name → Name → Short → Answer
 lent st fallen t short.NotRun = NotRun
 lent st fallen t short.NoName = NoName
@@ -28,7 +28,7 @@ lent st fallen t (short.Abended code) = Abended code fallen
 lent st fallen t short.Subpools = Subpools (subpool_lines_of st t)
 lent st fallen t short.Map = Map (page_map st)
 
--- whether a job lends parts of the answer
+-- whether an answer has data that belongs to the job
 abbrev pub lends : Short → Bool
 lends (short.Data p) = true
 lends (short.Abended code) = true

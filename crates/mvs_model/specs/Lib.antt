@@ -16,8 +16,10 @@ pub mod Pools
 pub mod State
 pub mod Start
 pub mod Changes
+pub mod Requests
+pub mod Causes
+pub mod Consequences
 pub mod Steps
-pub mod Answered
 pub mod Reasons
 -- The script: how a line is read, what is printed, the runs of a job, and the label machine.
 pub mod Grammar
@@ -33,20 +35,13 @@ pub mod Lent
 pub mod Walk
 pub mod Runs
 pub mod Memory
-pub mod Labels
-pub mod Tidy
 -- What every state of a run keeps, and the laws.
 pub mod Kept
 pub mod WellFormed
-pub mod Going
-pub mod Laws
 pub mod Determined
-pub mod Sparing
 pub mod ReadingLaws
 pub mod Spelling
 pub mod Spellings
-pub mod TidyExamples
-pub mod Examples
 -- Helpers: changes of finite maps, and how the crates' values are seen as one state.
 pub mod Finite
 pub mod Table

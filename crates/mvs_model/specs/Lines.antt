@@ -19,7 +19,7 @@ abbrev pub lines_of : List ℕ → List (List ℕ)
 lines_of [] = []
 lines_of (b ∷ bs) = if b == 10 then [] ∷ lines_of bs else onto_first b (lines_of bs)
 
--- the text of lines, each of which has ended
+-- the text of complete lines
 abbrev pub ended_text : List (List ℕ) → List ℕ
 ended_text [] = []
 ended_text (l ∷ lines) = l ++ 10 ∷ ended_text lines
@@ -47,7 +47,7 @@ IsStatement first t (says.Where name) = first ≡ false
 IsStatement first t says.ReportSubpools = first ≡ false
 IsStatement first t says.ReportMap = first ≡ false
 
--- The same of what a line says.
+-- What a line specifies is in range.
 abbrev pub IsLine : Bool → Result Line Fault → Type 0
 IsLine first (Ok (line.Statement t s)) = IsStatement first t s
 IsLine first _ = Unit {0}

@@ -28,7 +28,7 @@ pub record SetsName (job : JobValue) (t : Name) (a : Written) : Type 0 where
   pub names : names_set a ≢ []
   pub places : places_in reply ≢ []
 
--- The line takes memory, and these events are told before its answer: of a later REGION statement the end of the step.
+-- The line needs memory, and these events come before its answer: the end of the step, for a later REGION statement.
 abbrev pub TakesMemory : Option JobValue → Line → List Event → Type 0
 TakesMemory old (line.Statement t (says.Region below above fill residence)) events = events ≡ ending machine old
 TakesMemory (Some job) (line.Statement t (says.Request a)) events = (events ≡ []) × SetsName job t a

@@ -20,8 +20,8 @@ padded text = text ++ replicate (8 - length text) 32
 abbrev pub trimmed : List ℕ → List ℕ
 trimmed name = before_first (λ b. b == 32) name
 
--- The first byte is no blank, and of the first eight each one behind a blank is a blank: so a name is a text of at most eight
--- bytes, padded with blanks. (this project's choice; that there are eight bytes, the type Name says)
+-- The first byte is not a blank, and each of the first eight after a blank is a blank. So a name is a text of at most eight bytes,
+-- padded with blanks. (this project's choice; the type Name has eight bytes)
 pub record IsName (name : List ℕ) : Type 0 where
   pub begins : slice_index name 0 ≢ 32
   pub ends : (k : ℕ) → k < 7 → slice_index name k ≡ 32 → slice_index name (k + 1) ≡ 32

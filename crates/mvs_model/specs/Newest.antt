@@ -4,7 +4,7 @@ use Rattle.std.specs.List.{slice_get}
 use Rattle.mvs_model.specs.declared.report.Newest.{Newest}
 use Rattle.mvs_model.specs.Pools.{Pool}
 
--- This is the part that was put to the pool last, behind all others, so many with it.
+-- This is the part that was added to the pool last, and the number of parts.
 pub record IsNewest (pool : Pool) (newest : Newest) : Type 0 where
   pub parts : newest.parts ≡ length pool.parts
   pub last : slice_get pool.parts (newest.parts - 1) ≡ Some (record { place = newest.place; count = newest.cells })

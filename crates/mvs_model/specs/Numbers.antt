@@ -1,4 +1,4 @@
--- The numbers of the machine, each of which stands here alone.
+-- The numbers of the machine. Each is defined only here.
 use Rattle.std.specs.Prelude.{ℕ, List, [], ◌∷◌}
 
 -- the bytes of a page, and its doublewords. (Assembler Services Guide, virtual storage management)
@@ -65,7 +65,7 @@ most_tasks = 32
 abbrev pub most_pools : ℕ
 most_pools = 64
 
--- the most bytes that SHOW prints, and how many stand in a line. (this project's choice)
+-- the most bytes that SHOW prints, and the number of bytes on a line. (this project's choice)
 abbrev pub most_shown : ℕ
 most_shown = 4096
 

@@ -1,22 +1,20 @@
 -- Tasks, the subpools that they have under numbers, and who owns a subpool.
-use Rattle.std.specs.Prelude.{◌≡◌, ◌↔◌, ℕ, suc, ◌<◌, Bool, true, false, not, ◌&&◌, ◌||◌, ◌==◌, nat_le, List, find, Option, Some, None, is_some, if◌then◌else◌, IsSome, MatchOption, refl}
+use Rattle.std.specs.Prelude.{◌≡◌, ◌↔◌, ℕ, suc, ◌<◌, Bool, true, false, not, ◌&&◌, ◌||◌, ◌==◌, List, find, Option, Some, None, is_some, if◌then◌else◌, IsSome, MatchOption, refl}
 use Rattle.std.specs.Option.{unwrap_or}
 use Rattle.std.specs.List.{list_any, Contains}
 use Rattle.std.specs.List.Sorted.{IsStrictlySortedBy}
 use Rattle.std.specs.declared.cmp.Ordering.{Ordering}
 use Rattle.std.specs.Ordering.{nat_cmp, then_cmp, on}
-use Rattle.std.specs.FinMap.{FinMap, get, contains_key, keys, len, code}
+use Rattle.std.specs.FinMap.{FinMap, get, contains_key, keys, code}
 use Rattle.std.specs.Coded.{Coded, code_by, coded×, coded_ℕ, coded_bool, coded_option}
 use Rattle.mvs_model.specs.declared.name.Name.{Name}
 use Rattle.mvs_model.specs.declared.want.Residence.{Residence}
 use Rattle.mvs_model.specs.declared.want.Residence.TheVariants.{Below, Above}
-use Rattle.mvs_model.specs.declared.code.Code.{Code}
 use Rattle.mvs_model.specs.Name.{name_cmp, same_name, name_code}
 use Rattle.mvs_model.specs.Finite.{Changes, Keeps, has, any_below}
 use Rattle.mvs_model.specs.Gifts.{GiftsValue, gives, shares}
-use Rattle.mvs_model.specs.Numbers.{task_numbers, most_tasks}
+use Rattle.mvs_model.specs.Numbers.{task_numbers}
 use Rattle.mvs_model.specs.Subpool.{is_step_number}
-use Rattle.mvs_model.specs.Codes.{task_in_use, too_many_tasks, not_owned}
 
 -- An active task: who attached it (nobody, for the job step task), and where it resides. (Assembler Services Guide,
 -- subtasking)
@@ -45,7 +43,7 @@ abbrev above_if : Bool → Residence
 above_if false = Below
 above_if true = Above
 
--- the residence is the one that was said
+-- the residence is the given one
 abbrev above_if-is_above : (r : Residence) → above_if (is_above r) ≡ r
 above_if-is_above Below = refl
 above_if-is_above Above = refl
@@ -129,8 +127,8 @@ pub record Binds (old : Owners) (t : Name) (number s : ℕ) (new : Owners) : Typ
 abbrev pub Enters : Owners → Name → ℕ → ℕ → Owners → Type 0
 Enters old t number s new = MatchOption (entry old t number) (Binds old t number s new) (λ _. new ≡ old)
 
--- The task has a subpool under each wanted number below the bound; those that it had not are made in rising order.
--- (Assembler Services Reference, ATTACH, SHSPV; that a missing subpool is made is this project's choice)
+-- The task has a subpool for each selected number below the bound. Missing ones are created in rising order. (Assembler Services
+-- Reference, ATTACH, SHSPV; that they are created is this project's choice)
 pub data EntersBelow (old : Owners) (t : Name) (wanted : ℕ → Bool) : ℕ → Owners → Type 0 where
   none : EntersBelow old t wanted 0 old
   passed : {number : ℕ} {now : Owners} → EntersBelow old t wanted number now → wanted number ≡ false → EntersBelow old t wanted (suc number) now
@@ -139,15 +137,6 @@ pub data EntersBelow (old : Owners) (t : Name) (wanted : ℕ → Bool) : ℕ →
 -- whether the mother gives a number whose subpool she does not own. (this project's choice)
 abbrev pub gives_shared : Owners → Name → GiftsValue → Bool
 gives_shared o mother gifts = any_below (λ n. gives gifts n && has (λ s. not (owns o mother s)) (entry o mother n)) task_numbers
-
--- why an ATTACH is refused, if it is: the name is active, 32 tasks are active, or a number is given whose subpool the
--- mother does not own. (this project's choice)
-abbrev pub attach_refusal : Owners → Name → Name → GiftsValue → Option Code
-attach_refusal o mother name gifts =
-    if is_active o name then Some task_in_use
-    else (if nat_le most_tasks (len o.tasks) then Some too_many_tasks
-    else (if gives_shared o mother gifts then Some not_owned
-    else None))
 
 -- whether the subpool is one that the mother has under a number that she gives
 abbrev pub is_given : Owners → Name → GiftsValue → ℕ → Bool
@@ -184,7 +173,7 @@ pub record IsFallen (o : Owners) (t : Name) (names : List Name) : Type 0 where
 abbrev pub goes : Name → List Name → Name → Bool
 goes t fallen x = same_name x t || list_any (same_name x) fallen
 
--- whether the subpool is owned by the task or by one that falls with it
+-- whether the subpool is owned by the task or by one that ends with it
 abbrev pub ends_with : Owners → Name → List Name → ℕ → Bool
 ends_with o t fallen s = has (goes t fallen) (get o.owner s)
 

@@ -17,7 +17,7 @@ pub record IsPlace (p : PlaceValue) : Type 0 where
 abbrev pub round8 : ℕ → ℕ
 round8 n = 8 * ((n + 7) / 8)
 
--- so many bytes from an address on
+-- a number of bytes from an address on
 abbrev pub place_at : ℕ → ℕ → PlaceValue
 place_at a n = record { addr = a; len = n }
 

@@ -15,9 +15,8 @@ pub record Part : Type 0 where
   pub place : PlaceValue
   pub count : ℕ
 
--- A pool: the subpool that its storage comes from, the size of a cell, how many cells the first part and the further
--- ones have, where they may lie, the parts in the order in which they were obtained, and the addresses of the cells
--- that are taken. (Assembler Services Reference, CPOOL)
+-- A pool: the subpool of its storage, the size of a cell, the numbers of cells of the first part and of further parts, their side,
+-- the parts in the order in which they were obtained, and the addresses of the taken cells. (Assembler Services Reference, CPOOL)
 pub record Pool : Type 0 where
   pub subpool : ℕ
   pub cell_size : ℕ
@@ -27,7 +26,7 @@ pub record Pool : Type 0 where
   pub parts : List Part
   pub taken : set.FinSet nat_cmp
 
--- how long a part of so many cells is: sixteen bytes, a bit for each cell in whole doublewords, and the cells in whole
+-- the length of a part with this number of cells: sixteen bytes, a bit for each cell in whole doublewords, and the cells in whole
 -- doublewords. (this project's choice)
 abbrev pub part_length : ℕ → ℕ → ℕ
 part_length size count = 16 + 8 * ((count + 63) / 64) + round8 (count * size)
@@ -36,11 +35,11 @@ part_length size count = 16 + 8 * ((count + 63) / 64) + round8 (count * size)
 abbrev pub part_want : ℕ → ℕ → Side → WantValue
 part_want size count side = record { least = part_length size count; most = part_length size count; start = 3; within = None; side = side }
 
--- the address of a part's first cell: the cells stand at its end. (this project's choice)
+-- the address of the first cell of a part: the cells are at its end. (this project's choice)
 abbrev pub first_cell : ℕ → Part → ℕ
 first_cell size part = part.place.addr + part.place.len - round8 (part.count * size)
 
--- A cell of the part begins at the address: the cells stand one behind the other. (this project's choice)
+-- A cell of the part begins at the address: the cells are adjacent. (this project's choice)
 abbrev pub IsCellOf : ℕ → Part → ℕ → Type 0
 IsCellOf size part c = (i : ℕ) × (i < part.count) × (c ≡ first_cell size part + i * size)
 
@@ -74,7 +73,7 @@ abbrev below_if : Bool → Side
 below_if true = Below
 below_if false = Either
 
--- the side is the one that was said
+-- the side is the given one
 abbrev below_if-is_below : (s : Side) → below_if (is_below s) ≡ s
 below_if-is_below Below = refl
 below_if-is_below Either = refl

@@ -1,5 +1,5 @@
--- How a line of a script is read: the texts that items are, the operands of a statement, what is wrong with a line, and what it says.
--- The table that this goes by is Grammar. (all of this is this project's own notation)
+-- How a line of a script is parsed: the texts of items, the operands of a statement, the faults, and the meaning. Grammar has the
+-- table. (all of this is this project's own notation)
 use Rattle.std.specs.Prelude.{◌≡◌, ℕ, ◌+◌, ◌-◌, ◌*◌, ◌%◌, ◌^◌, nat_lt, nat_le, ◌==◌, ◌&&◌, ◌||◌, not, Bool, true, false, if◌then◌else◌, List, [], ◌∷◌, ◌++◌, map, length, take, drop, filter, find, flat_map, Option, Some, None, is_some, unwrap_or, option_map, slice_get, slice_index, codes, bytes_eq, bit_or, Result, Ok, Err}
 use Rattle.std.specs.List.{list_any, list_all, before_first, after_first, slice_split, onto_first}
 use Rattle.mvs_model.specs.declared.code.Form.{Form}
@@ -44,7 +44,7 @@ abbrev pub number : List ℕ → ℕ
 number [] = 0
 number (b ∷ bs) = (b - 48) * 10 ^ length bs + number bs
 
--- it has at most ten digits and lies between these
+-- it has at most ten digits and is in this range
 abbrev pub is_in_range : ℕ → ℕ → List ℕ → Bool
 is_in_range least most text = nat_le (length text) 10 && nat_le least (number text) && nat_le (number text) most
 
@@ -70,7 +70,7 @@ is_name_byte b = (nat_le 65 b && nat_le b 90) || is_digit b || (b == 64) || (b =
 abbrev pub is_name : List ℕ → Bool
 is_name text = not (is_empty text) && nat_le (length text) 8 && list_all is_name_byte text && not (is_digit (slice_index text 0))
 
--- X'..', and what stands between the quotes
+-- X'..', and the text between the quotes
 abbrev pub is_quoted : List ℕ → Bool
 is_quoted text = nat_le 3 (length text) && bytes_eq (take 2 text) (codes "X'") && bytes_eq (drop (length text - 1) text) (codes "'")
 
@@ -119,7 +119,7 @@ largest text = if is_list text then number (unwrap_or (slice_get (items text) 0)
 abbrev pub smallest : List ℕ → ℕ
 smallest text = if is_list text then number (unwrap_or (slice_get (items text) 1) []) else number text
 
--- whether something stands twice
+-- whether there is a duplicate
 abbrev pub is_twice : {X : Type 0} → (X → X → Bool) → List X → Bool
 is_twice same [] = false
 is_twice same (x ∷ xs) = list_any (same x) xs || is_twice same xs
@@ -141,7 +141,7 @@ is_of (DistinctNumbers least most) text = is_list text && list_all is_number (it
 is_of (DistinctNames count) text = is_list text && list_all is_name (items text)
 is_of (Addresses count) text = is_list text && list_all is_address (items text)
 
--- whether something stands twice in it: numbers are compared by value
+-- whether there is a duplicate in it: numbers are compared by value
 abbrev pub repeats : Kind → List ℕ → Bool
 repeats (DistinctNumbers least most) text = is_twice ◌==◌ (map number (items text))
 repeats (DistinctNames count) text = is_twice bytes_eq (items text)
@@ -151,7 +151,7 @@ repeats _ text = false
 abbrev pub is_pair_in_range : ℕ → ℕ → List ℕ → Bool
 is_pair_in_range least most text = list_all (is_in_range least most) (items text) && nat_le (smallest text) (largest text)
 
--- whether what stands there is in its range
+-- whether the value is in range
 abbrev pub is_within : Kind → List ℕ → Bool
 is_within (Number least most) text = is_in_range least most text
 is_within HexByte text = true
@@ -168,11 +168,11 @@ is_within (Addresses count) text = nat_le (length (items text)) count && list_al
 
 -- ---- the words of a line, and the operands of its third word
 
--- what stands between blanks
+-- what is between blanks
 abbrev pub words : List ℕ → List (List ℕ)
 words bytes = filter (λ word. not (is_empty word)) (slice_split (λ b. b == 32) bytes)
 
--- a text in which so many parentheses are open, parted at the commas where none is; one that closes nothing counts for nothing
+-- a text with this number of open parentheses, split at the commas outside parentheses; an unmatched one is ignored
 abbrev pub parts_within : ℕ → List ℕ → List (List ℕ)
 parts_within opened [] = [] ∷ []
 parts_within opened (b ∷ bs) =
@@ -184,7 +184,7 @@ abbrev pub operands_in : Option (List ℕ) → List (List ℕ)
 operands_in None = []
 operands_in (Some field) = parts_within 0 field
 
--- An operand with an equals sign has a key before it and a text behind it; one without is positional and its own text.
+-- An operand with an equals sign has a keyword before it and a text after it. One without is positional.
 abbrev pub is_equals : ℕ → Bool
 is_equals b = b == 61
 
@@ -211,8 +211,8 @@ has key operands = is_some (value_of key operands)
 abbrev pub positionals : List (List ℕ) → List (List ℕ)
 positionals operands = filter (λ operand. not (has_key operand)) operands
 
--- The operands of a statement by their keys and by their places: the text under each key, the positional operand at each place, and
--- how many of these there are. All that is said of a statement is said of these alone, so the order of keywords means nothing.
+-- The operands of a statement by keyword and position: the text of each keyword, the positional operand at each position, and the
+-- number of these. The meaning of a statement depends only on these, so the order of keywords does not matter.
 pub record ByKey : Type 0 where
   pub under : List ℕ → Option (List ℕ)
   pub at : ℕ → Option (List ℕ)
@@ -231,7 +231,7 @@ rows_of operation = filter (λ row. bytes_eq row.operation operation) table
 abbrev pub takes_form : List ℕ → Bool
 takes_form operation = list_any (λ row. not (is_empty row.forms)) (rows_of operation)
 
--- the form that is the first operand of an operation that takes one, and the operands behind it
+-- the form, which is the first operand of an operation that has forms, and the operands after it
 abbrev pub form_in : List ℕ → List (List ℕ) → List ℕ
 form_in operation operands = unwrap_or (slice_get operands 0) []
 
@@ -259,7 +259,7 @@ abbrev pub with_left : {X : Type 0} → List X → List (List X × X)
 with_left [] = []
 with_left (x ∷ xs) = ([], x) ∷ map (λ p. (x ∷ p.0, p.1)) (with_left xs)
 
--- what an operand may be: under a key what the row says, without one by its number, and behind a keyword nothing
+-- what an operand can be: with a keyword as the row has it, without one by its position, and nothing after a keyword
 abbrev pub kind_of : Row → List (List ℕ) → List ℕ → Option Kind
 kind_of row left operand =
     if has_key operand then option_map (λ k. k.kind) (find (λ k. bytes_eq k.key (key_of operand)) row.keywords)
@@ -270,7 +270,7 @@ abbrev pub if_kind : (Kind → Bool) → Option Kind → Bool
 if_kind test None = false
 if_kind test (Some kind) = test kind
 
--- an operand that is not taken or malformed; a key that stands on the left too, or something twice; what is out of its range
+-- an operand that is not allowed or malformed; a duplicate of a keyword or in a list; a value out of range
 abbrev pub operand_checks : Row → List (List ℕ) × List ℕ → List (Fault × Bool)
 operand_checks row (left, operand) =
     InvalidOperand when not (if_kind (λ kind. is_of kind (text_of operand)) (kind_of row left operand))
@@ -294,7 +294,7 @@ numbers_in (Some text) = if is_list text then map number (items text) else numbe
 abbrev pub numbers_under : List ℕ → List ℕ → ByKey → List ℕ
 numbers_under one other os = numbers_in (os.under one) ++ numbers_in (os.under other)
 
--- how many items stand under a key
+-- the number of items of a keyword
 abbrev pub count_under : List ℕ → ByKey → ℕ
 count_under key os = length (items (unwrap_or (os.under key) []))
 
@@ -358,7 +358,7 @@ FaultOf first bytes fault = first_of (checks first bytes) ≡ Some fault
 -- ---- what a statement says
 
 infixl 10 ◌>>=◌
--- what is said of a text, where it is there
+-- the meaning of a text, if there is one
 abbrev pub ◌>>=◌ : {A B : Type 0} → Option A → (A → Option B) → Option B
 None >>= f = None
 (Some x) >>= f = f x
@@ -436,12 +436,12 @@ release_of form os (Some len) (Some address) = Some (says.Request (written.Relea
 release_of form os None None = Some (says.Request (written.ReleaseWhole form (subpool os)))
 release_of form os _ _ = None
 
--- whether the word behind CPOOL GET makes it conditional
+-- whether the keyword after CPOOL GET makes it conditional
 abbrev pub is_conditional : Option (List ℕ) → Bool
 is_conditional None = false
 is_conditional (Some word) = is_one_of (codes "COND" ∷ codes "C" ∷ []) word
 
--- what a statement says by its form and the operands behind it, where all that it needs is there
+-- the meaning of a statement with this form and these operands, if all that it needs is given
 abbrev pub statement_of : Meaning → List ℕ → ByKey → Option Statement
 statement_of IsRegion form os =
     os.under (codes "BELOW") >>= λ below.

@@ -30,7 +30,7 @@ pub record OneReading : Type 0 where
   pub one_line : (first : Bool) (bytes : List ℕ) (l m : Line) → LineOf first bytes l → LineOf first bytes m → l ≡ m
   pub one_fault : (first : Bool) (bytes : List ℕ) (f g : Fault) → FaultOf first bytes f → FaultOf first bytes g → f ≡ g
 
--- one line for each fault, behind a REGION statement but for the last
+-- one line for each fault, after a REGION statement except for the last
 pub record FaultExamples : Type 0 where
   pub range : FaultOf false (codes "JOB GETMAIN R,LV=0,A=X") OutOfRange
   pub missing : FaultOf false (codes "JOB GETMAIN R,LV=8") MissingOperand
@@ -41,7 +41,7 @@ pub record FaultExamples : Type 0 where
   pub no_number : FaultOf false (codes "JOB ATTACH TASK=T,GSPV=0") OutOfRange
   pub first_statement : FaultOf true (codes "JOB RETURN") OutOfPlace
 
--- Each of these lines has this fault, behind a REGION statement.
+-- Each of these lines has this fault, after a REGION statement.
 abbrev pub Have : Fault → List (List ℕ) → Type 0
 Have fault [] = Unit {0}
 Have fault (bytes ∷ lines) = FaultOf false bytes fault × Have fault lines
@@ -354,8 +354,8 @@ pub record LineExamples : Type 0 where
       codes "J REPORT MAP" ∷
       [])
 
--- The row takes the operand behind those on its left: it is of a kind that the row has there, in its range, and neither its key nor
--- anything in it stands twice.
+-- The row accepts the operand after those on its left: it has a kind of the row, is in range, and neither its keyword nor anything
+-- in it is a duplicate.
 pub record Taken (row : Row) (left : List (List ℕ)) (operand : List ℕ) : Type 0 where
   pub of_kind : if_kind (λ kind. is_of kind (text_of operand)) (kind_of row left operand) ≡ true
   pub within : if_kind (λ kind. is_within kind (text_of operand)) (kind_of row left operand) ≡ true
@@ -366,7 +366,7 @@ pub record Taken (row : Row) (left : List (List ℕ)) (operand : List ℕ) : Typ
 abbrev pub keyed : Row → List ℕ → Option Kind
 keyed row key = option_map (λ k. k.kind) (find (λ k. bytes_eq k.key key) row.keywords)
 
--- what stands under a key is of the key's kind, and in its range
+-- the value of a keyword has the kind of the keyword, and is in range
 pub record IsTaken (row : Row) (key text : List ℕ) : Type 0 where
   pub of_kind : if_kind (λ kind. is_of kind text) (keyed row key) ≡ true
   pub within : if_kind (λ kind. is_within kind text) (keyed row key) ≡ true
@@ -378,7 +378,7 @@ loc_text loc.Below = codes "BELOW"
 loc_text loc.Any = codes "ANY"
 loc_text loc.Res = codes "RES"
 
--- what comes behind, where there is a boundary to lie within
+-- what follows if there is a boundary not to cross
 abbrev pub within_text : Option ℕ → List ℕ
 within_text None = []
 within_text (Some k) = codes ",CONTBDY=" ++ decimal k

@@ -1,4 +1,4 @@
--- What a reply to a request tells.
+-- The answer for a reply.
 use Rattle.std.specs.Prelude.{ℕ, zero, suc, ◌+◌, Bool, true, false, List, [], ◌∷◌, Option, Some, None}
 use Rattle.std.specs.Option.{unwrap_or}
 use Rattle.std.specs.FinMap.{get}
@@ -17,7 +17,7 @@ abbrev pub is_abend : Reply → Bool
 is_abend (reply.Abended code fallen) = true
 is_abend _ = false
 
--- of a grant: a variable request is told its length
+-- for a grant: a variable request also has its length
 abbrev pub grant_answer : Written → PlaceValue → Answer
 grant_answer (written.Obtain form number ask true area) p = Granted p.len
 grant_answer _ p = Rc0
@@ -27,12 +27,12 @@ unfoldable pub bytes_at : State → ℕ → ℕ → List ℕ
 bytes_at st a zero = []
 bytes_at st a (suc n) = unwrap_or (get st.bytes a) 0 ∷ bytes_at st (a + 1) n
 
--- of a request that read or wrote bytes: SHOW tells what it read
+-- for a request that read or wrote bytes: SHOW has the bytes that it read
 abbrev pub done_answer : State → Request → Answer
 done_answer st (request.Show a n) = Data (bytes_at st a n)
 done_answer st _ = Done
 
--- What a reply to a request tells, as it is written and with its names looked up.
+-- The answer for the reply to a request, as written and with its names looked up.
 abbrev pub answer_of : State → Written → Request → Reply → Answer
 answer_of st a r reply.NotRun = NotRun
 answer_of st a r reply.Rc0 = Rc0
@@ -46,7 +46,7 @@ answer_of st a r reply.Ended = Ended
 answer_of st a r reply.Done = done_answer st r
 answer_of st a r (reply.Abended code fallen) = Abended code fallen
 
--- what WHERE tells
+-- the answer to WHERE
 abbrev pub where_answer : Option PlaceValue → Answer
 where_answer None = NoName
 where_answer (Some p) = At p.addr

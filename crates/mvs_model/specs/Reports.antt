@@ -1,4 +1,4 @@
--- What the reports on subpools and pages tell. (the reports are this project's own)
+-- The contents of the reports on subpools and pages. (the reports are this project's own)
 use Rattle.std.specs.Prelude.{ℕ, zero, suc, ◌+◌, ◌*◌, ◌==◌, Bool, true, false, not, ◌&&◌, List, [], ◌∷◌, ◌++◌, Option, Some, None, if◌then◌else◌}
 use Rattle.std.specs.Option.{option_map, option_and_then}
 use Rattle.std.specs.FinMap.{get}
@@ -37,7 +37,7 @@ line_of_entry o plain pool t n (Some s) = record { number = n; owned = owns o t 
 abbrev pub subpool_lines : Owners → (ℕ → ℕ) → (ℕ → ℕ) → Name → List SubpoolLine
 subpool_lines o plain pool t = each_below subpool_numbers (λ n. line_of_entry o plain pool t n (entry o t n))
 
--- the same of a state
+-- the pages of a region of a state
 abbrev pub subpool_lines_of : State → Name → List SubpoolLine
 subpool_lines_of st t = subpool_lines st.owners (λ s. bytes_held st s false) (λ s. bytes_held st s true) t
 
@@ -57,12 +57,12 @@ same_subpool None (Some s) = false
 same_subpool (Some r) None = false
 same_subpool (Some r) (Some s) = r == s
 
--- a page in front of runs: it lengthens the first, or is a run of its own
+-- a page before some runs: it extends the first, or is a run of its own
 abbrev pub with_page : Option ℕ → List PageRun → List PageRun
 with_page s [] = record { count = 1; subpool = s } ∷ []
 with_page s (run ∷ runs) = if same_subpool s run.subpool then record { count = run.count + 1; subpool = s } ∷ runs else record { count = 1; subpool = s } ∷ run ∷ runs
 
--- the runs of so many pages from one on
+-- the runs of a number of pages, from a page on
 unfoldable pub page_runs : State → ℕ → ℕ → List PageRun
 page_runs st page zero = []
 page_runs st page (suc n) = with_page (page_subpool st page) (page_runs st (page + 1) n)

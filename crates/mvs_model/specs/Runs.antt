@@ -26,7 +26,7 @@ use Rattle.mvs_model.specs.Walk.{Machine, Walks, JobEnds, Leads}
 abbrev pub Condition : Type 1
 Condition = State → Name → Request → Reply → State → Type 0
 
--- The request is made, by a step that meets the condition: its reply is the answer, and a grant sets its names.
+-- The request is made, by a step that meets the condition. Its reply is the answer, and a grant sets its names.
 pub record Makes (P : Condition) (old : JobValue) (t : Name) (a : Written) (r : Request) (answer : Answer) (new : JobValue) : Type 0 where
   pub reply : Reply
   pub step : Step old.state t r reply new.state
@@ -73,7 +73,7 @@ Any old t r reply new = Unit {0}
 abbrev pub machine : Machine JobValue
 machine = job_machine Any
 
--- A run of the script may tell these events, and end so.
+-- A run of the script may have these events, and end so.
 abbrev pub IsRun : List ℕ → List Event → Outcome → Type 0
 IsRun script events outcome = Walks machine (JobEnds machine outcome) 1 None (lines_of script) events
 

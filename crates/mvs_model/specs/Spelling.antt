@@ -1,4 +1,4 @@
--- How a line is put together: a task, an operation and its operands, and the texts of what stands in operands.
+-- How a line is composed: a task, an operation and its operands, and the texts of operands.
 use Rattle.std.specs.Prelude.{◌≡◌, ℕ, ◌+◌, ◌-◌, ◌^◌, ◌<◌, ◌≤◌, nat_le, nat_lt, ◌==◌, ◌&&◌, ◌||◌, not, Bool, true, false, if◌then◌else◌, List, [], ◌∷◌, ◌++◌, map, length, find, flat_map, Some, option_map, slice_get, bytes_eq, codes, decimal}
 use Rattle.std.specs.List.{list_all, list_any, AllByRecursion}
 use Rattle.mvs_model.specs.declared.line.Line.{Line}
@@ -21,17 +21,17 @@ joined (text ∷ next ∷ texts) = text ++ 44 ∷ joined (next ∷ texts)
 abbrev pub line_text : List ℕ → List ℕ → List (List ℕ) → List ℕ
 line_text task operation operands = task ++ (32 ∷ (operation ++ (32 ∷ joined operands)))
 
--- whether a text closes its parentheses and those that are open before it, and has its commas within parentheses alone
+-- whether a text closes its parentheses and the open ones before it, and has commas only in parentheses
 abbrev pub closes : ℕ → List ℕ → Bool
 closes opened [] = opened == 0
 closes opened (b ∷ bs) = not ((b == 44) && (opened == 0)) && closes (if b == 40 then opened + 1 else (if b == 41 then opened - 1 else opened)) bs
 
--- A text that may stand alone as a word: one or more bytes from X'21' to X'7E'.
+-- A text that can be a word: one or more bytes from X'21' to X'7E'.
 pub record IsWord (text : List ℕ) : Type 0 where
   pub some : is_empty text ≡ false
   pub printed : list_all (λ b. nat_le 33 b && nat_le b 126) text ≡ true
 
--- A text that may stand as an operand: a word that closes its parentheses.
+-- A text that can be an operand: a word that closes its parentheses.
 pub record IsOperand (text : List ℕ) : Type 0 where
   pub word : IsWord text
   pub closed : closes 0 text ≡ true
@@ -127,7 +127,7 @@ named_text name distance = name ++ (43 ∷ decimal distance)
 abbrev pub bytes_text : List ℕ → List ℕ
 bytes_text bytes = quoted_text (flat_map (hex 2) bytes)
 
--- A text fits a kind, and may stand without a key.
+-- A text fits a kind, and can be given without a keyword.
 pub record FitsAlone (kind : Kind) (text : List ℕ) : Type 0 where
   pub fits : Fits kind text
   pub no_key : has_key text ≡ false
@@ -165,7 +165,7 @@ pub record EachIsWritten : Type 0 where
   pub addresses_are : (count : ℕ) (texts : List (List ℕ)) → is_empty texts ≡ false → length texts ≤ count → AllByRecursion IsAddressText texts
       → Fits (Addresses count) (list_text texts) × (items (list_text texts) ≡ texts)
 
--- Two keywords that stand side by side may be exchanged: the line says the same. (so any order of them says the same)
+-- Two adjacent keywords can be exchanged: the meaning is the same. (so every order has the same meaning)
 abbrev pub InAnyOrder : Type 0
 InAnyOrder =
     (first : Bool) (task : List ℕ) (row : Row) (form : List ℕ) (places : List (List ℕ)) (front : List (List ℕ × List ℕ)) (one other : List ℕ × List ℕ) (rest : List (List ℕ × List ℕ)) (l : Line)

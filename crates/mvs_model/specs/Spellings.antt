@@ -48,7 +48,7 @@ may key kind text = record { key = key; kind = kind; text = text }
 pub record AllFit (operands : List Operand) : Type 0 where
   pub each : AllByRecursion (λ o. IfSome o.text (Fits o.kind)) operands
 
--- the key and the text of an operand that is written, in front of others
+-- the keyword and the text of a given operand, before others
 abbrev pub in_front : List ℕ → Option (List ℕ) → List (List ℕ × List ℕ) → List (List ℕ × List ℕ)
 in_front key None pairs = pairs
 in_front key (Some text) pairs = (key, text) ∷ pairs
@@ -58,7 +58,7 @@ abbrev pub filled : List Operand → List (List ℕ × List ℕ)
 filled [] = []
 filled (o ∷ os) = in_front o.key o.text (filled os)
 
--- Operands without keys, and those keyword operands behind them that are written, say the statement where they fit their kinds.
+-- Positional operands, and the given keywords after them, are the statement if they fit their kinds.
 abbrev pub SaysFilled : Bool → List ℕ → List (List ℕ) → List Operand → Statement → Type 0
 SaysFilled first operation places operands statement = AllFit operands → SaysAs first operation (places ++ map keyword_text (filled operands)) statement
 
@@ -66,7 +66,7 @@ SaysFilled first operation places operands statement = AllFit operands → SaysA
 abbrev pub NotBoth : Option (List ℕ) → Option (List ℕ) → Type 0
 NotBoth one other = (is_some one && is_some other) ≡ false
 
--- ---- what operands say, with what stands for those that are left out
+-- ---- the meaning of operands, with the values of omitted ones
 
 -- the number that is written, or another
 abbrev pub number_said : ℕ → Option (List ℕ) → ℕ
@@ -240,7 +240,7 @@ SaysBuild =
     (cpid pool ∷ must (codes "CSIZE") (Number 4 65536) size ∷ must (codes "PCELLCT") (Number 1 65536) primary ∷ may (codes "SCELLCT") (Number 1 65536) secondary ∷ sp sub ∷ loc_word place ∷ [])
     (says.Request (written.Build (padded pool) (number_said 0 sub) (number size) (number primary) (number_said (number primary) secondary) (loc_said place)))
 
--- by the word behind GET, or without one
+-- by the keyword after GET, or without one
 abbrev pub SaysGet : List (List ℕ) → Bool → Type 0
 SaysGet word conditional =
     (pool cell : List ℕ)

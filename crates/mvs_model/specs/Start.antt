@@ -8,7 +8,7 @@ use Rattle.mvs_model.specs.Storage.{Regions}
 use Rattle.mvs_model.specs.Owners.{Owners}
 use Rattle.mvs_model.specs.State.{State}
 
--- the job step task alone, without a subpool
+-- only the job step task, without a subpool
 abbrev pub first_owners : Name → Residence → Owners
 first_owners t residence = record { tasks = insert empty t (record { mother = None; residence = residence }); table = empty; owner = empty }
 
@@ -16,6 +16,6 @@ first_owners t residence = record { tasks = insert empty t (record { mother = No
 abbrev pub regions_of : CardValue → Regions
 regions_of card = record { below = card.below; above = card.above; fill = card.fill }
 
--- nothing is held, there are no pools, and the job step task is alone
+-- nothing is held, there are no pools, and only the job step task is active
 abbrev pub start : CardValue → State
 start card = record { regions = regions_of card; held = empty; bytes = empty; owners = first_owners card.name card.residence; pools = empty }

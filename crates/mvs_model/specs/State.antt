@@ -62,7 +62,6 @@ is_plain held = has (λ h. not h.pooled) held
 abbrev pub in_cell : State → ℕ → Bool
 in_cell st a = list_any (λ name. has (λ pool. in_taken pool a) (get st.pools name)) (keys st.pools)
 
--- whether the byte may be read and written: its doubleword is held outside the pools, or it lies in a taken cell. (this
--- project's choice)
+-- whether the byte can be accessed: its doubleword is held outside pools, or it is in a taken cell. (this project's choice)
 abbrev pub granted : State → ℕ → Bool
 granted st a = is_plain (get st.held (a / 8)) || in_cell st a

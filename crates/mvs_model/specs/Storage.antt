@@ -17,11 +17,11 @@ pub record Regions : Type 0 where
   pub above : ℕ
   pub fill : ℕ
 
--- all of the place lies from one address up to another
+-- all of the place is between two addresses
 abbrev pub LiesIn : ℕ → ℕ → PlaceValue → Type 0
 LiesIn from to p = (from ≤ p.addr) × (p.addr + p.len ≤ to)
 
--- the place lies inside one region. (the first addresses are this project's choice)
+-- the place is within one region. (the first addresses are this project's choice)
 abbrev pub InRegion : Regions → PlaceValue → Type 0
 InRegion r p = LiesIn below_begins (below_begins + page_bytes * r.below) p ⊎ LiesIn above_begins (above_begins + page_bytes * r.above) p
 
@@ -55,7 +55,7 @@ pub record MayTake (holder : ℕ → Option ℕ) (s d : ℕ) : Type 0 where
   pub free : holder d ≡ None
   pub page : (e t : ℕ) → e / page_doublewords ≡ d / page_doublewords → holder e ≡ Some t → t ≡ s
 
--- The place lies inside one region, and s may take each of its doublewords. (Assembler Services Guide, subpools)
+-- The place is within one region, and s may take each of its doublewords. (Assembler Services Guide, subpools)
 pub record Open (r : Regions) (holder : ℕ → Option ℕ) (s : ℕ) (p : PlaceValue) : Type 0 where
   pub inside : InRegion r p
   pub each : (d : ℕ) → Covers p d → MayTake holder s d
@@ -67,25 +67,25 @@ pub record IsRun (run : PlaceValue) : Type 0 where
   pub short : run.addr + run.len ≤ 2 ^ 31
   pub one_side : run.addr < above_begins → run.addr + run.len ≤ above_begins
 
--- all of the place lies in the run
+-- all of the place is in the run
 abbrev pub InRun : PlaceValue → PlaceValue → Type 0
 InRun run p = LiesIn run.addr (run.addr + run.len) p
 
--- The place begins on the boundary that is wanted, lies within the one that is wanted, and is on the side that is wanted.
--- (Assembler Services Reference, GETMAIN: BNDRY, STARTBDY, CONTBDY, LOC)
+-- The place begins on the requested boundary, does not cross the other one, and is on the requested side. (Assembler Services
+-- Reference, GETMAIN: BNDRY, STARTBDY, CONTBDY, LOC)
 pub record Meets (want : WantValue) (p : PlaceValue) : Type 0 where
   pub on_doubleword : p.addr % 8 ≡ 0
   pub start : p.addr % 2 ^ want.start ≡ 0
   pub within : IfSome want.within (λ k. p.addr / 2 ^ k ≡ (p.addr + p.len - 1) / 2 ^ k)
   pub side : want.side ≡ Below → IsBelow p
 
--- The length is whole and in the range that is wanted.
+-- The length is a multiple of 8 in the requested range.
 pub record IsLength (want : WantValue) (n : ℕ) : Type 0 where
   pub least : want.least ≤ n
   pub most : n ≤ want.most
   pub whole : n % 8 ≡ 0
 
--- the addresses at which s has an open place of length n that meets what is wanted
+-- the addresses at which s has an open place of length n that meets the request
 abbrev pub Places : Regions → (ℕ → Option ℕ) → ℕ → WantValue → ℕ → ℕ → Type 0
 Places r holder s want n a = Open r holder s (place_at a n) × Meets want (place_at a n)
 
@@ -102,7 +102,7 @@ pub record Chosen (r : Regions) (holder : ℕ → Option ℕ) (s : ℕ) (want : 
 abbrev pub NoPlace : Regions → (ℕ → Option ℕ) → ℕ → WantValue → Type 0
 NoPlace r holder s want = (a : ℕ) → Places r holder s want want.least a → ⊥
 
--- Storage: which subpool holds a doubleword, and which byte stands at an address.
+-- Storage: the subpool that holds each doubleword, and the byte at each address.
 pub record Storage : Type 0 where
   pub regions : Regions
   pub held : FinMap nat_cmp ℕ
@@ -133,7 +133,7 @@ HeldBy st s p = (d : ℕ) → Covers p d → holder st d ≡ Some s
 abbrev pub AllHeld : Storage → PlaceValue → Type 0
 AllHeld st p = (d : ℕ) → Covers p d → IsSome (holder st d)
 
--- the first doubleword behind the regions
+-- the first doubleword after the regions
 abbrev pub end_of : Regions → ℕ
 end_of r = first_doubleword_above + page_doublewords * r.above
 
@@ -148,13 +148,13 @@ IsPageOwner st a owner = MatchOption owner
     ((d : ℕ) → d / page_doublewords ≡ a / page_bytes → holder st d ≡ None)
     (λ s. (d : ℕ) × (d / page_doublewords ≡ a / page_bytes) × (holder st d ≡ Some s))
 
--- Each page is of one subpool, what is held lies in the regions, and there are bytes just where something is held.
+-- Each page belongs to one subpool, everything held is in the regions, and there are bytes exactly where something is held.
 pub record IsStorage (st : Storage) : Type 0 where
   pub pages : PageRule (holder st)
   pub inside : (d s : ℕ) → holder st d ≡ Some s → InRegion st.regions (place_at (8 * d) 8)
   pub bytes : (a : ℕ) → is_some (get st.bytes a) ≡ is_some (holder st (a / 8))
 
--- A place as wanted is given to s: its doublewords are now of s and its bytes the fill byte, and all else is as before.
+-- A place as requested is granted to s: s now holds its doublewords, the bytes are the fill byte, and nothing else has changed.
 -- (Assembler Services Reference, GETMAIN; the fill byte is this project's choice)
 pub record Grant (old : Storage) (s : ℕ) (want : WantValue) (p : PlaceValue) (new : Storage) : Type 0 where
   pub chosen : Chosen old.regions (holder old) s want p

@@ -40,11 +40,11 @@ abbrev pub abend_lines : ℕ → Name → Code → List Name → List ℕ
 abend_lines number t code fallen =
     reply_line number t (codes "ABEND " ++ code_text code) ++ flat_map (λ x. reply_line number x (codes "ENDED WITH " ++ trimmed t)) fallen
 
--- how many lines so many bytes take
+-- the number of lines for a number of bytes
 abbrev pub line_count : ℕ → ℕ
 line_count n = (n + (line_bytes - 1)) / line_bytes
 
--- bytes, so many in a line, from an offset on
+-- bytes on lines of a fixed length, from an offset on
 unfoldable pub data_lines : ℕ → Name → ℕ → ℕ → List ℕ → List ℕ
 data_lines number t zero offset bytes = []
 data_lines number t (suc lines) offset bytes =

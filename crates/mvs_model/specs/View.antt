@@ -25,7 +25,7 @@ in_pools pools d = list_any (λ name. has (λ pool. in_parts pool d) (get pools 
 abbrev pub holding : Storage → FinMap name_cmp Pool → ℕ → Option Holding
 holding st pools d = option_map (λ s. record { subpool = s; pooled = in_pools pools d }) (holder st d)
 
--- a doubleword behind both regions
+-- a doubleword after both regions
 abbrev pub behind : Regions → ℕ
 behind r = first_doubleword_above + page_doublewords * (r.below + r.above)
 

@@ -8,7 +8,7 @@ use Rattle.mvs_model.specs.declared.want.Loc.TheVariants as loc
 use Rattle.mvs_model.specs.declared.want.Residence.{Residence}
 use Rattle.mvs_model.specs.declared.want.Residence.TheVariants as residence
 
--- The least and the greatest length, the exponents of the boundary to begin on and to lie within, and the side.
+-- The least and the greatest length, the exponents of the boundary to begin on and of the boundary not to cross, and the side.
 pub record WantValue : Type 0 where
   pub least : ℕ
   pub most : ℕ

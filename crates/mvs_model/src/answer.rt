@@ -3,8 +3,8 @@
 use crate::code::Code;
 use crate::place::{Addr, Place};
 
-/// What a statement of a task is answered. What is long is lent by the job: the bytes of a place, the tasks that ended with
-/// one that abended, and the lines of the reports.
+/// The answer to a statement of a task. The job owns the long data: the bytes of a place, the names of the tasks that ended too,
+/// and the lines of the reports.
 #[derive(Clone, Copy, Debug, PartialEq, Eq)]
 pub enum Answer {
     /// The task is not active.

@@ -1,6 +1,6 @@
 //! Numbers that keep to a range.
 
-ghost use Rattle.std.specs.Prelude.{◌≡◌, ◌<◌, ◌≤◌};
+ghost use Rattle.std.specs.Prelude.{◌≡◌, ◌<◌, ◌≤◌, SomeIff};
 ghost use Rattle.mvs_model.specs.Numbers as numbers;
 
 use crate::numbers::{
@@ -34,6 +34,17 @@ impl<const LOW: u32, const HIGH: u32> Bounded<LOW, HIGH> {
         ensures { result ≡ value }
     {
         Bounded { value }
+    }
+
+    /// Takes a number that may be out of the range: None where it is.
+    pub fn checked(value: u32) -> Option<Self>
+        ensures { SomeIff result ((LOW ≤ value) × (value ≤ HIGH)) value }
+    {
+        if LOW <= value && value <= HIGH {
+            Some(Bounded { value })
+        } else {
+            None
+        }
     }
 
     pub fn get(&self) -> u32

@@ -63,7 +63,7 @@ impl Code {
     /// ATTACH beyond the most tasks.
     pub const TOO_MANY_TASKS: Code = Code::User(4_005);
 
-    /// All of subpool 0 is to be released.
+    /// A release of the whole of subpool 0.
     pub const WHOLE_OF_ZERO: Code = Code::User(4_006);
 
     /// CPOOL BUILD beyond the most cell pools.

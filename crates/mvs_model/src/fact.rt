@@ -4,13 +4,13 @@ use crate::name::Name;
 use crate::place::Place;
 use crate::subpool::SubNo;
 
-/// What a request did, by the state before it and the state behind it. A subpool is named by the number under which its owner has
-/// it, and the owner.
+/// What a request changed, computed from the states before and after it. A subpool is named by its number for its owner, and the
+/// owner.
 #[derive(Clone, Copy, Debug, PartialEq, Eq)]
 pub enum Fact {
     /// An area was obtained.
     Obtained {
-        /// The name that now tells where it lies.
+        /// The name that is now set to it.
         area: Name,
         place: Place,
         /// The least and the greatest length that were asked for, in bytes, as written.
@@ -29,22 +29,22 @@ pub enum Fact {
         number: SubNo,
         owner: Name,
     },
-    /// So many pages that held nothing are assigned to the subpool; where it is 0, the place lies in pages that the subpool had.
+    /// The number of free pages that were assigned to the subpool. If it is 0, the place is in pages that the subpool already had.
     PagesTaken(u32),
-    /// So many pages hold nothing any more.
+    /// The number of pages that became free.
     PagesFreed(u32),
     /// All that the subpool held is free, and it stays.
     Emptied {
         number: SubNo,
         owner: Name,
     },
-    /// A cell was taken, which the name now tells.
+    /// A cell was allocated, and the name is set to it.
     CellTaken {
         cell: Name,
         pool: Name,
         place: Place,
     },
-    /// The pool has a part of so many cells of so many bytes that it had not.
+    /// The pool has a new part, with this number of cells of this size in bytes.
     PartAdded {
         pool: Name,
         cells: u32,

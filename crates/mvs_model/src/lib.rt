@@ -1,25 +1,26 @@
-//! The storage machine: plain types, definitions and laws.
+//! The storage machine: plain types and definitions.
 #![tactic(auto)]
 
 pub mod answer;
 pub mod bounded;
 pub mod card;
 pub mod code;
+pub mod codes;
 pub mod error;
-pub mod examples;
 pub mod fact;
 pub mod gifts;
-pub mod laws;
 pub mod line;
 pub mod name;
 pub mod numbers;
 pub mod outcome;
 pub mod place;
 pub mod reason;
+pub mod refusal;
 pub mod report;
 pub mod request;
 pub mod short_list;
 pub mod subpool;
 pub mod subpool_set;
+pub mod table;
 pub mod want;
 pub mod watched;

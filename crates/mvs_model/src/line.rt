@@ -108,7 +108,7 @@ pub enum Written {
     },
 }
 
-/// What a statement says behind the name of its task.
+/// What a statement specifies after the name of its task.
 #[derive(Drop)]
 pub enum Statement {
     Region {
@@ -145,7 +145,7 @@ pub enum Fault {
     MissingOperand,
     /// JS06: a number is out of its range, or a list is too long.
     OutOfRange,
-    /// JS07: a keyword, a name or a number stands twice.
+    /// JS07: a keyword, a name or a number is a duplicate.
     Repeated,
     /// JS08: two operands exclude each other.
     Conflicting,

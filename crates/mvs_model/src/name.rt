@@ -49,7 +49,7 @@ fn pad(text: &[u8]) -> [u8; 8]
 }
 
 impl Name {
-    /// The name that a text spells; None where the text is empty, longer than eight bytes, or has a blank.
+    /// Returns the name with this text, or None if the text is empty, longer than eight bytes, or has a blank.
     pub fn new(text: &[u8]) -> Option<Name>
         ensures { MatchOption result (IsNameText text.now → ⊥)
             (λ name. IsNameText text.now × (name ≡ padded text.now)) }
@@ -60,7 +60,7 @@ impl Name {
         Some(Name { bytes: pad(text) })
     }
 
-    /// The name that a text spells which is known to spell one.
+    /// Returns the name with a text that is known to be one.
     pub fn of(text: &[u8]) -> Name
         requires { IsNameText text.now }
         ensures { result ≡ padded text.now }
@@ -151,7 +151,7 @@ impl Hash for Name {
     }
 }
 
-// How many bytes stand before the first blank.
+// Returns the number of bytes before the first blank.
 fn text_len(bytes: &[u8]) -> usize
     ensures len { result ≡ position_or_len (λ b. b == 32) bytes.now }
     ensures within { result ≤ length bytes.now }

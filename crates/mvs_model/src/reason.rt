@@ -7,7 +7,7 @@ use crate::subpool::SubNo;
 /// What holds a doubleword.
 #[derive(Clone, Copy, Debug, PartialEq, Eq)]
 pub enum Holder {
-    /// It is free, or lies in no region.
+    /// It is free, or in no region.
     Nobody,
     /// A subpool, outside of cell pools: the number under which its owner has it, and the owner.
     Subpool(SubNo, Name),
@@ -17,14 +17,14 @@ pub enum Holder {
     Part(Name),
 }
 
-/// Where an address lies at which no taken cell of a pool begins.
+/// Where an address is, if no taken cell of a pool begins there.
 #[derive(Clone, Copy, Debug, PartialEq, Eq)]
 pub enum CellSpot {
     /// A cell of the pool begins there, and is free.
     Untaken,
-    /// It lies inside the cell of the pool that begins at this address.
+    /// It is inside the cell of the pool that begins at this address.
     Inside(Addr),
-    /// It lies in no cell of the pool.
+    /// It is in no cell of the pool.
     Elsewhere,
 }
 
@@ -41,23 +41,29 @@ pub struct Room {
     pub above: u32,
 }
 
-/// Why a request is refused, by the state before it. What the request itself says is not told again.
+/// What a member of a list asked for and what was left for it, once those before it were granted.
+#[derive(Clone, Copy, Debug, PartialEq, Eq)]
+pub struct Shortfall {
+    /// The length that it asked for, in bytes.
+    pub bytes: u32,
+    /// What room was left.
+    pub room: Room,
+}
+
+/// Why a request is refused: the refusal, with what it is about in the state before the request. What the request itself has is
+/// not repeated.
 #[derive(Clone, Copy, Debug, PartialEq, Eq)]
 pub enum Reason {
     /// The task is not active.
     NotActive,
     /// A program may not name the subpool number.
     InvalidNumber,
-    /// A name that the request looks up is not set: the first one, from the left.
-    NotSet(Name),
-    /// There is no place of the least length that is wanted.
+    /// The least length fits nowhere.
     Shortage(Room),
-    /// There is no place for a member of a list, by itself: its number in the list, from 1 on, and the length that it wants.
-    NoMember(u32, u32, Room),
-    /// There is no place for a member of a list once those in front of it are granted: its number in the list, from 1 on, the length
-    /// that it wants, and the room that is left.
-    NoMemberBehind(u32, u32, Room),
-    /// There is no place for a part of so many cells of so many bytes, the first one of a pool or a further one.
+    /// A member of a list does not fit once the members before it are granted: its number in the list, from 1 on, and what it
+    /// lacked.
+    NoMember(u32, Shortfall),
+    /// A part with this number of cells of this size in bytes does not fit: the first part of a pool, or a further one.
     NoPart(u32, u32, Room),
     /// A place begins at this address, which is not on a doubleword.
     OffDoubleword(Addr),
@@ -77,7 +83,7 @@ pub enum Reason {
     NoPool,
     /// No cell of the pool is free, and the request is conditional.
     NoFreeCell,
-    /// No taken cell of the pool begins at the address, which lies here.
+    /// No taken cell of the pool begins at the address. This is where the address is.
     NoTakenCell(CellSpot),
     /// A task of the name is active.
     TaskInUse,
@@ -91,4 +97,13 @@ pub enum Reason {
     Asked,
     /// The first byte that may not be read and written, and what holds its doubleword.
     NoAccess(Addr, Holder),
+}
+
+/// Why a line is not executed as it asks.
+#[derive(Clone, Copy, Debug, PartialEq, Eq)]
+pub enum LineReason {
+    /// A name that the line looks up is not set: the first one, from the left.
+    NotSet(Name),
+    /// Its request is refused, or its task is not active.
+    Refused(Reason),
 }

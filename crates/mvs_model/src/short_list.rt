@@ -4,7 +4,7 @@ ghost use Rattle.std.specs.Prelude.{◌≡◌, ◌<◌, ◌≤◌, ◌↔◌, []
 
 use std::marker::Model;
 
-/// A list of `LEAST` to `MOST` items. What stands in the array behind the items does not count.
+/// A list of `LEAST` to `MOST` items, in an array. Array elements after the items are not part of the value.
 #[derive(Drop)]
 pub struct ShortList<T: Copy, const LEAST: usize, const MOST: usize> {
     items: [T; MOST],
@@ -22,7 +22,7 @@ impl<T: Copy, const LEAST: usize, const MOST: usize> Model for ShortList<T, LEAS
 }
 
 impl<T: Copy, const LEAST: usize, const MOST: usize> ShortList<T, LEAST, MOST> {
-    /// No item. The filler stands in the array and does not count.
+    /// Makes a list without items. The filler fills the array, and is not part of the value.
     pub fn empty(filler: T) -> Self
         requires { LEAST ≡ 0 }
         ensures { result ≡ [] }

@@ -1,4 +1,4 @@
-//! What an obtaining request wants.
+//! What an obtain requests.
 
 ghost use Rattle.std.specs.Prelude.{◌≡◌, ◌≤◌, ◌<◌, ◌^◌};
 ghost use Rattle.mvs_model.specs.Want.{WantValue, IsWant, AskValue, IsAsk, want_of, fixed_want};
@@ -6,7 +6,7 @@ ghost use Rattle.mvs_model.specs.Want.{WantValue, IsWant, AskValue, IsAsk, want_
 use crate::bounded::{Exponent, Length};
 use std::marker::Model;
 
-/// Where a grant may lie: below 16 megabytes only, or above if a place is there and else below.
+/// Where an area can be placed: only below 16 megabytes, or above if it fits there and else below.
 #[derive(Clone, Copy, Debug, PartialEq, Eq)]
 pub enum Side {
     Below,
@@ -36,8 +36,8 @@ pub enum Placement {
     High,
 }
 
-/// What a grant has to meet: its least and its greatest length in bytes, both whole doublewords, the power of
-/// two of the boundary that it begins on, that of the boundary that it lies within, and its side.
+/// The requirements for an area: least and greatest length in bytes, both whole doublewords; the power of two of the boundary to
+/// begin on; that of the boundary not to cross; its side.
 #[derive(Clone, Copy, Debug, PartialEq, Eq)]
 pub struct Want {
     least: u32,
@@ -106,7 +106,7 @@ impl Want {
         self.start
     }
 
-    /// The power of two of the boundary that the place lies within.
+    /// Returns the power of two of the boundary that the place must not cross.
     pub fn within(&self) -> Option<Exponent>
         ensures within { result ≡ self.now.within }
         ensures wanted { IsWant self.now }
@@ -121,8 +121,8 @@ impl Want {
     }
 }
 
-/// What an obtaining request asks for, as written: its least and greatest length in bytes, the power of two of
-/// the boundary that it begins on, that of the boundary that it lies within, and its location.
+/// What an obtain requests, as written: least and greatest length in bytes, the power of two of the boundary to begin on, that of
+/// the boundary not to cross, the location.
 #[derive(Clone, Copy, Debug, PartialEq, Eq)]
 pub struct Ask {
     least: u32,
@@ -202,9 +202,10 @@ impl Ask {
         self.loc
     }
 
-    /// What is wanted on a side, the lengths rounded up to doublewords.
+    /// Returns the requirements for a side. The lengths are rounded up to doublewords.
     pub fn want(&self, side: Side) -> Want
-        ensures { result ≡ want_of self.now side }
+        ensures want { result ≡ want_of self.now side }
+        ensures some { 1 ≤ self.now.least }
     {
         Want {
             least: self.least.div_ceil(8) * 8,

@@ -1,5 +1,5 @@
 -- What is passed on of a script, a byte at a time.
-use Rattle.std.proofs.Common.{◌⊎◌, ◌≡◌, ◌≢◌, ℕ, ◌<◌, ◌==◌, ◌&&◌, Bool, true, false, if◌then◌else◌, slice_set, ◌≤◌, List, [], ◌∷◌, ◌++◌, length, take, drop, append_assoc, append-nil, Option, Some, None, is_some, refl, sym, ap, ◌∙◌, arith, length-append, lt-ltb, ne_eqb, eq-eqb, eqb-true, subst, Result, Ok, Err, IfOk, IfErr}
+use Rattle.std.proofs.Common.{◌⊎◌, ◌≡◌, ◌≢◌, ℕ, ◌<◌, ◌==◌, ◌&&◌, Bool, true, false, if◌then◌else◌, slice_set, ◌≤◌, List, [], ◌∷◌, ◌++◌, length, take, drop, append_assoc, append-nil, Option, Some, None, is_some, refl, sym, ap, ◌∙◌, arith, length-append, lt-ltb, ne_eqb, eq-eqb, eqb-true, subst, inl, Result, Ok, Err, IfOk, IfErr}
 use Rattle.std.specs.Option.{option_map}
 use Rattle.std.specs.Io.KnownBytes.{Consumes, IsAtEnd, Keeps}
 use Rattle.mvs_model.specs.declared.line.Fault.{Fault}
@@ -212,3 +212,23 @@ module _ (left unread more before after : Option (List ℕ)) (same : left ≡ un
       → IfErr r (λ fault. fault ≡ Memory → Writes unread before after (λ script written. IsPrintingBefore script written))
   written_before (Ok outcome) h = tt
   written_before (Err fault) h = λ e. subst (λ l. Writes l before after (λ script written. IsPrintingBefore script written)) same (writes_of left more before after (λ told script written. IsPrintingBefore script written) (λ script written. IsPrintingBefore script written) (λ told script written p. p) (h e))
+
+-- ---- a run that ended at the byte that is too many, as a read that failed
+
+pub ok_same : (r e : Result Outcome RunFault) (P Q : Outcome → Type 0) → e ≡ r → ((outcome : Outcome) → P outcome → Q outcome) → IfOk r P → IfOk e Q
+ok_same (Ok outcome) e P Q same f h = subst (λ e. IfOk e Q) (sym same) (f outcome h)
+ok_same (Err fault) e P Q same f h = subst (λ e. IfOk e Q) (sym same) tt
+
+pub ok_fault : (e : Result Outcome RunFault) (fault : RunFault) (Q : Outcome → Type 0) → e ≡ Err fault → IfOk e Q
+ok_fault e fault Q is = subst (λ e. IfOk e Q) (sym is) tt
+
+pub err_same : (r e : Result Outcome RunFault) (P : RunFault → Type 0) → e ≡ r → IfErr r P → IfErr e P
+err_same r e P same h = subst (λ e. IfErr e P) (sym same) h
+
+pub err_other : (e : Result Outcome RunFault) (W : Type 0) → e ≡ Err ReadTooLong → IfErr e (λ fault. fault ≡ Memory → W)
+err_other e W is = subst (λ e. IfErr e (λ fault. fault ≡ Memory → W)) (sym is) (λ m. absurd (let f : ReadTooLong ≡ Memory = m in cc))
+
+pub err_mended : (r e : Result Outcome RunFault) (W : Type 0) → r ≡ Err Read → e ≡ Err ReadTooLong → IfErr r (λ fault. (fault ≡ Read) ⊎ (fault ≡ ReadTooLong) → W) → IfErr e (λ fault. (fault ≡ Read) ⊎ (fault ≡ ReadTooLong) → W)
+err_mended r e W was is h =
+    let read : (Read ≡ Read) ⊎ (Read ≡ ReadTooLong) → W = subst (λ r. IfErr r (λ fault. (fault ≡ Read) ⊎ (fault ≡ ReadTooLong) → W)) was h in
+    subst (λ e. IfErr e (λ fault. (fault ≡ Read) ⊎ (fault ≡ ReadTooLong) → W)) (sym is) (λ _. read (inl refl))

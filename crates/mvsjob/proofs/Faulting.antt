@@ -11,7 +11,7 @@ use Rattle.mvs_model.specs.declared.name.Name.{Name}
 use Rattle.mvs_model.specs.declared.outcome.Outcome.TheVariants.{ScriptFault}
 use Rattle.mvs_model.specs.Answers.{Event, Faulted}
 use Rattle.mvs_model.specs.Grammar.{Row}
-use Rattle.mvs_model.specs.Laws.{EndsIn, fault_at, first_fault}
+use Rattle.mvs_laws.specs.Laws.{EndsIn, fault_at, first_fault}
 use Rattle.mvs_model.specs.Lines.{lines_of}
 use Rattle.mvs_model.specs.Reading.{◌>>=◌, FaultOf, LineOf, checks, first_of, form_in, line_said, operands_of, operation_in, row_of, says_nothing, task_in}
 use Rattle.mvs_model.proofs.Reading.{said_with}

@@ -43,13 +43,13 @@ pub record AreParsers (ps : Parsers) : Type 0 where
   pub profile : IsOneOf profiles ps.profile
   pub color : IsOneOf colors ps.color
 
--- a word that is said or not
+-- an option without a value
 abbrev pub flag_rule : Text → Rule
 flag_rule name = record (new_rule name) { long = Some name; action = Some SetTrue }
 
--- a word with a value
+-- an option with a value, for which the help has one name
 abbrev pub value_rule : Text → ValueParser → Rule
-value_rule name parser = record (new_rule name) { long = Some name; parser = Some parser }
+value_rule name parser = record (new_rule name) { long = Some name; parser = Some parser; value_names = 1 }
 
 -- a command that has a version, for which `-V` and `--version` ask
 abbrev pub versioned : App → App
@@ -67,7 +67,7 @@ judging_app a = with_rule (with_rule a (value_rule (codes "judge") NonEmptyStrin
 abbrev pub random_app : App → App
 random_app a = with_rule (with_rule a (value_rule (codes "random") (Unsigned 0 18446744073709551615))) (value_rule (codes "lines") (Unsigned 1 1000000))
 
--- and with what else a run tells, and how
+-- and with the options for the output of a run
 abbrev pub telling_app : App → App
 telling_app a =
     with_rule (with_rule (with_rule (with_rule (with_rule a (flag_rule (codes "explain"))) (flag_rule (codes "json"))) (flag_rule (codes "page")))
@@ -84,7 +84,7 @@ command ps =
 abbrev pub assigned : Parsers → List Text → Text → Option Text
 assigned ps words name = first_of name (matches_of (command ps) words)
 
--- A text spells a number.
+-- A text is a number.
 abbrev pub IsNumber : Text → ℕ → Type 0
 IsNumber text n = IsNumeral 10 (without_leading_plus text) × (digits_value 10 (without_leading_plus text) ≡ n)
 
@@ -103,9 +103,9 @@ pub record IsRecipe (random lines profile : Option Text) (recipe : Recipe) : Typ
   pub usual : lines ≡ None → recipe.lines ≡ 100
   pub made : IsProfile profile recipe.profile
 
--- A script is made where `--random` has a seed; else an output is judged where `--judge` names one; else the answers of the script
--- are compared where `--check` is said, or left out where `--blank` is, or questions are put in where `--ask` is, or
--- it is written as a program where `--assemble` is; else it is run.
+-- A random script is made if `--random` is given; else an output is judged with `--judge`; else answers are compared with
+-- `--check`, removed with `--blank`, WHERE statements added with `--ask`, or a program written with `--assemble`; else the script
+-- is run.
 pub record IsMode (random lines profile judge check blank ask assemble : Option Text) (mode : Mode) : Type 0 where
   pub makes : (seed : Text) → random ≡ Some seed → (recipe : Recipe) × (mode ≡ Random recipe) × IsRecipe random lines profile recipe
   pub judges : (output : Text) → random ≡ None → judge ≡ Some output → mode ≡ Judge

@@ -1,6 +1,6 @@
 -- A script without its faulty lines.
-use Rattle.std.specs.Prelude.{ℕ, ◌==◌, ◌&&◌, Bool, true, if◌then◌else◌, List, [], ◌∷◌, ◌++◌, drop, Option, Some, None, is_some, option_map}
-use Rattle.std.specs.Io.KnownBytes.{Appends}
+use Rattle.std.specs.Prelude.{ℕ, ◌≡◌, ◌==◌, ◌&&◌, Bool, true, if◌then◌else◌, List, [], ◌∷◌, ◌++◌, drop, length, Option, Some, None, is_some, option_map}
+use Rattle.std.specs.Io.KnownBytes.{Appends, Consumes, IsAtEnd}
 use Rattle.mvs_model.specs.Lines.{lines_of, ended_text}
 use Rattle.mvs_model.specs.Reading.{checks, first_of, is_empty, says_nothing}
 use Rattle.mvs_job.specs.Exchanging.{Exchanges, IsRest}
@@ -18,11 +18,12 @@ faultless first (l ∷ lines) = if is_faulty first l then faultless first lines 
 abbrev pub without_faults : List ℕ → List ℕ
 without_faults script = ended_text (faultless true (lines_of script))
 
--- Where it is known what is left to be told, P holds of that and of what is written; and else of some bytes and of what is written.
+-- If it is known what is left to read, P holds for it and for what is written; otherwise for some bytes and what is written.
 abbrev pub Writes : Option (List ℕ) → Option (List ℕ) → Option (List ℕ) → (List ℕ → List ℕ → Type 0) → Type 0
 Writes left before after P = (script : List ℕ) × (written : List ℕ) × IsRest left script × Appends before after written × P script written
 
--- Where it is known what is left to be told, a front of that was consumed; and P holds of that, of all of it, and of what is written.
+-- If it is known what is left to read, a front of it was consumed; and P holds for that front, for all of it, and for what is
+-- written.
 abbrev pub WritesPart : Option (List ℕ) → Option (List ℕ) → Option (List ℕ) → (List ℕ → List ℕ → List ℕ → Type 0) → Type 0
 WritesPart unread before after P = (left : Option (List ℕ)) × Exchanges unread left before after P
 
@@ -41,7 +42,7 @@ abbrev pub passed_of : Bool → List ℕ → List ℕ → List ℕ
 passed_of first line [] = if is_empty line then [] else passed first line
 passed_of first line (b ∷ left) = if b == 10 then passed first line ++ passed_of (first_behind first line) [] left else passed_of first (line ++ b ∷ []) left
 
--- the rest of a line that has ended, of which so many bytes were passed on
+-- the rest of a complete line, of which a number of bytes was passed on
 abbrev pub rest_of : List ℕ → Option ℕ → List ℕ
 rest_of line None = []
 rest_of line (Some given) = drop given line ++ 10 ∷ []
@@ -58,3 +59,9 @@ coming first ended line given left = rest_of line given ++ (if ended then [] els
 -- the same, where it is known what is left
 abbrev pub known_coming : Bool → Bool → List ℕ → Option ℕ → Option (List ℕ) → Option (List ℕ)
 known_coming first ended line given left = option_map (coming first ended line given) left
+
+-- ---- what was read of the reader
+
+-- This number of bytes was read since these were left, and none is left if the end was reached.
+abbrev pub HasRead : Option (List ℕ) → Option (List ℕ) → ℕ → Bool → Type 0
+HasRead start now count ended = (bytes : List ℕ) × Consumes start now bytes × (length bytes ≡ count) × (ended ≡ true → IsAtEnd now)

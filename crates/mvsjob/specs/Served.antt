@@ -1,6 +1,9 @@
--- What a mode does with a script that was read whole: what it writes, how the program ends, and which line is to be reported.
-use Rattle.std.specs.Prelude.{◌≡◌, ℕ, List, ◌∷◌, ◌++◌, Option, Some, None, Result, Ok, Err, Bool, codes}
+-- The effect of a mode on a script that was read whole: what it writes, how the program ends, and which line to report.
+use Rattle.std.specs.Prelude.{◌≡◌, ℕ, List, ◌∷◌, ◌++◌, ◌==◌, ◌&&◌, ◌||◌, nat_lt, not, position, Option, Some, None, Result, Ok, Err, Bool, true, false, codes}
 use Rattle.std.specs.Io.KnownBytes.{Appends}
+use Rattle.annotated.specs.Blank.{blank}
+use Rattle.event_json.specs.Lines.{WritesLines}
+use Rattle.job_script.specs.Writing.{AppendsFront}
 use Rattle.judge.specs.declared.Finding.{Finding}
 use Rattle.judge.specs.declared.Finding.TheVariants as finding
 use Rattle.judge.specs.Judging.{IsFound}
@@ -8,7 +11,11 @@ use Rattle.mvs_model.specs.declared.outcome.Outcome.{Outcome}
 use Rattle.mvs_model.specs.declared.outcome.Outcome.TheVariants.{Clean, SomeAbend, ScriptFault}
 use Rattle.mvs_model.specs.Answers.{Event}
 use Rattle.mvs_model.specs.Lines.{lines_of}
-use Rattle.mvs_model.specs.Runs.{IsRun}
+use Rattle.mvs_model.specs.Runs.{IsRun, machine}
+use Rattle.mvs_model.specs.Walk.{Faults, ServesLine, is_first}
+use Rattle.mvs_job.specs.declared.walk.LineTold.{LineTold}
+use Rattle.mvs_job.specs.declared.walk.LineTold.TheVariants as told
+use Rattle.mvs_job.specs.Telling.{WalkValue}
 use Rattle.mvs_job.specs.declared.printing.Stop.{Stop}
 use Rattle.mvs_job.specs.declared.run.RunFault.{RunFault}
 use Rattle.mvs_job.specs.declared.run.RunFault.TheVariants as fault
@@ -16,13 +23,14 @@ use Rattle.mvs_job.specs.Explaining.{WritesExplained}
 use Rattle.mvs_job.specs.Streams.{PrintedUpTo}
 use Rattle.mvs_job.specs.Strict.{HearsFront, PrintsStrictly, Skipped}
 use Rattle.page.specs.Pages.{WritesPage, WritesShown}
-use Rattle.mvsjob.specs.declared.ending.Ending.TheVariants.{Ran, Judged}
+use Rattle.mvsjob.specs.declared.ending.Ending.TheVariants.{Ran, Printed, Judged}
 use Rattle.mvsjob.specs.declared.ending.GiveUp.{GiveUp}
 use Rattle.mvsjob.specs.declared.ending.GiveUp.TheVariants.{Job}
 use Rattle.mvsjob.specs.declared.faulty.Faulty.{Faulty}
 use Rattle.mvsjob.specs.declared.served.Served.{Served}
+use Rattle.mvsjob.specs.Asking.{asked}
 use Rattle.mvsjob.specs.Endings.{gave_up, strict_ending}
-use Rattle.mvsjob.specs.Faulty.{EndsAt, IsLineOf}
+use Rattle.mvsjob.specs.Faulty.{EndsAt, IsFirstFault, IsLineOf}
 
 -- The line to report of a script whose run ended so: none, or the one with which each run ends that ends with a fault.
 abbrev pub IsFaultOf : List ℕ → Outcome → Option Faulty → Type 0
@@ -45,11 +53,64 @@ Explains before after script result = (ended : Result Outcome Stop) × WritesExp
 abbrev pub Pages : Option (List ℕ) → Option (List ℕ) → List ℕ → List ℕ → Result Served GiveUp → Type 0
 Pages before after frame script result = (ended : Result Outcome Stop) × WritesPage before after frame script ended × EndsAs script ended result
 
--- Its run is printed, and someone hears of the lines that were not executed: of just these, or if the run stops of those of some first lines.
+-- Its run is printed, and an observer is called for exactly the lines that were not executed, or if the run stops for those among
+-- the first lines.
 abbrev pub RunsStrictly : Option (List ℕ) → Option (List ℕ) → Option (List Skipped) → Option (List Skipped) → List ℕ → Result Served GiveUp → Type 0
 RunsStrictly before after heard heard' script (Ok served) =
     (outcome : Outcome) × (all : Bool) × PrintsStrictly before after heard heard' script outcome all × (served.ending ≡ strict_ending outcome all) × IsFaultOf script outcome served.faulty
 RunsStrictly before after heard heard' script (Err why) = (stop : Stop) × (why ≡ gave_up stop) × PrintedUpTo stop before after script × HearsFront heard heard' script
+
+-- ---- texts
+
+-- whether a byte is one that no script may have
+abbrev pub is_foreign : ℕ → Bool
+is_foreign b = not (b == 10) && (nat_lt b 32 || nat_lt 126 b)
+
+-- A script has only bytes that it may have.
+abbrev pub HasNoForeign : List ℕ → Type 0
+HasNoForeign script = position is_foreign script ≡ None
+
+-- A mode ends that printed what was asked for, with status 0.
+abbrev pub IsPrinted : Served → Type 0
+IsPrinted served = (served.ending ≡ Printed) × (served.faulty ≡ None)
+
+-- A mode ends at the first fault of the script, and reports that line.
+abbrev pub EndsAtFault : List ℕ → Served → Type 0
+EndsAtFault script served =
+    (faulty : Faulty) × (served.ending ≡ Ran ScriptFault) × (served.faulty ≡ Some faulty) × IsFirstFault 1 true (lines_of script) faulty.number faulty.fault × IsLineOf 1 (lines_of script) faulty.number faulty.line.now
+
+-- A text is written, and the mode ends; or a front of it is, and the write failed.
+abbrev pub WritesText : Option (List ℕ) → Option (List ℕ) → List ℕ → Result Served GiveUp → Type 0
+WritesText before after text (Ok served) = Appends before after text × IsPrinted served
+WritesText before after text (Err why) = AppendsFront before after text × (why ≡ Job fault.Write)
+
+-- The script is written with ? for its answers.
+abbrev pub Blanks : Option (List ℕ) → Option (List ℕ) → List ℕ → Result Served GiveUp → Type 0
+Blanks before after script result = WritesText before after (blank script) result
+
+-- The script is written with its questions.
+abbrev pub Asks : Option (List ℕ) → Option (List ℕ) → List ℕ → Result Served GiveUp → Type 0
+Asks before after script result = WritesText before after (asked true (lines_of script)) result
+
+-- ---- events and findings
+
+-- The events of a run of the script are written as lines of JSON, each in its place.
+abbrev pub TellsRun : Option (List ℕ) → Option (List ℕ) → List ℕ → Outcome → Type 0
+TellsRun before after script outcome = (events : List Event) × IsRun script events outcome × WritesLines before after events
+
+-- The same, and the mode ends as the run.
+abbrev pub Tells : Option (List ℕ) → Option (List ℕ) → List ℕ → Served → Type 0
+Tells before after script served = (outcome : Outcome) × TellsRun before after script outcome × (served.ending ≡ Ran outcome) × IsFaultOf script outcome served.faulty
+
+-- whether a job continues after the events of a line
+abbrev pub is_on : LineTold → Bool
+is_on (told.Faulted fault) = false
+is_on told = true
+
+-- The line is executed, its events are written, and the job continues; or it has a fault, which is written.
+abbrev pub TellsOn : Option (List ℕ) → Option (List ℕ) → WalkValue → List ℕ → WalkValue → Bool → Type 0
+TellsOn before after w line new true = (events : List Event) × WritesLines before after events × ServesLine machine w.number w.step line events new.step
+TellsOn before after w line new false = (events : List Event) × WritesLines before after events × Faults w.number (is_first w.step) line events
 
 -- the word for a finding
 abbrev pub word_of : Finding → List ℕ

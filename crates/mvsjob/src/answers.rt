@@ -1,6 +1,9 @@
 //! Compares the answers of a script with those of its run, leaves them out, or puts questions in.
 
-use crate::choices::{Mode, Settings};
+ghost use Rattle.mvsjob.specs.Served.{Asks, Blanks, HasNoForeign};
+
+use crate::asking::write_asking;
+use crate::choices::Settings;
 use crate::ending::{Ending, GiveUp};
 use crate::faulty::{Faulty, first_faulty};
 use crate::front::front_of;
@@ -8,7 +11,6 @@ use crate::served::Served;
 use crate::through::Through;
 use annotated::{has_answer, statement_at, write_blank, write_differences, write_statements};
 use diagnosis::PlainName;
-use judge::write_asking;
 use mvs_job::{RunFault, Told, run_job};
 use mvs_model::outcome::Outcome;
 use mvs_model::watched::Watched;
@@ -26,7 +28,7 @@ fn printed(
     let told = Told::nothing(alloc);
     let outcome = match run_job(alloc, &mut reader, &mut writer, settings.placement, told) {
         Ok(outcome) => outcome,
-        // A vector that takes no byte has no memory for it.
+        // A vector that accepts no byte has no memory for it.
         Err(RunFault::Write) => return Err(GiveUp::Job(RunFault::Memory)),
         Err(fault) => return Err(GiveUp::Job(fault)),
     };
@@ -102,21 +104,32 @@ pub fn check_answers<'a, W: Write>(
     }
 }
 
-/// Writes a script without its answers, or with questions. It ends at a byte that no script may have.
-pub fn write_front<'a, W: Write>(
-    mode: Mode,
+/// Writes a script without its answers. It ends at a byte that no script may have.
+pub fn write_blanks<'a, W: Write>(
     script: &'a [u8],
     writer: &mut Watched<W>,
-) -> Result<Served<'a>, GiveUp> {
+) -> Result<Served<'a>, GiveUp>
+    ensures { HasNoForeign script.now
+        → Blanks (W.contents writer.old.inner) (W.contents writer.new.inner) script.now result }
+{
     let front = front_of(script);
-    let mut writer = Through::new(writer);
-    let written = if mode == Mode::Ask {
-        write_asking(&mut writer, front.text)
-    } else {
-        write_blank(&mut writer, front.text.as_bytes())
-    };
-    match written {
+    match write_blank(writer, front.bytes) {
         Ok(()) => Ok(Served::of_front(front.faulty)),
-        Err(error) => Err(GiveUp::of_write(error.kind())),
+        Err(_) => Err(GiveUp::Job(RunFault::Write)),
+    }
+}
+
+/// Writes a script with a WHERE for each of its areas. It ends at an invalid byte.
+pub fn write_questions<'a, W: Write>(
+    script: &'a [u8],
+    writer: &mut Watched<W>,
+) -> Result<Served<'a>, GiveUp>
+    ensures { HasNoForeign script.now
+        → Asks (W.contents writer.old.inner) (W.contents writer.new.inner) script.now result }
+{
+    let front = front_of(script);
+    match write_asking(writer, front.bytes) {
+        Ok(()) => Ok(Served::of_front(front.faulty)),
+        Err(_) => Err(GiveUp::Job(RunFault::Write)),
     }
 }

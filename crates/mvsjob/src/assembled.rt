@@ -1,5 +1,9 @@
 //! Writes the script as a program for the assembler.
 
+ghost use Rattle.std.specs.Prelude.{◌≤◌, ◌⊎◌, IfOk, length};
+ghost use Rattle.mvs_model.specs.Numbers.{most_script_bytes};
+ghost use Rattle.mvsjob.specs.Served.{EndsAtFault, IsPrinted};
+
 use crate::ending::{Ending, GiveUp};
 use crate::faulty::first_faulty;
 use crate::front::front_of;
@@ -18,12 +22,15 @@ pub fn write_assembled<'a, W: Write>(
     alloc: Global,
     script: &'a [u8],
     writer: &mut Watched<W>,
-) -> Result<Served<'a>, GiveUp> {
+) -> Result<Served<'a>, GiveUp>
+    requires { length script.now ≤ most_script_bytes }
+    ensures { IfOk result (λ served. IsPrinted served ⊎ EndsAtFault script.now served) }
+{
     if is_silent(script) {
         return Ok(Served::of_fault(first_faulty(script, 1, true)));
     }
     let front = front_of(script);
-    match write_program(alloc, Through::new(writer), front.text) {
+    match write_program(alloc, Through::new(writer), front.text()) {
         Ok(true) if front.faulty.is_none() => Ok(Served::of(Ending::Printed)),
         Ok(_) => Ok(Served::of_fault(first_faulty(script, 1, true))),
         Err(ProgramFault::Memory) => Err(GiveUp::Job(RunFault::Memory)),

@@ -29,7 +29,7 @@ pub enum Apart {
     Needs(&'static str, &'static str),
 }
 
-/// What is to be done.
+/// What to do.
 #[derive(Clone, Copy, Debug, PartialEq, Eq)]
 pub enum Mode {
     /// The script is run.
@@ -40,7 +40,7 @@ pub enum Mode {
     Judge,
     /// The script is written without its answers.
     Blank,
-    /// The script is written with questions where its areas lie.
+    /// The script is written with a WHERE for each of its areas.
     Ask,
     /// The script is written as a program for the assembler.
     Assemble,
@@ -48,7 +48,7 @@ pub enum Mode {
     Random(Recipe),
 }
 
-/// Where the script is, which place a grant takes, and what is to be done.
+/// The script, the placement, and what to do.
 #[derive(Drop)]
 pub struct Settings<'a> {
     /// The name of a file, `-` for standard input.
@@ -60,13 +60,13 @@ pub struct Settings<'a> {
     pub mode: Mode,
     /// Whether a run says why requests are refused.
     pub explains: bool,
-    /// Whether a run tells its events as lines of JSON.
+    /// Whether a run prints its events as lines of JSON.
     pub json: bool,
     /// Whether a run is written as a page of HTML.
     pub page: bool,
-    /// Whether a run tells each line that was not served.
+    /// Whether a run reports each line that was not executed.
     pub strict: bool,
-    /// Whether a run asks for its lines, and goes on without those that have a fault.
+    /// Whether a run prompts for its lines, and skips those with a fault.
     pub interactive: bool,
     pub color: Color,
     /// Two options that have no meaning together, if there are such.

@@ -59,7 +59,7 @@ impl<W: Write> Write for Coloured<W> {
     }
 }
 
-// Whether the environment says that nothing is to be coloured.
+// Returns whether the environment forbids colors.
 fn forbids_colour(rt: &HostRuntime) -> bool {
     match env::var(rt, "NO_COLOR") {
         Ok(value) => !value.is_empty(),

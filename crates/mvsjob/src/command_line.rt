@@ -15,37 +15,36 @@ use random_script::Profile;
 use std::alloc::{AllocError, Global};
 
 const ABOUT: &str =
-    "Simulates the virtual storage services of z/OS: runs a script, and prints what each request is answered.";
+    "Simulates the virtual storage services of z/OS: runs a script of requests, and prints the reply to each.";
 
 /// The version of this program, and the kit that it is proved with.
-const VERSION: &str = "1.0.0 (rattle-kit-13f logic dac8208d650f15bf)";
+const VERSION: &str = "1.1.0 (rattle-kit-13f logic dac8208d650f15bf)";
 
-const SHORT: &str = "--help has examples and the exit statuses.
-The script's language is described in mvsjob-script(5), which is docs/SCRIPT.md.";
+const SHORT: &str = "--help also shows examples and exit statuses.
+mvsjob-script(5) describes the script language.";
 
 const LONG: &str = "Examples:
-  mvsjob leak.job                    runs a script
-  mvsjob --strict leak.job           and says which lines were not served
-  mvsjob                             runs the lines that are typed, until the end of input (Ctrl-D)
-  mvsjob --explain leak.job          and says why requests are refused
-  mvsjob --page a.job > a.html       shows storage and tasks behind each statement
-  mvsjob --check homework.job        compares the answers behind => with those of the run
-  mvsjob --assemble leak.job         prints a job that asks MVS the same
+  mvsjob leak.job                    run a script
+  mvsjob --explain leak.job          show why requests are refused, and what is freed
+  mvsjob --strict leak.job           report lines that were not executed
+  mvsjob                             run lines as you type them; Ctrl-D ends
+  mvsjob --page a.job > a.html       show storage and tasks after each statement
+  mvsjob --check homework.job        compare the answers after => with those of a run
+  mvsjob --assemble leak.job         print an HLASM program that makes the same requests
   mvsjob --random 7 --lines 50 | mvsjob --place high
-                                     runs a random script, its areas at the highest places
+                                     run a random script, its areas at the highest addresses
 
 Exit status:
-  0   clean: every line was run, and no task abended
-  1   with --check: some answer is another one than the script says;
-      with --judge: no run of the script prints OUTPUT
-  2   with --judge: it is not decided whether a run of the script prints OUTPUT
-  4   with --strict: no task abended, and some line was not served: NOT RUN or NO NAME
-  8   every line was run, and some task abended
-  12  a line of the script has a fault, and no line behind it was run; at a terminal
-      faulty lines are left out, and 12 says that there was no REGION statement
-  16  the job gave up, or could not begin: standard error says why
+  0   the script ran to its end, and no task abended
+  1   --check: an answer differs; --judge: no run of the script prints OUTPUT
+  2   --judge: not decided
+  4   --strict: no task abended, but a line was not executed (NOT RUN or NO NAME)
+  8   the script ran to its end, and a task abended
+  12  a line has a fault, and no later line was run; in a terminal, where such lines
+      are skipped, 12 means that there was no REGION statement
+  16  an error, described on standard error
 
-The script's language is described in mvsjob-script(5), which is docs/SCRIPT.md.";
+mvsjob-script(5) describes the script language.";
 
 /// The options that have a value, where it is a word of its own.
 static VALUED: [&str; 6] = [
@@ -178,7 +177,7 @@ fn titled<'a>(alloc: Global) -> Command<'a>
         .after_long_help(LONG)
 }
 
-// The command with a word that is said or not.
+// Adds an option without a value.
 fn with_flag<'a>(
     command: Command<'a>,
     alloc: Global,
@@ -194,11 +193,12 @@ fn with_flag<'a>(
     command.arg(flag)
 }
 
-// The command with a word that has a value.
+// Adds an option with a value, which the help calls by a name.
 fn with_option<'a>(
     command: Command<'a>,
     alloc: Global,
     name: &'a str,
+    value: &'a str,
     parser: ValueParser<'a>,
     help: &'a str,
 ) -> Result<Command<'a>, AllocError>
@@ -207,6 +207,7 @@ fn with_option<'a>(
 {
     let option = Arg::new(alloc, name)
         .long(name)
+        .value_name(value)
         .value_parser(parser)
         .help(help);
     command.arg(option)
@@ -217,11 +218,11 @@ fn with_script<'a>(alloc: Global) -> Result<Command<'a>, AllocError>
     ensures { IfOk result
         (λ c. app_of c ≡ with_rule (versioned (new_app (codes "mvsjob"))) (new_rule (codes "FILE"))) }
 {
-    let file = Arg::new(alloc, "FILE").help("The script; standard input where it is left out or -");
+    let file = Arg::new(alloc, "FILE").help("Script to run [default: standard input]");
     titled(alloc).arg(file)
 }
 
-// The command with the option that says where areas lie.
+// Adds the option for the placement.
 fn with_place<'a>(command: Command<'a>, alloc: Global) -> Result<Command<'a>, AllocError>
     ensures { IfOk result
         (λ c. (place : Parser) × IsOneOf places place
@@ -231,8 +232,9 @@ fn with_place<'a>(command: Command<'a>, alloc: Global) -> Result<Command<'a>, Al
         command,
         alloc,
         "place",
+        "PLACE",
         ValueParser::Names(PLACES.as_slice()),
-        "Which of the places that serve a request is taken; low where it is left out",
+        "Place each area at the lowest or the highest address that fits [default: low]",
     )
 }
 
@@ -244,19 +246,19 @@ fn with_answers<'a>(command: Command<'a>, alloc: Global) -> Result<Command<'a>, 
         command,
         alloc,
         "check",
-        "Compares the answers behind => in the script with those of its run, and prints each that differs",
+        "Compare the answers after => in the script with those of a run, and print each difference",
     )?;
     let blanking = with_flag(
         checking,
         alloc,
         "blank",
-        "Prints the script with ? for the answers behind =>, and runs nothing",
+        "Print the script with ? in place of the answers after =>",
     )?;
     with_flag(
         blanking,
         alloc,
         "assemble",
-        "Prints the script as an HLASM program with its JCL that issues the same macros in the same tasks, and runs nothing",
+        "Print the script as an HLASM program with JCL that makes the same requests",
     )
 }
 
@@ -268,14 +270,15 @@ fn with_judging<'a>(command: Command<'a>, alloc: Global) -> Result<Command<'a>, 
         command,
         alloc,
         "judge",
+        "OUTPUT",
         ValueParser::NonEmptyString,
-        "Says whether the file of this name is what a run of the script prints, wherever its areas lie",
+        "Decide whether a run of the script can print the file OUTPUT, wherever its areas are placed",
     )?;
     with_flag(
         judging,
         alloc,
         "ask",
-        "Prints the script with a WHERE behind each request for areas or a cell, and runs nothing",
+        "Print the script with a WHERE after each request for areas or a cell",
     )
 }
 
@@ -287,15 +290,17 @@ fn with_random<'a>(command: Command<'a>, alloc: Global) -> Result<Command<'a>, A
         command,
         alloc,
         "random",
+        "SEED",
         ValueParser::Unsigned(0, u64::MAX),
-        "Prints a random script of this seed, of whose requests most are served",
+        "Print a random script, in which most requests are granted",
     )?;
     with_option(
         seeded,
         alloc,
         "lines",
+        "N",
         ValueParser::Unsigned(1, 1_000_000),
-        "How many lines a random script has; 100 where it is left out",
+        "Number of lines of a random script [default: 100]",
     )
 }
 
@@ -309,12 +314,13 @@ fn with_profile<'a>(command: Command<'a>, alloc: Global) -> Result<Command<'a>, 
         command,
         alloc,
         "profile",
+        "NAME",
         ValueParser::Names(PROFILES.as_slice()),
-        "What a random script is made of; storage where it is left out",
+        "Contents of a random script [default: storage]",
     )
 }
 
-// The command with what else a run tells, and how.
+// Adds the options for the output of a run.
 fn with_telling<'a>(command: Command<'a>, alloc: Global) -> Result<Command<'a>, AllocError>
     ensures { IfOk result (λ c. app_of c ≡ telling_app (app_of command.entry)) }
 {
@@ -322,31 +328,31 @@ fn with_telling<'a>(command: Command<'a>, alloc: Global) -> Result<Command<'a>, 
         command,
         alloc,
         "explain",
-        "Says behind an answer why a request is refused, what a granted one did and what goes at an end, in lines that begin with *",
+        "Also print, in lines that begin with *, why a request was refused, what it changed, and what a task's end freed",
     )?;
     let printing = with_flag(
         explaining,
         alloc,
         "json",
-        "Prints each event of the run as a line of JSON; with --explain also why a request is refused",
+        "Print each event of the run as a line of JSON; with --explain, include the reasons",
     )?;
     let paging = with_flag(
         printing,
         alloc,
         "page",
-        "Prints the run as a page of HTML that shows storage and tasks behind each statement",
+        "Print the run as an HTML page that shows storage and tasks after each statement",
     )?;
     let strict = with_flag(
         paging,
         alloc,
         "strict",
-        "Says on standard error of each line whose task is not active, or in which a name is not set, what may be meant",
+        "Report lines that were not executed (NOT RUN, NO NAME) on standard error, with a hint",
     )?;
     with_flag(
         strict,
         alloc,
         "interactive",
-        "Asks for each line on standard error, tells one that has a fault, and goes on without it; so does a run from a terminal to a terminal",
+        "Prompt for each line, and report and skip lines with a fault, as in a terminal",
     )
 }
 
@@ -360,12 +366,13 @@ fn with_color<'a>(command: Command<'a>, alloc: Global) -> Result<Command<'a>, Al
         command,
         alloc,
         "color",
+        "WHEN",
         ValueParser::Names(COLORS.as_slice()),
-        "Whether lines with ABEND or RC 4 are coloured; where it is left out auto, at a terminal without NO_COLOR",
+        "Color lines with ABEND or RC 4 [default: auto, which colors in a terminal unless NO_COLOR is set]",
     )
 }
 
-// The command: a word and fifteen options, all of which may be left out.
+// Makes the command: a file and fifteen options, all of which are optional.
 fn command<'a>(alloc: Global) -> Result<Command<'a>, AllocError>
     ensures { IfOk result (λ c. (ps : Parsers) × AreParsers ps × (app_of c ≡ command ps)) }
 {
@@ -519,7 +526,7 @@ fn apart(matches: &ArgMatches<'_>) -> Option<Apart> {
     None
 }
 
-// What is to be done.
+// Returns what to do.
 fn mode(matches: &ArgMatches<'_>) -> Mode
     ensures { IsMode (first_value (found_of matches.now) (codes "random"))
         (first_value (found_of matches.now) (codes "lines"))
@@ -593,7 +600,7 @@ pub fn settings<'a>(alloc: Global, words: &'a [String]) -> Result<Settings<'a>, 
         (λ error. (kind_of error ≡ OutOfMemory)
         ⊎ ((kinds : Kinds) × FindsWrong (map string_bytes words.entry.now) kinds
         × IsAmong (kind_of error) kinds)) }
-    // Words that clap takes are refused for want of memory alone.
+    // Options that clap accepts are refused only if memory is exhausted.
     ensures refused { IfErr result
         (λ error. IsTaken (map string_bytes words.entry.now) → kind_of error ≡ OutOfMemory) }
 {

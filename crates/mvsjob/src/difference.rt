@@ -70,16 +70,16 @@ fn write_line_difference<W: Write>(
     match difference_of(printed, expected) {
         Difference::CarriageReturn => writeln!(
             writer,
-            "line {number} of the output ends with X'0D0A'; a run ends it with X'0A'"
+            "line {number} of the output ends with X'0D0A', not with X'0A' as a run prints it"
         ),
         Difference::Unended => writeln!(
             writer,
-            "line {number} of the output, the last one, has no end; a run ends it with X'0A'"
+            "line {number} of the output, the last line, does not end with X'0A'"
         ),
         Difference::Other => {
             write!(writer, "line {number} of the output: ")?;
             write_line(writer, printed)?;
-            write!(writer, "a run that prints the same before it: ")?;
+            write!(writer, "a run prints: ")?;
             write_line(writer, expected)
         }
     }

@@ -62,7 +62,7 @@ pub enum GiveUp {
     /// The script cannot be opened, or is a directory.
     #[error("cannot open script: {0}")]
     Script(Cause),
-    /// The output that is to be judged cannot be read.
+    /// The output to judge cannot be read.
     #[error("cannot read output: {0}")]
     Output(Cause),
     /// Nobody reads what is written.

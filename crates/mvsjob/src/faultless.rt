@@ -1,23 +1,23 @@
 //! A reader that leaves out the lines of a script that have a fault.
 
-ghost use Rattle.std.specs.Prelude.{◌≡◌, ◌<◌, ◌≤◌, ◌+◌, ◌||◌, ◌⊎◌, ◌∷◌, [], ℕ, List, None, true, false, is_some, length, take, IfErr, IfOk, IsErrOf, MatchOption, OnOk};
+ghost use Rattle.std.specs.Prelude.{◌≡◌, ◌≢◌, ◌<◌, ◌≤◌, ◌+◌, ◌||◌, ◌⊎◌, ◌∷◌, [], ℕ, List, None, Option, true, false, is_some, length, nat_lt, take, IfErr, IfOk, IsErrOf, IsNone, MatchOption, OnErr, OnOk};
 ghost use Rattle.mvs_model.specs.Memory.{IsPrintingBefore};
 ghost use Rattle.mvs_model.specs.Numbers.{most_script_bytes};
 ghost use Rattle.mvs_model.specs.Runs.{IsAnswered, IsPrinting, IsPrintingFront};
 ghost use Rattle.std.specs.Option.{option_map};
-ghost use Rattle.std.specs.Io.KnownBytes.{Keeps};
-ghost use Rattle.mvsjob.specs.Faultless.{Writes, WritesPart, begun, coming, first_behind, known_coming, passed, rest_of, without_faults};
+ghost use Rattle.std.specs.Io.KnownBytes.{IsAtEnd, Keeps};
+ghost use Rattle.mvsjob.specs.Faultless.{HasRead, Writes, WritesPart, begun, coming, first_behind, known_coming, passed, rest_of, without_faults};
 
 use crate::faulty::says_nothing;
 use job_script::{LineBuffer, read_line};
-use mvs_job::{RunFault, Told, run_job};
+use mvs_job::{RunFault, Source, Told, run_from};
 use mvs_model::line::{Fault, Line};
 use mvs_model::numbers::MOST_SCRIPT_BYTES;
 use mvs_model::outcome::Outcome;
 use mvs_model::want::Placement;
-use mvs_model::watched::Watched;
+use mvs_model::watched::{Failed, Watched};
 use std::alloc::Global;
-use std::io::{self, ErrorKind, Read, Write};
+use std::io::{Read, Write};
 
 /// How many bytes of a line are kept at most, which are enough to see that it is too long.
 const ROOM: usize = 256;
@@ -27,7 +27,7 @@ pub trait Listens {
     /// A line is awaited, which has this number if it has no fault.
     fn await_line(&mut self, line_number: u32);
 
-    /// A line has this fault, and is left out. Of one that is too long the first 256 bytes are told.
+    /// A line has this fault, and is skipped. If it is too long, these are its first 256 bytes.
     fn hear(&mut self, line_number: u32, line: &[u8], fault: Fault);
 
     /// There is no more.
@@ -42,20 +42,20 @@ struct Lines {
     given: Option<usize>,
     /// Whether no statement came before it.
     first: bool,
-    /// Whether there is no more behind it.
+    /// Whether nothing follows it.
     ended: bool,
     number: u32,
     read: Line,
 }
 
-// A reader that tells a script without the lines that have a fault. It reads no further than it tells, and takes no memory.
+// A reader of a script without the lines that have a fault. It reads no further than needed, and allocates no memory.
 #[derive(Drop)]
 struct Faultless<R, L> {
-    inner: R,
+    inner: Watched<R>,
     lines: Lines,
     listener: L,
-    /// Whether a read has failed because the reader is a directory.
-    is_directory: bool,
+    /// How many bytes were read.
+    count: usize,
 }
 
 impl Lines {
@@ -82,7 +82,7 @@ impl Lines {
         self.given.is_some() || self.ended
     }
 
-    // Ends the line: it is to be passed on, or has a fault and is let go.
+    // Ends the line: it is passed on, or has a fault and is dropped.
     fn end_line<L: Listens>(&mut self, listener: &mut L)
         requires { self.old.given ≡ None }
         ensures passed { rest_of self.new.line self.new.given ≡ passed self.old.first self.old.line }
@@ -107,7 +107,8 @@ impl Lines {
     fn take<L: Listens>(&mut self, byte: u8, listener: &mut L)
         requires given { self.old.given ≡ None }
         requires ended { self.old.ended ≡ false }
-        ensures { (left : List ℕ)
+        ensures ended { self.new.ended ≡ false }
+        ensures coming { (left : List ℕ)
             → coming self.new.first self.new.ended self.new.line self.new.given left
             ≡ coming self.old.first self.old.ended self.old.line self.old.given (byte ∷ left) }
     {
@@ -122,7 +123,8 @@ impl Lines {
     fn end<L: Listens>(&mut self, listener: &mut L)
         requires given { self.old.given ≡ None }
         requires ended { self.old.ended ≡ false }
-        ensures { (left : List ℕ)
+        ensures ended { self.new.ended ≡ true }
+        ensures coming { (left : List ℕ)
             → coming self.new.first self.new.ended self.new.line self.new.given left
             ≡ coming self.old.first self.old.ended self.old.line self.old.given [] }
     {
@@ -142,7 +144,9 @@ impl Lines {
     // The next byte that is passed on; None where there is none.
     fn next(&mut self) -> Option<u8>
         requires { is_some self.old.given || self.old.ended ≡ true }
-        ensures { (left : List ℕ) → MatchOption result
+        ensures ended { self.new.ended ≡ self.old.ended }
+        ensures none { IsNone result → self.old.ended ≡ true }
+        ensures coming { (left : List ℕ) → MatchOption result
             ((coming self.old.first self.old.ended self.old.line self.old.given left ≡ [])
             × (coming self.new.first self.new.ended self.new.line self.new.given left ≡ []))
             (λ byte. coming self.old.first self.old.ended self.old.line self.old.given left
@@ -166,67 +170,98 @@ impl Lines {
 }
 
 impl<R: Read, L: Listens> Faultless<R, L> {
-    // A reader of which nothing was read.
+    // Makes a reader before its first read.
     fn new(inner: R, listener: L) -> Faultless<R, L>
-        ensures { known_coming result.lines.first result.lines.ended result.lines.line
-            result.lines.given (R.remaining result.inner)
+        ensures coming { known_coming result.lines.first result.lines.ended result.lines.line
+            result.lines.given (R.remaining result.inner.inner)
             ≡ option_map without_faults (R.remaining inner) }
+        ensures since { HasRead (R.remaining inner) (R.remaining result.inner.inner) result.count
+            result.lines.ended }
+        ensures failed { (result.inner.failed || nat_lt most_script_bytes result.count) ≡ false }
     {
         Faultless {
-            inner,
+            inner: Watched::new(inner),
             lines: Lines::new(),
             listener,
-            is_directory: false,
+            count: 0,
         }
     }
 
-    // Reads a byte of the line that comes.
-    fn read_byte(&mut self) -> io::Result<()>
+    // Whether more bytes were read than a script may have.
+    fn is_long(&self) -> bool
+        ensures { result ≡ nat_lt most_script_bytes self.now.count }
+    {
+        self.count > MOST_SCRIPT_BYTES
+    }
+
+    // Reads a byte of the line that comes, and returns whether there was one.
+    fn read_byte(&mut self) -> Result<bool, Failed>
         requires given { self.old.lines.given ≡ None }
         requires ended { self.old.lines.ended ≡ false }
-        ensures { Keeps (known_coming self.old.lines.first self.old.lines.ended self.old.lines.line
-            self.old.lines.given (R.remaining self.old.inner))
+        requires count { self.old.count ≤ most_script_bytes }
+        ensures kept { Keeps (known_coming self.old.lines.first self.old.lines.ended
+            self.old.lines.line self.old.lines.given (R.remaining self.old.inner.inner))
             (known_coming self.new.lines.first self.new.lines.ended self.new.lines.line
-            self.new.lines.given (R.remaining self.new.inner)) }
+            self.new.lines.given (R.remaining self.new.inner.inner)) }
+        ensures since { (start : Option (List ℕ))
+            → HasRead start (R.remaining self.old.inner.inner) self.old.count self.old.lines.ended
+            → HasRead start (R.remaining self.new.inner.inner) self.new.count self.new.lines.ended }
+        ensures count { self.old.count ≤ self.new.count }
+        ensures some { IfOk result (λ more. more ≡ true → self.new.count ≡ self.old.count + 1) }
+        ensures none { IfOk result (λ more. more ≡ false
+            → (self.new.count ≡ self.old.count) × (self.new.lines.ended ≡ true)) }
+        ensures ok { OnOk result (self.new.inner.failed ≡ self.old.inner.failed) }
+        ensures err { OnErr result (self.new.inner.failed ≡ true) }
     {
         let mut byte = [0u8; 1];
-        match self.inner.read(&mut byte) {
-            Ok(0) => {
-                self.listener.end();
-                self.lines.end(&mut self.listener);
-            }
-            Ok(_) => self.lines.take(byte[0], &mut self.listener),
-            Err(error) => {
-                self.is_directory = error.kind() == ErrorKind::IsADirectory;
-                return Err(error);
-            }
+        if self.inner.read(&mut byte)? == 0 {
+            self.listener.end();
+            self.lines.end(&mut self.listener);
+            return Ok(false);
         }
-        Ok(())
+        self.lines.take(byte[0], &mut self.listener);
+        self.count += 1;
+        Ok(true)
     }
 
-    // Reads until a line waits to be passed on, or there is none. It reads 16,777,215 bytes at most.
-    fn await_line(&mut self) -> io::Result<()>
+    // Reads until a line waits to be passed on, or there is none. Fails if a read failed, or if there are too many bytes.
+    fn await_line(&mut self) -> Result<(), Failed>
         ensures kept { Keeps (known_coming self.old.lines.first self.old.lines.ended
-            self.old.lines.line self.old.lines.given (R.remaining self.old.inner))
+            self.old.lines.line self.old.lines.given (R.remaining self.old.inner.inner))
             (known_coming self.new.lines.first self.new.lines.ended self.new.lines.line
-            self.new.lines.given (R.remaining self.new.inner)) }
+            self.new.lines.given (R.remaining self.new.inner.inner)) }
+        ensures since { (start : Option (List ℕ))
+            → HasRead start (R.remaining self.old.inner.inner) self.old.count self.old.lines.ended
+            → HasRead start (R.remaining self.new.inner.inner) self.new.count self.new.lines.ended }
         ensures ready { OnOk result (is_some self.new.lines.given || self.new.lines.ended ≡ true) }
+        ensures ok { OnOk result ((self.new.inner.failed || nat_lt most_script_bytes self.new.count)
+            ≡ (self.old.inner.failed || nat_lt most_script_bytes self.old.count)) }
+        ensures err { OnErr result
+            ((self.new.inner.failed || nat_lt most_script_bytes self.new.count) ≡ true) }
     {
-        'bytes: for _ in 0..MOST_SCRIPT_BYTES {
+        'bytes: while !self.is_long() {
             if self.lines.is_ready() {
                 return Ok(());
             }
             self.lines.announce(&mut self.listener);
-            self.read_byte()?;
+            if !self.read_byte()? {
+                return Ok(());
+            }
         }
-        Err(io::Error::from(ErrorKind::FileTooLarge))
+        Err(Failed)
     }
 }
 
-impl<R: Read, L: Listens> Read for Faultless<R, L> {
-    ghost remaining = { λ r. known_coming r.lines.first r.lines.ended r.lines.line r.lines.given (R.remaining r.inner) };
+impl<R: Read, L: Listens> Source for Faultless<R, L> {
+    ghost left = { λ r. known_coming r.lines.first r.lines.ended r.lines.line r.lines.given (R.remaining r.inner.inner) };
 
-    fn read(&mut self, buf: &mut [u8]) -> io::Result<usize> {
+    ghost failed = { λ r. r.inner.failed || nat_lt most_script_bytes r.count };
+
+    ghost is_at_end = { λ r. r.lines.ended ≡ true };
+
+    ghost since = { λ start r. HasRead start (R.remaining r.inner.inner) r.count r.lines.ended };
+
+    fn read(&mut self, buf: &mut [u8]) -> Result<usize, Failed> {
         if buf.is_empty() {
             return Ok(0);
         }
@@ -241,38 +276,44 @@ impl<R: Read, L: Listens> Read for Faultless<R, L> {
     }
 }
 
-/// How a job ended whose faulty lines are left out.
-#[derive(Clone, Copy, Debug, PartialEq, Eq)]
-pub struct End {
+/// How a job ended whose faulty lines are left out, and its reader.
+#[derive(Drop)]
+pub struct End<R> {
     pub ended: Result<Outcome, RunFault>,
-    /// The number of the line behind the last that was passed on.
+    /// The number of the line after the last that was passed on.
     pub number: u32,
-    /// Whether a read has failed because the reader is a directory.
-    pub is_directory: bool,
+    pub reader: Watched<R>,
+    /// How many bytes were read, of the lines that are left out too.
+    pub count: usize,
 }
 
-/// Runs the script that a reader tells without the lines that have a fault, a line as soon as it comes. Someone listens to how they
-/// come. Lines that are left out count for nothing, also in the numbers of the others.
+/// Runs the script of a reader without the lines that have a fault, each line as soon as it arrives. An observer is called for
+/// them. Skipped lines are not counted in the numbers of the others; but all lines together have at most 16,777,215 bytes.
 pub fn run_faultless<R: Read + Drop, L: Listens + Drop, W: Write>(
     alloc: Global,
     reader: R,
     listener: L,
     writer: &mut Watched<W>,
     placement: Placement,
-) -> End
+) -> End<R>
     requires { writer.old.failed ≡ false }
     // What is written is the printing of a run of the script without its faulty lines.
     ensures ok { IfOk result.ended
         (λ outcome. Writes (option_map without_faults (R.remaining reader))
         (W.contents writer.old.inner) (W.contents writer.new.inner)
         (λ script written. IsPrinting script written outcome)) }
+    // All was read, or the script has a fault.
+    ensures end { IfOk result.ended
+        (λ outcome. outcome ≢ Outcome.ScriptFault → IsAtEnd (R.remaining result.reader.inner)) }
+    ensures healthy { OnOk result.ended ((result.reader.failed ≡ false) × (writer.new.failed ≡ false)) }
     // Else it is a front of such a printing; for want of memory the whole printing before the reply to a statement that takes some.
     ensures fault { IfErr result.ended
         (λ fault. WritesPart (option_map without_faults (R.remaining reader))
         (W.contents writer.old.inner) (W.contents writer.new.inner)
         (λ consumed script written. (length consumed ≤ most_script_bytes + 1)
         × IsPrintingFront script written
-        × (fault ≡ RunFault.ReadTooLong → most_script_bytes < length consumed))) }
+        × (fault ≡ RunFault.ReadTooLong → (most_script_bytes < length consumed)
+        ⊎ (most_script_bytes < result.count)))) }
     ensures memory { IfErr result.ended
         (λ fault. fault ≡ RunFault.Memory → Writes (option_map without_faults (R.remaining reader))
         (W.contents writer.old.inner) (W.contents writer.new.inner)
@@ -283,16 +324,26 @@ pub fn run_faultless<R: Read + Drop, L: Listens + Drop, W: Write>(
         → WritesPart (option_map without_faults (R.remaining reader))
         (W.contents writer.old.inner) (W.contents writer.new.inner)
         (λ consumed script written. IsAnswered (take most_script_bytes consumed) written)) }
-    ensures healthy { OnOk result.ended (writer.new.failed ≡ false) }
+    ensures count { HasRead (R.remaining reader) (R.remaining result.reader.inner) result.count false }
+    ensures read { IsErrOf result.ended RunFault.Read → result.reader.failed ≡ true }
     ensures write { IsErrOf result.ended RunFault.Write → writer.new.failed ≡ true }
 {
-    let faultless = Faultless::new(reader, listener);
-    let mut reader = Watched::new(faultless);
-    let ended = run_job(alloc, &mut reader, writer, placement, Told::nothing(alloc));
-    let reader = reader.into_inner();
+    let mut faultless = Faultless::new(reader, listener);
+    let ended = run_from(
+        alloc,
+        &mut faultless,
+        writer,
+        placement,
+        Told::nothing(alloc),
+    );
+    let ended = match ended {
+        Err(RunFault::Read) if faultless.is_long() => Err(RunFault::ReadTooLong),
+        ended => ended,
+    };
     End {
         ended,
-        number: reader.lines.number,
-        is_directory: reader.is_directory,
+        number: faultless.lines.number,
+        reader: faultless.inner,
+        count: faultless.count,
     }
 }

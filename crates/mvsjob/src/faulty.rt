@@ -10,11 +10,11 @@ ghost use Rattle.mvsjob.specs.Faulty.{EndsAt, IsFirstFault, IsLineOf};
 
 use job_script::read_line;
 use mvs_job::line_end;
-use mvs_model::laws::same_fault;
+use mvs_laws::laws::same_fault;
 use mvs_model::line::{Fault, Line};
 use mvs_model::outcome::Outcome;
 
-/// A line with a fault, and its number. Of a script without a statement the line is empty, and its number is the one behind the
+/// A line with a fault, and its number. For a script without a statement the line is empty, and its number is the one after the
 /// last.
 #[derive(Clone, Copy)]
 pub struct Faulty<'a> {
@@ -24,7 +24,7 @@ pub struct Faulty<'a> {
 }
 
 impl Faulty<'_> {
-    /// The fault of a script without a statement, where the line behind the last has this number.
+    /// Returns the fault of a script without a statement, if the line after the last has this number.
     pub fn behind(number: u32) -> Faulty<'static>
         ensures number { result.number ≡ number }
         ensures line { result.line.now ≡ [] }
@@ -49,7 +49,7 @@ pub fn says_nothing(read: &Line) -> bool
     }
 }
 
-// The number of the line behind so many lines, of which the first has a number.
+// Returns the number of the line after n lines, the first of which has a number.
 fn number_behind(number: u32, passed: usize) -> u32
     ensures { number + passed < 2 ^ 32 → result ≡ number + passed }
 {
@@ -60,8 +60,8 @@ fn number_behind(number: u32, passed: usize) -> u32
     }
 }
 
-/// The first line of a text that has a fault, where the first line of the text has this number, and whether no statement stands before
-/// it.
+/// Returns the first line of a text with a fault. The first line of the text has this number, and `first` is true if no statement
+/// comes before it.
 pub fn first_faulty(text: &[u8], number: u32, first: bool) -> Faulty<'_>
     ensures fault { number + length text.now + 1 < 2 ^ 32
         → IsFirstFault number first (lines_of text.now) result.number result.fault }
@@ -97,7 +97,7 @@ pub fn first_faulty(text: &[u8], number: u32, first: bool) -> Faulty<'_>
 /// The line whose fault ends the runs of a script that end with one.
 pub fn faulty_in(script: &[u8]) -> Faulty<'_>
     requires { length script.now ≤ most_script_bytes }
-    // Where a run of the script ends with a fault, that is what it tells last.
+    // If a run of the script ends with a fault, that is its last event.
     ensures ended { (events : List Event) → IsRun script.now events Outcome.ScriptFault
         → EndsAt result.number result.fault events }
     ensures line { IsLineOf 1 (lines_of script.now) result.number result.line.now }

@@ -1,5 +1,8 @@
 //! The front of a script that can be passed on as text.
 
+ghost use Rattle.std.specs.Prelude.{◌≡◌, None, position};
+ghost use Rattle.mvsjob.specs.Served.{HasNoForeign, is_foreign};
+
 use crate::faulty::Faulty;
 use crate::kept::{ended, ended_lines};
 use job_script::parted::parted;
@@ -9,22 +12,34 @@ use mvs_model::line::{Fault, Line};
 /// A script up to the first line with a byte that no line may have, and that line, if there is one.
 #[derive(Clone, Copy)]
 pub struct Front<'a> {
-    pub text: &'a str,
+    pub bytes: &'a [u8],
     pub faulty: Option<Faulty<'a>>,
 }
 
+impl<'a> Front<'a> {
+    /// Returns the bytes as text, which they are.
+    pub fn text(&self) -> &'a str {
+        str::from_utf8(self.bytes).unwrap_or("")
+    }
+}
+
 // Returns where the first byte is that no script may have.
-fn foreign_byte(script: &[u8]) -> Option<usize> {
+fn foreign_byte(script: &[u8]) -> Option<usize>
+    ensures { result ≡ position is_foreign script.now }
+{
     script
         .iter()
-        .position(|byte| *byte != b'\n' && !(b' '..=b'~').contains(byte))
+        .position(|byte| *byte != b'\n' && (*byte < b' ' || *byte > b'~'))
 }
 
 /// Returns the front of a script that is text as a run reads it.
-pub fn front_of(script: &[u8]) -> Front<'_> {
+pub fn front_of(script: &[u8]) -> Front<'_>
+    ensures bytes { HasNoForeign script.now → result.bytes.now ≡ script.now }
+    ensures faulty { HasNoForeign script.now → result.faulty ≡ None }
+{
     let Some(at) = foreign_byte(script) else {
         return Front {
-            text: str::from_utf8(script).unwrap_or(""),
+            bytes: script,
             faulty: None,
         };
     };
@@ -33,7 +48,7 @@ pub fn front_of(script: &[u8]) -> Front<'_> {
     let (line, _) = parted(&script[begin..], b'\n');
     let mut read = Line::Nothing;
     Front {
-        text: str::from_utf8(&script[..begin]).unwrap_or(""),
+        bytes: &script[..begin],
         faulty: Some(Faulty {
             number: ended_lines(front).saturating_add(1),
             line,

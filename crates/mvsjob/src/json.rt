@@ -1,14 +1,17 @@
-//! Runs the script, and prints what it tells as lines of JSON.
+//! Runs the script, and prints its events as lines of JSON.
+
+ghost use Rattle.std.specs.Prelude.{◌≡◌, ◌<◌, ◌≤◌, ◌+◌, ◌^◌, length, IfOk, OnOk};
+ghost use Rattle.mvs_model.specs.Numbers.{most_script_bytes};
+ghost use Rattle.mvs_job.specs.Telling.{IsLent, IsTold};
+ghost use Rattle.mvsjob.specs.Served.{Tells, TellsOn, TellsRun, is_on};
 
 use crate::choices::Settings;
 use crate::ending::{Ending, GiveUp};
-use crate::faulty::first_faulty;
-use crate::served::Served;
-use crate::through::Through;
+use crate::served::{Served, fault_of};
 use event_json::{JsonFault, ScriptLine, write_end, write_line};
-use job_script::parted::parted;
-use mvs_job::{LineTold, RunFault, Session, Why};
+use mvs_job::{Explainer, LineTold, RunFault, Walk, line_end};
 use mvs_model::outcome::Outcome;
+use mvs_model::reason::LineReason;
 use mvs_model::watched::Watched;
 use std::alloc::Global;
 use std::io::Write;
@@ -21,67 +24,102 @@ fn give_up(fault: JsonFault) -> GiveUp {
     })
 }
 
-// Executes a line in a session, and writes its events. Returns whether the job goes on.
+// Returns whether a job continues after the events of a line.
+fn is_on(told: &LineTold) -> bool
+    ensures { result ≡ is_on told.now }
+{
+    match told {
+        LineTold::Faulted(_) => false,
+        LineTold::Nothing | LineTold::Began { .. } | LineTold::Answered { .. } => true,
+    }
+}
+
+// Executes a line, and returns its events, and, where it is explained, why it was not executed as it asks.
+fn execute(
+    walk: &mut Walk,
+    bytes: &[u8],
+    explainer: Option<&mut Explainer>,
+) -> Result<(LineTold, Option<LineReason>), GiveUp>
+    requires { walk.old.number + 1 < 2 ^ 32 }
+    ensures told { IfOk result (λ r. IsTold walk.old bytes.now r.0 walk.new) }
+    ensures lent { IfOk result (λ r. IsLent walk.new r.0) }
+    ensures number { walk.new.number ≡ walk.old.number + 1 }
+{
+    let Some(explainer) = explainer else {
+        let Ok(told) = walk.line(bytes, &[]) else {
+            return Err(GiveUp::Job(RunFault::Memory));
+        };
+        return Ok((told, None));
+    };
+    match explainer.line(walk, bytes) {
+        Ok(ran) => Ok(ran),
+        Err(_) => Err(GiveUp::Job(RunFault::Memory)),
+    }
+}
+
+// Executes a line, and writes its events. Returns whether the job continues.
 fn write_told<W: Write>(
     alloc: Global,
-    writer: &mut W,
-    session: &mut Session,
+    writer: &mut Watched<W>,
+    walk: &mut Walk,
     bytes: &[u8],
-    why: Option<&mut Why>,
-) -> Result<bool, GiveUp> {
-    if !session.takes_line() {
-        return Err(GiveUp::Job(RunFault::ReadTooLong));
-    }
-    let reason = match why {
-        Some(why) => why.reason(session.walk(), bytes),
-        None => None,
+    explainer: Option<&mut Explainer>,
+) -> Result<bool, GiveUp>
+    requires { walk.old.number + 1 < 2 ^ 32 }
+    ensures told { IfOk result
+        (TellsOn (W.contents writer.old.inner) (W.contents writer.new.inner) walk.old bytes.now
+        walk.new) }
+    ensures number { OnOk result (walk.new.number ≡ walk.old.number + 1) }
+{
+    let number = walk.number();
+    let (told, reason) = match execute(walk, bytes, explainer) {
+        Ok(ran) => ran,
+        Err(why) => return Err(why),
     };
     let line = ScriptLine {
-        number: session.walk().number(),
+        number,
         bytes,
         reason,
     };
-    match session.line(bytes) {
-        Ok(told) => {
-            write_line(alloc, writer, &line, session.walk(), &told).map_err(give_up)?;
-            Ok(!matches!(told, LineTold::Faulted(_)))
-        }
-        Err(_) => Err(GiveUp::Job(RunFault::Memory)),
+    match write_line(alloc, writer, &line, walk, &told) {
+        Ok(()) => Ok(is_on(&told)),
+        Err(fault) => Err(give_up(fault)),
     }
 }
 
 // Writes the events of a script.
 fn write_script<W: Write>(
     alloc: Global,
-    writer: &mut W,
+    writer: &mut Watched<W>,
     script: &[u8],
     settings: &Settings<'_>,
-) -> Result<Outcome, GiveUp> {
-    let mut session = Session::new(alloc, settings.placement);
-    let mut why = Why::new();
-    let mut rest = script;
-    'lines: while !rest.is_empty() {
-        let (bytes, more) = parted(rest, b'\n');
+) -> Result<Outcome, GiveUp>
+    requires { length script.now ≤ most_script_bytes }
+    ensures { IfOk result
+        (TellsRun (W.contents writer.old.inner) (W.contents writer.new.inner) script.now) }
+{
+    let mut walk = Walk::new(alloc, settings.placement);
+    let mut explainer = Explainer::new(alloc);
+    let mut at = 0;
+    'lines: while at < script.len() {
+        let rest = &script[at..];
+        let end = line_end(rest);
         let asked = if settings.explains {
-            Some(&mut why)
+            Some(&mut explainer)
         } else {
             None
         };
-        if !write_told(alloc, writer, &mut session, bytes, asked)? {
-            return Ok(Outcome::ScriptFault);
-        }
-        match more {
-            None => break 'lines,
-            Some(next) => rest = next,
+        match write_told(alloc, writer, &mut walk, &rest[..end], asked) {
+            Ok(true) => at += end + 1,
+            Ok(false) => return Ok(Outcome::ScriptFault),
+            Err(why) => return Err(why),
         }
     }
-    if !session.goes_on() {
-        return Ok(Outcome::ScriptFault);
+    let closing = walk.close();
+    match write_end(writer, walk.number(), closing.ended) {
+        Ok(()) => Ok(closing.outcome),
+        Err(fault) => Err(give_up(fault)),
     }
-    let number = session.walk().number();
-    let closing = session.close();
-    write_end(alloc, writer, number, closing.ended).map_err(give_up)?;
-    Ok(closing.outcome)
 }
 
 /// Runs a script, and prints its events.
@@ -90,11 +128,16 @@ pub fn run_json<'a, W: Write>(
     settings: &Settings<'_>,
     script: &'a [u8],
     writer: &mut Watched<W>,
-) -> Result<Served<'a>, GiveUp> {
-    let mut writer = Through::new(writer);
-    match write_script(alloc, &mut writer, script, settings) {
-        Ok(Outcome::ScriptFault) => Ok(Served::of_fault(first_faulty(script, 1, true))),
-        Ok(outcome) => Ok(Served::of(Ending::Ran(outcome))),
+) -> Result<Served<'a>, GiveUp>
+    requires { length script.now ≤ most_script_bytes }
+    ensures { IfOk result
+        (Tells (W.contents writer.old.inner) (W.contents writer.new.inner) script.now) }
+{
+    match write_script(alloc, writer, script, settings) {
+        Ok(outcome) => Ok(Served {
+            ending: Ending::Ran(outcome),
+            faulty: fault_of(script, outcome),
+        }),
         Err(why) => Err(why),
     }
 }

@@ -37,7 +37,7 @@ fn write_details<W: Write>(
     match judgement.finding {
         Finding::Undecided(line) => writeln!(
             writer,
-            "line {line} of the script may be granted places that no WHERE right after it asks for, or is a list that may be refused"
+            "line {line} of the script obtains storage whose address the output does not show, or is a list that may be refused"
         ),
         Finding::Accepted | Finding::Refused => Ok(()),
     }

@@ -1,4 +1,4 @@
-//! A reader that keeps the lines of its latest read, so that a faulty one can be told.
+//! A reader that keeps the lines of its latest read, so that a faulty one can be reported.
 
 ghost use Rattle.std.specs.Prelude.{◌≡◌, ◌≤◌, IfOk, length};
 
@@ -7,13 +7,13 @@ use job_script::parted::parted;
 use job_script::read_line;
 use mvs_model::line::Line;
 use std::alloc::{AllocError, Global};
-use std::io::{self, ErrorKind, Read};
+use std::io::{self, Read};
 
 /// How many bytes are kept: those of a read of a job, and of a line that began before it.
 const ROOM: usize = 66_048;
 
-/// What a reader has told since the begin of the line in which its latest read began. The lines before had no fault, since a job
-/// reads nothing after one.
+/// What was read since the beginning of the line in which the latest read began. The lines before had no fault, since a job reads
+/// nothing after one.
 #[derive(Drop)]
 struct Lines {
     /// On the heap, and never more than the room that was taken when the reader was made.
@@ -29,8 +29,6 @@ struct Lines {
 pub struct Kept<R> {
     inner: R,
     lines: Lines,
-    /// Whether a read has failed because the reader is a directory.
-    is_directory: bool,
 }
 
 /// Returns whether no line of a text is a statement.
@@ -104,7 +102,7 @@ impl Lines {
         self.bytes.truncate(len - from);
     }
 
-    // Keeps what was told, as far as there is room.
+    // Keeps what was read, as far as there is space.
     fn keep(&mut self, told: &[u8]) {
         let count = told.len().min(ROOM.saturating_sub(self.bytes.len()));
         let _ = self.bytes.extend_from_slice(&told[..count]);
@@ -116,14 +114,13 @@ impl Lines {
 }
 
 impl<R: Drop> Kept<R> {
-    /// Makes a reader of which nothing was read. Fails only if memory is exhausted.
+    /// Makes a reader before its first read. Fails only if memory is exhausted.
     pub fn new(alloc: Global, inner: R) -> Result<Kept<R>, AllocError>
         ensures { IfOk result (λ kept. kept.inner ≡ inner) }
     {
         Ok(Kept {
             lines: Lines::new(alloc)?,
             inner,
-            is_directory: false,
         })
     }
 
@@ -132,8 +129,11 @@ impl<R: Drop> Kept<R> {
         self.lines.faulty()
     }
 
-    pub fn is_directory(&self) -> bool {
-        self.is_directory
+    /// The reader below.
+    pub fn get_ref(&self) -> &R
+        ensures { result.now ≡ self.now.inner }
+    {
+        &self.inner
     }
 }
 
@@ -142,15 +142,8 @@ impl<R: Read> Read for Kept<R> {
 
     fn read(&mut self, buf: &mut [u8]) -> io::Result<usize> {
         self.lines.let_go();
-        match self.inner.read(buf) {
-            Ok(count) => {
-                self.lines.keep(&buf[..count]);
-                Ok(count)
-            }
-            Err(error) => {
-                self.is_directory = error.kind() == ErrorKind::IsADirectory;
-                Err(error)
-            }
-        }
+        let count = self.inner.read(buf)?;
+        self.lines.keep(&buf[..count]);
+        Ok(count)
     }
 }

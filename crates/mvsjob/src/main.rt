@@ -6,6 +6,7 @@ ghost use Rattle.std.specs.Process.{exit_status};
 ghost use Rattle.mvsjob.specs.Endings.{status_of};
 
 mod answers;
+mod asking;
 mod assembled;
 mod choices;
 mod clues;
@@ -19,6 +20,7 @@ mod front;
 mod json;
 mod judging;
 mod kept;
+mod opened;
 mod piped;
 mod script;
 mod served;
@@ -37,6 +39,7 @@ use kept::Kept;
 use mvs_job::RunFault;
 use mvs_model::outcome::Outcome;
 use mvs_model::watched::Watched;
+use opened::Opened;
 use piped::Piped;
 use script::{read_output, read_script};
 use served::serve_script;
@@ -55,7 +58,7 @@ pub(crate) fn tell(rt: &HostRuntime, name: &str, faulty: &Faulty<'_>) {
     let _ = eprint!(rt; "{name}:{}:{diagnosis}", faulty.number);
 }
 
-/// Where all that a mode prints goes.
+/// The destination of everything that a mode prints.
 pub(crate) type Output<'a> = Coloured<BufWriter<Piped<io::Printer<'a, HostRuntime>>>>;
 
 // Opens standard output.
@@ -89,13 +92,13 @@ fn concluded(ended: Result<Ending, GiveUp>, writer: Watched<Output<'_>>) -> Resu
     }
 }
 
-// Passes on how a job ended whose reader is a directory or not, and reports the line that ended it, if one did.
+// Passes on how a job ended, or why a read of it failed, and reports the line that ended it, if one did.
 pub(crate) fn passed_on(
     rt: &HostRuntime,
     settings: &Settings<'_>,
     writer: &mut Watched<Output<'_>>,
     ended: Result<Outcome, RunFault>,
-    is_directory: bool,
+    read_failure: GiveUp,
     faulty: &Faulty<'_>,
 ) -> Result<Ending, GiveUp> {
     match ended {
@@ -107,7 +110,7 @@ pub(crate) fn passed_on(
             Ok(Ending::Ran(Outcome::ScriptFault))
         }
         Ok(outcome) => Ok(Ending::Ran(outcome)),
-        Err(RunFault::Read) if is_directory => Err(GiveUp::Script(Cause::Directory)),
+        Err(RunFault::Read) => Err(read_failure),
         Err(fault) => Err(GiveUp::Job(fault)),
     }
 }
@@ -115,7 +118,7 @@ pub(crate) fn passed_on(
 // Runs the script that a reader has as it comes.
 fn run_lines<R: Read + Drop>(
     rt: &HostRuntime,
-    reader: R,
+    reader: Opened<R>,
     settings: &Settings<'_>,
     writer: &mut Watched<Output<'_>>,
 ) -> Result<Ending, GiveUp>
@@ -125,13 +128,14 @@ fn run_lines<R: Read + Drop>(
         return Err(GiveUp::Job(RunFault::Memory));
     };
     let ran = run_streamed(rt.alloc(), kept, writer, settings.placement);
+    let kept = ran.reader.into_inner();
     passed_on(
         rt,
         settings,
         writer,
         ran.ended,
-        ran.reader.is_directory(),
-        &ran.reader.faulty(),
+        kept.get_ref().failure(),
+        &kept.faulty(),
     )
 }
 
@@ -145,10 +149,10 @@ fn serve_reader<R: Read + Drop>(
     requires { writer.old.failed ≡ false }
 {
     if settings.is_as_it_comes() && is_at_terminal(rt, settings) {
-        return run_at_terminal(rt, reader, settings, writer);
+        return run_at_terminal(rt, Opened::new(reader), settings, writer);
     }
     if settings.is_as_it_comes() {
-        return run_lines(rt, reader, settings, writer);
+        return run_lines(rt, Opened::new(reader), settings, writer);
     }
     let script = read_script(rt.alloc(), reader)?;
     let output = judged(rt, settings)?;
@@ -201,14 +205,14 @@ fn serve_and_flush(rt: &HostRuntime, settings: &Settings<'_>) -> Result<Ending, 
     concluded(ended, writer)
 }
 
-// Prints what `clap` has to say of the words, and that one FILE is taken where there are more.
+// Prints the message of `clap`, and that only one FILE is allowed if there are several.
 fn explain(rt: &HostRuntime, words: &[String], error: &clap::Error) -> Result<Ending, GiveUp> {
     let kind = error.kind();
     if kind == clap::error::ErrorKind::OutOfMemory {
         return Err(GiveUp::Job(RunFault::Memory));
     }
     if kind == clap::error::ErrorKind::UnknownArgument && names_files(words) {
-        let _ = eprintln!(rt; "mvsjob: one FILE is taken, and several are named: call it for each");
+        let _ = eprintln!(rt; "mvsjob: expected one FILE, found several: run mvsjob once for each");
     }
     match error.print(rt) {
         Ok(()) if error.use_stderr() => Ok(Ending::Refused),

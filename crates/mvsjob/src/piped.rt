@@ -2,7 +2,7 @@
 
 use std::io::{self, ErrorKind, Write};
 
-/// A writer, and whether a write has failed because the pipe behind it is closed.
+/// A writer, and whether a write has failed because its pipe is closed.
 #[derive(Drop)]
 pub struct Piped<W> {
     inner: W,

@@ -13,8 +13,8 @@ use std::io::{self, ErrorKind, Read};
 /// The most bytes of an output that is judged.
 const MOST_OUTPUT_BYTES: usize = 268_435_455;
 
-// Returns why a read failed.
-fn read_fault(error: &io::Error) -> GiveUp {
+/// Returns why the program stops at a read that failed.
+pub fn read_fault(error: &io::Error) -> GiveUp {
     match error.kind() {
         ErrorKind::OutOfMemory => GiveUp::Job(RunFault::Memory),
         ErrorKind::IsADirectory => GiveUp::Script(Cause::Directory),

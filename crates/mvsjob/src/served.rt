@@ -1,10 +1,11 @@
 //! Serves a script that was read whole: what each mode does with it.
 
-ghost use Rattle.std.specs.Prelude.{◌≡◌, ◌≤◌, IsTrue, None, false, length};
+ghost use Rattle.std.specs.Prelude.{◌≡◌, ◌≤◌, ◌⊎◌, IfOk, IsTrue, None, Some, false, length};
 ghost use Rattle.mvs_model.specs.Numbers.{most_script_bytes};
-ghost use Rattle.mvsjob.specs.Served.{Explains, IsFaultOf, Judges, Pages, RunsStrictly};
+ghost use Rattle.mvsjob.specs.declared.choices.Recipe.{Recipe};
+ghost use Rattle.mvsjob.specs.Served.{Asks, Blanks, EndsAtFault, Explains, HasNoForeign, IsFaultOf, IsPrinted, Judges, Pages, RunsStrictly, Tells};
 
-use crate::answers::{check_answers, write_front};
+use crate::answers::{check_answers, write_blanks, write_questions};
 use crate::assembled::write_assembled;
 use crate::choices::{Mode, Recipe, Settings};
 use crate::ending::{Ending, GiveUp};
@@ -41,7 +42,10 @@ impl<'a> Served<'a> {
     }
 
     /// Returns what a mode did that a fault ended.
-    pub fn of_fault(faulty: Faulty<'a>) -> Served<'a> {
+    pub fn of_fault(faulty: Faulty<'a>) -> Served<'a>
+        ensures ending { result.ending ≡ Ending.Ran Outcome.ScriptFault }
+        ensures faulty { result.faulty ≡ Some faulty.entry }
+    {
         Served {
             ending: Ending::Ran(Outcome::ScriptFault),
             faulty: Some(faulty),
@@ -49,7 +53,9 @@ impl<'a> Served<'a> {
     }
 
     /// Returns what a mode did that wrote the front of a script up to a line, if that one has a fault.
-    pub fn of_front(faulty: Option<Faulty<'a>>) -> Served<'a> {
+    pub fn of_front(faulty: Option<Faulty<'a>>) -> Served<'a>
+        ensures { faulty.entry ≡ None → IsPrinted result }
+    {
         match faulty {
             Some(faulty) => Served::of_fault(faulty),
             None => Served::of(Ending::Printed),
@@ -57,8 +63,8 @@ impl<'a> Served<'a> {
     }
 }
 
-// Returns the line whose fault ended a run of a script, if one did.
-fn fault_of(script: &[u8], outcome: Outcome) -> Option<Faulty<'_>>
+/// Returns the line whose fault ended a run of a script, if one did.
+pub fn fault_of(script: &[u8], outcome: Outcome) -> Option<Faulty<'_>>
     requires { length script.now ≤ most_script_bytes }
     ensures { IsFaultOf script.now outcome result }
 {
@@ -108,7 +114,7 @@ fn page<'a, W: Write>(
     }
 }
 
-// Runs a script, and has someone hear of each line that was not executed.
+// Runs a script, and reports each line that was not executed to an observer.
 fn run_strict<'a, W: Write, H: Hears>(
     alloc: Global,
     script: &'a [u8],
@@ -134,7 +140,9 @@ fn write_random<W: Write>(
     alloc: Global,
     writer: &mut Watched<W>,
     recipe: Recipe,
-) -> Result<Served<'static>, GiveUp> {
+) -> Result<Served<'static>, GiveUp>
+    ensures { IfOk result IsPrinted }
+{
     let mut writer = Through::new(writer);
     let Recipe {
         seed,
@@ -157,6 +165,8 @@ fn run<'a, W: Write, H: Hears>(
     hearer: &mut H,
 ) -> Result<Served<'a>, GiveUp>
     requires { length script.now ≤ most_script_bytes }
+    ensures json { IsTrue settings.now.json → IfOk result
+        (Tells (W.contents writer.old.inner) (W.contents writer.new.inner) script.now) }
     ensures page { settings.now.json ≡ false → IsTrue settings.now.page
         → Pages (W.contents writer.old.inner) (W.contents writer.new.inner) FRAME.now script.now
         result }
@@ -201,6 +211,16 @@ pub fn serve_script<'a, W: Write, H: Hears>(
         → settings.now.page ≡ false → settings.now.explains ≡ false
         → RunsStrictly (W.contents writer.old.inner) (W.contents writer.new.inner)
         (H.heard hearer.old) (H.heard hearer.new) script.now result }
+    ensures json { settings.now.mode ≡ Mode.Run → IsTrue settings.now.json → IfOk result
+        (Tells (W.contents writer.old.inner) (W.contents writer.new.inner) script.now) }
+    ensures blank { settings.now.mode ≡ Mode.Blank → HasNoForeign script.now
+        → Blanks (W.contents writer.old.inner) (W.contents writer.new.inner) script.now result }
+    ensures ask { settings.now.mode ≡ Mode.Ask → HasNoForeign script.now
+        → Asks (W.contents writer.old.inner) (W.contents writer.new.inner) script.now result }
+    ensures assemble { settings.now.mode ≡ Mode.Assemble
+        → IfOk result (λ served. IsPrinted served ⊎ EndsAtFault script.now served) }
+    ensures random { (recipe : Recipe) → settings.now.mode ≡ Mode.Random recipe
+        → IfOk result IsPrinted }
     ensures judge { settings.now.mode ≡ Mode.Judge
         → Judges (W.contents writer.old.inner) (W.contents writer.new.inner) script.now output.now
         result }
@@ -209,7 +229,8 @@ pub fn serve_script<'a, W: Write, H: Hears>(
         Mode::Run => run(alloc, settings, script, writer, hearer),
         Mode::Check => check_answers(alloc, settings, script, writer),
         Mode::Judge => judge_output(alloc, script, output, writer),
-        Mode::Blank | Mode::Ask => write_front(settings.mode, script, writer),
+        Mode::Blank => write_blanks(script, writer),
+        Mode::Ask => write_questions(script, writer),
         Mode::Assemble => write_assembled(alloc, script, writer),
         Mode::Random(recipe) => write_random(alloc, writer, recipe),
     }

@@ -1,6 +1,7 @@
 //! Runs a script as it comes.
 
-ghost use Rattle.std.specs.Prelude.{◌≡◌, ◌<◌, ◌≤◌, ◌+◌, ◌⊎◌, false, length, take, IfErr, IfOk};
+ghost use Rattle.std.specs.Prelude.{◌≡◌, ◌≢◌, ◌<◌, ◌≤◌, ◌+◌, ◌⊎◌, true, false, length, take, IfErr, IfOk, IsErrOf, OnOk};
+ghost use Rattle.std.specs.Io.KnownBytes.{IsAtEnd};
 ghost use Rattle.mvs_model.specs.Memory.{IsPrintingBefore};
 ghost use Rattle.mvs_model.specs.Numbers.{most_script_bytes};
 ghost use Rattle.mvs_model.specs.Runs.{IsAnswered, IsPrinting, IsPrintingFront};
@@ -18,7 +19,7 @@ use std::io::{Read, Write};
 #[derive(Drop)]
 pub struct Streamed<R> {
     pub ended: Result<Outcome, RunFault>,
-    pub reader: Kept<R>,
+    pub reader: Watched<Kept<R>>,
 }
 
 /// Runs the script that a reader has, each line before the next one is read.
@@ -34,6 +35,10 @@ pub fn run_streamed<R: Read + Drop, W: Write>(
         (λ outcome. Writes (R.remaining reader.inner)
         (W.contents writer.old.inner) (W.contents writer.new.inner)
         (λ script written. IsPrinting script written outcome)) }
+    // All was read, or the script has a fault.
+    ensures end { IfOk result.ended
+        (λ outcome. outcome ≢ Outcome.ScriptFault → IsAtEnd (R.remaining result.reader.inner.inner)) }
+    ensures healthy { OnOk result.ended ((result.reader.failed ≡ false) × (writer.new.failed ≡ false)) }
     // Else it is a front of such a printing; for want of memory the whole printing before the reply to a statement that takes some.
     ensures fault { IfErr result.ended
         (λ fault. WritesPart (R.remaining reader.inner)
@@ -51,11 +56,10 @@ pub fn run_streamed<R: Read + Drop, W: Write>(
         → WritesPart (R.remaining reader.inner)
         (W.contents writer.old.inner) (W.contents writer.new.inner)
         (λ consumed script written. IsAnswered (take most_script_bytes consumed) written)) }
+    ensures read { IsErrOf result.ended RunFault.Read → result.reader.failed ≡ true }
+    ensures write { IsErrOf result.ended RunFault.Write → writer.new.failed ≡ true }
 {
     let mut reader = Watched::new(reader);
     let ended = run_job(alloc, &mut reader, writer, placement, Told::nothing(alloc));
-    Streamed {
-        ended,
-        reader: reader.into_inner(),
-    }
+    Streamed { ended, reader }
 }

@@ -1,4 +1,4 @@
-//! A job at a terminal: a faulty line is reported and left out, and the job goes on.
+//! A job at a terminal: a faulty line is reported and skipped, and the job continues.
 
 ghost use Rattle.std.specs.Prelude.{◌≡◌, false};
 
@@ -6,7 +6,9 @@ use crate::choices::Settings;
 use crate::ending::{Ending, GiveUp};
 use crate::faultless::{Listens, run_faultless};
 use crate::faulty::Faulty;
+use crate::opened::Opened;
 use crate::{Output, passed_on, tell};
+use mvs_job::RunFault;
 use mvs_model::line::Fault;
 use mvs_model::watched::Watched;
 use std::io::{IsTerminal, Read};
@@ -50,7 +52,7 @@ pub fn is_at_terminal(rt: &HostRuntime, settings: &Settings<'_>) -> bool {
 /// Runs the lines that a reader has as they come, but for those that have a fault.
 pub fn run_at_terminal<R: Read + Drop>(
     rt: &HostRuntime,
-    reader: R,
+    reader: Opened<R>,
     settings: &Settings<'_>,
     writer: &mut Watched<Output<'_>>,
 ) -> Result<Ending, GiveUp>
@@ -61,12 +63,16 @@ pub fn run_at_terminal<R: Read + Drop>(
         name: settings.file,
     };
     let end = run_faultless(rt.alloc(), reader, prompter, writer, settings.placement);
+    if matches!(end.ended, Err(RunFault::Read | RunFault::ReadTooLong)) {
+        // So that the message does not follow the prompt.
+        let _ = eprintln!(rt);
+    }
     passed_on(
         rt,
         settings,
         writer,
         end.ended,
-        end.is_directory,
+        end.reader.into_inner().failure(),
         &Faulty::behind(end.number),
     )
 }

@@ -1,5 +1,7 @@
-//! Writes the script of a source.
+//! Writes the script of a source, or the same as JSON.
 
+use crate::json::Json;
+use crate::region::{LARGEST, Region};
 use assembler_source::{Found, Requests, Saying};
 use job_script::read_line;
 use mvs_model::line::Line;
@@ -10,14 +12,20 @@ use thiserror::Error;
 /// The most characters of a line of a script.
 const LONGEST: usize = 255;
 
-/// The region of the step, in pages: all that a script may have, so that a want of storage is the source's own.
-const REGION: &str = "REGION BELOW=2048,ABOVE=8192";
-
-/// How many requests a script says, and how many things stay open.
+/// How many statements a script has, and how many lines need attention.
 #[derive(Clone, Copy)]
 pub struct Sum {
-    pub said: u32,
+    pub statements: u32,
     pub open: u32,
+}
+
+/// What the script begins with, and how it is written.
+#[derive(Clone, Copy)]
+pub struct Form<'a> {
+    pub region: Option<Region>,
+    /// The region as it was written.
+    pub written: &'a str,
+    pub is_json: bool,
 }
 
 /// Why a script was not written to its end.
@@ -62,33 +70,82 @@ fn cut(alloc: Global, line: &str) -> Result<String, AllocError> {
     line.chars().take(LONGEST).collect(alloc)
 }
 
-// The comment on something that stays open.
-fn comment(alloc: Global, found: &Found, why: &str) -> Result<String, AllocError> {
+// The line of the source in which something is found.
+fn source_line(alloc: Global, found: &Found) -> Result<String, AllocError> {
     let number = found.number;
-    let source = found.source.as_str();
-    cut(alloc, &format!(in alloc; "*? {number}: {why}: {source}")?)
+    if found.member.is_empty() {
+        return format!(in alloc; "{number}");
+    }
+    let member = found.member.as_str();
+    format!(in alloc; "{member}:{number}")
 }
 
-// The line of a request, and whether it is a statement.
-fn line_of(alloc: Global, found: &Found) -> Result<(String, bool), AllocError> {
-    let (task, text) = match &found.saying {
-        Saying::Statement { task, text } => (task, text),
-        Saying::Open(reason) => {
-            let why = format!(in alloc; "{reason}")?;
-            return Ok((comment(alloc, found, &why)?, false));
-        }
-    };
-    let number = found.number;
-    let source = found.source.as_str();
-    let line = cut(
-        alloc,
-        &format!(in alloc; "{task} {text}    {number}: {source}")?,
-    )?;
-    if is_statement(&line) {
-        return Ok((line, true));
+// In which loop a request is.
+fn within(alloc: Global, found: &Found) -> Result<String, AllocError> {
+    match &found.in_loop {
+        Some(label) => format!(in alloc; " in loop {label}"),
+        None => Ok(String::new(alloc)),
     }
-    let why = format!(in alloc; "the script does not take {text}")?;
-    Ok((comment(alloc, found, &why)?, false))
+}
+
+// The line of a statement of a script, with the source as a remark.
+fn statement_line(
+    alloc: Global,
+    found: &Found,
+    task: &str,
+    text: &str,
+) -> Result<String, AllocError> {
+    let place = source_line(alloc, found)?;
+    let within = within(alloc, found)?;
+    let source = found.source.as_str();
+    cut(
+        alloc,
+        &format!(in alloc; "{task} {text}    {place}{within}: {source}")?,
+    )
+}
+
+// The comment on something that needs attention.
+fn comment(alloc: Global, found: &Found, why: &str) -> Result<String, AllocError> {
+    let line = source_line(alloc, found)?;
+    let source = found.source.as_str();
+    cut(alloc, &format!(in alloc; "*? {line}: {why}: {source}")?)
+}
+
+// What becomes of something that is found: the line of a statement, or why it needs attention.
+fn line_of(alloc: Global, found: &Found) -> Result<Result<String, String>, AllocError> {
+    match &found.saying {
+        Saying::Statement { task, text } => {
+            let line = statement_line(alloc, found, task, text)?;
+            if is_statement(&line) {
+                return Ok(Ok(line));
+            }
+            Ok(Err(format!(in alloc; "the script does not take {text}")?))
+        }
+        Saying::Open(reason) => Ok(Err(format!(in alloc; "{reason}")?)),
+    }
+}
+
+// Something that is found as JSON.
+fn json_of(
+    alloc: Global,
+    found: &Found,
+    ended: &Result<String, String>,
+) -> Result<Json, AllocError> {
+    let mut json = Json::new(alloc);
+    json.put("line", &source_line(alloc, found)?)?;
+    json.put("source", &found.source)?;
+    if let Some(label) = &found.in_loop {
+        json.put("loop", label)?;
+    }
+    match (ended, &found.saying) {
+        (Ok(_), Saying::Statement { task, text }) => {
+            json.put("task", task)?;
+            json.put("statement", text)?;
+        }
+        (Err(why), _) => json.put("attention", why)?,
+        (Ok(line), Saying::Open(_)) => json.put("statement", line)?,
+    }
+    Ok(json)
 }
 
 // Writes a line.
@@ -96,24 +153,84 @@ fn put<W: Write>(writer: &mut W, line: &str) -> Result<(), Stop> {
     writeln!(writer, "{line}").map_err(|error| Stop::from(error.kind()))
 }
 
-/// Writes the script of some requests: a line for each, of which those that begin with `*?` stay open.
+// The comment on the region: what was written, or that the largest one is assumed.
+fn region_comment(alloc: Global, form: Form<'_>) -> Result<String, AllocError> {
+    let Region { below, above } = form.region.unwrap_or(LARGEST);
+    let written = form.written;
+    if form.region.is_none() {
+        return format!(in alloc;
+            "* No --region: the largest is assumed, {below} pages below 16 megabytes and {above} above, so no request fails for lack of storage."
+        );
+    }
+    format!(in alloc; "* REGION={written}: {below} pages below 16 megabytes, {above} above.")
+}
+
+// Writes the region, as a comment and a statement or as JSON.
+fn put_region<W: Write>(
+    alloc: Global,
+    writer: &mut W,
+    requests: &Requests,
+    form: Form<'_>,
+) -> Result<(), Stop> {
+    let Region { below, above } = form.region.unwrap_or(LARGEST);
+    let residence = if requests.is_above { ",RES=ABOVE" } else { "" };
+    let text = format!(in alloc; "REGION BELOW={below},ABOVE={above}{residence}")?;
+    let task = requests.task.as_str();
+    if form.is_json {
+        let mut json = Json::new(alloc);
+        json.put("task", task)?;
+        json.put("statement", &text)?;
+        return put(writer, &json.end()?);
+    }
+    put(writer, &region_comment(alloc, form)?)?;
+    put(writer, &format!(in alloc; "{task} {text}")?)
+}
+
+// Writes something that is found, and returns whether it is a statement.
+fn put_found<W: Write>(
+    alloc: Global,
+    writer: &mut W,
+    found: &Found,
+    is_json: bool,
+) -> Result<bool, Stop> {
+    let ended = line_of(alloc, found)?;
+    if is_json {
+        put(writer, &json_of(alloc, found, &ended)?.end()?)?;
+        return Ok(ended.is_ok());
+    }
+    match &ended {
+        Ok(line) => put(writer, line)?,
+        Err(why) => put(writer, &comment(alloc, found, why)?)?,
+    }
+    Ok(ended.is_ok())
+}
+
+/// Writes the script of some requests: a line for each, of which those that begin with `*?` need attention. As JSON it is an object for each,
+/// and one at the end with how many there are.
 pub fn write_script<W: Write>(
     alloc: Global,
     writer: &mut W,
     requests: &Requests,
+    form: Form<'_>,
 ) -> Result<Sum, Stop> {
-    let task = requests.task.as_str();
-    let residence = if requests.is_above { ",RES=ABOVE" } else { "" };
-    put(writer, &format!(in alloc; "{task} {REGION}{residence}")?)?;
-    let mut sum = Sum { said: 0, open: 0 };
+    put_region(alloc, writer, requests, form)?;
+    let mut sum = Sum {
+        statements: 0,
+        open: 0,
+    };
     for found in requests.found.iter() {
-        let (line, is_said) = line_of(alloc, found)?;
-        put(writer, &line)?;
-        if is_said {
-            sum.said = sum.said.saturating_add(1);
+        if put_found(alloc, writer, found, form.is_json)? {
+            sum.statements = sum.statements.saturating_add(1);
         } else {
             sum.open = sum.open.saturating_add(1);
         }
+    }
+    if form.is_json {
+        let Sum { statements, open } = sum;
+        put(
+            writer,
+            &format!(in alloc; "{{\"statements\":{statements},\"attention\":{open}}}")?,
+        )?;
     }
     Ok(sum)
 }

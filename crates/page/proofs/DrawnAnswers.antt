@@ -4,6 +4,7 @@ use Rattle.std.specs.List.{list_all, list_any}
 use Rattle.std.specs.FinMap.{FinMap, contains_key, contains_key-keys, get, keys}
 use Rattle.std.proofs.lemmas.Bool.{false_from_ne_true, not-false, not-true}
 use Rattle.std.proofs.lemmas.Map.Views.{Contains-from_any}
+use Rattle.mvs_model.proofs.StepCases.{step_cases}
 use Rattle.mvs_model.specs.declared.code.Code.{Code}
 use Rattle.mvs_model.specs.declared.code.Code.TheVariants.{User}
 use Rattle.mvs_model.specs.declared.code.Form.{Form}
@@ -23,7 +24,8 @@ use Rattle.mvs_model.specs.Finite.{has}
 use Rattle.mvs_model.specs.Gifts.{GiftsValue}
 use Rattle.mvs_model.specs.Job.{JobValue}
 use Rattle.mvs_model.specs.Name.{name_cmp, same_name}
-use Rattle.mvs_model.specs.Owners.{Descends, Owners, attach_refusal, entry, further, has_subtask, is_active, keeper, subpool_meant, subtask}
+use Rattle.mvs_model.specs.Owners.{Descends, Owners, entry, further, has_subtask, is_active, keeper, subpool_meant, subtask}
+use Rattle.mvs_model.proofs.ByCase.{attach_refusal}
 use Rattle.mvs_model.specs.Place.{PlaceValue}
 use Rattle.mvs_model.specs.Reading.{is_twice}
 use Rattle.mvs_model.specs.Replies.{answer_of, grant_answer}
@@ -31,16 +33,18 @@ use Rattle.mvs_model.specs.Reports.{label_of}
 use Rattle.mvs_model.specs.Resolving.{all_set, names_set, places_in}
 use Rattle.mvs_model.specs.Runs.{Any, Makes}
 use Rattle.mvs_model.specs.State.{State}
-use Rattle.mvs_model.specs.Steps.{Abends, Acts, AttachCase, EmptiesEntry, Fails, MayRelease, Refuses, ReleaseStep, is_invalid, on_doubleword, side_for, whole}
+use Rattle.mvs_model.specs.Consequences.{Abends, Refuses}
+use Rattle.mvs_model.proofs.ByCase.{Acts, AttachCase, Fails, MayRelease, ReleaseStep}
+use Rattle.mvs_model.specs.Requests.{EmptiesEntry, is_invalid, on_doubleword, side_for, whole}
 use Rattle.mvs_model.specs.Subpool.{is_subpool_number}
 use Rattle.mvs_model.specs.Want.{AskValue, WantValue, fixed_want, want_of}
 use Rattle.mvs_model.specs.WellFormed.{WellFormed}
 use Rattle.mvs_model.proofs.Elements.{any_from}
-use Rattle.mvs_model.proofs.Kept.{enters_tasks}
+use Rattle.mvs_laws.proofs.Kept.{enters_tasks}
 use Rattle.mvs_model.proofs.Orders.{same_name_is, same_name_self}
 use Rattle.mvs_model.proofs.Tests.{by_test, true_false}
-use Rattle.step_machine.specs.Facts.{listed}
-use Rattle.step_machine.specs.Standing.{label_meant}
+use Rattle.request_forms.specs.Facts.{listed}
+use Rattle.request_forms.specs.Standing.{label_meant}
 use Rattle.page.specs.declared.change.Change.{Change}
 use Rattle.page.specs.declared.change.Change.TheVariants as change
 use Rattle.page.specs.Changes.{answer_changes, area_change, area_changes, free_changes}
@@ -105,7 +109,7 @@ module _ (old new : JobValue) (t : Name) (said : Answer) (p : Picture) (shows : 
 
     -- what an active task does
     pub act_shown : is_active old.state.owners t ≡ true → (Acts old.state t r m.reply new.state → Shown a said) → Shown a said
-    act_shown active f = by_test (not (is_active old.state.owners t)) m.step (λ e _. true_false (sym active ∙ not-true (is_active old.state.owners t) e)) (λ _ k. f k)
+    act_shown active f = by_test (not (is_active old.state.owners t)) (step_cases old.state t r m.reply new.state m.step) (λ e _. true_false (sym active ∙ not-true (is_active old.state.owners t) e)) (λ _ k. f k)
 
   module _ (active : is_active old.state.owners t ≡ true) (before : IsKept old.state) (behind : IsKept new.state) where
     -- the label of the subpool that a task means by a number

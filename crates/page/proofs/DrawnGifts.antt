@@ -8,13 +8,14 @@ use Rattle.mvs_model.specs.declared.want.Residence.{Residence}
 use Rattle.mvs_model.specs.Gifts.{GiftsValue, gives, has_bit, shares}
 use Rattle.mvs_model.specs.Job.{JobValue}
 use Rattle.mvs_model.specs.Name.{same_name}
-use Rattle.mvs_model.specs.Owners.{Owners, attach_refusal, entry, is_active, is_given}
+use Rattle.mvs_model.specs.Owners.{Owners, entry, is_active, is_given}
+use Rattle.mvs_model.proofs.ByCase.{attach_refusal}
 use Rattle.mvs_model.specs.Reports.{each_below, label_of}
-use Rattle.mvs_model.specs.Steps.{Attaches}
+use Rattle.mvs_model.specs.Requests.{Attaches}
 use Rattle.mvs_model.specs.WellFormed.{Owned}
 use Rattle.mvs_model.proofs.Orders.{differs, same_name_is, same_name_self}
 use Rattle.mvs_model.proofs.Tests.{none_some, true_false}
-use Rattle.step_machine.specs.Facts.{listed}
+use Rattle.request_forms.specs.Facts.{listed}
 use Rattle.page.specs.declared.change.Change.{Change}
 use Rattle.page.specs.declared.change.Change.TheVariants as change
 use Rattle.page.specs.Changes.{held_change}

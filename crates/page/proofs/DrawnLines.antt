@@ -21,9 +21,9 @@ use Rattle.mvs_model.specs.Place.{PlaceValue, place_at}
 use Rattle.mvs_model.specs.Replies.{answer_of, where_answer}
 use Rattle.mvs_model.specs.Resolving.{address_of, places_in, places_of, resolved}
 use Rattle.mvs_model.specs.Runs.{Any, Asks, Does, Makes, Says, Tells}
-use Rattle.mvs_model.specs.Steps.{Accesses}
+use Rattle.mvs_model.proofs.ByCase.{Accesses}
 use Rattle.mvs_model.proofs.Tests.{by_test}
-use Rattle.step_machine.specs.Facts.{listed}
+use Rattle.request_forms.specs.Facts.{listed}
 use Rattle.page.specs.declared.change.Change.{Change}
 use Rattle.page.specs.declared.change.Change.TheVariants as change
 use Rattle.page.specs.Changes.{answer_changes, request_changes, statement_changes, where_changes}

@@ -26,12 +26,13 @@ use Rattle.mvs_model.specs.Replies.{answer_of}
 use Rattle.mvs_model.specs.Resolving.{all_set, places_in}
 use Rattle.mvs_model.specs.Runs.{Any, Makes}
 use Rattle.mvs_model.specs.State.{State}
-use Rattle.mvs_model.specs.Steps.{DeleteStep, FreeStep, GetStep, GetsMore, Plan, is_invalid, new_pool, residence_of}
+use Rattle.mvs_model.proofs.ByCase.{DeleteStep, FreeStep, GetStep}
+use Rattle.mvs_model.specs.Requests.{GetsMore, Plan, is_invalid, new_pool, residence_of}
 use Rattle.mvs_model.specs.Want.{side_of}
-use Rattle.mvs_model.proofs.Kept.{enters_tasks}
+use Rattle.mvs_laws.proofs.Kept.{enters_tasks}
 use Rattle.mvs_model.proofs.Orders.{name_cmp_total, same_name_self}
 use Rattle.mvs_model.proofs.Tests.{by_test}
-use Rattle.step_machine.specs.Facts.{listed}
+use Rattle.request_forms.specs.Facts.{listed}
 use Rattle.page.specs.declared.change.Change.TheVariants as change
 use Rattle.page.specs.Changes.{answer_changes, last_part, part_change}
 use Rattle.page.specs.Picture.{Both, IsDrawn, IsMark, Label, Means, Picture, ShowsBy, replayed, replayed_all, with_cell, with_name, with_new_pool, with_pool}

@@ -10,7 +10,7 @@ use Rattle.mvs_model.specs.Job.{JobValue}
 use Rattle.mvs_model.specs.Name.{same_name}
 use Rattle.mvs_model.specs.Owners.{Owners, entry}
 use Rattle.mvs_model.specs.Place.{PlaceValue, round8}
-use Rattle.mvs_model.specs.Steps.{on_doubleword, whole}
+use Rattle.mvs_model.specs.Requests.{on_doubleword, whole}
 use Rattle.mvs_model.specs.Storage.{covers}
 use Rattle.mvs_model.proofs.Orders.{same_name_is, same_name_self}
 use Rattle.mvs_model.proofs.Tests.{same_self, same_test}

@@ -15,9 +15,9 @@ use Rattle.mvs_model.specs.declared.request.Request.TheVariants as request
 use Rattle.mvs_model.specs.Answers.{Answer, Event, Region, StepEnded, Told}
 use Rattle.mvs_model.specs.Answers as answer
 use Rattle.mvs_model.specs.Card.{CardValue}
-use Rattle.mvs_model.specs.Going.{Holds}
+use Rattle.mvs_laws.specs.Going.{Holds}
 use Rattle.mvs_model.specs.Job.{JobValue, job_at}
-use Rattle.mvs_model.specs.Laws.{KeptWellFormed}
+use Rattle.mvs_laws.specs.Laws.{KeptWellFormed}
 use Rattle.mvs_model.specs.Lines.{card_of}
 use Rattle.mvs_model.specs.Name.{name_cmp, same_name}
 use Rattle.mvs_model.specs.Owners.{entry_cmp, is_active}
@@ -27,11 +27,11 @@ use Rattle.mvs_model.specs.Resolving.{resolved}
 use Rattle.mvs_model.specs.Runs.{Any, Asks, Does, Says, machine}
 use Rattle.mvs_model.specs.State.{State}
 use Rattle.mvs_model.specs.Walk.{Leads, Serves, ServesLine, ending, is_first}
-use Rattle.mvs_model.proofs.Going.{leads_keep}
+use Rattle.mvs_laws.proofs.Going.{leads_keep}
 use Rattle.mvs_model.proofs.Orders.{name_cmp_total, same_name_sym}
 use Rattle.mvs_model.proofs.Reading.{one_reading}
 use Rattle.mvs_model.proofs.Tests.{by_test, true_false}
-use Rattle.mvs_model.proofs.Walking.{leads_next, served_first, served_in}
+use Rattle.mvs_laws.proofs.Walking.{leads_next, served_first, served_in}
 use Rattle.page.specs.Changes.{begin_changes, changes_of, said_changes, statement_changes}
 use Rattle.page.specs.Pages.{IsReadAs}
 use Rattle.page.specs.Picture.{Both, ChangesDraw, Draws, EachIsDrawn, IsDrawn, IsMark, Means, Picture, Shows, ShowsBy, blank, replayed_all}

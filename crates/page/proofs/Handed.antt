@@ -8,7 +8,8 @@ use Rattle.mvs_model.specs.declared.want.Residence.{Residence}
 use Rattle.mvs_model.specs.Finite.{has}
 use Rattle.mvs_model.specs.Gifts.{GiftsValue, gives, has_bit, shares}
 use Rattle.mvs_model.specs.Name.{same_name}
-use Rattle.mvs_model.specs.Owners.{Attach, Owners, attach_refusal, entry, gives_shared, is_active, is_given, owns}
+use Rattle.mvs_model.specs.Owners.{Attach, Owners, entry, gives_shared, is_active, is_given, owns}
+use Rattle.mvs_model.proofs.ByCase.{attach_refusal}
 use Rattle.mvs_model.specs.WellFormed.{Owned}
 use Rattle.mvs_model.proofs.Below.{below_some, some_below}
 use Rattle.mvs_model.proofs.Orders.{same_name_is, same_name_self}

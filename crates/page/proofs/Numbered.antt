@@ -11,7 +11,7 @@ use Rattle.mvs_model.specs.Name.{same_name}
 use Rattle.mvs_model.specs.Owners.{Binds, Ends, Enters, EntersBelow, IsSpare, Owners, SubpoolOf, entered, entry, entry_cmp, handed, is_given, none, passed}
 use Rattle.mvs_model.specs.Start.{start}
 use Rattle.mvs_model.specs.State.{State}
-use Rattle.mvs_model.proofs.Kept.{Closed}
+use Rattle.mvs_laws.proofs.Kept.{Closed}
 use Rattle.mvs_model.proofs.Tests.{none_some}
 
 -- What a task has has an owner, and each task that has it has it under one number.

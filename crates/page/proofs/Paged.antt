@@ -15,7 +15,7 @@ use Rattle.mvs_model.specs.Lines.{lines_of}
 use Rattle.mvs_model.specs.Runs.{machine}
 use Rattle.mvs_model.specs.Texts.{printing}
 use Rattle.mvs_model.specs.Walk.{JobEnds, Walks}
-use Rattle.mvs_model.proofs.Going.{printed_both}
+use Rattle.mvs_laws.proofs.Going.{printed_both}
 use Rattle.job_script.specs.Writing.{AppendsFront}
 use Rattle.job_script.proofs.Appending.{Appends-kept}
 use Rattle.mvs_job.specs.declared.printing.Stop.{Stop}

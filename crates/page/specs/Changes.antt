@@ -1,4 +1,4 @@
--- What a line did to the step, by what it says, what it is answered, and the step behind it.
+-- What a line changed in the step, from its meaning, its answer, and the step after it.
 use Rattle.std.specs.Prelude.{ℕ, ◌-◌, Bool, true, false, List, [], ◌∷◌, ◌++◌, Option, Some, None, length, unwrap_or, option_map, slice_get, if◌then◌else◌}
 use Rattle.std.specs.Option.{option_and_then}
 use Rattle.std.specs.FinMap.{get}
@@ -21,8 +21,8 @@ use Rattle.mvs_model.specs.Place.{PlaceValue, place_at}
 use Rattle.mvs_model.specs.Pools.{Pool}
 use Rattle.mvs_model.specs.Reports.{each_below}
 use Rattle.mvs_model.specs.Resolving.{resolved}
-use Rattle.step_machine.specs.Facts.{listed}
-use Rattle.step_machine.specs.Standing.{label_had, label_meant}
+use Rattle.request_forms.specs.Facts.{listed}
+use Rattle.request_forms.specs.Standing.{label_had, label_meant}
 use Rattle.page.specs.declared.change.Change.{Change}
 use Rattle.page.specs.declared.change.Change.TheVariants as change
 
@@ -42,7 +42,7 @@ abbrev pub free_changes : List PlaceValue → List Change
 free_changes [] = []
 free_changes (p ∷ ps) = change.Free p ∷ free_changes ps
 
--- the subpool that the task means by the number, of which all was released
+-- the subpool of the number of the task, all of which was released
 abbrev pub empty_change : JobValue → Name → ℕ → Option Change
 empty_change new t number = option_map (λ l. change.Empty l.0 l.1) (label_meant new.state.owners t number)
 
@@ -54,7 +54,7 @@ pool_change new t number pool size = option_map (λ l. change.Pool pool l.0 l.1 
 abbrev pub last_part : Name → Pool → Option Change
 last_part name pool = option_map (λ part. change.Part name part.place part.count) (slice_get pool.parts (length pool.parts - 1))
 
--- the same of a pool by its name
+-- the part of a pool, by its name
 abbrev pub part_change : JobValue → Name → Option Change
 part_change new name = option_and_then (last_part name) (get new.state.pools name)
 
@@ -77,7 +77,7 @@ request_changes (Some (request.Put a bytes)) = change.Write (place_at a (length 
 request_changes (Some (request.Move to from n)) = change.Read (place_at from n) ∷ change.Write (place_at to n) ∷ []
 request_changes _ = []
 
--- what a task's request did that was granted; the names that it looks up tell places as before
+-- the changes of a granted request of a task; the names that it uses have their places from before
 abbrev pub done_changes : Name → Written → JobValue → List Change
 done_changes t (written.Obtain form number ask variable area) new = listed (area_change new t number area)
 done_changes t (written.ObtainList form number lengths start areas) new = area_changes new t number areas
@@ -89,14 +89,14 @@ done_changes t (written.Attach name gifts residence) new =
     change.Task name t residence ∷ each_below task_numbers (λ n. listed (held_change new t name n))
 done_changes t a new = request_changes (resolved new.names a)
 
--- the tasks that fell with one that abended
+-- the tasks that ended with one that abended
 abbrev pub fall_changes : Name → List Name → List Change
 fall_changes t [] = []
 fall_changes t (other ∷ others) = change.Fall other t ∷ fall_changes t others
 
 -- ---- what a line is answered
 
--- whether an answer says that a request was done, and its task goes on
+-- whether an answer is that of an executed request whose task continues
 abbrev pub is_done : Answer → Bool
 is_done answer.Rc0 = true
 is_done (answer.Granted n) = true
@@ -106,13 +106,13 @@ is_done answer.Done = true
 is_done (answer.Data bytes) = true
 is_done _ = false
 
--- what a request did that is answered so: nothing where it was refused and its task goes on
+-- the changes of a request with this answer: none if it was refused and its task continues
 abbrev pub answer_changes : Name → Written → Answer → JobValue → List Change
 answer_changes t a answer.Ended new = change.Return t ∷ []
 answer_changes t a (answer.Abended code fallen) new = change.Abend t ∷ fall_changes t fallen
 answer_changes t a said new = if is_done said then done_changes t a new else []
 
--- the place that WHERE tells
+-- the place that WHERE shows
 abbrev pub where_changes : Name → Answer → JobValue → List Change
 where_changes name (answer.At a) new = listed (option_map (λ p. change.Look p) (get new.names name))
 where_changes name said new = []
@@ -127,7 +127,7 @@ statement_changes t s said new = []
 abbrev pub begin_changes : CardValue → List Change
 begin_changes card = change.Step card.below card.above card.fill ∷ change.First card.name card.residence ∷ []
 
--- the task that events answer, and the answer; the end of a step may stand before it
+-- the task and the answer of some events; the end of a step may come before it
 abbrev pub answer_in : List Event → Option (Name × Answer)
 answer_in (Told number t said ∷ []) = Some (t, said)
 answer_in (StepEnded abended ∷ (Told number t said ∷ [])) = Some (t, said)
@@ -139,6 +139,6 @@ said_changes l new (t, answer.Region card) = begin_changes card
 said_changes (line.Statement task s) (Some new) (t, said) = statement_changes t s said new
 said_changes l new said = []
 
--- the same where it tells these events
+-- the changes of a line with these events
 abbrev pub changes_of : Line → List Event → Option JobValue → List Change
 changes_of l events new = unwrap_or (option_map (said_changes l new) (answer_in events)) []

@@ -1,4 +1,4 @@
--- The text of a page: what stands between tags, and the items. (this project's choice)
+-- The text of a page: escaped text, and the items. (this project's choice)
 use Rattle.std.specs.Prelude.{ℕ, Bool, true, false, not, ◌==◌, ◌&&◌, nat_le, List, [], ◌∷◌, ◌++◌, take, drop, codes, decimal, if◌then◌else◌, Option, unwrap_or, option_map}
 use Rattle.std.specs.List.{flat_map}
 use Rattle.mvs_model.specs.Answers.{Answer, Event, Faulted}
@@ -28,7 +28,7 @@ escaped_byte b =
     if b == 38 then codes "&amp;" else if b == 60 then codes "&lt;" else if b == 62 then codes "&gt;" else if b == 34 then codes "&quot;"
     else if b == 10 then b ∷ [] else if nat_le 32 b && nat_le b 126 then b ∷ [] else codes "?"
 
--- the same of a text
+-- a text, escaped
 abbrev pub escaped : List ℕ → List ℕ
 escaped text = flat_map escaped_byte text
 
@@ -52,7 +52,7 @@ pre_texts (Tag name) (b ∷ bs) = if b == 62 then pre_texts (Inside (is_pre name
 
 -- ---- items
 
--- how a statement went: it was served, it was refused and its task goes on, or its task abended
+-- the result of a statement: it was executed, it was refused and its task continues, or its task abended
 abbrev pub class_said : Answer → List ℕ
 class_said answer.NotRun = codes "no"
 class_said answer.NoName = codes "no"
@@ -61,7 +61,7 @@ class_said answer.NoCell = codes "no"
 class_said (answer.Abended code fallen) = codes "ab"
 class_said _ = codes "ok"
 
--- the same of what a line tells
+-- the result of the events of a line
 abbrev pub class_of : List Event → List ℕ
 class_of events = unwrap_or (option_map (λ said. class_said said.1) (answer_in events)) (codes "ok")
 
@@ -73,7 +73,7 @@ most_of_line = 255
 abbrev pub shown_line : List ℕ → List ℕ
 shown_line l = escaped (take most_of_line l)
 
--- the lines that stand behind an answer, without the asterisk and the blank before each
+-- the explanations of an answer, without the asterisk and the blank before each line
 abbrev pub words_of : List ℕ → List ℕ
 words_of behind = flat_map (λ l. escaped (drop 2 l) ++ codes "\n") (lines_of behind)
 
@@ -102,8 +102,7 @@ note_tag number = codes "<p id=\"l" ++ (escaped (decimal number) ++ codes "\">")
 abbrev pub note_of : ℕ → List ℕ → List ℕ
 note_of number l = note_tag number ++ (shown_line l ++ codes "</p>\n")
 
--- the item of a line that is served: of its number and its bytes, what it says and tells, the step behind it, and what stands behind
--- its answer
+-- the item of an executed line: from its number and its bytes, its meaning and its events, the step after it, and the explanations
 abbrev pub item_of : ℕ → List ℕ → Line → List Event → Option JobValue → List ℕ → List ℕ
 item_of number l read [] new behind = note_of number l
 item_of number l read (e ∷ events) new behind =

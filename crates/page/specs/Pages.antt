@@ -22,8 +22,8 @@ use Rattle.page.specs.Markup.{Inside, closing_of, escaped, fault_of, item_of, pr
 abbrev pub IsReadAs : Option JobValue → List ℕ → Line → Type 0
 IsReadAs old l read = LineOf (is_first old) l read ⊎ ((fault : Fault) × FaultOf (is_first old) l fault)
 
--- The item is that of the line of this number, which is served and leads from one step to another, and from the lines that have set
--- names before it to those behind it.
+-- The item is that of the line with this number, which is executed and leads from one step to another, and from the lines that have
+-- set names before it to those after it.
 abbrev pub IsItem : ℕ → Option JobValue → SetLines → List ℕ → Option JobValue → SetLines → List ℕ → Type 0
 IsItem number old set l new later item =
     (read : Line) × (events : List Event) × (behind : List ℕ)
@@ -43,16 +43,17 @@ abbrev pub IsNext : ℕ → Option JobValue → SetLines → List (List ℕ) →
 IsNext number old set [] item = (outcome : Outcome) × IsClosing number old outcome item
 IsNext number old set (l ∷ lines) item = ((new : Option JobValue) × (later : SetLines) × IsItem number old set l new later item) ⊎ IsFaultItem number old l item
 
--- How a page may end, at the number of the next line, in this step or before the first, with these lines left: with the end of the
--- job, or with a line that has a fault; with a front of the next item, where a write fails; and before it, where memory is wanting.
+-- How a page may end, with the number of the next line, in this step or before the first, with these lines left: with the end of
+-- the job, or with a line that has a fault; with the beginning of the next item, if a write fails; and before it, if memory is
+-- exhausted.
 abbrev pub EndsSo : Result Outcome Stop → ℕ → Option JobValue → SetLines → List (List ℕ) → List ℕ → Type 0
 EndsSo (Ok outcome) number old set [] text = IsClosing number old outcome text
 EndsSo (Ok outcome) number old set (l ∷ lines) text = IsFaultItem number old l text × (outcome ≡ ScriptFault)
 EndsSo (Err stop.Write) number old set lines text = (text ≡ []) ⊎ ((rest : List ℕ) × IsNext number old set lines (text ++ rest))
 EndsSo (Err stop.Memory) number old set lines text = text ≡ []
 
--- From the line of this number on these are the items: the page ends before the first of the lines, or that line has its item, and
--- the page goes on behind it.
+-- From the line with this number on, these are the items: the page ends before the first of the lines, or that line has its item,
+-- and the page continues after it.
 abbrev pub Items : Result Outcome Stop → ℕ → Option JobValue → SetLines → List (List ℕ) → List ℕ → Type 0
 Items how number old set [] text = EndsSo how number old set [] text
 Items how number old set (l ∷ lines) text =
@@ -67,7 +68,7 @@ IsPage frame script text how =
     ((items : List ℕ) × (text ≡ frame ++ items) × Items how 1 None no_lines (lines_of script) items)
     ⊎ ((how ≡ Err stop.Write) × ((rest : List ℕ) × (frame ≡ text ++ rest)))
 
--- what stands between two moments of a writer is such a page
+-- the text between two moments of a writer is such a page
 abbrev pub WritesPage : Option (List ℕ) → Option (List ℕ) → List ℕ → List ℕ → Result Outcome Stop → Type 0
 WritesPage before after frame script how = (text : List ℕ) × Appends before after text × IsPage frame script text how
 
@@ -77,14 +78,14 @@ pub record ShowsPrinting (script items : List ℕ) (outcome : Outcome) : Type 0 
   pub run : IsRun script events outcome
   pub shown : pre_texts (Inside false) items ≡ escaped (printing events)
 
--- what stands between two moments of a writer are the fixed part and such items
+-- the text between two moments of a writer is the fixed part and such items
 abbrev pub WritesShown : Option (List ℕ) → Option (List ℕ) → List ℕ → List ℕ → Outcome → Type 0
 WritesShown before after frame script outcome = (items : List ℕ) × Appends before after (frame ++ items) × ShowsPrinting script items outcome
 
 -- ---- what calls do
 
--- What the call for one line does, between two moments of a writer: it writes the item, and the job goes on or has ended; or it stops
--- and has written nothing, or a front of the item where a write fails.
+-- The effect of the call for one line, between two moments of a writer: it writes the item, and the job continues or has ended; or
+-- it stops and has written nothing, or the beginning of the item if a write fails.
 abbrev pub WritesItem : Option (List ℕ) → Option (List ℕ) → ℕ → Option JobValue → SetLines → List ℕ → Option JobValue → SetLines → Result Bool Stop → Type 0
 WritesItem before after number old set l new later (Ok true) = (item : List ℕ) × Appends before after item × IsItem number old set l new later item
 WritesItem before after number old set l new later (Ok false) = (item : List ℕ) × Appends before after item × IsFaultItem number old l item
@@ -92,8 +93,8 @@ WritesItem before after number old set l new later (Err stop.Write) =
     (text : List ℕ) × Appends before after text × ((text ≡ []) ⊎ ((rest : List ℕ) × IsNext number old set (l ∷ []) (text ++ rest)))
 WritesItem before after number old set l new later (Err stop.Memory) = Keeps before after
 
--- What stands between two moments of a writer is written behind the fixed part for the lines before, in whatever way the page ends
--- behind it.
+-- The text between two moments of a writer is written after the fixed part for the lines before, in whatever way the page ends
+-- after it.
 abbrev pub SoFar : Option (List ℕ) → Option (List ℕ) → List ℕ → List ℕ → ℕ → Option JobValue → SetLines → List ℕ → Type 0
 SoFar before after frame script number step set left =
     (written : List ℕ) × Appends before after (frame ++ written)

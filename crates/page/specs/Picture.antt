@@ -219,6 +219,6 @@ Draws number old before (l ∷ lines) new after =
 abbrev pub EachIsDrawn : Type 0
 EachIsDrawn = (lines : List (List ℕ)) (events : List Event) (step : Option JobValue) → Leads machine 1 None lines events step → (picture : Picture) × Draws 1 None blank lines step picture
 
--- What they draw, from a blank picture on, is a picture of the step behind them.
+-- What they draw, applied to a blank picture, is a picture of the step after them.
 abbrev pub ChangesDraw : Type 0
 ChangesDraw = (lines : List (List ℕ)) (step : Option JobValue) (picture : Picture) → Draws 1 None blank lines step picture → Shows picture step

@@ -45,7 +45,7 @@ pub enum Change {
         number: SubNo,
         owner: Name,
     },
-    /// An area is granted, which the name tells from now on.
+    /// An area is granted, and the name is set to it.
     Take {
         place: Place,
         number: SubNo,
@@ -61,20 +61,20 @@ pub enum Change {
         number: SubNo,
         owner: Name,
     },
-    /// A cell pool is built, with cells of so many bytes.
+    /// A cell pool is built, with cells of this size in bytes.
     Pool {
         name: Name,
         number: SubNo,
         owner: Name,
         size: u32,
     },
-    /// The pool has a part with so many cells, which it got last.
+    /// The pool has a new part with this number of cells.
     Part {
         pool: Name,
         place: Place,
         cells: u32,
     },
-    /// A cell is taken, which the name tells from now on.
+    /// A cell is allocated, and the name is set to it.
     Cell {
         pool: Name,
         place: Place,
@@ -97,7 +97,7 @@ pub enum Change {
     Write {
         place: Place,
     },
-    /// A place is told.
+    /// A place is shown.
     Look {
         place: Place,
     },
@@ -116,7 +116,7 @@ pub enum Change {
     },
 }
 
-// Puts behind a text where a task resides.
+// Appends the residence of a task.
 fn push_residence(text: &mut Text, residence: Residence)
     requires { length text.old ≤ 140 }
     ensures text { text.new ≡ text.old ++ residence_said residence }
@@ -128,7 +128,7 @@ fn push_residence(text: &mut Text, residence: Residence)
     }
 }
 
-// Puts an address and a length behind a text.
+// Appends an address and a length.
 fn push_place(text: &mut Text, place: Place)
     requires { length text.old ≤ 120 }
     ensures text { text.new ≡ text.old ++ place_said place }
@@ -139,7 +139,7 @@ fn push_place(text: &mut Text, place: Place)
     text.push_word(place.len());
 }
 
-// Puts the number of a subpool behind a text.
+// Appends the number of a subpool.
 fn push_number(text: &mut Text, number: SubNo)
     requires { length text.old ≤ 140 }
     ensures text { text.new ≡ text.old ++ decimal number }
@@ -148,7 +148,7 @@ fn push_number(text: &mut Text, number: SubNo)
     text.push_decimal(u32::from(number.get()));
 }
 
-// Puts a subpool behind a text.
+// Appends a subpool.
 fn push_subpool(text: &mut Text, number: SubNo, owner: &Name)
     requires { length text.old ≤ 120 }
     ensures text { text.new ≡ text.old ++ subpool_said number owner.now }
@@ -159,7 +159,7 @@ fn push_subpool(text: &mut Text, number: SubNo, owner: &Name)
     text.push_name(owner);
 }
 
-// Puts behind a text that a task has something under a number.
+// Appends that a task has something with a number.
 fn push_has(text: &mut Text, task: &Name, number: SubNo)
     requires { length text.old ≤ 2 }
     ensures text { text.new ≡ text.old ++ has_said task.now number }
@@ -171,7 +171,7 @@ fn push_has(text: &mut Text, task: &Name, number: SubNo)
     push_number(text, number);
 }
 
-// Puts a word and a name behind a text.
+// Appends a word and a name.
 fn push_of(text: &mut Text, word: &[u8], name: &Name)
     requires old { length text.old ≤ 100 }
     requires word { length word.now ≤ 20 }
@@ -182,7 +182,7 @@ fn push_of(text: &mut Text, word: &[u8], name: &Name)
     text.push_name(name);
 }
 
-// Puts a word and a place behind a text.
+// Appends a word and a place.
 fn push_at(text: &mut Text, word: &[u8], place: Place)
     requires old { length text.old ≤ 100 }
     requires word { length word.now ≤ 20 }
@@ -193,7 +193,7 @@ fn push_at(text: &mut Text, word: &[u8], place: Place)
     push_place(text, place);
 }
 
-// Puts a step that begins behind a text.
+// Appends the beginning of a step.
 fn push_step(text: &mut Text, below: u32, above: u32, fill: u8)
     requires { length text.old ≤ 2 }
     ensures text { text.new ≡ text.old ++ change_said (Change.Step below above fill) }
@@ -207,7 +207,7 @@ fn push_step(text: &mut Text, below: u32, above: u32, fill: u8)
     text.push_byte(fill);
 }
 
-// Puts a change of tasks behind a text.
+// Appends a change of tasks.
 fn push_task(text: &mut Text, name: &Name, mother: &Name, residence: Residence)
     requires { length text.old ≤ 2 }
     ensures text { text.new
@@ -219,7 +219,7 @@ fn push_task(text: &mut Text, name: &Name, mother: &Name, residence: Residence)
     push_residence(text, residence);
 }
 
-// Puts an area behind a text that is granted.
+// Appends a granted area.
 fn push_take(text: &mut Text, place: Place, number: SubNo, owner: &Name, name: &Name)
     requires { length text.old ≤ 2 }
     ensures text { text.new
@@ -232,7 +232,7 @@ fn push_take(text: &mut Text, place: Place, number: SubNo, owner: &Name, name: &
     push_of(text, b" ", name);
 }
 
-// Puts a cell pool behind a text that is built.
+// Appends a new cell pool.
 fn push_pool(text: &mut Text, name: &Name, number: SubNo, owner: &Name, size: u32)
     requires { length text.old ≤ 2 }
     ensures text { text.new
@@ -246,7 +246,7 @@ fn push_pool(text: &mut Text, name: &Name, number: SubNo, owner: &Name, size: u3
     text.push_decimal(size);
 }
 
-// Puts a part of a cell pool behind a text.
+// Appends a part of a cell pool.
 fn push_part(text: &mut Text, pool: &Name, place: Place, cells: u32)
     requires { length text.old ≤ 2 }
     ensures text { text.new ≡ text.old ++ change_said (Change.Part pool.now place cells) }
@@ -258,7 +258,7 @@ fn push_part(text: &mut Text, pool: &Name, place: Place, cells: u32)
     text.push_decimal(cells);
 }
 
-// Puts a cell behind a text that is taken.
+// Appends an allocated cell.
 fn push_cell(text: &mut Text, pool: &Name, place: Place, name: &Name)
     requires { length text.old ≤ 2 }
     ensures text { text.new ≡ text.old ++ change_said (Change.Cell pool.now place name.now) }
@@ -269,7 +269,7 @@ fn push_cell(text: &mut Text, pool: &Name, place: Place, name: &Name)
     push_of(text, b" ", name);
 }
 
-// Puts a change behind a text.
+// Appends a change.
 fn push_change(text: &mut Text, change: &Change)
     requires { length text.old ≤ 2 }
     ensures text { text.new ≡ text.old ++ change_said change.now }
@@ -348,7 +348,7 @@ fn push_change(text: &mut Text, change: &Change)
     }
 }
 
-// Puts the line of a change behind others.
+// Appends the line of a change.
 fn push_line(lines: &mut Vec<u8>, change: &Change) -> Result<(), AllocError>
     ensures { OnOk result (lines.new.items ≡ lines.old.items ++ change_line change.now) }
 {
@@ -358,7 +358,7 @@ fn push_line(lines: &mut Vec<u8>, change: &Change) -> Result<(), AllocError>
     lines.extend_from_slice(text.as_slice())
 }
 
-/// Puts the lines of changes behind others.
+/// Appends the lines of changes.
 pub fn push_lines(lines: &mut Vec<u8>, changes: &[Change]) -> Result<(), AllocError>
     ensures { OnOk result (lines.new.items ≡ lines.old.items ++ change_lines changes.now) }
 {

@@ -8,7 +8,7 @@ ghost use Rattle.mvs_model.specs.declared.name.Name.{Name as TaskName};
 ghost use Rattle.mvs_model.specs.Reports.{each_below};
 ghost use Rattle.mvs_model.specs.Resolving.{resolved};
 ghost use Rattle.mvs_model.specs.State.{State};
-ghost use Rattle.step_machine.specs.Facts.{listed};
+ghost use Rattle.request_forms.specs.Facts.{listed};
 ghost use Rattle.mvs_job.specs.Telling.{IsLent, events_told};
 ghost use Rattle.page.specs.Changes.{answer_changes, area_change, area_changes, begin_changes, cell_change, changes_of, done_changes, empty_change, fall_changes, free_changes, held_change, is_done, part_change, pool_change, request_changes, statement_changes, where_changes};
 
@@ -38,7 +38,7 @@ fn no_changes() -> Changes
     })
 }
 
-// Puts a change behind others, if there is one.
+// Appends a change, if there is one.
 fn push_some(changes: &mut Changes, change: Option<Change>)
     requires { length changes.old < 160 }
     ensures changes { changes.new ≡ changes.old ++ listed change }
@@ -67,7 +67,7 @@ fn area_change(job: &Job, task: &Name, number: u8, area: &Name) -> Option<Change
     })
 }
 
-// Puts the areas of a list behind other changes.
+// Appends the areas of a list.
 fn push_areas(changes: &mut Changes, job: &Job, task: &Name, number: u8, areas: &[Name])
     requires { length changes.old + length areas.now ≤ 100 }
     ensures changes { changes.new
@@ -81,7 +81,7 @@ fn push_areas(changes: &mut Changes, job: &Job, task: &Name, number: u8, areas: 
     push_areas(changes, job, task, number, areas);
 }
 
-// Puts places behind other changes that were released.
+// Appends released places.
 fn push_frees(changes: &mut Changes, places: &[Place])
     requires { length changes.old + length places.now ≤ 100 }
     ensures changes { changes.new ≡ changes.old ++ free_changes places.now }
@@ -94,7 +94,7 @@ fn push_frees(changes: &mut Changes, places: &[Place])
     push_frees(changes, places);
 }
 
-// Puts the tasks behind other changes that fell with one.
+// Appends the tasks that ended with one.
 fn push_falls(changes: &mut Changes, task: &Name, fallen: &[Name])
     requires { length changes.old + length fallen.now ≤ 100 }
     ensures changes { changes.new ≡ changes.old ++ fall_changes task.now fallen.now }
@@ -110,7 +110,7 @@ fn push_falls(changes: &mut Changes, task: &Name, fallen: &[Name])
     push_falls(changes, task, fallen);
 }
 
-// The subpool that the task means by the number, of which all was released.
+// Returns the subpool of the number, all of which was released.
 fn empty_change(job: &Job, task: &Name, number: u8) -> Option<Change>
     ensures { result ≡ empty_change job.now task.now number }
 {
@@ -192,7 +192,7 @@ fn held_change(job: &Job, mother: &Name, subtask: &Name, held: SubNo) -> Option<
     })
 }
 
-// Puts what a subtask has behind other changes.
+// Appends what a subtask has.
 fn push_held(changes: &mut Changes, job: &Job, mother: &Name, subtask: &Name)
     requires { length changes.old ≤ 2 }
     ensures { changes.new
@@ -235,7 +235,7 @@ fn request_changes(request: &Request) -> Changes
     changes
 }
 
-// The same of a request as it is written.
+// Returns the changes of a request as written.
 fn named_changes(written: &Written, job: &Job, request: &mut Request) -> Changes
     ensures { result ≡ request_changes (resolved job.now.names written.now) }
 {
@@ -294,7 +294,7 @@ fn done_changes(task: &Name, written: &Written, job: &Job, request: &mut Request
     changes
 }
 
-// Whether an answer says that a request was done, and its task goes on.
+// Returns whether an answer is that of an executed request whose task continues.
 fn is_done(answer: &Answer) -> bool
     ensures { (st : State) (fallen : List TaskName) (t : TaskName)
         → result ≡ is_done (lent st fallen t answer.now) }
@@ -310,7 +310,7 @@ fn is_done(answer: &Answer) -> bool
     )
 }
 
-// A task that abended, and those that fell with it.
+// A task that abended, and those that ended with it.
 fn abend_changes(task: &Name, fallen: &[Name]) -> Changes
     requires { length fallen.now ≤ 31 }
     ensures { result ≡ Change.Abend task.now ∷ fall_changes task.now fallen.now }
@@ -352,7 +352,7 @@ fn answer_changes(
     }
 }
 
-// The place that WHERE tells.
+// Returns the place that WHERE shows.
 fn where_changes(name: &Name, answer: &Answer, job: &Job) -> Changes
     ensures { (st : State) (fallen : List TaskName) (t : TaskName)
         → result ≡ where_changes name.now (lent st fallen t answer.now) job.now }
@@ -418,7 +418,7 @@ fn fallen(walk: &Walk) -> &[Name]
     }
 }
 
-/// What a line did that says this and told this. The request that it asks for is written over `request`.
+/// Returns the changes of a line with this meaning and these events. Its request is written over `request`.
 pub fn changes_of(read: &Line, walk: &Walk, told: &LineTold, request: &mut Request) -> Changes
     requires { IsLent walk.now told.now }
     ensures { (number : ℕ)

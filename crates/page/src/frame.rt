@@ -1,7 +1,7 @@
-//! The fixed part of a page: its style, and its script, which draws from the lines of change alone. It is written to be read, stands
-//! on nothing outside of it, and has no byte that is not ASCII.
+//! The fixed part of a page: its style, and its script, which draws only from the lines of change. It is written to be read,
+//! depends on nothing outside, and is ASCII.
 
-/// What stands before the items. The text is that of an HTML file; what follows it are the items, and nothing follows them.
+/// The text before the items. It is the beginning of an HTML file; the items follow it, and nothing follows them.
 pub const FRAME: &str = r##"<!doctype html>
 <html lang="en">
 <head>
@@ -155,7 +155,7 @@ function picture(width,height,title,description,inside){
  return`<svg role="img" width="${width}" height="${height}" viewBox="-2 0 ${width+2} ${height}">
 <title>${title}</title><desc>${plain(description)}</desc>${inside}</svg>`;
 }
-// A bar in the hue of a subpool, filled as far as it is held.
+// A bar in the hue of a subpool, filled in proportion to what is held.
 const level=(subpool,x,y,width,height,share)=>
  hued(subpool,rect(x,y,width,height,"band")+rect(x,y+height*(1-share),width,height*share,"level"));
 // 2. The items: comments, statements (the script), and ends of steps.
@@ -547,7 +547,7 @@ function taskItem(state,task,small,below){ // A task, its subpools, and the task
   +(chips.length?`<div class="chips">${chips.join("")}</div>`:"")+(below.length?`<ul>${below.join("")}</ul>`:"")+"</li>"}
 function taskRemark({end,endLine,resides}){
  let remark=resides==="ABOVE"?"resides above":"";
- if(end)remark=`${end==="RETURN"?"returned":end.replace("ABEND ","").replace("WITH","fell with")}, line ${endLine}`;
+ if(end)remark=`${end==="RETURN"?"returned":end.replace("ABEND ","").replace("WITH","ended with")}, line ${endLine}`;
  return remark&&`<span class="remark">${remark}</span>`}
 function chip(state,task,number,{subpool,how,since},lost,small){ // A subpool that a task has or has lost.
  const isNew=!lost&&since===state.index,holds=count(subpool.held,"byte"),kept=task.end&&subpool.removed===undefined;
@@ -577,7 +577,7 @@ function nameRemark(state,name){ // What a name names now.
  if(!area)return"stale: free";
  const cell=area.pool&&area.pool.taken.get(place.at);
  return`stale: ${cell?cell.name:area.pool?"a free cell":area.name} lies there`}
-// 6. All statements. A lane is a task; moments tell of a page its subpool, and what is held.
+// 6. All statements. A lane is a task; for each page, moments have its subpool and what is held.
 const lanes=[],moments=new Map(),touchedPages=new Map(),wrong=[];
 function survey(){ // Goes through all statements, and compares.
  const open=new Map();
@@ -680,12 +680,12 @@ const MARKS={
 // The keys: the width of a picture, the picture, and words.
 const box=(kind,told)=>[20,rect(1.5,1.5,17,9,kind),told],mark=(name,told)=>[14,path(MARKS[name](7,6,4),name),told];
 const STORAGE_KEY=[
- box("area new","granted now"),box("area","held"),box("page","free, for this subpool alone"),
+ box("area new","granted now"),box("area","held"),box("page","free, only for this subpool"),
  box("freed","freed now"),box("read","read"),box("written","written"),
  [0,"<s><i>X</i></s>","a stale name"],[20,rect(5,1,10,11,"doubleword"),"one doubleword"]];
 const TIME_KEY=[
- mark("grant","granted"),mark("release","released"),mark("tick","told or done"),
- mark("refused","refused, the task goes on"),mark("abend","abend, fault"),
+ mark("grant","granted"),mark("release","released"),mark("tick","other"),
+ mark("refused","refused, the task continues"),mark("abend","abend, fault"),
  [26,level({colour:0},0,0,26,12,5/12),"a page: its subpool, and how much of it is held"]];
 function keyOf(entries){
  const svg=entries.map(([width,inside,told])=>{
@@ -700,8 +700,11 @@ const HATCH=`<svg width="0" height="0" style="position:absolute" aria-hidden="tr
 <pattern id="dots" width="4" height="4" patternUnits="userSpaceOnUse">
 <rect width="4" height="4" fill="var(--paper)"/><circle cx="2" cy="2" r="1" fill="var(--soft)"/></pattern></defs></svg>`;
 let current=null,timeLine=null,allDrawn=false;
+function fileName(){ // The name of the page's file. One that is not UTF-8 stays encoded.
+ const name=location.pathname.split("/").pop();
+ try{return decodeURIComponent(name)}catch{return name}}
 function build(){
- const file=decodeURIComponent(location.pathname.split("/").pop()).replace(/\.html?$/,""),title=items[0].comment||"";
+ const file=fileName().replace(/\.html?$/,""),title=items[0].comment||"";
  document.title=(file||"mvsjob")+(title&&": "+title);
  const button=(key,told,text)=>`<button data-key="${key}" title="${told}">${text}</button>`;
  document.body.insertAdjacentHTML("afterbegin",`<header id="head"><h1>${plain(title||file||"A job, statement by statement")}</h1>

@@ -27,7 +27,7 @@ pub struct Numbered<'a> {
     pub line: &'a [u8],
 }
 
-/// What a line printed, and what stands behind that.
+/// What a line printed, and its explanation.
 #[derive(Drop)]
 pub struct Served {
     pub told: LineTold,
@@ -47,7 +47,7 @@ fn class_said(answer: &Answer) -> &'static [u8]
     }
 }
 
-// The same of what a line told.
+// Makes the item for the events of a line.
 fn class_of(walk: &Walk, told: &LineTold) -> &'static [u8]
     requires { IsLent walk.now told.now }
     ensures { (number : ℕ) → result.now ≡ class_of (events_told number walk.now told.now) }
@@ -58,7 +58,7 @@ fn class_of(walk: &Walk, told: &LineTold) -> &'static [u8]
     }
 }
 
-// The lines of change of a line that says this and told this.
+// Returns the lines of change of a line with this meaning and these events.
 fn lines_of_change(
     alloc: Global,
     read: &Line,

@@ -8,7 +8,7 @@ use mvs_job::line_end;
 use std::alloc::AllocError;
 use std::slice;
 
-/// Puts a tag behind a text.
+/// Appends a tag.
 pub fn push_tag(item: &mut Vec<u8>, tag: &[u8]) -> Result<(), AllocError>
     ensures { OnOk result (item.new.items ≡ item.old.items ++ tag.now) }
 {
@@ -29,7 +29,7 @@ fn escaped_byte(byte: &u8) -> &[u8]
     }
 }
 
-// Puts a text behind others as it is written between tags.
+// Appends a text, escaped.
 fn push_escaped(item: &mut Vec<u8>, text: &[u8]) -> Result<(), AllocError>
     ensures { OnOk result (item.new.items ≡ item.old.items ++ escaped text.now) }
 {
@@ -39,7 +39,7 @@ fn push_escaped(item: &mut Vec<u8>, text: &[u8]) -> Result<(), AllocError>
     Ok(())
 }
 
-// Puts a number behind a text.
+// Appends a number.
 fn push_number(item: &mut Vec<u8>, number: u32) -> Result<(), AllocError>
     ensures { OnOk result (item.new.items ≡ item.old.items ++ escaped (decimal number)) }
 {
@@ -55,14 +55,14 @@ fn front(line: &[u8]) -> &[u8]
     if line.len() > 255 { &line[..255] } else { line }
 }
 
-// A line of reasons without its asterisk and the blank behind that.
+// Returns a line of explanations without its asterisk and the blank after it.
 fn without_star(line: &[u8]) -> &[u8]
     ensures { result.now ≡ drop 2 line.now }
 {
     if line.len() > 2 { &line[2..] } else { &[] }
 }
 
-// The lines behind the first one of a text.
+// Returns the lines after the first one of a text.
 fn behind_line(text: &[u8], end: usize) -> &[u8]
     requires { end ≤ length text.now }
     ensures { result.now ≡ drop (end + 1) text.now }
@@ -74,7 +74,7 @@ fn behind_line(text: &[u8], end: usize) -> &[u8]
     }
 }
 
-// Puts the words behind a text that stand behind an answer, line for line.
+// Appends the explanations of an answer, line by line.
 fn push_words(item: &mut Vec<u8>, behind: &[u8]) -> Result<(), AllocError>
     ensures { OnOk result (item.new.items ≡ item.old.items ++ words_of behind.now) }
 {
@@ -87,7 +87,7 @@ fn push_words(item: &mut Vec<u8>, behind: &[u8]) -> Result<(), AllocError>
     push_words(item, behind_line(behind, end))
 }
 
-// Puts the tag behind others that begins the item of a statement.
+// Appends the tag that begins the item of a statement.
 fn push_article_tag(item: &mut Vec<u8>, number: u32, how: &[u8]) -> Result<(), AllocError>
     ensures { OnOk result (item.new.items ≡ item.old.items ++ article_tag number how.now) }
 {
@@ -99,7 +99,7 @@ fn push_article_tag(item: &mut Vec<u8>, number: u32, how: &[u8]) -> Result<(), A
     Ok(())
 }
 
-/// Puts the head of an item of a statement behind others: its number, how it went, and its line.
+/// Appends the head of an item of a statement: its number, its result, and its line.
 pub fn push_head(item: &mut Vec<u8>, number: u32, how: &[u8], line: &[u8]) -> Result<(), AllocError>
     ensures { OnOk result (item.new.items ≡ item.old.items ++ head_of number how.now line.now) }
 {
@@ -112,7 +112,7 @@ pub fn push_head(item: &mut Vec<u8>, number: u32, how: &[u8], line: &[u8]) -> Re
     Ok(())
 }
 
-/// Puts what a line prints behind an item.
+/// Appends what a line prints to an item.
 pub fn push_reply(item: &mut Vec<u8>, printed: &[u8]) -> Result<(), AllocError>
     ensures { OnOk result (item.new.items ≡ item.old.items ++ reply_of printed.now) }
 {
@@ -122,7 +122,7 @@ pub fn push_reply(item: &mut Vec<u8>, printed: &[u8]) -> Result<(), AllocError>
     Ok(())
 }
 
-/// Puts the words and the lines of change behind an item.
+/// Appends the explanations and the lines of change to an item.
 pub fn push_tail(item: &mut Vec<u8>, behind: &[u8], changes: &[u8]) -> Result<(), AllocError>
     ensures { OnOk result (item.new.items ≡ item.old.items ++ tail_of behind.now changes.now) }
 {
@@ -134,7 +134,7 @@ pub fn push_tail(item: &mut Vec<u8>, behind: &[u8], changes: &[u8]) -> Result<()
     Ok(())
 }
 
-// Puts the tag behind others that begins the item of a line that says nothing.
+// Appends the tag that begins the item of a line without a statement.
 fn push_note_tag(item: &mut Vec<u8>, number: u32) -> Result<(), AllocError>
     ensures { OnOk result (item.new.items ≡ item.old.items ++ note_tag number) }
 {
@@ -144,7 +144,7 @@ fn push_note_tag(item: &mut Vec<u8>, number: u32) -> Result<(), AllocError>
     Ok(())
 }
 
-/// Puts the item of a line that says nothing behind others.
+/// Appends the item of a line without a statement.
 pub fn push_note(item: &mut Vec<u8>, number: u32, line: &[u8]) -> Result<(), AllocError>
     ensures { OnOk result (item.new.items ≡ item.old.items ++ note_of number line.now) }
 {

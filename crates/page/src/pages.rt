@@ -48,14 +48,14 @@ fn is_first(walk: &Walk) -> bool
     }
 }
 
-// Reads a line of a job that stands so.
+// Parses a line of a job in this state.
 fn read_as(walk: &Walk, line: &[u8], read: &mut Line)
     ensures { IsReadAs walk.now.step line.now read.new }
 {
     let _ = read_line(line, is_first(walk), read);
 }
 
-// Whether a job goes on behind a line that told this.
+// Returns whether a job continues after a line with these events.
 fn goes_on(told: &LineTold) -> bool
     ensures { result ≡ goes_on told.now }
 {
@@ -76,7 +76,7 @@ impl Maker {
         }
     }
 
-    // Serves a line. Memory may be wanting for that, or for what it prints.
+    // Executes a line. Memory can be exhausted there, or by what it prints.
     fn serve(&mut self, alloc: Global, walk: &mut Walk, line: &[u8]) -> Result<Served, AllocError>
         requires { walk.old.number + 1 < 2 ^ 32 }
         ensures told { IfOk result (λ served. IsTold walk.old line.now served.told walk.new) }
@@ -106,7 +106,7 @@ impl Maker {
         }
     }
 
-    // Serves a line, and writes its item. Answers whether the job goes on.
+    // Executes a line, and writes its item. Returns whether the job continues.
     fn write_item<W: Write>(
         &mut self,
         alloc: Global,
@@ -159,7 +159,7 @@ fn closing_of(alloc: Global, number: u32, end: Option<bool>) -> Result<Vec<u8>, 
     Ok(item)
 }
 
-/// Writes the page of a script: a fixed part, which is told, and an item for each line. It takes 16,777,215 bytes at most.
+/// Writes the page of a script: a fixed part, which is given, and an item for each line. The script has at most 16,777,215 bytes.
 pub fn write_page<W: Write>(
     alloc: Global,
     frame: &[u8],
@@ -168,7 +168,7 @@ pub fn write_page<W: Write>(
     placement: Placement,
 ) -> Result<Outcome, Stop>
     requires { length script.now ≤ most_script_bytes }
-    // What is written is the page of a run of the script, or a front of one where the job gives up.
+    // What is written is the page of a run of the script, or the beginning of one if the job stops.
     ensures page { WritesPage (W.contents writer.old.inner) (W.contents writer.new.inner)
         frame.now script.now result }
     // The texts of its `<pre>` without a class are the printing of a run.

@@ -3,7 +3,7 @@ use Rattle.std.specs.Prelude.{◌≡◌, ◌==◌, ℕ, ◌<◌, ◌≤◌, ◌�
 use Rattle.std.specs.List.{count_by}
 use Rattle.mvs_model.specs.Numbers.{most_pages_above, most_subpools}
 
--- the number that stands where a page has no subpool
+-- the number of a page without a subpool
 abbrev pub free_code : ℕ
 free_code = 65535
 

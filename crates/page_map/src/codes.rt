@@ -1,4 +1,4 @@
-//! The subpools of pages as bare numbers, of which several are looked at at once.
+//! The subpools of pages as plain numbers, several of which are compared at once.
 
 ghost use Rattle.std.specs.Prelude.{◌≡◌, ◌<◌, ◌≤◌, ◌+◌, ◌⊎◌, ◌↔◌, ℕ, length, false, true, IsTrue, is_some, slice_index_or};
 ghost use Rattle.mvs_model.specs.Finite.{has};
@@ -10,7 +10,7 @@ ghost use Rattle.page_map.specs.Owners.{is_usable, owner_of, IsFirst};
 use mvs_model::subpool::SubpoolId;
 use mvs_model::subpool_set::SubpoolSet;
 
-/// What stands for a page that no subpool has.
+/// The number for a page without a subpool.
 pub(crate) const FREE: u16 = u16::MAX;
 
 // How many pages of other subpools are looked at at once.
@@ -54,7 +54,7 @@ fn is_one_usable(codes: &[u16], own: u16) -> bool
     found
 }
 
-// Passes several pages at once of which none is free or the subpool's, from one on.
+// Skips several pages at once, none of which is free or belongs to the subpool.
 fn pass_several(codes: &[u16], own: u16, from: usize) -> usize
     requires codes { AreCodes codes.now }
     requires own { own < most_subpools }

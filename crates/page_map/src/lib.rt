@@ -1,7 +1,7 @@
 //! Which subpool each page of a region is assigned to.
 #![tactic(auto)]
 
-ghost use Rattle.std.specs.Prelude.{◌≡◌, ◌<◌, ◌≤◌, ◌↔◌, IsTrue, Some, None, IfOk, IsOk, length, is_some, not, slice_set, replicate};
+ghost use Rattle.std.specs.Prelude.{◌≡◌, ◌<◌, ◌≤◌, ◌↔◌, IsTrue, Some, None, IfOk, IsOk, length, count_by, is_some, not, slice_set, replicate};
 ghost use Rattle.mvs_model.specs.Numbers.{most_pages_above};
 ghost use Rattle.mvs_model.specs.Finite.{count_below, has};
 ghost use Rattle.mvs_model.specs.Storage.{is_one_of};
@@ -36,7 +36,7 @@ impl Model for PageMap {
 }
 
 impl PageMap {
-    /// So many pages, none of them assigned. With no pages it takes no memory.
+    /// Makes a map of a number of pages, none of them assigned. Without pages it allocates no memory.
     pub fn new(alloc: Global, pages: usize) -> Result<PageMap, OutOfMemory>
         requires { pages ≤ most_pages_above }
         ensures free { IfOk result (λ m. m ≡ replicate pages None) }
@@ -88,6 +88,30 @@ impl PageMap {
         ensures { IsTrue result ↔ owner_of self.now page ≡ Some subpool }
     {
         self.owners[page] == subpool.get()
+    }
+
+    /// Returns whether the subpool may use the page: no other subpool has it (Assembler Services Guide, subpools).
+    pub fn usable(&self, page: usize, subpool: SubpoolId) -> bool
+        requires { page < length self.now }
+        ensures { result ≡ is_usable subpool (owner_of self.now page) }
+    {
+        match self.owner(page) {
+            None => true,
+            Some(owner) => owner == subpool,
+        }
+    }
+
+    /// Counts the pages that are assigned to the subpool.
+    pub fn pages_of(&self, subpool: SubpoolId) -> u32
+        ensures { result ≡ count_by (is_of subpool) self.now }
+    {
+        let mut count = 0u32;
+        for code in &self.owners {
+            if *code == subpool.get() {
+                count += 1;
+            }
+        }
+        count
     }
 
     /// Assigns a page that is not assigned.

@@ -30,7 +30,7 @@ impl Dice {
         self.generator.next_u32() % bound
     }
 
-    /// Whether one of so many chances comes up.
+    /// Returns true in one of a number of cases.
     pub fn is_one_of(&mut self, chances: u32) -> bool
         requires { 0 < chances }
     {

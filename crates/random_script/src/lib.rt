@@ -41,7 +41,7 @@ impl From<AllocError> for RandomFault {
     }
 }
 
-/// Writes a script of so many lines, or fewer where one has a fault: the same bytes for a seed and a profile on each call.
+/// Writes a script with a number of lines, or fewer if one has a fault: always the same bytes for a seed and a profile.
 pub fn write_script<W: Write>(
     alloc: Global,
     writer: &mut W,

@@ -22,7 +22,7 @@ pub struct Maker {
     line: String,
 }
 
-// What a name of a task stands for, if it is a subtask's.
+// Returns the subtask of a name, if it is one.
 fn subtask(name: &[u8]) -> Option<usize> {
     match name {
         [b'T', digit] if *digit >= b'1' && *digit <= b'5' => Some((*digit - b'0') as usize),
@@ -91,7 +91,7 @@ impl Maker {
         }
     }
 
-    // A task ended, and those that fell with it.
+    // A task ended, with those that ended with it.
     fn end(&mut self, task: &Name) {
         match subtask(task.text()) {
             Some(place) => set(&mut self.known.active, place, false),
@@ -104,7 +104,7 @@ impl Maker {
         }
     }
 
-    // What a line told changes.
+    // Records the changes of a line.
     fn hear(&mut self, told: &LineTold, change: Change) {
         if let LineTold::Answered { task, answer } = told {
             match answer {
@@ -133,7 +133,7 @@ impl Maker {
         Ok(change)
     }
 
-    /// Makes the next line, and answers whether there is one: behind a fault there is none.
+    /// Makes the next line, and returns whether there is one: after a fault there is none.
     pub fn makes_line(&mut self) -> Result<bool, RandomFault> {
         let change = self.write_line()?;
         if !self.session.takes_line() {

@@ -4,10 +4,10 @@ use Rattle.std.specs.Borrow.{Bor, MutBor, Fml, Array, u8, follows}
 use Rattle.region_raw.specs.Rows.{overlaid}
 use Rattle.region_raw.specs.contracts.block.Block.{the_row}
 
--- the block ends with what was last written to the bytes that were lent, so many from an index on
+-- the block ends with what was last written to the borrowed bytes, n from an index on
 abbrev pub LendsRun : MutBor (List (Option ℕ)) → ℕ → ℕ → MutBor (List ℕ) → Fml
 LendsRun s at n r = follows the_row (Array u8 0) s.ghost_name r.ghost_name (λ ws. overlaid s.now at (take n ws))
 
--- the same, where the bytes are the second of two runs that were lent
+-- the block ends so if the bytes are the second of two borrowed runs
 abbrev pub LendsSecond : MutBor (List (Option ℕ)) → ℕ → ℕ → Bor (List ℕ) × MutBor (List ℕ) → Fml
 LendsSecond s at n r = follows the_row (Array u8 0) s.ghost_name r.1.ghost_name (λ ws. overlaid s.now at (take n ws))

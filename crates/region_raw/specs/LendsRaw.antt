@@ -5,14 +5,14 @@ use Rattle.region_raw.specs.Rows.{overlaid}
 use Rattle.region_raw.specs.declared.raw.RawBytes.{RawBytes}
 use Rattle.region_raw.specs.contracts.raw.RawBytes.{the_row}
 
--- the owner with values in place of those from an index on, at most so many
+-- the owner with values in place of those from an index on, at most n
 abbrev pub with_run : RawBytes → ℕ → ℕ → List ℕ → RawBytes
 with_run c at n ws = record c { bytes = overlaid c.bytes at (take n ws) }
 
--- the owner ends with what was last written to the bytes that were lent, so many from an index on
+-- the owner ends with what was last written to the borrowed bytes, n from an index on
 abbrev pub LendsRun : MutBor RawBytes → ℕ → ℕ → MutBor (List ℕ) → Fml
 LendsRun s at n r = follows the_row (Array u8 0) s.ghost_name r.ghost_name (with_run s.now at n)
 
--- the same, where the bytes are the second of two runs that were lent
+-- the owner ends so if the bytes are the second of two borrowed runs
 abbrev pub LendsSecond : MutBor RawBytes → ℕ → ℕ → Bor (List ℕ) × MutBor (List ℕ) → Fml
 LendsSecond s at n r = follows the_row (Array u8 0) s.ghost_name r.1.ghost_name (with_run s.now at n)

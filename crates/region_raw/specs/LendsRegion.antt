@@ -4,10 +4,10 @@ use Rattle.std.specs.Borrow.{Fml, MutBor, Bor, Array, u8, follows}
 use Rattle.region_raw.specs.Pages.{Pages, with_part}
 use Rattle.region_raw.specs.contracts.region.Region.{the_row}
 
--- the region ends with what was last written to the bytes that were lent, so many from an index on
+-- the region ends with what was last written to the borrowed bytes, n from an index on
 abbrev pub LendsPart : MutBor Pages → ℕ → ℕ → MutBor (List ℕ) → Fml
 LendsPart s at n r = follows the_row (Array u8 0) s.ghost_name r.ghost_name (λ ws. with_part s.now at (take n ws))
 
--- the same, where the bytes are the second of two parts that were lent
+-- the region ends so if the bytes are the second of two borrowed parts
 abbrev pub LendsSecond : MutBor Pages → ℕ → ℕ → Bor (List ℕ) × MutBor (List ℕ) → Fml
 LendsSecond s at n r = follows the_row (Array u8 0) s.ghost_name r.1.ghost_name (λ ws. with_part s.now at (take n ws))

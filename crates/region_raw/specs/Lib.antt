@@ -2,7 +2,7 @@
 pub mod Rows
 pub mod Pages
 pub mod LendsRegion
--- What stands below the region.
+-- The definitions below the region.
 pub mod Ownership
 pub mod LendsRaw
 pub mod LendsBlock

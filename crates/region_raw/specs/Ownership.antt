@@ -9,7 +9,7 @@ use denote.Sharing.{nothing, said, beside}
 use denote.RawPtr.{Ptr, block_ptr, null_ptr}
 use Rattle.std_heap.specs.contracts.GlobalAllocator.TheImpl.{ghosts}
 
--- one byte at a distance into a block: its value lies there, or there is room for one
+-- one byte at an offset of a block: it has a value, or there is room for one
 abbrev pub byte_at : ℕ → ℕ → Option ℕ → Fml
 byte_at b o (Some x) = part_at u8 full_share x b o
 byte_at b o None = froom (ty_int w8) b o

@@ -30,7 +30,7 @@ page_of [] = None
 page_of (None ∷ cs) = None
 page_of (Some b ∷ cs) = Some (b ∷ values cs)
 
--- a row of bytes, cut into so many pages
+-- a row of bytes, cut into n pages
 abbrev pub pages_of : ℕ → ℕ → List (Option ℕ) → Pages
 pages_of size zero cs = []
 pages_of size (suc n) cs = page_of (take size cs) ∷ pages_of size n (drop size cs)
@@ -60,7 +60,7 @@ value_at ps k = unwrap_or (byte_of ps k) 0
 abbrev pub word_of : Pages → ℕ → ℕ
 word_of ps k = from_be_bytes w32 (value_at ps k ∷ value_at ps (k + 1) ∷ value_at ps (k + 2) ∷ value_at ps (k + 3) ∷ [])
 
--- there is a byte, and each of the n bytes from an index of a region on lies in an open page
+-- there is a byte, and each of the n bytes from an index of a region on is in an open page
 abbrev pub IsPart : Pages → ℕ → ℕ → Type 0
 IsPart ps at n = (1 ≤ n) × ((k : ℕ) → at ≤ k → k < at + n → is_open ps (k / page_bytes) ≡ true)
 
@@ -76,7 +76,7 @@ part_of ps at n = run (row_of ps) at n
 abbrev pub with_part : Pages → ℕ → List ℕ → Pages
 with_part ps at ws = pages_of page_bytes (length ps) (overlaid (row_of ps) at ws)
 
--- The values stand from an index of a region on, in the pages that are open. All else is as before.
+-- The values are at an index of a region and after it, in the open pages. Nothing else has changed.
 pub record Writes (old : Pages) (at : ℕ) (ws : List ℕ) (new : Pages) : Type 0 where
   pub sizes : length new ≡ length old
   pub pages : (p : ℕ) → is_open new p ≡ is_open old p

@@ -23,7 +23,8 @@ IsBlankRun cs at n = (at + n ≤ length cs) × (take n (drop at cs) ≡ replicat
 abbrev pub IsApart : ℕ → ℕ → ℕ → Type 0
 IsApart i j n = (i + n ≤ j) ⊎ (j + n ≤ i)
 
--- the row with values in place of those from an index on, one after another: a blank byte stays blank, and what goes past the end is lost
+-- the row with values in place of those from an index on, one after another: a blank byte stays blank, and values beyond the end
+-- are lost
 abbrev pub overlaid : List (Option ℕ) → ℕ → List ℕ → List (Option ℕ)
 overlaid [] at ws = []
 overlaid (c ∷ cs) (suc at) ws = c ∷ overlaid cs at ws

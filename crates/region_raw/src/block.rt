@@ -103,7 +103,7 @@ impl Block {
         self.bytes.slice(self.start, at, n)
     }
 
-    /// Lends the `n` bytes from `at` on to write.
+    /// Borrows the `n` bytes from `at` on for writing.
     pub fn part_mut(&mut self, at: usize, n: usize) -> &mut [u8]
         requires { IsRun self.old at n }
         ensures* writes_back { sem 𝓛 (LendsRun self.entry at n result) }
@@ -112,7 +112,7 @@ impl Block {
         self.bytes.slice_mut(self.start, at, n)
     }
 
-    /// Lends the `n` bytes from `from` on to read, and the `n` bytes from `to` on to write.
+    /// Borrows the `n` bytes from `from` on for reading, and the `n` bytes from `to` on for writing.
     pub fn two_parts(&mut self, from: usize, to: usize, n: usize) -> (&[u8], &mut [u8])
         requires apart { IsApart from to n }
         requires source { IsRun self.old from n }

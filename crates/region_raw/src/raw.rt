@@ -1,4 +1,4 @@
-//! The functions that use raw pointers, and the calls of the heap. All the rest of the crate stands on their contracts.
+//! The functions that use raw pointers, and the calls of the heap. The rest of the crate depends only on their contracts.
 ghost use Rattle.std.specs.Prelude.{◌≡◌, ℕ, ◌+◌, ◌<◌, ◌≤◌, ◌^◌, [], List, Option, Some, None, length, replicate, get_or, slice_set, IfSome};
 ghost use Rattle.std.specs.Borrow.{sem};
 ghost use denote.RawPtr.{Ptr};
@@ -15,7 +15,7 @@ pub struct Start {
     ptr: *mut u8,
 }
 
-/// The owner of a row of bytes, each blank or with a value. It takes no space.
+/// The owner of a row of bytes, each blank or with a value. It needs no space.
 pub struct RawBytes {
     ghost at: { Ptr },
     ghost bytes: { List (Option ℕ) },
@@ -27,7 +27,7 @@ impl Model for RawBytes {
     ghost also_shares = { λ owner _ κ. seen owner.at owner.bytes κ };
 }
 
-/// The right to free a block of `len` bytes, and the duty: it cannot be let go. It takes no space.
+/// The right and the duty to free a block of `len` bytes: it cannot be dropped. It needs no space.
 pub struct Right {
     ghost at: { Ptr },
     ghost len: { ℕ },
@@ -94,7 +94,7 @@ impl RawBytes {
         unsafe { slice::from_raw_parts(start.ptr.add(at), n) }
     }
 
-    /// Lends the `n` bytes from `at` on to write.
+    /// Borrows the `n` bytes from `at` on for writing.
     pub fn slice_mut(&mut self, start: Start, at: usize, n: usize) -> &mut [u8]
         requires start { start.ptr ≡ self.old.at }
         requires filled { IsRun self.old.bytes at n }
@@ -104,7 +104,7 @@ impl RawBytes {
         unsafe { slice::from_raw_parts_mut(start.ptr.add(at), n) }
     }
 
-    /// Lends the `n` bytes from `from` on to read, and the `n` bytes from `to` on to write.
+    /// Borrows the `n` bytes from `from` on for reading, and the `n` bytes from `to` on for writing.
     pub fn two(&mut self, start: Start, from: usize, to: usize, n: usize) -> (&[u8], &mut [u8])
         requires start { start.ptr ≡ self.old.at }
         requires apart { IsApart from to n }
@@ -133,7 +133,7 @@ impl RawBytes {
         unsafe { start.ptr.add(at).write(value) }
     }
 
-    /// Makes the `n` bytes from `at` on blank. That is done for the proof alone and costs nothing.
+    /// Makes the `n` bytes from `at` on blank. This is only for the proof, and costs nothing.
     pub fn clear(&mut self, at: usize, n: usize)
         requires { at + n ≤ length self.old.bytes }
         ensures place { self.new.at ≡ self.old.at }

@@ -14,9 +14,9 @@ use std::marker::Model;
 
 const PAGE: usize = PAGE_BYTES as usize;
 
-/// The pages of a region, at most 8,192, in one block of raw memory. A blank page has no bytes, and its memory is
-/// never read. Bytes go by their distance from the region's start, and the n bytes of a part may lie in several
-/// pages. The block is freed at the owner's end.
+/// The pages of a region, at most 8,192, in one block of raw memory. A blank page has no bytes, and its memory is never read. Bytes
+/// are addressed by their offset in the region, and the n bytes of a part may be in several pages. The block is freed when the
+/// owner ends.
 #[derive(Drop)]
 pub struct Region {
     block: Block,
@@ -38,7 +38,7 @@ impl Model for Region {
 impl Region {
     ghost use Rattle.region_raw.specs.LendsRegion.{LendsPart, LendsSecond};
 
-    /// A region of blank pages. It alone takes memory; for no page it takes none.
+    /// Makes a region of blank pages. Only this allocates memory; for no pages it allocates none.
     pub fn new(alloc: Global, pages: usize) -> Result<Region, OutOfMemory>
         requires { pages ≤ most_pages_above }
         ensures blank { IfOk result (λ region. region ≡ replicate pages None) }
@@ -65,6 +65,23 @@ impl Region {
         ensures { self.new ≡ slice_set self.old page None }
     {
         self.block.close(page * PAGE, PAGE);
+    }
+
+    /// Reads the byte at `at`.
+    pub fn byte(&self, at: usize) -> u8
+        requires { IsPart self.now at 1 }
+        ensures { byte_of self.now at ≡ Some result }
+    {
+        self.part(at, 1)[0]
+    }
+
+    /// Writes a byte at `at`.
+    pub fn put(&mut self, at: usize, value: u8)
+        requires { IsPart self.old at 1 }
+        ensures put { self.new ≡ with_part self.old at (value ∷ []) }
+        ensures writes { Writes self.old at (value ∷ []) self.new }
+    {
+        self.part_mut(at, 1)[0] = value;
     }
 
     /// The word in the four bytes from `at` on, the high byte first.
@@ -106,7 +123,7 @@ impl Region {
         self.block.part(at, n)
     }
 
-    /// Lends the `n` bytes from `at` on to write.
+    /// Borrows the `n` bytes from `at` on for writing.
     pub fn part_mut(&mut self, at: usize, n: usize) -> &mut [u8]
         requires { IsPart self.old at n }
         ensures* writes_back { sem 𝓛 (LendsPart self.entry at n result) }
@@ -119,8 +136,7 @@ impl Region {
         self.block.part_mut(at, n)
     }
 
-    /// Lends the `n` bytes from `from` on to read, and the `n` bytes from `to` on to write. The two have no byte in
-    /// common.
+    /// Borrows the `n` bytes from `from` on for reading, and the `n` bytes from `to` on for writing. They do not overlap.
     pub fn two_parts(&mut self, from: usize, to: usize, n: usize) -> (&[u8], &mut [u8])
         requires apart { IsApart from to n }
         requires source { IsPart self.old from n }

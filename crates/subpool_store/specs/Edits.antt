@@ -5,7 +5,7 @@ use Rattle.mvs_model.specs.Numbers.{page_doublewords}
 use Rattle.page_map.specs.Owners.{owner_of}
 use Rattle.subpool_store.specs.Bits.{in_range}
 
--- There are so many bits, and none of them is set.
+-- There is this number of bits, and none of them is set.
 pub record IsClear (n : ℕ) (bits : List Bool) : Type 0 where
   pub sizes : length bits ≡ n
   pub each : (i : ℕ) → slice_index_or bits i false ≡ false
@@ -15,7 +15,7 @@ pub record IsMarked (old : List Bool) (from to : ℕ) (value : Bool) (new : List
   pub sizes : length new ≡ length old
   pub each : (i : ℕ) → slice_index_or new i false ≡ (if in_range from to i then value else slice_index_or old i false)
 
--- The run is the first one between two places whose bits are clear, and it goes as far as they are.
+-- The run is the first one between two places whose bits are clear, and it extends as far as they are.
 pub record IsFreeRun (bits : List Bool) (from to start end : ℕ) : Type 0 where
   pub some : start < end
   pub after : from ≤ start

@@ -5,6 +5,6 @@ use Rattle.mvs_model.specs.Numbers.{page_doublewords}
 use Rattle.mvs_model.specs.Reports.{first_from}
 use Rattle.mvs_model.specs.Storage.{Storage, holder}
 
--- how many of so many pages from one on hold nothing
+-- the number of pages, among n from a page on, that hold nothing
 abbrev pub free_pages : Storage → ℕ → ℕ → ℕ
 free_pages st first count = count_below count (λ p. not (is_some (first_from (page_doublewords * (first + p)) page_doublewords (holder st))))

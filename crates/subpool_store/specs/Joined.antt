@@ -46,10 +46,10 @@ pub record Taken (old : Storage) (p : PlaceValue) (v b : Option ℕ) (new : Stor
   pub held : Changes (get old.held) (covers p) v (get new.held)
   pub bytes : Changes (get old.bytes) (has_address p) b (get new.bytes)
 
--- the best place above, where a place above is wanted
+-- the best place above, if a place above is requested
 abbrev pub BestAbove : RegionState → ℕ → WantValue → Option PlaceValue → Type 0
 BestAbove a s want r = BestIn a s want r ⊎ ((want.side ≡ Below) × (r ≡ None))
 
--- what a search above has looked at, where a place above is wanted
+-- what a search above has read, if a place above is requested
 abbrev pub CountedAbove : RegionState → ℕ → WantValue → Option PlaceValue → ℕ → Type 0
 CountedAbove a s want r steps = ((want.side ≡ Either) × IsCounted (most_steps a s) r steps) ⊎ ((want.side ≡ Below) × (r ≡ None) × (steps ≡ 0))

@@ -9,10 +9,10 @@ use Rattle.subpool_store.specs.contracts.memory.Memory.{the_row}
 abbrev pub with_bytes : MemoryState → ℕ → ℕ → List ℕ → MemoryState
 with_bytes m at n ws = record { held = m.held; bytes = with_part m.bytes at (take n ws) }
 
--- the pages end with what was last written to the bytes that were lent, so many from an index on
+-- the pages end with what was last written to the borrowed bytes, n from an index on
 abbrev pub LendsPart : MutBor MemoryState → ℕ → ℕ → MutBor (List ℕ) → Fml
 LendsPart s at n r = follows the_row (Array u8 0) s.ghost_name r.ghost_name (with_bytes s.now at n)
 
--- the same, where the bytes are the second of two parts that were lent
+-- the pages end so if the bytes are the second of two borrowed parts
 abbrev pub LendsSecond : MutBor MemoryState → ℕ → ℕ → Bor (List ℕ) × MutBor (List ℕ) → Fml
 LendsSecond s at n r = follows the_row (Array u8 0) s.ghost_name r.1.ghost_name (with_bytes s.now at n)

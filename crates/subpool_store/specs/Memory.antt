@@ -1,4 +1,4 @@
--- The pages of a region, in which the queues of what is free lie: which doublewords are held, and the bytes.
+-- The pages of a region, which store the queues of what is free: which doublewords are held, and the bytes.
 use Rattle.std.specs.Prelude.{◌≡◌, ℕ, ◌+◌, ◌-◌, ◌*◌, ◌/◌, ◌%◌, ◌<◌, ◌≤◌, ◌↔◌, ◌&&◌, ◌||◌, ◌==◌, not, Bool, true, false, List, [], ◌∷◌, Some, length, map, slice_index, slice_index_or, if◌then◌else◌, refl}
 use Rattle.std.specs.Coded.{Coded, code_by, coded×, coded_bool, coded_list, coded_ℕ, coded_option}
 use Rattle.std.specs.List.{range_with_len}
@@ -16,7 +16,7 @@ pub record MemoryState : Type 0 where
 abbrev pub memory_code : Coded MemoryState
 memory_code = code_by (List Bool × Pages) (coded× (coded_list coded_bool) (coded_list (coded_option (coded_list coded_ℕ)))) (λ m. (m.held, m.bytes)) (λ p. record { held = p.0; bytes = p.1 }) (λ _. refl)
 
--- whether d lies in a run
+-- whether d is in a run
 abbrev pub is_free : List Run → ℕ → Bool
 is_free [] d = false
 is_free (r ∷ rs) d = in_range r.from (r.from + r.len) d || is_free rs d
@@ -25,7 +25,7 @@ is_free (r ∷ rs) d = in_range r.from (r.from + r.len) d || is_free rs d
 abbrev pub is_held : Pages → List ℕ → ℕ → Bool
 is_held ps heads i = is_open ps (i / page_doublewords) && not (is_free (runs_of (page_of ps (i / page_doublewords)) (slice_index heads (i / page_doublewords))) (8 * (i % page_doublewords)))
 
--- the same of all doublewords, in a row
+-- whether each doubleword is in a run, in a row
 unfoldable pub held_bits : Pages → List ℕ → List Bool
 held_bits ps heads = map (is_held ps heads) (range_with_len 0 (page_doublewords * length heads))
 

@@ -65,13 +65,13 @@ pub record IsRegion (first : ℕ) (bits : List Bool) (pages : List (Option ℕ))
   pub end : 8 * (first + length bits) ≤ 2 ^ 31
   pub one_side : first < first_doubleword_above → first + length bits ≤ first_doubleword_above
 
--- What is held lies in the region, each page is of one subpool, and there are bytes just where something is held.
+-- Everything held is in the region, each page belongs to one subpool, and there are bytes exactly where something is held.
 pub record IsSound (h : RegionState) : Type 0 where
   pub bounded : (d t : ℕ) → get h.held d ≡ Some t → (h.first ≤ d) × (d < h.first + page_doublewords * h.pages)
   pub rule : PageRule (get h.held)
   pub bytes : (a : ℕ) → is_some (get h.bytes a) ≡ is_some (get h.held (a / 8))
 
--- All of the place lies in the region, and s may take each of its doublewords.
+-- All of the place is in the region, and s may take each of its doublewords.
 pub record OpenIn (h : RegionState) (s : ℕ) (p : PlaceValue) : Type 0 where
   pub inside : LiesIn (8 * h.first) (8 * h.first + page_bytes * h.pages) p
   pub each : (d : ℕ) → Covers p d → MayTake (get h.held) s d
@@ -90,12 +90,12 @@ OwnsPage h p owner = MatchOption owner
     ((d : ℕ) → d / page_doublewords ≡ p → get h.held d ≡ None)
     (λ s. (d : ℕ) × (d / page_doublewords ≡ p) × (get h.held d ≡ Some s))
 
--- So many pages of the region hold nothing.
+-- This number of pages of the region hold nothing.
 abbrev pub AreFree : RegionState → ℕ → Type 0
 AreFree h free =
     (owner : ℕ → Option ℕ) × ((p : ℕ) → p < h.pages → OwnsPage h (h.first / page_doublewords + p) (owner p)) × (free ≡ count_below h.pages (λ p. not (is_some (owner p))))
 
--- A place of a length that is wanted is open in the region and meets what is wanted; none of them is longer.
+-- A place of a requested length is open in the region and meets the request; none of them is longer.
 pub record IsBest (h : RegionState) (s : ℕ) (want : WantValue) (p : PlaceValue) : Type 0 where
   pub length : IsLength want p.len
   pub is_open : OpenIn h s p

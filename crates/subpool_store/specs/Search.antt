@@ -21,7 +21,7 @@ pub record IsExact (bits : List Bool) (pages : List (Option ℕ)) : Type 0 where
 abbrev pub NoneFits : (ℕ → Bool) → ℕ → ℕ → ℕ → Type 0
 NoneFits test n from to = (x : ℕ) → from ≤ x → x < to → ((i : ℕ) → x ≤ i → i < x + n → test i ≡ true) → ⊥
 
--- The indices of the run pass, and go as far as they pass; from none before it or behind it do n pass, up to the index that is next.
+-- The indices of the run pass, and extend as far as they pass; before it and after it no n in a row pass, up to the next index.
 pub record IsNextRun (test : ℕ → Bool) (n from start end next : ℕ) : Type 0 where
   pub some : start < end
   pub after : from ≤ start
@@ -52,7 +52,7 @@ pub record IsCounted (most : ℕ) (place : Option PlaceValue) (steps : ℕ) : Ty
   pub at_most : steps ≤ most
   pub all : place ≡ None → steps ≡ most
 
--- a place of a length that is wanted, that meets what is wanted, and whose doublewords pass
+-- a place of a requested length that meets the request, and whose doublewords pass
 pub record IsCandidate (test : ℕ → Bool) (first : ℕ) (want : WantValue) (q : PlaceValue) : Type 0 where
   pub length : IsLength want q.len
   pub meets : Meets want q
@@ -62,7 +62,7 @@ pub record IsCandidate (test : ℕ → Bool) (first : ℕ) (want : WantValue) (q
 abbrev pub BehindBest : (ℕ → Bool) → ℕ → WantValue → Option PlaceValue → ℕ → Type 0
 BehindBest test first want best from = (q : PlaceValue) → IsCandidate test first want q → (8 * (first + from) ≤ q.addr) ⊎ Beats best q.len
 
--- A place of a length that is wanted lies in the run and meets what is wanted; none of them is longer.
+-- A place of a requested length is in the run and meets the request; none of them is longer.
 pub record IsLongestIn (run : PlaceValue) (want : WantValue) (p : PlaceValue) : Type 0 where
   pub length : IsLength want p.len
   pub inside : InRun run p
@@ -73,6 +73,6 @@ pub record IsLongestIn (run : PlaceValue) (want : WantValue) (p : PlaceValue) : 
 abbrev pub LongestIn : PlaceValue → WantValue → Option PlaceValue → Type 0
 LongestIn run want r = MatchOption r ((q : PlaceValue) → IsLength want q.len → InRun run q → Meets want q → ⊥) (IsLongestIn run want)
 
--- no other length is wanted
+-- no other length is requested
 abbrev pub IsOnlyLength : WantValue → ℕ → Type 0
 IsOnlyLength want n = (n ≡ want.least) × (want.least ≡ want.most)

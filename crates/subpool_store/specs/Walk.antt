@@ -1,4 +1,4 @@
--- Where a pass over a region stands.
+-- The position of a pass over a region.
 use Rattle.std.specs.Prelude.{◌≡◌, ℕ, ◌+◌, ◌-◌, ◌*◌, ◌/◌, ◌%◌, ◌<◌, ◌≤◌, ◌⊎◌, ◌==◌, ◌&&◌, ◌||◌, not, Bool, true, false, Option, Some, None, List, length, nat_lt, slice_index_or, if◌then◌else◌}
 use Rattle.mvs_model.specs.Finite.{count_below}
 use Rattle.mvs_model.specs.Numbers.{page_bytes, page_doublewords}
@@ -17,7 +17,7 @@ abbrev pub entry_by : ℕ → Option ℕ → Entry
 entry_by s None = Free
 entry_by s (Some t) = if t == s then Own else Other
 
--- what the entry of a page is for s, and the end behind the last page
+-- the entry of a page for s, and the end after the last page
 abbrev pub entry_of : List (Option ℕ) → ℕ → ℕ → Entry
 entry_of pages s p = if nat_lt p (length pages) then entry_by s (owner_of pages p) else End
 
@@ -25,7 +25,7 @@ entry_of pages s p = if nat_lt p (length pages) then entry_by s (owner_of pages 
 abbrev pub IsOwn : Entry → Type 0
 IsOwn entry = entry ≡ Own
 
--- A pass stands before a page whose entry it has looked at, or inside such a page of s, before the free runs in its queue.
+-- A pass is before a page whose entry it has read, or inside such a page of s, before the free runs in its queue.
 pub record Stands (m : MemoryState) (pages : List (Option ℕ)) (s at : ℕ) (entry : Entry) (queue : ℕ) : Type 0 where
   pub is : entry ≡ entry_of pages s (at / page_doublewords)
   pub page : IsOwn entry ⊎ (at % page_doublewords ≡ 0)
@@ -44,8 +44,8 @@ IsFull bits pages s p = (owner_of pages p ≡ Some s) × ((i : ℕ) → i / page
 abbrev pub entries_to : List (Option ℕ) → ℕ → ℕ
 entries_to pages p = p + digit (nat_lt p (length pages))
 
--- how many page entries and free runs a pass has looked at where it stands at an index: the entries up to that of its page,
--- and the free runs of pages of s before it
+-- the number of page entries and free runs that a pass has read when it is at an index: the entries up to that of its page, and the
+-- free runs of pages of s before it
 abbrev pub looked_at : MemoryState → List (Option ℕ) → ℕ → ℕ → ℕ
 looked_at m pages s at = entries_to pages (at / page_doublewords) + count_below at (begins_run m.held pages s)
 
@@ -60,7 +60,7 @@ pub record IsNextPart (m : MemoryState) (pages : List (Option ℕ)) (s from step
   pub stands : Stands m pages s part.end part.entry part.queue
   pub counted : looked_at m pages s from + part.counted.steps ≡ looked_at m pages s part.end + steps
 
--- The pass has joined a run up to where it stands.
+-- The pass has joined a run up to its position.
 pub record IsWalk (m : MemoryState) (pages : List (Option ℕ)) (s : ℕ) (w : Walk) : Type 0 where
   pub ordered : w.start ≤ w.end
   pub within : w.end ≤ length m.held
@@ -68,13 +68,13 @@ pub record IsWalk (m : MemoryState) (pages : List (Option ℕ)) (s : ℕ) (w : W
   pub stands : Stands m pages s w.end w.entry w.queue
   pub counted : w.counted.steps ≡ looked_at m pages s w.end
 
--- The first free run of a page from an index on lies from one byte of the page up to another, and then the queue goes on.
+-- The first free run of a page from an index on extends from one byte of the page to another, and then the queue continues.
 pub record IsFoundRun (m : MemoryState) (page from at end queue : ℕ) : Type 0 where
   pub run : IsFreeRun m.held from (page_doublewords * page + page_doublewords) (page_doublewords * page + at / 8) (page_doublewords * page + end / 8)
   pub whole : at % 8 ≡ 0
   pub inside : end ≤ page_bytes
   pub cursor : IsCursor m page (page_doublewords * page + end / 8) queue
 
--- The pass stands inside a page of s.
+-- The pass is inside a page of s.
 abbrev pub IsInside : List (Option ℕ) → ℕ → Walk → Type 0
 IsInside pages s w = entry_of pages s (w.end / page_doublewords) ≡ Own

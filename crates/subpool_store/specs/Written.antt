@@ -34,7 +34,7 @@ written_from st a w = record { regions = st.regions; held = st.held; bytes = ove
 abbrev pub written : Storage → PlaceValue → List ℕ → Storage
 written st p w = written_from st p.addr (take p.len w)
 
--- The bytes stand at the place now, one after another, and all else is as before.
+-- The bytes are now at the place, one after another, and nothing else has changed.
 pub record Puts (old : Storage) (p : PlaceValue) (w : List ℕ) (new : Storage) : Type 0 where
   pub regions : new.regions ≡ old.regions
   pub held : new.held ≡ old.held

@@ -1,5 +1,5 @@
-//! What a search reads of a region. In a search the methods here alone read page entries and free runs, and each counts
-//! what it looks at as it looks: no entry and no run is looked at a second time.
+//! What a search reads of a region. Only these methods read page entries and free runs in a search, and each counts what it reads:
+//! no entry and no run is read twice.
 
 ghost use Rattle.std.specs.Prelude.{◌≡◌, ◌<◌, ◌≤◌, ◌+◌, ◌-◌, ◌*◌, ◌/◌, ℕ, MatchOption, None, Some, false, true, length, nat_lt, slice_index_or};
 ghost use Rattle.mvs_model.specs.Numbers.{most_pages_above, page_doublewords};
@@ -161,8 +161,8 @@ impl Counted {
         (page, entry)
     }
 
-    // Looks at the first free run of a page from a doubleword of the page on: the first of its bytes, counted from the page's
-    // start, the byte behind it, and the queue behind it.
+    // Reads the first free run of a page from a doubleword of the page on: its first byte and the byte after it, as offsets in the
+    // page, and the queue after it.
     pub fn free_run(
         &mut self,
         memory: &Memory,

@@ -12,7 +12,7 @@ use crate::region_store::close_page;
 use mvs_model::subpool_set::SubpoolSet;
 use page_map::PageMap;
 
-// Gives up the pages of the subpools of a set, and what is held of them, and closes them.
+// Releases and closes the pages of the subpools of a set, with everything held in them.
 pub fn drop_pages(pages: &mut PageMap, memory: &mut Memory, subpools: &SubpoolSet)
     requires sizes { length memory.old.held ≡ page_doublewords * length pages.old }
     requires opened { IsOpened pages.old memory.old.bytes }

@@ -10,8 +10,8 @@ use crate::memory::Memory;
 use crate::run::Run;
 use mvs_model::numbers::PAGE_DOUBLEWORDS;
 
-// Whether each of some doublewords of an open page is held: the first free run that ends behind the first of them
-// begins behind the last.
+// Returns whether each of some doublewords of an open page is held: the first free run that ends after the first of them begins
+// after the last.
 pub fn are_held_in(memory: &Memory, page: usize, from: usize, to: usize) -> bool
     requires some { from < to }
     requires few { page < most_pages_above }
@@ -33,7 +33,7 @@ pub fn are_held_in(memory: &Memory, page: usize, from: usize, to: usize) -> bool
     true
 }
 
-// Whether each of them is free: the first free run that ends behind the first of them has them all.
+// Returns whether each of them is free: the first free run that ends after the first of them has them all.
 pub fn are_free_in(memory: &Memory, page: usize, from: usize, to: usize) -> bool
     requires some { from < to }
     requires few { page < most_pages_above }
@@ -75,7 +75,7 @@ pub fn are_held(memory: &Memory, run: Run) -> bool
     true
 }
 
-// How many doublewords of an open page are held: those before each free run, and those behind the last.
+// Returns the number of held doublewords of an open page: those before each free run, and those after the last.
 pub fn count(memory: &Memory, page: usize) -> u32
     requires few { page < most_pages_above }
     requires there { is_open memory.now.bytes page ≡ true }

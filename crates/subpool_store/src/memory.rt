@@ -18,8 +18,8 @@ use region_raw::region::Region;
 use std::alloc::Global;
 use std::marker::Model;
 
-/// The pages of a region, each blank or open, and of each open page which of its doublewords are held. The others are
-/// free, and the queue of them lies in the page. Doublewords go by their index in the region, 512 to a page.
+/// The pages of a region, each blank or open, and the held doublewords of each open page. The others are free, and their queue is
+/// in the page. Doublewords are addressed by their index in the region, 512 to a page.
 #[derive(Drop)]
 pub struct Memory {
     region: Region,
@@ -41,7 +41,7 @@ impl Model for Memory {
 impl Memory {
     ghost use Rattle.subpool_store.specs.LendsMemory.{LendsPart, LendsSecond};
 
-    // So many blank pages.
+    // Makes a number of blank pages.
     pub fn new(alloc: Global, pages: usize) -> Result<Memory, OutOfMemory>
         requires { pages ≤ most_pages_above }
         ensures clear { IfOk result (λ m. IsClear (page_doublewords * pages) m.held) }
@@ -176,7 +176,7 @@ impl Memory {
         self.heads[page]
     }
 
-    // The first free run of a page, from a doubleword of the page on, and the queue behind it.
+    // Returns the first free run of a page, from a doubleword of the page on, and the queue after it.
     pub fn next_free(&self, page: usize, from: usize, queue: Head) -> Option<(Run, Head)>
         requires there { is_open self.now.bytes page ≡ true }
         requires from { page_doublewords * page ≤ from }
@@ -198,7 +198,7 @@ impl Memory {
         Some((run, queue::behind(&self.region, page, queue)))
     }
 
-    // The same run in bytes from the page's start: the first one, and the one behind it; and the queue behind the run.
+    // Returns the same run as offsets in bytes: the first one, the one after the run, and the queue after it.
     pub fn free_run(&self, page: usize, from: usize, queue: Head) -> Option<(u32, u32, Head)>
         requires there { is_open self.now.bytes page ≡ true }
         requires from { page_doublewords * page ≤ from }
@@ -234,7 +234,7 @@ impl Memory {
         self.region.part(at, n)
     }
 
-    // Lends some bytes that are held to write.
+    // Borrows held bytes for writing.
     pub fn part_mut(&mut self, at: usize, n: usize) -> &mut [u8]
         requires { IsHeldPart self.old.held at n }
         ensures* writes_back { sem 𝓛 (LendsPart self.entry at n result) }
@@ -247,7 +247,7 @@ impl Memory {
         self.region.part_mut(at, n)
     }
 
-    // Lends `n` bytes that are held to read, and `n` others to write.
+    // Borrows `n` held bytes for reading, and `n` others for writing.
     pub fn two_parts(&mut self, from: usize, to: usize, n: usize) -> (&[u8], &mut [u8])
         requires apart { IsApart from to n }
         requires source { IsHeldPart self.old.held from n }

@@ -90,7 +90,7 @@ fn take_part(
     memory.open_page(page, run.start, run.end, fill);
 }
 
-// The same of the doublewords of a run, page by page.
+// Checks the doublewords of a run, page by page.
 fn take_run(pages: &mut PageMap, memory: &mut Memory, subpool: SubpoolId, run: Run, fill: u8)
     requires some { run.start < run.end }
     requires within { run.end ≤ page_doublewords * length pages.old }
@@ -118,7 +118,7 @@ fn take_run(pages: &mut PageMap, memory: &mut Memory, subpool: SubpoolId, run: R
     }
 }
 
-// Gives up a page that is assigned, and closes it: nothing of it is held then.
+// Releases an assigned page and closes it: nothing in it is held then.
 pub fn close_page(pages: &mut PageMap, memory: &mut Memory, page: usize)
     requires within { page < length pages.old }
     requires assigned { IsSome (owner_of pages.old page) }
@@ -133,7 +133,7 @@ pub fn close_page(pages: &mut PageMap, memory: &mut Memory, page: usize)
     memory.close_page(page);
 }
 
-// The same of a page of which nothing is held: what is held stays as it is.
+// Releases a page in which nothing is held: what is held does not change.
 fn close_free_page(pages: &mut PageMap, memory: &mut Memory, page: usize)
     requires within { page < length pages.old }
     requires assigned { IsSome (owner_of pages.old page) }
@@ -147,7 +147,7 @@ fn close_free_page(pages: &mut PageMap, memory: &mut Memory, page: usize)
     close_page(pages, memory, page);
 }
 
-// Gives up a page, and closes it, if nothing of it is held.
+// Releases and closes a page if nothing in it is held.
 #[tactic(auto, using(crate::proofs::Marked::given_one, crate::proofs::Marked::kept_one))]
 fn give_up_page(pages: &mut PageMap, memory: &mut Memory, page: usize)
     requires within { page < length pages.old }
@@ -163,7 +163,7 @@ fn give_up_page(pages: &mut PageMap, memory: &mut Memory, page: usize)
     }
 }
 
-// Gives up the pages of a range of which nothing is held, and closes them.
+// Releases and closes the pages of a range in which nothing is held.
 fn give_up_pages(pages: &mut PageMap, memory: &mut Memory, from: usize, to: usize)
     requires ordered { from ≤ to }
     requires within { to ≤ length pages.old }
@@ -294,7 +294,7 @@ impl Model for RegionStore {
 }
 
 impl RegionStore {
-    // A region of so many pages, from its first doubleword on, with nothing held.
+    // Makes a region with a number of pages, from its first doubleword on, with nothing held.
     pub fn new(alloc: Global, first: u32, pages: usize) -> Result<RegionStore, OutOfMemory>
         requires few { pages ≤ most_pages_above }
         requires aligned { first % page_doublewords ≡ 0 }
@@ -312,7 +312,7 @@ impl RegionStore {
         })
     }
 
-    // A longest open place that meets what is wanted, the one that the placement takes.
+    // Returns a longest open place that meets the request, the one that the placement selects.
     pub fn find(&self, placement: Placement, subpool: SubpoolId, want: &Want) -> Found
         ensures best { BestIn self.now subpool want.now result.place }
         ensures counted { IsCounted (most_steps self.now subpool) result.place result.steps }
@@ -356,7 +356,7 @@ impl RegionStore {
         holds_run(&self.memory, &self.pages, subpool, run)
     }
 
-    // Whether the place is open: it lies in the region, and the subpool may take each of its doublewords.
+    // Returns whether the place is open: it is in the region, and the subpool may take each of its doublewords.
     pub fn is_open(&self, subpool: SubpoolId, place: Place) -> bool
         requires whole { IsWhole place }
         requires some { 8 ≤ place.len }
@@ -458,7 +458,7 @@ impl RegionStore {
         self.memory.part(from, len)
     }
 
-    // Lends the bytes of a place.
+    // Borrows the bytes of a place.
     pub fn part_mut(&mut self, place: Place) -> &mut [u8]
         requires { AllHeldIn self.old place }
         ensures* writes_back { sem 𝓛 (LendsRegion self.entry place result) }
@@ -471,7 +471,7 @@ impl RegionStore {
         self.memory.part_mut(from, len)
     }
 
-    // Lends the bytes of one place to read, and those of another one to write.
+    // Borrows the bytes of one place for reading, and those of another one for writing.
     pub fn two(&mut self, from: Place, to: Place) -> (&[u8], &mut [u8])
         requires source { AllHeldIn self.old from }
         requires target { AllHeldIn self.old to }

@@ -56,7 +56,7 @@ fn run_place(first: u32, run: Run) -> Place
     )
 }
 
-// The length that is wanted, where it is one alone.
+// Returns the requested length, if there is only one.
 fn only_length(want: &Want) -> Option<u32>
     ensures only { IfSome result (IsOnlyLength want.now) }
     ensures wanted { IsWant want.now }
@@ -68,7 +68,7 @@ fn only_length(want: &Want) -> Option<u32>
     }
 }
 
-// The doublewords of the least length that is wanted.
+// Returns the number of doublewords of the least requested length.
 fn least_doublewords(want: &Want) -> usize
     ensures least { 8 * result ≡ want.now.least }
     ensures some { 1 ≤ result }
@@ -76,7 +76,7 @@ fn least_doublewords(want: &Want) -> usize
     (want.least() / 8) as usize
 }
 
-// A longest place of a run: the lowest one, where one length alone is wanted.
+// Returns a longest place of a run: the lowest one, if only one length is requested.
 fn lowest_in(run: Place, want: &Want, only: Option<u32>) -> Option<Place>
     requires run { IsRun run }
     requires wanted { IsWant want.now }
@@ -128,7 +128,7 @@ pub fn longer(one: Option<Place>, other: Option<Place>) -> Option<Place>
     }
 }
 
-// Whether no length that is wanted is greater than that of the place.
+// Returns whether no requested length is greater than that of the place.
 pub fn is_longest(place: &Option<Place>, want: &Want) -> bool
     ensures longest { IsTrue result → (n : ℕ) → IsLength want.now n → Beats place.now n }
     ensures wanted { IsWant want.now }
@@ -140,7 +140,7 @@ pub fn is_longest(place: &Option<Place>, want: &Want) -> bool
     }
 }
 
-// Of a place and one behind it the longer one; where they are equally long, the one that the placement takes.
+// Returns the longer one of two places, or if they are equally long, the one that the placement selects.
 fn preferred(placement: Placement, one: Option<Place>, behind: Option<Place>) -> Option<Place>
     ensures either { (result ≡ one) ⊎ (result ≡ behind) }
     ensures one { (n : ℕ) → Beats one n → Beats result n }
@@ -152,7 +152,7 @@ fn preferred(placement: Placement, one: Option<Place>, behind: Option<Place>) ->
     }
 }
 
-// Whether nothing behind the best place can be taken in its stead.
+// Returns whether no later place can replace the best one.
 fn is_final(placement: Placement, best: &Option<Place>, want: &Want) -> bool
     ensures longest { IsTrue result → (n : ℕ) → IsLength want.now n → Beats best.now n }
     ensures wanted { IsWant want.now }
@@ -164,8 +164,8 @@ fn is_final(placement: Placement, best: &Option<Place>, want: &Want) -> bool
     }
 }
 
-// A longest place that meets what is wanted and whose doublewords the subpool may take. Of several that are
-// equally long it is the lowest one, or the highest one, as the placement says.
+// Returns a longest place that meets the request and whose doublewords the subpool may take. Of several equally long ones it is the
+// lowest or the highest, by the placement.
 pub fn find(
     placement: Placement,
     first: u32,

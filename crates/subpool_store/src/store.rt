@@ -53,8 +53,8 @@ mod tests;
 #[error("storage is not held by the subpool")]
 pub struct NotHeld;
 
-/// The storage of a step: which subpool holds a doubleword, and which byte stands at an address, in the region
-/// below 16 megabytes and in the region above.
+/// The storage of a step: the subpool that holds each doubleword, and the byte at each address, in the region below 16 megabytes
+/// and in the region above.
 #[derive(Drop)]
 pub struct Store {
     below: RegionStore,
@@ -77,7 +77,7 @@ impl Model for Store {
     ghost invariant = { λ s. IsStore s.below s.above };
 }
 
-// Whether the place lies below 16 megabytes.
+// Returns whether the place is below 16 megabytes.
 fn is_below(place: Place) -> bool
     ensures below { MatchBool result (place.addr + place.len ≤ above_begins)
         (above_begins < place.addr + place.len) }
@@ -95,7 +95,7 @@ fn has_addresses(place: Place) -> bool
     place.addr().get() + place.len() <= 0x8000_0000
 }
 
-// The doublewords of which a byte lies in the place, as a place.
+// Returns the doublewords that have a byte of the place, as a place.
 fn whole_doublewords(place: Place) -> Place
     requires { place.addr + place.len ≤ 2 ^ 31 }
     ensures whole { IsWhole result }
@@ -119,7 +119,7 @@ fn find_above(placement: Placement, above: &RegionStore, subpool: SubpoolId, wan
 }
 
 impl Store {
-    /// So many pages below and above, with nothing held. `fill` is the byte that a grant leaves in each place.
+    /// Makes storage with a number of pages below and above, with nothing held. `fill` is the byte with which grants fill areas.
     pub fn new(
         alloc: Global,
         below: u32,
@@ -150,7 +150,7 @@ impl Store {
         })
     }
 
-    // The place to take for what is wanted: the longest one, above if one of that length is above.
+    // Returns the place to take for a request: the longest one, above if one of that length is above.
     fn search(&self, subpool: SubpoolId, want: &Want) -> Found
         ensures chosen { MatchOption result.place
             (NoPlace self.now.storage.regions (holder self.now.storage) subpool want.now)
@@ -186,8 +186,8 @@ impl Store {
         }
     }
 
-    /// How many free runs there are in the pages of the subpool, on the side that is wanted, where there is no place; None where
-    /// there is one.
+    /// Returns the number of free runs in the pages of the subpool, on the requested side, if the request does not fit; None if it
+    /// does.
     pub fn runs_without_place(&self, subpool: SubpoolId, want: &Want) -> Option<u32>
         ensures { MatchOption result
             ((p : PlaceValue)
@@ -216,7 +216,7 @@ impl Store {
         }
     }
 
-    // Whether the subpool may take the place for what is wanted but for its lengths.
+    // Returns whether the subpool may take the place for the request, except for its lengths.
     fn serves(&self, subpool: SubpoolId, want: &Want, place: Place) -> bool
         requires whole { place.len % 8 ≡ 0 }
         requires some { 8 ≤ place.len }
@@ -231,7 +231,7 @@ impl Store {
         at_in(place, want, place.len(), place.addr()).is_some()
     }
 
-    // The place at an address that was told, where it serves as well as the one that was found, which it then replaces.
+    // Returns the place at a hinted address if it is as good as the one that was found, which it then replaces.
     fn told_at(&self, subpool: SubpoolId, want: &Want, found: Place, told: Addr) -> Place
         requires { Chosen self.now.storage.regions (holder self.now.storage) subpool want.now found }
         ensures chosen { Chosen self.now.storage.regions (holder self.now.storage) subpool want.now
@@ -253,7 +253,7 @@ impl Store {
         }
     }
 
-    // The same, where an address was told.
+    // Returns the place at the hinted address, if there is a hint.
     fn told(&self, subpool: SubpoolId, want: &Want, found: Place, told: Option<Addr>) -> Place
         requires { Chosen self.now.storage.regions (holder self.now.storage) subpool want.now found }
         ensures chosen { Chosen self.now.storage.regions (holder self.now.storage) subpool want.now
@@ -287,10 +287,10 @@ impl Store {
         }
     }
 
-    /// Obtains what is wanted: the greatest length of those that are wanted for which there is a place, and of
-    /// such places above 16 megabytes, or below where none is above, the one at the address that is told; where none is told,
-    /// or none of them is there, the lowest or the highest, as the placement says. None where there is no place, and then the
-    /// storage stays as it is (Assembler Services Reference, GETMAIN; which place is taken is this project's choice).
+    /// Obtains an area: the greatest requested length that fits, above 16 megabytes if that length fits above, else below. Of such
+    /// places it is the one at the hinted address, and without a hint, or if there is none at it, the lowest or the highest, by the
+    /// placement. Returns None if it fits nowhere, and then the storage does not change (Assembler Services Reference, GETMAIN; the
+    /// choice of the place is this project's).
     pub fn obtain(&mut self, subpool: SubpoolId, want: &Want, told: Option<Addr>) -> Option<Place>
         ensures grant { MatchOption result
             (NoPlace self.old.storage.regions (holder self.old.storage) subpool want.now
@@ -376,7 +376,7 @@ impl Store {
         self.above.release_each(subpools);
     }
 
-    /// Whether the subpool holds each doubleword of which a byte lies in the place.
+    /// Returns whether the subpool holds each doubleword that has a byte of the place.
     pub fn holds(&self, subpool: SubpoolId, place: Place) -> bool
         ensures holds { IsTrue result ↔ HeldBy self.now.storage subpool place }
         ensures storage { IsStorage self.now.storage }
@@ -388,7 +388,7 @@ impl Store {
         self.holds_whole(subpool, whole_doublewords(place))
     }
 
-    // The same of a place of whole doublewords.
+    // Returns whether the subpool holds a place of whole doublewords.
     fn holds_whole(&self, subpool: SubpoolId, place: Place) -> bool
         requires { IsWhole place }
         ensures holds { IsTrue result ↔ HeldBy self.now.storage subpool place }
@@ -477,13 +477,12 @@ impl Store {
         }
     }
 
-    /// Lends the bytes of a place that is held: what is written back is what they are then, and all else is as
-    /// before.
+    /// Borrows the bytes of a held place. What is written to them is stored, and nothing else changes.
     pub fn bytes_mut(&mut self, place: Place) -> &mut [u8]
         requires { AllHeld self.old.storage place }
         ensures* writes_back { sem 𝓛 (LendsBytes self.entry place result) }
 
-        // What the storage is once the loan is over, where `w` was left behind the result.
+        // The storage after the loan is over, if `w` was written to the result.
         ensures written { (w : List ℕ) → length w ≡ place.len
             → Puts self.old.storage place w (written self.old.storage place w) }
         ensures len { length result.now ≡ place.len }
@@ -497,7 +496,7 @@ impl Store {
         }
     }
 
-    // Both places lie below.
+    // Both places are below.
     fn two_below(&mut self, from: Place, to: Place) -> (&[u8], &mut [u8])
         requires source { AllHeld self.old.storage from }
         requires target { AllHeld self.old.storage to }
@@ -517,7 +516,7 @@ impl Store {
         self.below.two(from, to)
     }
 
-    // Both places lie above.
+    // Both places are above.
     fn two_above(&mut self, from: Place, to: Place) -> (&[u8], &mut [u8])
         requires source { AllHeld self.old.storage from }
         requires target { AllHeld self.old.storage to }
@@ -537,7 +536,7 @@ impl Store {
         self.above.two(from, to)
     }
 
-    // The bytes that are read lie below, and those that are written above.
+    // The bytes to read are below, and those to write above.
     fn two_up(&mut self, from: Place, to: Place) -> (&[u8], &mut [u8])
         requires source { AllHeld self.old.storage from }
         requires target { AllHeld self.old.storage to }
@@ -556,7 +555,7 @@ impl Store {
         (self.below.part(from), self.above.part_mut(to))
     }
 
-    // The bytes that are read lie above, and those that are written below.
+    // The bytes to read are above, and those to write below.
     fn two_down(&mut self, from: Place, to: Place) -> (&[u8], &mut [u8])
         requires source { AllHeld self.old.storage from }
         requires target { AllHeld self.old.storage to }
@@ -575,8 +574,8 @@ impl Store {
         (self.above.part(from), self.below.part_mut(to))
     }
 
-    /// Lends the bytes of one place to read, and those of another one to write: what is written back is what the
-    /// second place has then, and all else is as before. Both are held, are of one length and have no byte in common.
+    /// Borrows the bytes of one place for reading, and those of another one for writing. What is written to the second is stored,
+    /// and nothing else changes. Both are held, have the same length and do not overlap.
     pub fn two(&mut self, from: Place, to: Place) -> (&[u8], &mut [u8])
         requires source { AllHeld self.old.storage from }
         requires target { AllHeld self.old.storage to }
@@ -584,7 +583,7 @@ impl Store {
         requires apart { (from.addr + from.len ≤ to.addr) ⊎ (to.addr + to.len ≤ from.addr) }
         ensures* writes_back { sem 𝓛 (LendsBytes self.entry to result.1) }
 
-        // What the storage is once the loan is over, where `w` was left behind the second result.
+        // The storage after the loan is over, if `w` was written to the second result.
         ensures written { (w : List ℕ) → length w ≡ to.len
             → Puts self.old.storage to w (written self.old.storage to w) }
         ensures len { (length result.0.now ≡ from.len) × (length result.1.now ≡ to.len) }

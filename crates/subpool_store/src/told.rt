@@ -1,4 +1,4 @@
-//! Whether a place at an address that was told may be taken.
+//! Whether a place at a hinted address may be taken.
 
 ghost use Rattle.std.specs.Prelude.{◌≡◌, ◌<◌, ◌≤◌, ◌+◌, ◌*◌, ◌↔◌, ℕ, IsTrue, true, length};
 ghost use Rattle.mvs_model.specs.Numbers.{page_doublewords};
@@ -35,7 +35,7 @@ fn may_take_part(
     }
 }
 
-// The same of the doublewords of a run, page by page.
+// Checks the doublewords of a run, page by page.
 pub fn may_take_run(memory: &Memory, pages: &PageMap, subpool: SubpoolId, run: Run) -> bool
     requires exact { IsExact memory.now.held pages.now }
     requires opened { IsOpened pages.now memory.now.bytes }

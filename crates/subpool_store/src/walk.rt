@@ -18,8 +18,8 @@ use mvs_model::numbers::{PAGE_BYTES, PAGE_DOUBLEWORDS};
 use mvs_model::subpool::SubpoolId;
 use page_map::PageMap;
 
-/// What a look at page entries or at one free run says: from where the pass stands to `start` the subpool may
-/// take no doubleword, from there to `end` each of them. Then the pass stands at `end`.
+/// The result of reading page entries or one free run: from the position of the pass to `start` the subpool may take no doubleword,
+/// and from there to `end` each of them. The pass is then at `end`.
 #[derive(Clone, Copy)]
 struct Part {
     start: usize,
@@ -29,9 +29,8 @@ struct Part {
     counted: Counted,
 }
 
-/// A pass: the run that it has joined so far, which ends where it stands; the entry of the page that it stands at, and,
-/// where that is the subpool's own, the queue of the runs of the page that it has not looked at; and how much it has
-/// looked at.
+/// A pass: the run that it has joined so far, which ends at its position; the entry of the page at its position, and, if the page
+/// is the subpool's own, the queue of the runs that it has not read; and the number of steps.
 #[derive(Clone, Copy)]
 pub struct Walk {
     start: usize,
@@ -55,7 +54,7 @@ fn queue_of(memory: &Memory, pages: &PageMap, subpool: SubpoolId, entry: Entry, 
     }
 }
 
-// Joins a free page with those behind it, up to the first one that is assigned.
+// Joins a free page with those after it, up to the first one that is assigned.
 fn join_pages(
     counted: Counted,
     memory: &Memory,
@@ -82,7 +81,7 @@ fn join_pages(
     }
 }
 
-// Passes a page of another subpool, and those behind it, up to the first one that is free or the subpool's own.
+// Skips a page of another subpool, and those after it, up to the first one that is free or the subpool's own.
 fn pass_pages(
     counted: Counted,
     memory: &Memory,
@@ -110,8 +109,7 @@ fn pass_pages(
     }
 }
 
-// Leaves a page of the subpool's own of which nothing is free from an index on, and passes those behind it of which
-// nothing is free.
+// Leaves a page of the subpool's own without free doublewords from an index on, and skips those after it without free ones.
 fn leave_page(
     counted: Counted,
     memory: &Memory,
@@ -185,7 +183,7 @@ fn take_run(
     }
 }
 
-// The doublewords of a run that lies from one byte of a page up to another.
+// Returns the doublewords of a run from one byte of a page to another.
 fn run_at(page: usize, at: u32, end: u32) -> Run
     requires few { page < most_pages_above }
     ensures start { result.start ≡ page_doublewords * page + at / 8 }
@@ -228,7 +226,7 @@ fn examine_run(
     }
 }
 
-// Whether what begins at an index goes on with what ends at another one.
+// Returns whether what begins at an index continues what ends at another one.
 fn goes_on(start: usize, end: usize) -> bool
     ensures { IsTrue result ↔ start ≡ end }
 {
@@ -253,7 +251,7 @@ impl Walk {
         }
     }
 
-    // Has the pass stand at an index, with nothing joined.
+    // Moves the pass to an index, with nothing joined.
     fn stand(&mut self, at: usize)
         ensures { self.new ≡ record {
           start = at;
@@ -267,8 +265,8 @@ impl Walk {
         self.end = at;
     }
 
-    // Passes free runs of a page of the subpool's own that are shorter than the least length and end before the page does;
-    // gives what comes behind them.
+    // Skips free runs of a page of the subpool's own that are shorter than the least length and end before the page does. Returns
+    // what follows them.
     fn pass_short(
         &mut self,
         memory: &Memory,
@@ -325,7 +323,7 @@ impl Walk {
         0 < len && (least <= len || self.end % PAGE_DOUBLEWORDS == 0)
     }
 
-    // Looks at what comes next in a page of the subpool's own, behind free runs that are too short.
+    // Reads what comes next in a page of the subpool's own, after free runs that are too short.
     fn examine_own(
         &mut self,
         memory: &Memory,
@@ -353,7 +351,7 @@ impl Walk {
         self.pass_short(memory, pages, subpool, least)
     }
 
-    // Looks at what comes next, behind free runs that are too short.
+    // Reads what comes next, after free runs that are too short.
     fn examine(
         &mut self,
         memory: &Memory,

@@ -1,16 +1,16 @@
 -- A mother first gets what she shares, and then the subtask is admitted.
-use Rattle.std.proofs.Common.{◌≡◌, ℕ, ◌<◌, false, [], Option, Some, is_some, unwrap_or, sym, ap, subst, ◌∙◌}
+use Rattle.std.proofs.Common.{◌≡◌, ℕ, ◌<◌, false, [], Some, is_some, unwrap_or, sym, ap, subst, ◌∙◌}
 use Rattle.std.specs.FinMap.{get, len}
 use Rattle.mvs_model.specs.declared.name.Name.{Name}
 use Rattle.mvs_model.specs.declared.want.Residence.{Residence}
-use Rattle.mvs_model.specs.declared.code.Code.{Code}
 use Rattle.mvs_model.specs.Name.{same_name}
 use Rattle.mvs_model.specs.Gifts.{GiftsValue, shares}
 use Rattle.mvs_model.specs.Finite.{Changes}
-use Rattle.mvs_model.specs.Owners.{Owners, is_active, gives_shared, attach_refusal, Attach}
+use Rattle.mvs_model.specs.Owners.{Owners, is_active, gives_shared, Attach}
 use Rattle.task_owner.specs.Tasks.{TasksValue, name_of}
 use Rattle.task_owner.specs.Handing.{SharesBelow, Admits}
-use Rattle.task_owner.proofs.Refusing.{allowed, not_refused}
+use Rattle.mvs_model.specs.Causes.{Passed, attach_causes}
+use Rattle.std.proofs.lemmas.Bool.{leb-false}
 use Rattle.task_owner.proofs.Entering.{same_tasks, still_owned}
 
 module _ (old now : TasksValue) (mother : ℕ) (name : Name) (gifts : GiftsValue) (made : SharesBelow old mother gifts 128 now) where
@@ -20,9 +20,9 @@ module _ (old now : TasksValue) (mother : ℕ) (name : Name) (gifts : GiftsValue
   tasks_are : now.owners.tasks ≡ old.owners.tasks
   tasks_are = same_tasks (name_of old mother) (shares gifts) old.owners now.owners 128 made.made
 
-  module _ (code : Option Code) (e : code ≡ attach_refusal old.owners (name_of old mother) name gifts) (none : (x : Code) → code ≡ Some x → ⊥) where
+  module _ (passed : Passed (attach_causes old.owners (name_of old mother) name gifts)) where
     ok : (is_active old.owners name ≡ false) × (len old.owners.tasks < 32) × (gives_shared old.owners (name_of old mother) gifts ≡ false)
-    ok = allowed old.owners (name_of old mother) name gifts (not_refused old.owners (name_of old mother) name gifts code e none)
+    ok = (passed.0, leb-false 32 (len old.owners.tasks) passed.1.0, passed.1.1.0)
 
     pub still_new : is_active now.owners name ≡ false
     still_new = ap (λ tasks. is_some (get tasks name)) tasks_are ∙ ok.0

@@ -1,4 +1,4 @@
--- What stands between while a task and its descendants are taken out. No public clause cites this module.
+-- States while a task and its descendants are removed. No public clause uses this module.
 use Rattle.std.specs.Prelude.{◌≡◌, ℕ, ◌+◌, ◌<◌, ◌≤◌, ◌==◌, ◌&&◌, List, length, Bool, true, not, Option, Some, None, is_some, count_by, nat_lt, if◌then◌else◌}
 use Rattle.std.specs.List.{list_any}
 use Rattle.slab.specs.Slab.{Slab, get, slab_len}
@@ -44,11 +44,11 @@ IsFreed active owned freed = (s : ℕ) → is_one_of freed s ≡ falls_free acti
 abbrev pub is_of : ℕ → Option Owned → Bool
 is_of key = has (λ (o : Owned). o.owner == key)
 
--- each subpool stands under its number with its owner
+-- each subpool has its number with its owner
 abbrev pub OwnersHave : List (Option Seat) → List (Option Owned) → Type 0
 OwnersHave seats owned = (s : ℕ) (o : Owned) → item_at owned s ≡ Some o → (x : Seat) × (item_at seats o.owner ≡ Some x) × (number_of x o.number ≡ Some s)
 
--- each subpool that a task has stands there under its number
+-- each subpool of a task has its number there
 abbrev pub EntriesStand : List (Option Seat) → List (Option Owned) → Type 0
 EntriesStand seats owned = (k n s : ℕ) (x : Seat) → item_at seats k ≡ Some x → number_of x n ≡ Some s → (o : Owned) × (item_at owned s ≡ Some o) × (o.number ≡ n)
 

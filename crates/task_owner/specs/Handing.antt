@@ -1,4 +1,4 @@
--- What stands between while a mother hands over what she gives and shares. No public clause cites this module.
+-- States while a task hands over what it gives and shares. No public clause uses this module.
 use Rattle.std.specs.Prelude.{◌≡◌, ℕ, ◌<◌, ◌==◌, ◌&&◌, ◌||◌, List, Bool, not, Option, Some, None, nat_lt, if◌then◌else◌}
 use Rattle.mvs_model.specs.Gifts.{GiftsValue, gives, shares}
 use Rattle.std.specs.FinMap.{get}
@@ -44,7 +44,7 @@ abbrev pub owned_anew : ℕ → ℕ → Option Owned → Option Owned
 owned_anew mother key None = None
 owned_anew mother key (Some o) = Some (if o.owner == mother then record { owner = key; number = o.number } else o)
 
--- the same of one that she gives by a number below the bound
+-- it is given by a number below the bound
 abbrev pub passed_below : GiftsValue → ℕ → ℕ → ℕ → Option Owned → Option Owned
 passed_below gifts mother key bound None = None
 passed_below gifts mother key bound (Some o) = Some (if is_handed gifts mother o && nat_lt o.number bound then record { owner = key; number = o.number } else o)

@@ -41,7 +41,7 @@ abbrev pub mother_of : List (Option Seat) → Option ℕ → Option Name
 mother_of seats None = None
 mother_of seats (Some key) = name_of_seat seats key
 
--- what is said of a task
+-- the properties of a task
 abbrev pub task_of : List (Option Seat) → Seat → Task
 task_of seats x = record { mother = mother_of seats x.mother; residence = x.residence }
 
@@ -83,9 +83,9 @@ Ranks seats rank = (k m : ℕ) (x : Seat) → item_at seats k ≡ Some x → x.m
 abbrev pub MayHave : Seat → ℕ → Type 0
 MayHave x n = (n < task_numbers) ⊎ ((is_step_number n ≡ true) × (x.mother ≡ None))
 
--- No two tasks have one name, each mother is active and no task descends from itself, one task at most has no mother, and
--- the subpools that the tasks have are those that have an owner: each stands under one number that its owner and all who
--- have it may have, and its owner has it there.
+-- No two tasks have the same name, each mother is active and no task descends from itself, at most one task has no mother, and the
+-- subpools that the tasks have are those that have an owner. Each has one number that its owner and all who have it may use, and
+-- its owner has it.
 pub record IsSound (seats : List (Option Seat)) (owned : List (Option Owned)) : Type 0 where
   pub distinct : Distinct seats
   pub mothers : MothersActive seats

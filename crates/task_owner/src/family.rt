@@ -1,4 +1,4 @@
-//! What goes when a task ends.
+//! What is removed when a task ends.
 
 ghost use Rattle.std.specs.Prelude.{◌≡◌, ◌≢◌, ◌≤◌, ℕ, [], length, IsSome, MatchOption, Some, None};
 ghost use Rattle.std.specs.List.Sorted.{IsStrictlySortedBy};

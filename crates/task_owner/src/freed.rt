@@ -1,4 +1,4 @@
-//! The subpools that fall free when their owner goes.
+//! The subpools that are freed when their owner ends.
 
 ghost use Rattle.std.specs.Prelude.{◌≡◌, ◌≢◌, ◌<◌, ◌==◌, ◌&&◌, ◌||◌, ◌↔◌, ℕ, length, true, IsTrue, IsSome, Some};
 ghost use Rattle.std.specs.List.Sorted.{IsStrictlySortedBy};
@@ -31,7 +31,7 @@ fn collect(subpool: SubpoolId, key: usize, owned: &[Option<Owned>], freed: &mut 
     }
 }
 
-// Puts each subpool that the task at the key owns into the set. They stand under its numbers.
+// Adds each subpool that the task at the key owns to the set. They are the entries of its numbers.
 pub(crate) fn collect_owned(
     numbers: &Numbers,
     key: usize,
@@ -103,7 +103,7 @@ fn drop_entries(active: &mut Slab<Seat>, number: usize, subpool: SubpoolId)
     }
 }
 
-// Takes the owner from each subpool of the set, and drops each task's entry for it. A subpool stands under one number only.
+// Removes the owner of each subpool of the set, and the entry of each task for it. A subpool has only one number.
 pub(crate) fn free_subpools(
     active: &mut Slab<Seat>,
     owned: &mut Vec<Option<Owned>>,

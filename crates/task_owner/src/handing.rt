@@ -14,7 +14,7 @@ use mvs_model::gifts::Gifts;
 use mvs_model::subpool::SubpoolId;
 use slab::Slab;
 
-// Puts what stands under the numbers that are shared into a subtask's.
+// Copies the entries of shared numbers to a subtask.
 fn share(numbers: &Numbers, gifts: &Gifts, subtask: &mut Numbers)
     ensures { (n : ℕ) → n < subpool_numbers
         → item_at subtask.new n ≡ with_shared gifts.now numbers.now subtask.old n }
@@ -26,7 +26,7 @@ fn share(numbers: &Numbers, gifts: &Gifts, subtask: &mut Numbers)
     }
 }
 
-// Moves what stands under the numbers that are given to a subtask's.
+// Moves the entries of given numbers to a subtask.
 fn give(numbers: &mut Numbers, gifts: &Gifts, subtask: &mut Numbers)
     ensures left { (n : ℕ) → n < subpool_numbers
         → item_at numbers.new n ≡ left_over gifts.now numbers.old n }
@@ -82,7 +82,7 @@ fn pass(owned: &mut Vec<Option<Owned>>, mother: usize, key: usize, subpool: Subp
     }
 }
 
-// Makes the task at the key the owner of each subpool that the mother gives. They stand under the numbers that are given.
+// Makes the task at the key the owner of each subpool that the attaching task gives. They are the entries of the given numbers.
 pub(crate) fn pass_on(
     owned: &mut Vec<Option<Owned>>,
     numbers: &Numbers,

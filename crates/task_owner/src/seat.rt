@@ -30,7 +30,7 @@ pub(crate) struct Seat {
     pub(crate) numbers: Numbers,
 }
 
-// Who owns a subpool, by his key, and under which number it stands.
+// The owner of a subpool, by its key, and the owner's number for it.
 #[derive(Clone, Copy)]
 pub(crate) struct Owned {
     pub(crate) owner: usize,

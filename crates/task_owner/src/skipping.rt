@@ -1,4 +1,4 @@
-//! Entries that hold nothing, of which several are passed at once.
+//! Empty entries, several of which are skipped at once.
 
 ghost use Rattle.std.specs.Prelude.{◌≡◌, ◌<◌, ◌≤◌, ℕ, None, not, is_some, length, slice_index_or};
 ghost use Rattle.std.specs.List.{list_all};
@@ -14,7 +14,7 @@ fn are_none<T: Copy>(entries: &[Option<T>]) -> bool
     none
 }
 
-/// Passes entries from one on that hold nothing, sixteen at a time, and answers at which one it stands.
+/// Skips empty entries from one on, sixteen at a time, and returns where it stopped.
 pub fn pass_none<T: Copy>(entries: &[Option<T>], from: usize) -> usize
     requires { from ≤ length entries.now }
     ensures ordered { from ≤ result }

@@ -1,6 +1,6 @@
 //! The active tasks and their subpools.
 
-ghost use Rattle.std.specs.Prelude.{◌≡◌, ◌≢◌, ◌<◌, ◌≤◌, ◌↔◌, ℕ, nat_le, true, false, not, IsTrue, is_some, IfSome, IfOk, IfErr, OnOk, OnErr, MatchOption, Some, None, [], length, slice_index_or};
+ghost use Rattle.std.specs.Prelude.{◌≡◌, ◌≢◌, ◌<◌, ◌≤◌, ◌↔◌, ℕ, nat_le, true, false, not, is_some, IfSome, IfOk, IfErr, OnOk, OnErr, MatchOption, Some, None, [], length, slice_index_or};
 ghost use Rattle.std.specs.List.{Contains};
 ghost use Rattle.std.specs.List.Sorted.{IsStrictlySortedBy};
 ghost use Rattle.std.specs.Ordering.{nat_cmp};
@@ -9,7 +9,8 @@ ghost use Rattle.mvs_model.specs.Finite.{has, kept};
 ghost use Rattle.mvs_model.specs.Gifts.{gives};
 ghost use Rattle.mvs_model.specs.Kept.{OwnersKept};
 ghost use Rattle.mvs_model.specs.Numbers.{most_subpools, most_tasks, subpool_numbers, task_numbers};
-ghost use Rattle.mvs_model.specs.Owners.{entry, keeper, subpool_meant, is_active, has_subtask, owns, IsMother, IsSpare, Binds, IsFallen, goes, ends_with, Ends, Attach, attach_refusal, gives_shared};
+ghost use Rattle.mvs_model.specs.Owners.{entry, keeper, subpool_meant, is_active, has_subtask, owns, IsMother, IsSpare, Binds, IsFallen, goes, ends_with, Ends, Attach, gives_shared};
+ghost use Rattle.mvs_model.specs.Causes.{Passed, Refused, attach_causes};
 ghost use Rattle.mvs_model.specs.declared.name.Name.{Name as TheName};
 ghost use Rattle.mvs_model.specs.Start.{first_owners};
 ghost use Rattle.task_owner.specs.Handing.{GetsEntry, SharesBelow, Admits};
@@ -23,11 +24,11 @@ use crate::seat::{
     Owned, SLOTS, Seat, enter, find_child, find_first, find_key, first_owned, first_spare,
     no_owners, seat_at,
 };
-use mvs_model::code::Code;
 use mvs_model::error::OutOfMemory;
 use mvs_model::gifts::Gifts;
 use mvs_model::name::Name;
 use mvs_model::numbers::{MOST_SUBPOOLS, MOST_TASKS};
+use mvs_model::refusal::Refusal;
 use mvs_model::request::Fallen;
 use mvs_model::subpool::{SubNo, SubpoolId};
 use mvs_model::subpool_set::SubpoolSet;
@@ -36,7 +37,7 @@ use slab::Slab;
 use std::alloc::Global;
 use std::marker::Model;
 
-/// An active task. It stands for the same task until that task ends.
+/// An active task. It refers to the same task until that task ends.
 #[derive(Clone, Copy, Debug, PartialEq, Eq)]
 pub struct TaskId {
     key: usize,
@@ -76,7 +77,7 @@ impl Model for Tasks {
     ghost invariant = { λ t. IsSound t.active.slots t.owned.items × (length t.owned.items ≡ most_subpools) × (slab_len t.active ≤ most_tasks) × (most_tasks ≤ t.active.capacity) };
 }
 
-/// What goes with a task that ends.
+/// What is removed with a task that ends.
 #[derive(Drop)]
 pub struct Gone {
     /// Its descendants, in byte order of their names (the order is this project's choice).
@@ -86,8 +87,8 @@ pub struct Gone {
 }
 
 impl Tasks {
-    /// The job step task alone, which has no subpool yet, with room for 32 tasks (that many are this project's choice). No
-    /// later call takes memory.
+    /// Makes the job step task, which has no subpool yet, with space for 32 tasks (this limit is this project's choice). No later
+    /// call allocates memory.
     pub fn new(alloc: Global, name: Name, residence: Residence) -> Result<Tasks, OutOfMemory>
         ensures { IfOk result (λ d. d.owners ≡ first_owners name residence) }
     {
@@ -274,53 +275,54 @@ impl Tasks {
 
     /// Attaches a subtask (Assembler Services Reference, ATTACH, GSPV and SHSPV). The mother first gets a subpool under
     /// each number that she shares and does not have; a number that she gives and does not have is passed over. Refused
-    /// are, in this order, a name that is active (user 4009), a task beyond 32 (user 4005), and the gift of a subpool
-    /// that the mother does not own (user 4003). The refusals and what becomes of missing numbers are this project's
-    /// choice.
+    /// are, in this order, a name that is active, a task beyond 32, and the gift of a subpool that the mother does not own.
+    /// The refusals and what becomes of missing numbers are this project's choice.
     pub fn attach(
         &mut self,
         mother: TaskId,
         name: &Name,
         gifts: &Gifts,
         residence: Residence,
-    ) -> Result<TaskId, Code>
+    ) -> Result<TaskId, Refusal>
         requires { IsTask self.old mother }
         ensures attached { OnOk result
             (Attach self.old.owners (name_of self.old mother) name.now gifts.now residence
             self.new.owners) }
-        ensures granted { OnOk result
-            (attach_refusal self.old.owners (name_of self.old mother) name.now gifts.now ≡ None) }
+        ensures passed { OnOk result
+            (Passed
+            (attach_causes self.old.owners (name_of self.old mother) name.now gifts.now)) }
         ensures named { IfOk result (λ id. name_at self.new id ≡ Some name.now) }
         ensures fresh { IfOk result (λ id. name_at self.old id ≡ None) }
         ensures others { IfOk result
             (λ id. (k : ℕ) → k ≢ id → name_at self.new k ≡ name_at self.old k) }
 
         ensures refused { IfErr result
-            (λ code. attach_refusal self.old.owners (name_of self.old mother) name.now gifts.now
-            ≡ Some code) }
+            (Refused
+            (attach_causes self.old.owners (name_of self.old mother) name.now gifts.now)) }
         ensures unchanged { OnErr result (self.new ≡ self.old) }
     {
-        if let Some(code) = self.refusal(mother, name, gifts) {
-            return Err(code);
+        if let Some(refusal) = self.refusal(mother, name, gifts) {
+            return Err(refusal);
         }
         self.enter_shared(mother, gifts);
         Ok(self.admit(mother, name, gifts, residence))
     }
 
     // Why an attach is refused, if it is.
-    fn refusal(&self, mother: TaskId, name: &Name, gifts: &Gifts) -> Option<Code>
+    fn refusal(&self, mother: TaskId, name: &Name, gifts: &Gifts) -> Option<Refusal>
         requires { IsTask self.now mother }
-        ensures { result
-            ≡ attach_refusal self.now.owners (name_of self.now mother) name.now gifts.now }
+        ensures { let causes = attach_causes self.now.owners (name_of self.now mother) name.now
+            gifts.now in
+            MatchOption result (Passed causes) (Refused causes) }
     {
         if self.find(name).is_some() {
-            return Some(Code::TASK_IN_USE);
+            return Some(Refusal::TaskInUse);
         }
         if self.is_full() {
-            return Some(Code::TOO_MANY_TASKS);
+            return Some(Refusal::TooManyTasks);
         }
         if self.shared_gift(mother, gifts).is_some() {
-            return Some(Code::NOT_OWNED);
+            return Some(Refusal::NotOwned);
         }
         None
     }
@@ -459,7 +461,7 @@ impl Tasks {
         freed
     }
 
-    /// The number under which the subpool stands, and the name of its owner.
+    /// Returns the number of the subpool, and the name of its owner.
     pub fn label(&self, subpool: SubpoolId) -> Option<(SubNo, Name)>
         ensures label { MatchOption result (get self.now.owners.owner subpool ≡ None)
             (λ r. (get self.now.owners.owner subpool ≡ Some r.1)

@@ -72,7 +72,7 @@ fn a_page_of_256_runs(rt: HostRuntime) -> Result<(), Fail> {
         store.obtain(one, &hole, None),
         Some(Place::new(Addr::new(0x6008), 8))
     );
-    // The page, the run that serves, and the one behind it, which shows that the first does not go on.
+    // The page, the matching run, and the one after it, which shows that the first does not continue.
     assert_eq!(rt; store.steps(), 3);
     Ok(())
 }

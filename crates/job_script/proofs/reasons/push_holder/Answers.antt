@@ -10,4 +10,4 @@ pub returns-in-Unowned-clause-text : goal.returns-in-Unowned-clause-text
 returns-in-Unowned-clause-text c = rw (c.in-Unowned.is) c.push_all-in-Unowned.ensures.text
 
 pub returns-in-Part-clause-text : goal.returns-in-Part-clause-text
-returns-in-Part-clause-text c = rw (c.in-Part.is) (behind c.args.text.now c.push_all-in-Part.new.self c.push_name-in-Part.new.self (codes " lies in pool ") (trimmed c.in-Part.name) c.push_all-in-Part.ensures.text c.push_name-in-Part.ensures.text)
+returns-in-Part-clause-text c = rw (c.in-Part.is) (behind c.args.text.now c.push_all-in-Part.new.self c.push_name-in-Part.new.self (codes " is in pool ") (trimmed c.in-Part.name) c.push_all-in-Part.ensures.text c.push_name-in-Part.ensures.text)

@@ -1,6 +1,6 @@
 -- A run is looked for at the address that a number is.
 use Rattle.std.proofs.Common.{rules, ◌≡◌, ℕ, MatchOption, None, subst}
-use Rattle.step_machine.specs.Reports.{IsMapEnd, IsMapRun}
+use Rattle.request_forms.specs.Reports.{IsMapEnd, IsMapRun}
 use Rattle.mvs_c.proofs.access.find_run.Goals as goal
 
 -- src/access.rt:133:1

@@ -1,6 +1,6 @@
 use Rattle.std.proofs.Common.{◌≡◌, ℕ, ◌+◌, ◌≤◌, length, sym, ap, ◌∙◌, arith}
 use Rattle.mvs_model.specs.Reports.{each_below}
-use Rattle.step_machine.specs.Facts.{listed, owned_at}
+use Rattle.request_forms.specs.Facts.{listed, owned_at}
 use Rattle.mvs_job.proofs.Freeing.{none_more, one_more, passed}
 use Rattle.mvs_job.proofs.Numbers.{each_none}
 use Rattle.mvs_job.proofs.ends.put_owned.Goals as goal

@@ -1,6 +1,6 @@
 use Rattle.std.proofs.Common.{◌≡◌, ◌≤◌, ◌-◌, length}
 use Rattle.mvs_model.specs.Reports.{each_below}
-use Rattle.step_machine.specs.Facts.{listed, owned_at}
+use Rattle.request_forms.specs.Facts.{listed, owned_at}
 use Rattle.mvs_job.proofs.ends.put_owned.Given as goal
 
 abbrev pub invariant-loop-next : goal.invariant-loop-next

@@ -1,7 +1,7 @@
 use Rattle.std.proofs.Common.{ℕ, ◌++◌, List, length, ap, sym, ◌∙◌, arith}
 use Rattle.mvs_model.specs.declared.fact.Fact.{Fact}
 use Rattle.mvs_model.specs.Reports.{each_below}
-use Rattle.step_machine.specs.Facts.{listed}
+use Rattle.request_forms.specs.Facts.{listed}
 use Rattle.mvs_job.specs.Granting.{subtask_fact}
 use Rattle.mvs_job.proofs.Numbers.{each_next, each_none}
 use Rattle.mvs_job.proofs.granting.put_subtask.Goals as goal

@@ -1,6 +1,6 @@
 use Rattle.std.proofs.Common.{◌≡◌, ◌≤◌, length}
 use Rattle.mvs_model.specs.Reports.{each_below}
-use Rattle.step_machine.specs.Facts.{listed}
+use Rattle.request_forms.specs.Facts.{listed}
 use Rattle.mvs_job.specs.Granting.{subtask_fact}
 use Rattle.mvs_job.proofs.granting.put_subtask.Given as goal
 

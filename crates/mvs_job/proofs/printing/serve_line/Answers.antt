@@ -1,4 +1,4 @@
-use Rattle.step_machine.specs.Taking.{Takes}
+use Rattle.request_forms.specs.Taking.{Takes}
 use Rattle.mvs_job.specs.Telling.{ended}
 use Rattle.mvs_job.proofs.Serving.{stopped_front, told_by}
 use Rattle.mvs_job.proofs.printing.serve_line.Goals as goal

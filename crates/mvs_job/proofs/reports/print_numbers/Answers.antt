@@ -4,7 +4,7 @@ use Rattle.std.specs.Io.KnownBytes.{Appends}
 use Rattle.std.specs.Prelude.{MatchOption}
 use Rattle.std.proofs.lemmas.Result.{err_from_is_err_and}
 use Rattle.std.proofs.KnownBytes.{Appends-nil}
-use Rattle.step_machine.specs.Reports.{HasNone, IsSubpoolLine}
+use Rattle.request_forms.specs.Reports.{HasNone, IsSubpoolLine}
 use Rattle.mvs_job.proofs.Numbers.{each_none, text_none, number_line, line_text, numbers_front, numbers_more}
 use Rattle.mvs_job.proofs.reports.print_numbers.Goals as goal
 

@@ -1,7 +1,7 @@
 use Rattle.std.proofs.Common.{◌≡◌, ◌-◌, ◌≤◌}
 use Rattle.std.specs.Prelude.{MatchOption}
 use Rattle.std.specs.Io.KnownBytes.{Appends}
-use Rattle.step_machine.specs.Reports.{HasNone, IsSubpoolLine}
+use Rattle.request_forms.specs.Reports.{HasNone, IsSubpoolLine}
 use Rattle.mvs_job.proofs.Numbers.{numbers_text}
 use Rattle.mvs_job.proofs.reports.print_numbers.Given as goal
 

@@ -1,4 +1,4 @@
-use Rattle.std.proofs.Common.{◌∙◌, ap}
+use Rattle.std.proofs.Common.{ap}
 use Rattle.mvsjob.proofs.Coming.{written_answers, written_ok, written_front, written_before}
 use Rattle.mvsjob.proofs.streamed.run_streamed.Goals as goal
 

@@ -1,6 +1,6 @@
 use Rattle.std.proofs.Common.{ℕ, ◌++◌, List, append-nil, append_assoc, ap, sym, ◌∙◌, arith}
 use Rattle.mvs_model.specs.Reports.{each_below}
-use Rattle.step_machine.specs.Facts.{listed}
+use Rattle.request_forms.specs.Facts.{listed}
 use Rattle.mvs_job.proofs.Numbers.{each_next, each_none}
 use Rattle.page.specs.declared.change.Change.{Change}
 use Rattle.page.specs.Changes.{held_change}

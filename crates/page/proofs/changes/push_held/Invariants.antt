@@ -1,6 +1,6 @@
 use Rattle.std.proofs.Common.{◌≡◌, ◌≤◌, ◌+◌, ◌++◌, length}
 use Rattle.mvs_model.specs.Reports.{each_below}
-use Rattle.step_machine.specs.Facts.{listed}
+use Rattle.request_forms.specs.Facts.{listed}
 use Rattle.page.specs.Changes.{held_change}
 use Rattle.page.proofs.changes.push_held.Given as goal
 

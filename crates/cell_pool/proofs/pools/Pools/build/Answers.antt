@@ -2,7 +2,7 @@ use Rattle.std.proofs.Common.{◌≡◌, ℕ, ◌+◌, Some, subst, cond, ap, re
 use Rattle.std.specs.Prelude.{is_some}
 use Rattle.std.specs.FinMap.{get}
 use Rattle.mvs_model.specs.Name.{same_name}
-use Rattle.mvs_model.specs.Steps.{Plan, new_pool}
+use Rattle.mvs_model.specs.Requests.{Plan, new_pool}
 use Rattle.mvs_model.specs.Changes.{Extends, with_part}
 use Rattle.mvs_model.specs.Owners.{Owners}
 use Rattle.mvs_model.specs.Place.{PlaceValue}

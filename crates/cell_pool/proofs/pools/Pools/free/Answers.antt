@@ -1,7 +1,8 @@
-use Rattle.std.proofs.Common.{◌≤◌, ◌∙◌, ap, sym, subst, arith}
+use Rattle.std.proofs.Common.{Ok, ◌≤◌, ◌∙◌, ap, sym, subst, arith}
 use Rattle.mvs_model.specs.declared.request.Reply.TheVariants.{Rc0}
 use Rattle.mvs_model.specs.View.{state_of}
-use Rattle.mvs_model.specs.Steps.{FreeStep}
+use Rattle.mvs_model.specs.Steps.{Tries}
+use Rattle.mvs_model.specs.declared.request.Request.TheVariants as request
 use Rattle.std.specs.FinMap.{get}
 use Rattle.cell_pool.specs.Layout.{byte_of}
 use Rattle.cell_pool.specs.Roots.{is_taken, pools_of}
@@ -25,6 +26,6 @@ pub returns-clause-answer : goal.returns-clause-answer
 returns-clause-answer c o t =
     let s = c.in-Some-find_taken.spot in
     let some : 1 ≤ s.taken = some_taken c.args.self.now c.args.store.now.storage c.requires.parts c.args.name.now _ c.in-Some.root (sym c.in-Some.ensures) _ _ _ c.in-Some-find_taken.ensures in
-    subst (λ p. FreeStep (state_of c.args.store.now.storage o (pools_of c.args.self.now c.args.store.now.storage)) t c.args.name.now c.args.cell (get (pools_of c.args.self.now c.args.store.now.storage) c.args.name.now) Rc0 (state_of c.give_cell.new.store.storage o p)) (sym c.give_cell.ensures.pools)
+    subst (λ p. Tries {A = Unit {0}} (λ _. Rc0) (state_of c.args.store.now.storage o (pools_of c.args.self.now c.args.store.now.storage)) t (request.Free c.args.name.now c.args.cell) (Ok tt) (state_of c.give_cell.new.store.storage o p)) (sym c.give_cell.ensures.pools)
     (freed c.args.self.now c.args.store.now.storage c.requires.parts c.args.name.now c.args.cell c.in-Some.root (sym c.in-Some.ensures) s.part s.cell s.taken _ c.give_cell.new.store.storage
     (subst (λ a. IsTakenAt c.args.store.now.storage c.in-Some.root s.part s.cell s.taken s.past a) c.get.ensures.value c.in-Some-find_taken.ensures) c.give_cell.ensures.marked (omega arith) o t)

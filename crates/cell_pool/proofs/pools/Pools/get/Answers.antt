@@ -1,10 +1,11 @@
-use Rattle.std.proofs.Common.{◌≡◌, ◌+◌, ◌*◌, ◌∙◌, Some, sym, ap, subst, true, arith}
+use Rattle.std.proofs.Common.{Ok, ◌≡◌, ◌+◌, ◌*◌, ◌∙◌, Some, sym, ap, subst, true, arith}
 use Rattle.std.specs.FinMap.{get}
 use Rattle.mvs_model.specs.declared.request.Reply.TheVariants.{Cell}
 use Rattle.mvs_model.specs.Storage.{Storage}
 use Rattle.mvs_model.specs.Place.{PlaceValue, place_at}
 use Rattle.mvs_model.specs.View.{state_of}
-use Rattle.mvs_model.specs.Steps.{GetStep}
+use Rattle.mvs_model.specs.Steps.{Tries}
+use Rattle.mvs_model.specs.declared.request.Request.TheVariants as request
 use Rattle.cell_pool.specs.Layout.{byte_of, count_at, head_length}
 use Rattle.cell_pool.specs.Marks.{Marks}
 use Rattle.mvs_model.specs.Pools.{IsFreeCell}
@@ -28,7 +29,7 @@ find_spot-spot-requires-clause-counted c = c.requires.counted c.args.name.now c.
 pub returns-then-has_free-clause-answer : goal.returns-then-has_free-clause-answer
 returns-then-has_free-clause-answer c o t =
     let s = c.find_spot-spot.result in
-    subst (λ p. GetStep (state_of c.args.store.now.storage o (pools_of c.args.self.now c.args.store.now.storage)) t c.args.name.now c.args.conditional (get (pools_of c.args.self.now c.args.store.now.storage) c.args.name.now) (Cell c.take_cell.result) (state_of c.take_cell.new.store.storage o p))
+    subst (λ p. Tries Cell (state_of c.args.store.now.storage o (pools_of c.args.self.now c.args.store.now.storage)) t (request.Get c.args.name.now c.args.conditional) (Ok c.take_cell.result) (state_of c.take_cell.new.store.storage o p))
     (sym c.take_cell.ensures.pools)
     (got c.args.self.now c.args.store.now.storage c.requires.parts c.args.name.now c.in-Some.root (sym c.in-Some.ensures) s.part s.cell s.taken s.open_part c.take_cell.new.store.storage c.take_cell.result c.find_spot-spot.ensures.free c.take_cell.ensures.taken c.take_cell.ensures.place c.args.conditional o t)
 
@@ -44,7 +45,7 @@ returns-in_default-extend-clause-answer c o t =
     let chain = chain_of c.args.self.now c.args.store.now.storage c.args.name.now c.in-Some.root c.requires.parts is in
     let e = c.in_default-extend.ensures.extended in
     let s = short c.args.self.now c.args.store.now.storage c.requires.parts c.args.name.now c.args.conditional c.in-Some.root is (all_taken c.args.store.now.storage c.in-Some.root chain (c.requires.counted c.args.name.now c.in-Some.root is) c.if-has_free.ensures) c.if-conditional.false e.0 o t in
-    ((λ k. state_of (e.1 k) o (pools_of (e.2 k) (e.1 k))), s.1)
+    (s.0, λ k. state_of (e.1 k) o (pools_of (e.2 k) (e.1 k)))
 
 pub find_spot-spot-requires-2-clause-chain : goal.find_spot-spot-requires-2-clause-chain
 find_spot-spot-requires-2-clause-chain c = let x = c.in-Some-extend.ensures in let e = x.extended in chain_of c.extend.new.self c.extend.new.store.storage c.args.name.now c.in-Some-extend.extended x.agree.parts (e.2.root ∙ ap Some (sym e.1))
@@ -75,7 +76,7 @@ returns-clause-answer c o t =
     let mid = c.extend.new.store.storage in
     let s = c.find_spot-spot-2.result in
     let taken = c.take_cell-2.ensures in
-    subst (λ p. GetStep (state_of c.args.store.now.storage o (pools_of c.args.self.now c.args.store.now.storage)) t c.args.name.now c.args.conditional (get (pools_of c.args.self.now c.args.store.now.storage) c.args.name.now) (Cell c.take_cell-2.result) (state_of c.take_cell-2.new.store.storage o p))
+    subst (λ p. Tries Cell (state_of c.args.store.now.storage o (pools_of c.args.self.now c.args.store.now.storage)) t (request.Get c.args.name.now c.args.conditional) (Ok c.take_cell-2.result) (state_of c.take_cell-2.new.store.storage o p))
     (sym taken.pools)
     (got_more c.args.self.now c.args.store.now.storage c.requires.parts c.args.name.now c.args.conditional c.in-Some.root is (all_taken c.args.store.now.storage c.in-Some.root chain (c.requires.counted c.args.name.now c.in-Some.root is) c.if-has_free.ensures)
     e.0 c.extend.new.self mid e.2 x.agree.parts s.part s.cell s.taken s.open_part (subst (λ (r : Root). IsFreeAt mid r s.part s.cell s.taken s.open_part) e.1 c.find_spot-spot-2.ensures.free) c.take_cell-2.new.store.storage c.take_cell-2.result

@@ -1,4 +1,4 @@
-use Rattle.std.proofs.Common.{sym, subst, false}
+use Rattle.std.proofs.Common.{sym, subst}
 use Rattle.mvs_job.specs.Telling.{WalkValue}
 use Rattle.mvs_job.specs.Valued.{WritesOf}
 use Rattle.mvs_c.specs.Opens.{LendsLast}

@@ -5,7 +5,8 @@ use Rattle.mvs_job.specs.declared.walk.LineTold.{LineTold}
 use Rattle.mvs_job.specs.Serving.{RunsLine}
 use Rattle.mvs_job.specs.Explaining.{behind_said}
 use Rattle.mvs_job.specs.Naming.{KeepsLines}
-use Rattle.mvs_job.proofs.Parting.{stands_behind}
+use Rattle.mvs_job.specs.Telling.{events_told}
+use Rattle.mvs_job.proofs.Explained.{stands_behind}
 use Rattle.mvs_job.proofs.apart.Explainer.serve.Goals.{in-Ok-print_behind, in-Err-print_behind}
 use Rattle.mvs_job.proofs.apart.Explainer.serve.Goals as goal
 
@@ -17,7 +18,7 @@ returns g c = elim c.match-print_behind.branch [
       rw (w.result-is, ← c.self.view_is) (record {
         told = c.in-Ok.ensures.ran.0;
         printed = c.in-Ok.ensures.ran.1;
-        behind = stands_behind c.args.walk.now set c.args.line.now (behind_said c.tell.new.self) c.in-Ok.ensures.behind _ _ c.tell.new.walk c.in-Ok.told c.in_default.not-Faulted p.bytes;
+        behind = stands_behind _ _ c.args.walk.now set c.args.line.now c.tell.new.walk c.in-Ok.told (behind_said c.tell.new.self (events_told c.args.walk.now.number c.tell.new.walk c.in-Ok.told) c.tell.new.walk.step) p.bytes c.in-Ok.ensures.behind;
         lines = subst (λ later. KeepsLines c.args.walk.now set c.args.line.now c.tell.new.walk c.in-Ok.told later) (sym c.print_behind.ensures.lines) c.in-Ok.ensures.lines;
         lent = c.in-Ok.ensures.lent;
         number = c.in-Ok.ensures.number;

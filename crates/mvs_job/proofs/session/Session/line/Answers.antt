@@ -1,5 +1,5 @@
 use Rattle.std.proofs.Common.{[]}
-use Rattle.step_machine.specs.Taking.{Takes}
+use Rattle.request_forms.specs.Taking.{Takes}
 use Rattle.mvs_job.proofs.Serving.{told_each}
 use Rattle.mvs_job.proofs.session.Session.line.Goals as goal
 

@@ -5,16 +5,17 @@ use Rattle.mvs_job.proofs.Feeding.{some_on, some_fault, some_stopped}
 use Rattle.mvs_job.proofs.stream.Stream.feed_all.Goals as goal
 
 pub returns-in_err-taken-clause-bytes : goal.returns-in_err-taken-clause-bytes
-returns-in_err-taken-clause-bytes g c = λ start told st.
+returns-in_err-taken-clause-bytes g c = λ first start told st.
     let p = err_from_is_err_and c.from_residual.result c.from_residual.ensures.1 in
-    rw (p.1, p.2) (some_stopped _ _ c.args.bytes.now _ c.loop-at.at _ c.feed_some.new.self.walk _ c.feed_some.new.self.line (take_rest c.args.bytes.now c.loop-at.at) start told (c.loop-at.invariant.stands start told st) c.in_err-taken.field-0.0 c.in_err-taken.ensures.bytes)
+    rw (p.1, p.2)
+    (some_stopped g.C.Consumer.piece (g.C.Consumer.knows first) _ _ c.args.bytes.now _ c.feed_some.new.self.walk _ c.feed_some.new.consumer _ c.loop-at.at _ c.feed_some.new.self.line (take_rest c.args.bytes.now c.loop-at.at) start told (c.loop-at.invariant.stands first start told st) c.in_err-taken.field-0.0 (c.in_err-taken.ensures.bytes first))
 
 pub loop-at-preserved : goal.loop-at-preserved
 loop-at-preserved g c =
     let taken = rw (c.in-Some.is) at c.in_ok-taken.ensures.taken in
     let rest : length (take (length c.args.bytes.now - c.loop-at.at) (drop c.loop-at.at c.args.bytes.now)) ≡ length c.args.bytes.now - c.loop-at.at = ap length (take_rest c.args.bytes.now c.loop-at.at) ∙ length-drop c.loop-at.at c.args.bytes.now in
     record {
-      stands = λ start told st. some_on _ _ c.args.bytes.now _ c.loop-at.at _ _ _ _ (take_rest c.args.bytes.now c.loop-at.at) start told (c.loop-at.invariant.stands start told st) c.in-Some.taken (rw (c.in-Some.is) at c.in_ok-taken.ensures.bytes);
+      stands = λ first start told st. some_on g.C.Consumer.piece (g.C.Consumer.knows first) _ _ c.args.bytes.now _ _ _ _ _ c.loop-at.at _ _ (take_rest c.args.bytes.now c.loop-at.at) start told (c.loop-at.invariant.stands first start told st) c.in-Some.taken (rw (c.in-Some.is) at (c.in_ok-taken.ensures.bytes first));
       within = omega (arith, taken.1, rest);
       room = c.in_ok-taken.ensures.room;
       number = omega (arith, taken.0, c.in_ok-taken.ensures.number);
@@ -22,10 +23,10 @@ loop-at-preserved g c =
     }
 
 pub returns-in-None-clause-bytes : goal.returns-in-None-clause-bytes
-returns-in-None-clause-bytes g c = λ start told st.
-    some_fault _ _ c.args.bytes.now _ c.loop-at.at _ c.feed_some.new.self.walk _ c.feed_some.new.self.line (take_rest c.args.bytes.now c.loop-at.at) start told (c.loop-at.invariant.stands start told st) (rw (c.in-None.is) at c.in_ok-taken.ensures.bytes)
+returns-in-None-clause-bytes g c = λ first start told st.
+    some_fault g.C.Consumer.piece (g.C.Consumer.knows first) _ _ c.args.bytes.now _ c.feed_some.new.self.walk _ c.feed_some.new.consumer _ c.loop-at.at _ c.feed_some.new.self.line (take_rest c.args.bytes.now c.loop-at.at) start told (c.loop-at.invariant.stands first start told st) (rw (c.in-None.is) at (c.in_ok-taken.ensures.bytes first))
 
 pub returns-clause-bytes : goal.returns-clause-bytes
-returns-clause-bytes g c = λ start told st.
+returns-clause-bytes g c = λ first start told st.
     let all : take c.loop-at.at c.args.bytes.now ≡ c.args.bytes.now = take_all c.loop-at.at c.args.bytes.now (omega arith) in
-    rw all at (c.loop-at.invariant.stands start told st)
+    rw all at (c.loop-at.invariant.stands first start told st)

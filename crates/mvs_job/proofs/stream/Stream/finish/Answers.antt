@@ -4,21 +4,21 @@ use Rattle.mvs_job.proofs.Feeding.{last_none, last_line, last_fault, last_stoppe
 use Rattle.mvs_job.proofs.stream.Stream.finish.Goals as goal
 
 pub returns-then-is_empty-clause-bytes : goal.returns-then-is_empty-clause-bytes
-returns-then-is_empty-clause-bytes g c = λ start told st.
+returns-then-is_empty-clause-bytes g c = λ first start told st.
     let none : length c.args.self.now.line ≡ 0 = let e : length c.bytes.result.now ≡ length c.args.self.now.line = ap length c.bytes.ensures in grind (arith, common_steps) in
-    c.close.ensures.closed start told (last_none _ _ told _ _ st none)
+    last_none g.C.Consumer.piece (g.C.Consumer.knows first) _ _ told _ _ _ st _ _ _ none (c.run_end.ensures.ran first)
 
 pub returns-in-Ok-true-clause-bytes : goal.returns-in-Ok-true-clause-bytes
-returns-in-Ok-true-clause-bytes g c = λ start told st.
+returns-in-Ok-true-clause-bytes g c = λ first start told st.
     let some : length c.args.self.now.line ≡ 0 → ⊥ = let e : length c.bytes.result.now ≡ length c.args.self.now.line = ap length c.bytes.ensures in grind (arith, common_steps) in
-    c.close-in-Ok-true.ensures.closed start told (last_line _ _ _ told _ _ _ st some _ c.in-Ok-true.field-0-test c.in-Ok-true.ensures.number c.in-Ok-true.ensures.ran)
+    last_line g.C.Consumer.piece (g.C.Consumer.knows first) _ _ told _ _ _ st _ c.end_line.new.self.walk _ some _ c.in-Ok-true.field-0-test c.in-Ok-true.ensures.number (c.in-Ok-true.ensures.ran first) _ _ _ (c.run_end-in-Ok-true.ensures.ran first)
 
 pub returns-in-Ok-false-clause-bytes : goal.returns-in-Ok-false-clause-bytes
-returns-in-Ok-false-clause-bytes g c = λ start told st.
+returns-in-Ok-false-clause-bytes g c = λ first start told st.
     let some : length c.args.self.now.line ≡ 0 → ⊥ = let e : length c.bytes.result.now ≡ length c.args.self.now.line = ap length c.bytes.ensures in grind (arith, common_steps) in
-    last_fault _ _ _ told _ c.end_line.new.self.walk _ st some _ c.in-Ok-false.field-0-test c.in-Ok-false.ensures.ran
+    last_fault g.C.Consumer.piece (g.C.Consumer.knows first) _ _ told _ _ _ st _ c.end_line.new.self.walk _ some _ c.in-Ok-false.field-0-test (c.in-Ok-false.ensures.ran first)
 
 pub returns-in-Err-clause-bytes : goal.returns-in-Err-clause-bytes
-returns-in-Err-clause-bytes g c = λ start told st.
+returns-in-Err-clause-bytes g c = λ first start told st.
     let some : length c.args.self.now.line ≡ 0 → ⊥ = let e : length c.bytes.result.now ≡ length c.args.self.now.line = ap length c.bytes.ensures in grind (arith, common_steps) in
-    last_stopped _ _ _ told _ c.end_line.new.self.walk _ st some c.in-Err.stop c.in-Err.ensures.ran
+    last_stopped g.C.Consumer.piece (g.C.Consumer.knows first) _ _ told _ _ _ st _ c.end_line.new.self.walk _ some c.in-Err.stop (c.in-Err.ensures.ran first)

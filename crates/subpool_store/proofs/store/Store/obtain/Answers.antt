@@ -1,6 +1,6 @@
 use Rattle.std.proofs.Common.{◌≤◌, MatchOption, subst, arith}
 use Rattle.mvs_model.specs.Storage.{Chosen, NoPlace, holder}
-use Rattle.mvs_model.proofs.OneSteps.{none_chosen}
+use Rattle.mvs_model.proofs.StorageLaws.{none_chosen}
 use Rattle.subpool_store.proofs.store.Store.obtain.Goals as goal
 
 pub returns-in-None-clause-told : goal.returns-in-None-clause-told

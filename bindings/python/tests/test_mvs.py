@@ -1,0 +1,186 @@
+"""What the module does beside the library: exceptions, dataclasses, iterators. The library's own replies are tested in C."""
+
+import doctest
+import os
+import tempfile
+import unittest
+from pathlib import Path
+
+import mvs
+
+EXAMPLES = Path(__file__).resolve().parents[3] / "examples"
+
+
+class SessionTest(unittest.TestCase):
+    def setUp(self):
+        self.session = mvs.Session()
+        self.addCleanup(self.session.close)
+
+    def begin(self):
+        return self.session.begin("JOB", below=4, above=2)
+
+    def test_step(self):
+        self.assertEqual(self.begin(), mvs.Event(mvs.EventKind.STEP_BEGAN, task="JOB"))
+        self.assertEqual(self.session.text(), "1 JOB REGION BELOW 4 ABOVE 2\n")
+        self.assertEqual(self.session.end(), (mvs.Status.OK, mvs.Event(mvs.EventKind.JOB_ENDED, ended=mvs.StepEnd.CLEAN)))
+        with self.assertRaises(mvs.Error) as over:
+            self.session.line("JOB RETURN")
+        self.assertEqual(over.exception.status, mvs.Status.OVER)
+
+    def test_region(self):
+        self.session.begin("JOB", below=1, above=1, fill=0xC1, resides_above=True)
+        self.assertEqual(self.session.read(self.session.obtain("JOB", 8, form=mvs.Form.RU).address, 2), b"\xc1\xc1")
+        self.assertEqual(self.session.pages().__next__().address, 0x6000)
+        with self.assertRaises(mvs.ScriptError) as fault:
+            self.session.begin("JOB", below=0)
+        self.assertEqual(fault.exception.number, 6)
+        with self.assertRaises(mvs.FieldError):
+            self.session.begin("JOB", below=1, fill=256)
+
+    def test_fault_changes_nothing(self):
+        self.begin()
+        with self.assertRaises(mvs.ScriptError) as fault:
+            self.session.line("JOB GETMIAN R,LV=8,A=X")
+        self.assertEqual((fault.exception.number, str(fault.exception)), (3, "JS03: JOB GETMIAN R,LV=8,A=X"))
+        self.assertEqual(self.session.line("JOB GETMAIN R,LV=8,A=X\n").kind, mvs.EventKind.RC_0)
+        with self.assertRaises(mvs.ScriptError):
+            self.session.line("JOB \u20ac")
+
+    def test_storage(self):
+        self.begin()
+        area = self.session.obtain("JOB", 100, subpool=7)
+        self.assertEqual((area.kind, area.address, area.length), (mvs.EventKind.GRANTED, 0x6000, 104))
+        self.session.write(area.address, bytearray(b"abc"))
+        self.assertEqual(self.session.read(area.address, 4), b"abc\0")
+        self.session.move("JOB", area.address + 8, area.address, 3)
+        self.assertEqual(self.session.read(area.address + 8, 3), b"abc")
+        for call in (lambda: self.session.read(area.address + 100, 8), lambda: self.session.write(0, b"x"), lambda: self.session.read(-1, 4)):
+            with self.assertRaises(mvs.StorageError):
+                call()
+        self.assertEqual(list(self.session.subpools("JOB")), [mvs.Subpool(7, True, 104, 0)])
+        pages = list(self.session.pages())
+        self.assertEqual(pages[0], mvs.Run(0x6000, 4096, 7, "JOB"))
+        self.assertEqual([run.owner for run in pages[1:]], [None, None])
+        self.assertEqual(self.session.release_whole("JOB", 7).kind, mvs.EventKind.RC_0)
+
+    def test_lists(self):
+        self.begin()
+        event, areas = self.session.obtain_list("JOB", [8, 20])
+        self.assertEqual((event.kind, [area.length for area in areas]), (mvs.EventKind.RC_0, [8, 24]))
+        self.assertEqual(self.session.release_list("JOB", areas).kind, mvs.EventKind.RC_0)
+        self.assertEqual(self.session.obtain_list("JOB", [8, 1 << 30])[0].kind, mvs.EventKind.RC_4)
+        for lengths in ([], [8] * 17, [0], [1 << 40], [-1]):
+            with self.assertRaises(mvs.FieldError) as refused:
+                self.session.obtain_list("JOB", lengths)
+            self.assertEqual(refused.exception.field, "areas")
+
+    def test_fields(self):
+        self.begin()
+        calls = {
+            "length": lambda: self.session.obtain("JOB", 0),
+            "least": lambda: self.session.obtain("JOB", 8, form=mvs.Form.VRC),
+            "within": lambda: self.session.obtain("JOB", 8, form=mvs.Form.R, within=12),
+            "location": lambda: self.session.obtain("JOB", 8, form=mvs.Form.EC, location=mvs.Location.ANY),
+            "boundary": lambda: self.session.obtain("JOB", 8, boundary=-3),
+            "subpool": lambda: self.session.release("JOB", 0x6000, 8, subpool=256),
+            "task": lambda: self.session.obtain("TOOLONGNAME", 8),
+            "name": lambda: self.session.delete_pool("JOB", "p"),
+            "given_low": lambda: self.session.attach("JOB", "SUB", give=[5], share=[5]),
+            "shared_low": lambda: self.session.attach("JOB", "SUB", share=[128]),
+            "code": lambda: self.session.abend("JOB", 4096),
+        }
+        for field, call in calls.items():
+            with self.subTest(field), self.assertRaises(mvs.FieldError) as refused:
+                call()
+            self.assertEqual(refused.exception.field, field)
+
+    def test_tasks(self):
+        self.begin()
+        self.session.obtain("JOB", 8, subpool=70)
+        self.assertEqual(self.session.attach("JOB", "SUB", give=[70]).kind, mvs.EventKind.ATTACHED)
+        self.assertEqual(self.session.attach("SUB", "SUB2", share_zero=False).kind, mvs.EventKind.ATTACHED)
+        self.assertIn(70, [subpool.number for subpool in self.session.subpools("SUB")])
+        abend = self.session.abend("SUB", 7)
+        self.assertEqual((abend.completion, self.session.fallen()), ("U0007", ["SUB2"]))
+        with self.assertRaises(mvs.Error) as gone:
+            list(self.session.subpools("SUB"))
+        self.assertEqual(gone.exception.status, mvs.Status.NO_TASK)
+        self.assertEqual(self.session.obtain("JOB", 1 << 30, form=mvs.Form.R).completion, "S80A")
+
+    def test_pools(self):
+        self.begin()
+        self.assertEqual(self.session.build_pool("JOB", "P", cell=12, primary=1).kind, mvs.EventKind.RC_0)
+        cell = self.session.get_cell("JOB", "P", conditional=True)
+        self.assertEqual((cell.kind, cell.length), (mvs.EventKind.CELL, 12))
+        self.assertEqual(self.session.get_cell("JOB", "P", conditional=True).kind, mvs.EventKind.NO_CELL)
+        self.assertEqual(self.session.free_cell("JOB", "P", cell.address).kind, mvs.EventKind.RC_0)
+        self.assertEqual(self.session.end_task("JOB").kind, mvs.EventKind.ENDED)
+
+    def test_closed(self):
+        self.session.close()
+        self.session.close()
+        with self.assertRaises(mvs.Error) as closed:
+            self.session.line("JOB RETURN")
+        self.assertEqual(closed.exception.status, mvs.Status.NO_SESSION)
+
+    def test_page(self):
+        self.begin()
+        with tempfile.TemporaryDirectory() as folder:
+            program = Path(folder, "mvsjob")
+            program.write_text('#!/bin/sh\necho "<p>$1"\ncat\n')
+            program.chmod(0o755)
+            page = self.session.page(str(program))
+        self.assertEqual(page, "<p>--page\nJOB REGION BELOW=4,ABOVE=2,FILL=00,RES=BELOW\n")
+        self.assertIn("&lt;p&gt;", page._repr_html_())
+        with self.assertRaises(FileNotFoundError):
+            self.session.page("no such program")
+
+    def test_script(self):
+        self.begin()
+        area = self.session.obtain("JOB", 100, subpool=7, form=mvs.Form.VC, least=8, boundary=12)
+        self.session.obtain("JOB", 8, form=mvs.Form.STORAGE_CONDITIONAL, boundary=4, within=12, location=mvs.Location.ANY)
+        _, areas = self.session.obtain_list("JOB", [8, 20], boundary=12)
+        self.session.obtain_list("JOB", [8, 1 << 30])
+        self.session.release_list("JOB", areas)
+        self.session.build_pool("JOB", "P", cell=12, primary=2, secondary=3, location=mvs.Location.BELOW)
+        cell = self.session.get_cell("JOB", "P")
+        self.session.move("JOB", area.address, cell.address, 4)
+        self.session.free_cell("JOB", "P", cell.address)
+        self.session.delete_pool("JOB", "P")
+        self.session.release("JOB", area.address, 8, form=mvs.Form.VU, subpool=7)
+        self.session.attach("JOB", "SUB", give=[7], share=[70, 71], share_zero=False, res_above=True)
+        self.session.end_task("SUB")
+        self.session.release_whole("JOB", 7, form=mvs.Form.STORAGE)
+        self.session.abend("JOB", 77)
+        script = self.session.script
+        self.assertEqual(script.count("\n"), 16)
+        ran = mvs.run(script)
+        self.assertEqual((ran.status, ran.text.count(" RC 0")), (mvs.Status.SOME_ABEND, 9))
+        again = mvs.Session()
+        for line in script.splitlines():
+            again.line(line)
+        self.assertEqual(list(again.pages()), list(self.session.pages()))
+        self.assertIn("STEP ENDED RC 8", ran.text)
+
+
+class ModuleTest(unittest.TestCase):
+    def test_examples(self):
+        for path in sorted(EXAMPLES.glob("*.job")):
+            with self.subTest(path.name):
+                self.assertEqual(mvs.run(path.read_bytes()).text, path.with_suffix(".out").read_text())
+
+    def test_run(self):
+        self.assertEqual(mvs.run("JOB REGION BELOW=1\n").status, mvs.Status.OK)
+        self.assertEqual(mvs.run("").status, mvs.Status.SCRIPT_FAULT)
+        with self.assertRaises(mvs.Error) as long:
+            mvs.run(b"\n" * 16777216)
+        self.assertEqual(long.exception.status, mvs.Status.TOO_LONG)
+
+    def test_documents(self):
+        self.assertEqual(doctest.testmod(mvs).failed, 0)
+        self.assertEqual(mvs.version() // 1000, 2)
+        self.assertTrue(all(hasattr(mvs, name) and getattr(mvs, name).__doc__ for name in mvs.__all__), os.fspath(EXAMPLES))
+
+
+if __name__ == "__main__":
+    unittest.main()

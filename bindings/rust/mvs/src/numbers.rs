@@ -1,0 +1,185 @@
+//! The numbers of `mvs.h` as enums.
+
+use std::fmt;
+
+macro_rules! numbers {
+    ($(#[$meta:meta])* $name:ident { $($(#[$doc:meta])* $variant:ident = $number:ident,)* }) => {
+        $(#[$meta])*
+        #[derive(Clone, Copy, Debug, PartialEq, Eq, Hash)]
+        #[non_exhaustive]
+        pub enum $name {
+            $($(#[$doc])* $variant,)*
+        }
+
+        impl $name {
+            /// Returns the number of `mvs.h`.
+            pub fn number(self) -> u32 {
+                match self {
+                    $($name::$variant => mvs_sys::$number,)*
+                }
+            }
+
+            /// Returns the value of a number, or None for one of a later library.
+            pub fn of(number: u32) -> Option<Self> {
+                match number {
+                    $(mvs_sys::$number => Some($name::$variant),)*
+                    _ => None,
+                }
+            }
+        }
+    };
+}
+
+numbers! {
+    /// Why a call was refused.
+    Status {
+        /// The call was served.
+        Ok = MVS_STATUS_OK,
+        /// The job has ended, and a task abended.
+        SomeAbend = MVS_STATUS_SOME_ABEND,
+        /// The line or the script has a fault.
+        ScriptFault = MVS_STATUS_SCRIPT_FAULT,
+        /// Memory is exhausted.
+        NoMemory = MVS_STATUS_NO_MEMORY,
+        /// There is no session.
+        NoSession = MVS_STATUS_NO_SESSION,
+        /// The job has ended.
+        Over = MVS_STATUS_OVER,
+        /// A buffer is too small.
+        TooSmall = MVS_STATUS_TOO_SMALL,
+        /// A byte cannot be accessed.
+        NoAccess = MVS_STATUS_NO_ACCESS,
+        /// There is no further one.
+        NoMore = MVS_STATUS_NO_MORE,
+        /// The script has more than 16,777,215 bytes.
+        TooLong = MVS_STATUS_TOO_LONG,
+        /// No task of this name is active.
+        NoTask = MVS_STATUS_NO_TASK,
+        /// A field of a request is out of range.
+        NoRequest = MVS_STATUS_NO_REQUEST,
+        /// No step runs.
+        NoStep = MVS_STATUS_NO_STEP,
+        /// The place is unknown to the library.
+        NoPlace = MVS_STATUS_NO_PLACE,
+        /// A struct has a size that the library does not know.
+        WrongSize = MVS_STATUS_WRONG_SIZE,
+    }
+}
+
+impl fmt::Display for Status {
+    fn fmt(&self, f: &mut fmt::Formatter<'_>) -> fmt::Result {
+        write!(f, "libmvs: {self:?}")
+    }
+}
+
+numbers! {
+    /// What an event reports.
+    EventKind {
+        /// A blank line or a comment.
+        Nothing = MVS_EVENT_NOTHING,
+        /// A step has begun.
+        StepBegan = MVS_EVENT_STEP_BEGAN,
+        /// The task is not active.
+        NotRun = MVS_EVENT_NOT_RUN,
+        /// A name in the statement is not set.
+        NoName = MVS_EVENT_NO_NAME,
+        /// WHERE: the address.
+        At = MVS_EVENT_AT,
+        /// Return code 0.
+        Rc0 = MVS_EVENT_RC_0,
+        /// Return code 0 of a request that obtains.
+        Granted = MVS_EVENT_GRANTED,
+        /// Return code 4.
+        Rc4 = MVS_EVENT_RC_4,
+        /// A cell is allocated.
+        Cell = MVS_EVENT_CELL,
+        /// No cell is free.
+        NoCell = MVS_EVENT_NO_CELL,
+        /// A subtask is attached.
+        Attached = MVS_EVENT_ATTACHED,
+        /// The task has ended.
+        Ended = MVS_EVENT_ENDED,
+        /// Bytes were written, or can be read.
+        Done = MVS_EVENT_DONE,
+        /// SHOW: the bytes that can be read.
+        Data = MVS_EVENT_DATA,
+        /// The task abended.
+        Abended = MVS_EVENT_ABENDED,
+        /// REPORT SP.
+        Subpools = MVS_EVENT_SUBPOOLS,
+        /// REPORT MAP.
+        Map = MVS_EVENT_MAP,
+        /// The line has a fault.
+        Fault = MVS_EVENT_FAULT,
+        /// Memory is exhausted.
+        Stopped = MVS_EVENT_STOPPED,
+        /// The job has ended.
+        JobEnded = MVS_EVENT_JOB_ENDED,
+        /// A field of a request is out of range.
+        Refused = MVS_EVENT_REFUSED,
+    }
+}
+
+numbers! {
+    /// How a step ended.
+    StepEnd {
+        /// No task abended.
+        Clean = MVS_STEP_CLEAN,
+        /// A task abended.
+        Abended = MVS_STEP_ABENDED,
+    }
+}
+
+numbers! {
+    /// The forms of GETMAIN and FREEMAIN, and STORAGE with COND=NO and COND=YES.
+    Form {
+        /// One area; a shortage abends.
+        R = MVS_FORM_R,
+        /// One area by location, conditional.
+        Rc = MVS_FORM_RC,
+        /// One area by location, unconditional.
+        Ru = MVS_FORM_RU,
+        /// One area of variable length by location, conditional.
+        Vrc = MVS_FORM_VRC,
+        /// One area of variable length by location, unconditional.
+        Vru = MVS_FORM_VRU,
+        /// One area, conditional.
+        Ec = MVS_FORM_EC,
+        /// One area, unconditional.
+        Eu = MVS_FORM_EU,
+        /// One area of variable length, conditional.
+        Vc = MVS_FORM_VC,
+        /// One area of variable length, unconditional.
+        Vu = MVS_FORM_VU,
+        /// STORAGE with COND=NO.
+        Storage = MVS_FORM_STORAGE,
+        /// STORAGE with COND=YES.
+        StorageConditional = MVS_FORM_STORAGE_CONDITIONAL,
+        /// A list of areas, conditional.
+        Lc = MVS_FORM_LC,
+        /// A list of areas, unconditional.
+        Lu = MVS_FORM_LU,
+    }
+}
+
+numbers! {
+    /// LOC=.
+    Location {
+        /// As the residence of the task.
+        Res = MVS_LOCATION_RES,
+        /// Below 16 megabytes.
+        Below = MVS_LOCATION_BELOW,
+        /// Above, or below if it does not fit above.
+        Any = MVS_LOCATION_ANY,
+    }
+}
+
+numbers! {
+    /// Which of the places that fit is used.
+    Place {
+        /// The lowest.
+        Low = MVS_PLACE_LOW,
+        /// The highest.
+        High = MVS_PLACE_HIGH,
+    }
+}

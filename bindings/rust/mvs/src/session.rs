@@ -1,0 +1,391 @@
+//! A session, and what it returns.
+
+use crate::numbers::{EventKind, Form, Place, Status, StepEnd};
+use crate::request::{Area, Name, Region, Request};
+use mvs_sys::{mvs_area, mvs_ask, mvs_event, mvs_map_run, mvs_region, mvs_session, mvs_subpool_line};
+use std::ffi::c_char;
+use std::{fmt, mem, ptr};
+
+/// A call that was refused.
+#[derive(Clone, Copy, Debug, PartialEq, Eq)]
+#[non_exhaustive]
+pub enum Error {
+    /// The library refused the call.
+    Status(Status),
+    /// The line has a fault, JS01 to JS09: 1 to 9. It changed nothing.
+    Fault(u32),
+    /// A field of the request is out of range: its offset in `mvs_ask`.
+    Field(u32),
+    /// The library returned a number that this crate does not know.
+    Unknown(u32),
+}
+
+impl Error {
+    /// Returns the name of the field of [`Error::Field`]: "areas" for those of a list.
+    pub fn field(&self) -> Option<&'static str> {
+        macro_rules! names {
+            ($offset:expr, $($field:ident),*) => {
+                match $offset as usize {
+                    $(at if at == mem::offset_of!(mvs_ask, $field) => Some(stringify!($field)),)*
+                    at if at == mem::size_of::<mvs_ask>() => Some("areas"),
+                    _ => None,
+                }
+            };
+        }
+        match *self {
+            Error::Field(offset) => names!(
+                offset, size, kind, form, subpool, length, least, boundary, within, location, address, source, primary, secondary, code,
+                given_low, task, name
+            ),
+            Error::Status(_) | Error::Fault(_) | Error::Unknown(_) => None,
+        }
+    }
+}
+
+impl fmt::Display for Error {
+    fn fmt(&self, f: &mut fmt::Formatter<'_>) -> fmt::Result {
+        match self {
+            Error::Status(status) => write!(f, "{status}"),
+            Error::Fault(number) => write!(f, "JS{number:02}"),
+            Error::Field(offset) => match self.field() {
+                Some(name) => write!(f, "{name} is out of range"),
+                None => write!(f, "the field at offset {offset} is out of range"),
+            },
+            Error::Unknown(number) => write!(f, "libmvs returned {number}"),
+        }
+    }
+}
+
+impl std::error::Error for Error {}
+
+/// The reply to a statement or a request. The fields that the kind does not name are 0 or None.
+#[derive(Clone, Copy, Debug, PartialEq, Eq)]
+pub struct Event {
+    /// What it reports.
+    pub kind: EventKind,
+    /// A completion code of 24 bits: a system code in the upper twelve, or a user code.
+    pub code: u32,
+    /// An address.
+    pub address: u32,
+    /// A length in bytes.
+    pub length: u32,
+    /// How a step ended.
+    pub ended: Option<StepEnd>,
+    /// The task.
+    pub task: Option<Name>,
+}
+
+impl Event {
+    fn of(raw: &mvs_event) -> Result<Event, Error> {
+        Ok(Event {
+            kind: EventKind::of(raw.kind).ok_or(Error::Unknown(raw.kind))?,
+            code: raw.code,
+            address: raw.address,
+            length: raw.length,
+            ended: StepEnd::of(raw.ended),
+            task: (raw.task != [b' '; 8]).then_some(Name::of(raw.task)),
+        })
+    }
+
+    /// Returns the system completion code of an abend, as 0x80A, if it has one.
+    pub fn system_code(&self) -> Option<u32> {
+        (self.kind == EventKind::Abended && self.code >> 12 != 0).then_some(self.code >> 12)
+    }
+}
+
+/// A subpool number that a task has.
+#[derive(Clone, Copy, Debug, PartialEq, Eq)]
+pub struct Subpool {
+    /// The number.
+    pub number: u32,
+    /// Whether the task owns the subpool.
+    pub owned: bool,
+    /// The bytes in it outside of cell pools.
+    pub plain: u32,
+    /// The bytes in it inside of cell pools.
+    pub pool: u32,
+}
+
+/// Adjacent pages that are assigned alike.
+#[derive(Clone, Copy, Debug, PartialEq, Eq)]
+pub struct Run {
+    /// The pages.
+    pub area: Area,
+    /// The task that owns their subpool, and its number there; None if they are free.
+    pub owner: Option<(Name, u32)>,
+}
+
+/// Returns the version of the library's calls: 2000 is 2.0.
+pub fn version() -> u32 {
+    // SAFETY: the function has no argument.
+    unsafe { mvs_sys::mvs_version() }
+}
+
+fn status_of(number: u32) -> Result<Status, Error> {
+    Status::of(number).ok_or(Error::Unknown(number))
+}
+
+fn served(number: u32) -> Result<(), Error> {
+    match status_of(number)? {
+        Status::Ok => Ok(()),
+        status => Err(Error::Status(status)),
+    }
+}
+
+/// Calls with a buffer that grows until it has room, and returns its text with the status.
+fn text_of(mut call: impl FnMut(*mut c_char, usize, *mut usize) -> u32) -> Result<(Status, Vec<u8>), Error> {
+    let mut text = vec![0u8; 256];
+    loop {
+        let mut wanted = 0;
+        match status_of(call(text.as_mut_ptr().cast(), text.len(), &mut wanted))? {
+            Status::TooSmall => text.resize(wanted, 0),
+            status @ (Status::Ok | Status::SomeAbend | Status::ScriptFault) => {
+                text.truncate(wanted);
+                return Ok((status, text));
+            }
+            status => return Err(Error::Status(status)),
+        }
+    }
+}
+
+/// Runs a whole script, and returns the status of the job and what it prints.
+pub fn run(script: &[u8], place: Place) -> Result<(Status, Vec<u8>), Error> {
+    // SAFETY: the pointer of a slice is not null, the buffer is initialised, and nothing overlaps.
+    text_of(|out, room, wanted| unsafe { mvs_sys::mvs_run_into(place.number(), script.as_ptr().cast(), script.len(), out, room, wanted) })
+}
+
+/// A job that executes its statements one by one.
+#[derive(Debug)]
+pub struct Session {
+    raw: mvs_session,
+}
+
+// SAFETY: mvs.h allows the next call from another thread, if the calls are ordered; `&mut self` orders them. No method takes `&self`,
+// so `Sync` would be useless, and is not claimed.
+unsafe impl Send for Session {}
+
+impl Session {
+    /// Begins a session that uses the lowest of the places that fit.
+    pub fn new() -> Result<Session, Error> {
+        Session::placed(Place::Low)
+    }
+
+    /// Begins a session that uses the lowest or the highest of the places that fit.
+    pub fn placed(place: Place) -> Result<Session, Error> {
+        let mut raw = mvs_session { held: ptr::null_mut() };
+        // SAFETY: `raw` holds no session, and only this call uses it.
+        served(unsafe { mvs_sys::mvs_new(&mut raw, place.number()) })?;
+        Ok(Session { raw })
+    }
+
+    /// Executes a statement. One with a fault is [`Error::Fault`]: it changes nothing, and the job continues.
+    pub fn line(&mut self, line: &str) -> Result<Event, Error> {
+        self.bytes(line.as_bytes())
+    }
+
+    /// Does the same with bytes that need not be UTF-8.
+    pub fn bytes(&mut self, line: &[u8]) -> Result<Event, Error> {
+        let mut event = mvs_event::default();
+        // SAFETY: the pointer of a slice is not null, and nothing overlaps; so in all calls below.
+        let number = unsafe { mvs_sys::mvs_try(&mut self.raw, line.as_ptr().cast(), line.len(), &mut event) };
+        executed(number, &event)
+    }
+
+    /// Begins a step, as REGION does, and ends the one before. A number that is out of range is [`Error::Fault`].
+    pub fn begin(&mut self, region: &Region) -> Result<Event, Error> {
+        let raw = mvs_region {
+            below: region.below,
+            above: region.above,
+            fill: region.fill,
+            resides_above: region.resides_above,
+            task: region.task.bytes(),
+            ..mvs_region::default()
+        };
+        let mut event = mvs_event::default();
+        // SAFETY: as above.
+        let number = unsafe { mvs_sys::mvs_begin(&mut self.raw, &raw, &mut event) };
+        executed(number, &event)
+    }
+
+    /// Makes a request of a task.
+    pub fn request(&mut self, task: Name, request: &Request) -> Result<Event, Error> {
+        let (ask, mut event) = (request.ask(task), mvs_event::default());
+        // SAFETY: as above.
+        let number = unsafe { mvs_sys::mvs_request(&mut self.raw, &ask, &mut event) };
+        answered(number, &event)
+    }
+
+    /// Obtains 1 to 16 areas, all or none, by LC or LU: the areas are there if the event is [`EventKind::Rc0`].
+    pub fn obtain_list(&mut self, task: Name, form: Form, subpool: u8, lengths: &[u32]) -> Result<(Event, Vec<Area>), Error> {
+        let areas = lengths
+            .iter()
+            .map(|length| mvs_area {
+                address: 0,
+                length: *length,
+            })
+            .collect();
+        let (event, areas) = self.list(mvs_sys::MVS_ASK_OBTAIN, task, form, subpool, areas)?;
+        let granted = if event.kind == EventKind::Rc0 {
+            areas.into_iter().map(Area::from).collect()
+        } else {
+            Vec::new()
+        };
+        Ok((event, granted))
+    }
+
+    /// Releases 1 to 16 areas, all or none, by LC or LU.
+    pub fn release_list(&mut self, task: Name, form: Form, subpool: u8, areas: &[Area]) -> Result<Event, Error> {
+        let areas = areas.iter().map(|area| mvs_area::from(*area)).collect();
+        Ok(self.list(mvs_sys::MVS_ASK_RELEASE, task, form, subpool, areas)?.0)
+    }
+
+    fn list(&mut self, kind: u32, task: Name, form: Form, subpool: u8, mut areas: Vec<mvs_area>) -> Result<(Event, Vec<mvs_area>), Error> {
+        let ask = mvs_ask {
+            kind,
+            form: form.number(),
+            subpool: subpool.into(),
+            task: task.bytes(),
+            ..mvs_ask::default()
+        };
+        let mut event = mvs_event::default();
+        // SAFETY: as above.
+        let number = unsafe { mvs_sys::mvs_list(&mut self.raw, &ask, areas.as_mut_ptr(), areas.len(), &mut event) };
+        Ok((answered(number, &event)?, areas))
+    }
+
+    /// Ends the job, and returns its status: [`Status::Ok`], [`Status::SomeAbend`], or [`Status::ScriptFault`] if there was no step.
+    /// Its storage can still be read.
+    pub fn end(&mut self) -> Result<(Status, Event), Error> {
+        let mut event = mvs_event::default();
+        // SAFETY: as above.
+        match status_of(unsafe { mvs_sys::mvs_end(&mut self.raw, &mut event) })? {
+            status @ (Status::Ok | Status::SomeAbend | Status::ScriptFault) => Ok((status, Event::of(&event)?)),
+            status => Err(Error::Status(status)),
+        }
+    }
+
+    /// Returns the reply to the last line as mvsjob prints it.
+    pub fn text(&mut self) -> Result<Vec<u8>, Error> {
+        let raw: *mut mvs_session = &mut self.raw;
+        // SAFETY: as above.
+        Ok(text_of(|out, room, wanted| unsafe { mvs_sys::mvs_text_into(raw, out, room, wanted) })?.1)
+    }
+
+    /// Returns bytes from an address on, or [`Status::NoAccess`].
+    pub fn read(&mut self, address: u32, length: usize) -> Result<Vec<u8>, Error> {
+        let mut out = vec![0; length];
+        self.read_into(address, &mut out)?;
+        Ok(out)
+    }
+
+    /// Fills a buffer with the bytes from an address on, or returns [`Status::NoAccess`] and leaves it.
+    pub fn read_into(&mut self, address: u32, out: &mut [u8]) -> Result<(), Error> {
+        // SAFETY: as above.
+        served(unsafe { mvs_sys::mvs_read(&mut self.raw, address, out.as_mut_ptr(), out.len()) })
+    }
+
+    /// Writes bytes from an address on, or returns [`Status::NoAccess`] and writes none.
+    pub fn write(&mut self, address: u32, bytes: &[u8]) -> Result<(), Error> {
+        // SAFETY: as above.
+        served(unsafe { mvs_sys::mvs_write(&mut self.raw, address, bytes.as_ptr(), bytes.len()) })
+    }
+
+    /// Returns the tasks that ended with the one that abended, if the last request abended.
+    pub fn fallen(&mut self) -> Result<Vec<Name>, Error> {
+        let (mut names, mut name) = (Vec::new(), [0; 8]);
+        loop {
+            // SAFETY: as above.
+            match status_of(unsafe { mvs_sys::mvs_fallen(&mut self.raw, names.len(), &mut name) })? {
+                Status::Ok => names.push(Name::of(name)),
+                Status::NoMore => return Ok(names),
+                status => return Err(Error::Status(status)),
+            }
+        }
+    }
+
+    /// Iterates over the subpool numbers of a task; over none if it is not active.
+    pub fn subpools(&mut self, task: Name) -> Subpools<'_> {
+        Subpools {
+            session: self,
+            task,
+            from: Some(0),
+        }
+    }
+
+    /// Iterates over the runs of pages that are assigned alike, in the order of their addresses.
+    pub fn pages(&mut self) -> Pages<'_> {
+        Pages { session: self, from: 0 }
+    }
+}
+
+impl Drop for Session {
+    fn drop(&mut self) {
+        // SAFETY: only this value has the session, and it is not used again.
+        unsafe { mvs_sys::mvs_free_session(&mut self.raw) }
+    }
+}
+
+fn executed(number: u32, event: &mvs_event) -> Result<Event, Error> {
+    match status_of(number)? {
+        Status::ScriptFault => Err(Error::Fault(event.code)),
+        _ => served(number).and_then(|()| Event::of(event)),
+    }
+}
+
+fn answered(number: u32, event: &mvs_event) -> Result<Event, Error> {
+    match status_of(number)? {
+        Status::NoRequest => Err(Error::Field(event.code)),
+        _ => served(number).and_then(|()| Event::of(event)),
+    }
+}
+
+/// The subpool numbers of a task: [`Session::subpools`].
+#[derive(Debug)]
+pub struct Subpools<'a> {
+    session: &'a mut Session,
+    task: Name,
+    from: Option<u8>,
+}
+
+impl Iterator for Subpools<'_> {
+    type Item = Subpool;
+
+    fn next(&mut self) -> Option<Subpool> {
+        let (from, mut line) = (self.from?, mvs_subpool_line::default());
+        // SAFETY: as in `Session`.
+        let number = unsafe { mvs_sys::mvs_subpool(&mut self.session.raw, &self.task.bytes(), from, &mut line) };
+        served(number).ok()?;
+        self.from = u8::try_from(line.number + 1).ok();
+        Some(Subpool {
+            number: line.number,
+            owned: line.owned,
+            plain: line.plain,
+            pool: line.pool,
+        })
+    }
+}
+
+/// The runs of pages: [`Session::pages`].
+#[derive(Debug)]
+pub struct Pages<'a> {
+    session: &'a mut Session,
+    from: u32,
+}
+
+impl Iterator for Pages<'_> {
+    type Item = Run;
+
+    fn next(&mut self) -> Option<Run> {
+        let mut run = mvs_map_run::default();
+        // SAFETY: as in `Session`.
+        served(unsafe { mvs_sys::mvs_map(&mut self.session.raw, self.from, &mut run) }).ok()?;
+        self.from = run.address + run.length;
+        Some(Run {
+            area: Area {
+                address: run.address,
+                length: run.length,
+            },
+            owner: run.assigned.then_some((Name::of(run.owner), run.number)),
+        })
+    }
+}

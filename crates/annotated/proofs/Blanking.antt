@@ -1,0 +1,86 @@
+-- A script without its answers, a line at a time.
+use Rattle.std.proofs.Common.{◌≡◌, ℕ, suc, ◌+◌, ◌<◌, ◌==◌, Bool, true, false, not, cond, if◌then◌else◌, List, [], ◌∷◌, ◌++◌, length, take, drop, append_assoc, arith, Option, Some, None, is_some, Bor, refl, sym, ap, ◌∙◌, subst}
+use Rattle.std.specs.List.{after_first, before_first, list_any, onto_first, position_or_len}
+use Rattle.std.specs.Prelude.{MatchOption, codes, unwrap_or}
+use Rattle.std.specs.Option.{option_map}
+use Rattle.std.specs.Io.KnownBytes.{Appends}
+use Rattle.std.proofs.KnownBytes.{Appends-trans}
+use Rattle.job_script.specs.Writing.{AppendsFront}
+use Rattle.job_script.proofs.Appending.{front_longer, front_more}
+use Rattle.mvs_model.specs.Lines.{lines_of}
+use Rattle.annotated.specs.Blank.{IsPartedAt, blank, blank_end, blank_line, blank_lines, place_of, up_to}
+
+-- ---- the first line
+
+abbrev place : List ℕ → ℕ
+place text = position_or_len (λ b. b == 10) text
+
+pub first_line : (text : List ℕ) → 0 < length text → lines_of text ≡ before_first (λ b. b == 10) text ∷ lines_of (after_first (λ b. b == 10) text)
+first_line [] some = absurd (omega arith)
+first_line (b ∷ []) some = at (b == 10) where
+  at : (f : Bool) → (if f then [] ∷ [] else onto_first b []) ≡ take (cond (not f) 1 0) (b ∷ []) ∷ lines_of (drop (cond (not f) 1 0 + 1) (b ∷ []))
+  at true = refl
+  at false = refl
+first_line (b ∷ c ∷ bytes) some = at (b == 10) (first_line (c ∷ bytes) (omega arith)) where
+  at : (f : Bool) → lines_of (c ∷ bytes) ≡ before_first (λ b. b == 10) (c ∷ bytes) ∷ lines_of (after_first (λ b. b == 10) (c ∷ bytes))
+      → (if f then [] ∷ lines_of (c ∷ bytes) else onto_first b (lines_of (c ∷ bytes)))
+      ≡ take (cond (not f) (1 + place (c ∷ bytes)) 0) (b ∷ c ∷ bytes) ∷ lines_of (drop (cond (not f) (1 + place (c ∷ bytes)) 0 + 1) (b ∷ c ∷ bytes))
+  at true rest = refl
+  at false rest =
+      let m = place (c ∷ bytes) in
+      let one : suc m ≡ 1 + m = omega arith in
+      let two : suc (m + 1) ≡ 1 + m + 1 = omega arith in
+      ap (onto_first b) rest
+      ∙ ap (λ n. take n (b ∷ c ∷ bytes) ∷ lines_of (drop (m + 1) (c ∷ bytes))) one
+      ∙ ap (λ n. take (1 + m) (b ∷ c ∷ bytes) ∷ lines_of (drop n (b ∷ c ∷ bytes))) two
+
+-- ---- a line
+
+-- what is written of it
+pub of_parted : (separator text before : List ℕ) (after : Option (List ℕ)) → IsPartedAt separator text before after → (before ≡ up_to (place_of separator text) text) × (is_some after ≡ is_some (place_of separator text))
+of_parted separator text before None p = (p.1 ∙ sym (ap (λ o. up_to o text) p.0), sym (ap is_some p.0))
+of_parted separator text before (Some after) p = (p.2 ∙ sym (ap (λ o. up_to o text) p.1), sym (ap is_some p.1))
+
+-- what is after it
+pub next_of : (text : List ℕ) (more : Option (Bor (List ℕ))) (none next : Bor (List ℕ)) → none.now ≡ [] → MatchOption more ((list_any (λ b. b == 10) text ≡ false) × (after_first (λ b. b == 10) text ≡ [])) (λ rest. (list_any (λ b. b == 10) text ≡ true) × (rest.now ≡ after_first (λ b. b == 10) text))
+    → next ≡ unwrap_or more none → next.now ≡ after_first (λ b. b == 10) text
+next_of text None none next empty after is = ap (λ n. n.now) is ∙ empty ∙ sym after.1
+next_of text (Some rest) none next empty after is = ap (λ n. n.now) is ∙ after.1
+
+pub some_left : (text : List ℕ) (f : Bool) → f ≡ (length text == 0) → f ≡ false → 0 < length text
+some_left [] f e some = absurd (let g : true ≡ false = sym e ∙ some in cc)
+some_left (b ∷ text) f e some = omega arith
+
+pub as_answered : (tail : List ℕ) (answers : Option (Bor (List ℕ))) (answered : Bool) → tail ≡ blank_end answered → answered ≡ is_some answers → tail ≡ blank_end (is_some (option_map (λ a. a.now) answers))
+as_answered tail None answered end is = end ∙ ap blank_end is
+as_answered tail (Some a) answered end is = end ∙ ap blank_end is
+
+-- ---- the lines so far
+
+abbrev pub SoFar : Option (List ℕ) → Option (List ℕ) → List ℕ → List ℕ → Type 0
+SoFar start now script rest = (written : List ℕ) × Appends start now written × (blank script ≡ written ++ blank rest)
+
+module _ (start before mid now : Option (List ℕ)) (script text line next statement tail : List ℕ) (answers : Option (List ℕ)) (cut : lines_of text ≡ line ∷ lines_of next) (so_far : SoFar start before script text) (parted : IsPartedAt (codes " => ") line statement answers) (end : tail ≡ blank_end (is_some answers)) where
+  of_line : statement ++ tail ≡ blank_line line
+  of_line =
+      let p = of_parted (codes " => ") line statement answers parted in
+      ap (λ t. statement ++ t) (end ∙ ap blank_end p.1) ∙ ap (λ s. s ++ blank_end (is_some (place_of (codes " => ") line))) p.0
+
+  whole : blank script ≡ so_far.0 ++ ((statement ++ tail) ++ blank next)
+  whole = so_far.2 ∙ ap (λ t. so_far.0 ++ t) (ap blank_lines cut ∙ ap (λ t. t ++ blank next) (sym of_line))
+
+  pub in_statement : AppendsFront before now statement → AppendsFront start now (blank script)
+  in_statement front =
+      subst (AppendsFront start now) (append_assoc so_far.0 statement (tail ++ blank next) ∙ ap (λ t. so_far.0 ++ t) (sym (append_assoc statement tail (blank next))) ∙ sym whole)
+      (front_longer start now (so_far.0 ++ statement) (tail ++ blank next) (front_more start before now so_far.0 statement so_far.1 front))
+
+  behind : ((so_far.0 ++ statement) ++ tail) ++ blank next ≡ blank script
+  behind = ap (λ t. t ++ blank next) (append_assoc so_far.0 statement tail) ∙ append_assoc so_far.0 (statement ++ tail) (blank next) ∙ sym whole
+
+  pub in_end : Appends before mid statement → AppendsFront mid now tail → AppendsFront start now (blank script)
+  in_end all front =
+      subst (AppendsFront start now) behind
+      (front_longer start now ((so_far.0 ++ statement) ++ tail) (blank next) (front_more start mid now (so_far.0 ++ statement) tail (Appends-trans start before mid so_far.0 statement so_far.1 all) front))
+
+  pub line_more : Appends before mid statement → Appends mid now tail → SoFar start now script next
+  line_more all rest = ((so_far.0 ++ statement) ++ tail, Appends-trans start mid now (so_far.0 ++ statement) tail (Appends-trans start before mid so_far.0 statement so_far.1 all) rest, sym behind)

@@ -1,0 +1,2 @@
+-- Lemmas; Blanking serves the crate above too.
+pub mod Blanking

@@ -1,0 +1,12 @@
+//! How the statements of assembler source follow one another: branches, loops, routines, sections and structured macros.
+#![tactic(auto)]
+
+mod flow;
+mod layout;
+mod loops;
+mod operations;
+mod structures;
+
+pub use crate::flow::{Flow, RETURN_ADDRESS, Target, flow_of};
+pub use crate::layout::{Layout, begins_section};
+pub use crate::loops::{Loop, Loops};

@@ -1,0 +1,160 @@
+//! Routines and tasks in which a path continues, and from which it comes back.
+
+use crate::frames::Inside;
+use crate::marks::return_mark;
+use crate::walk::Walk;
+use assembler_flow::RETURN_ADDRESS;
+use assembler_requests::Attached;
+use assembler_statements::Statement;
+use assembler_values::{Content, execute};
+use std::alloc::AllocError;
+use std::mem;
+
+/// What a register holds in which a routine gets its return address.
+const RETURN: &str = "*";
+
+impl Walk<'_> {
+    /// Continues with the statements of a task that was attached, and comes back after them. It fails if memory is exhausted.
+    pub fn enter_task(&mut self, attached: Attached, start: usize) -> Result<(), AllocError> {
+        let inside = Inside::Task {
+            task: mem::replace(&mut self.task, attached.task),
+            program: mem::replace(&mut self.program, attached.program),
+            registers: self.held.leave_registers(),
+        };
+        self.frames.enter(self.at, inside)?;
+        self.at = start;
+        Ok(())
+    }
+
+    /// Calls the routine at a place. It fails if memory is exhausted.
+    pub fn call(
+        &mut self,
+        statement: &Statement,
+        entry: usize,
+        link: u8,
+    ) -> Result<(), AllocError> {
+        if self.frames.is_full() || self.frames.is_in(entry) {
+            self.held.call(statement)?;
+            return self.mark(statement, "a routine that calls itself is not followed");
+        }
+        let address = String::from_str(self.source.alloc, RETURN)?;
+        self.held.set(link, Content::Place(address))?;
+        let inside = Inside::Routine {
+            link,
+            entry,
+            farthest: entry,
+        };
+        self.frames.enter(self.at, inside)?;
+        self.at = entry;
+        Ok(())
+    }
+
+    // Returns the place of the label whose address a register holds.
+    fn place_in(&self, register: u8) -> Option<usize> {
+        match self.held.register(register)? {
+            Content::Place(label) => Some(self.source.layout.target(label)?.place),
+            Content::Number(_) | Content::Word(_) | Content::Lost(_) => None,
+        }
+    }
+
+    /// Calls the routine whose address is in a register, if it is known. It fails if memory is exhausted.
+    pub fn call_register(
+        &mut self,
+        statement: &Statement,
+        register: u8,
+        link: u8,
+    ) -> Result<(), AllocError> {
+        match self.place_in(register) {
+            Some(entry) => self.call(statement, entry, link),
+            None => execute(
+                self.source.alloc,
+                self.source.symbols,
+                &mut self.held,
+                statement,
+            ),
+        }
+    }
+
+    /// Continues where the routine was called that the path is in.
+    pub fn leave_routine(&mut self) -> Result<(), AllocError> {
+        if let Some(frame) = self.frames.leave() {
+            self.at = frame.back;
+        }
+        Ok(())
+    }
+
+    // Returns whether a register has the return address of the routine that the path is in.
+    fn returns_by(&self, register: u8) -> bool {
+        let Some(link) = self.frames.link() else {
+            return false;
+        };
+        let is_kept = match self.held.register(register) {
+            Some(Content::Place(address)) => address.as_str() == RETURN,
+            _ => false,
+        };
+        is_kept || register == link
+    }
+
+    // Returns from the routine that the path is in, or continues with what is left of it.
+    fn return_from(&mut self, place: usize, statement: &Statement) -> Result<(), AllocError> {
+        if self.way.is_path() || self.frames.farthest() <= place {
+            return self.leave_routine();
+        }
+        let mark = String::from_str(self.source.alloc, "a return of the routine, or on")?;
+        self.script.put_mark(statement, mark)
+    }
+
+    /// Returns from a routine, or ends the task. It fails if memory is exhausted.
+    pub fn return_or_end(&mut self, place: usize, statement: &Statement) -> Result<(), AllocError> {
+        if self.frames.link().is_some() {
+            return self.return_from(place, statement);
+        }
+        self.end_task(place, statement, "RETURN")
+    }
+
+    /// Branches to the address in a register. It fails if memory is exhausted.
+    pub fn branch_register(
+        &mut self,
+        place: usize,
+        statement: &Statement,
+        register: u8,
+        is_conditional: bool,
+    ) -> Result<(), AllocError> {
+        if is_conditional {
+            return self.may_return(place, statement);
+        }
+        if self.returns_by(register) {
+            return self.return_from(place, statement);
+        }
+        match self.place_in(register) {
+            Some(to) if self.way.is_path() => {
+                self.at = to;
+                Ok(())
+            }
+            Some(_) => Ok(()),
+            None if register == RETURN_ADDRESS => self.end_task(place, statement, "RETURN"),
+            None => self.branch_unknown(statement),
+        }
+    }
+
+    // Branches to an address that is not known: the path ends there.
+    fn branch_unknown(&mut self, statement: &Statement) -> Result<(), AllocError> {
+        let text = "a branch to an address that is not known";
+        if self.way.is_path() {
+            self.mark(statement, text)?;
+            self.leave_task();
+            return Ok(());
+        }
+        let mark = String::from_str(self.source.alloc, text)?;
+        self.script.put_mark(statement, mark)
+    }
+
+    // Processes a conditional return.
+    fn may_return(&mut self, place: usize, statement: &Statement) -> Result<(), AllocError> {
+        if self.way.is_path() {
+            return Ok(());
+        }
+        let mark = return_mark(self.source.alloc, self.source.statements, place)?;
+        self.script.put_mark(statement, mark)
+    }
+}

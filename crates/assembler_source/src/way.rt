@@ -1,0 +1,159 @@
+//! The choices of a reader, as places of a source.
+
+use crate::options::{Choices, Schedule};
+use assembler_flow::{Layout, Loops};
+use assembler_operands::NoName;
+use std::alloc::{AllocError, AllocFailed, Global};
+use std::collections::BTreeMap;
+use thiserror::Error;
+
+/// Why a source is not converted.
+#[derive(Debug, Drop, Error)]
+pub enum Refusal {
+    #[error("out of memory")]
+    Memory,
+    #[error("no name is left for a program")]
+    NoName,
+    /// The path has a label that the source does not have.
+    #[error("--path: no statement has the label or number {0}")]
+    NoLabel(String),
+    /// A loop is repeated that the source does not have.
+    #[error("--repeat: no loop with requests begins at {0}")]
+    NoLoop(String),
+}
+
+impl From<AllocError> for Refusal {
+    fn from(_: AllocError) -> Refusal {
+        Refusal::Memory
+    }
+}
+
+impl<T: Drop> From<AllocFailed<T>> for Refusal {
+    fn from(_: AllocFailed<T>) -> Refusal {
+        Refusal::Memory
+    }
+}
+
+impl From<NoName> for Refusal {
+    fn from(why: NoName) -> Refusal {
+        match why {
+            NoName::Memory => Refusal::Memory,
+            NoName::AllUsed => Refusal::NoName,
+        }
+    }
+}
+
+// How often a loop is written, and how often its branch has gone back.
+#[derive(Clone, Copy)]
+struct Round {
+    count: u32,
+    done: u32,
+}
+
+/// The choices of a reader, as places of a source.
+#[derive(Drop)]
+pub struct Way {
+    path: Option<Vec<usize>>,
+    /// How many places of the path were reached.
+    reached: usize,
+    /// By the place of the branch that closes a loop, how often the loop is written.
+    rounds: BTreeMap<usize, Round>,
+    pub schedule: Schedule,
+}
+
+// Returns the place of a label of the path.
+fn place_of(alloc: Global, layout: &Layout, label: &str) -> Result<usize, Refusal> {
+    match layout.place_of(label) {
+        Some(place) => Ok(place),
+        None => Err(Refusal::NoLabel(String::from_str(alloc, label)?)),
+    }
+}
+
+// Returns the places of the labels of a path.
+fn places_of(alloc: Global, layout: &Layout, labels: &[String]) -> Result<Vec<usize>, Refusal> {
+    let mut places = Vec::new(alloc);
+    for label in labels {
+        places.push(place_of(alloc, layout, label)?)?;
+    }
+    Ok(places)
+}
+
+// Returns the place of the branch that closes the loop from a label.
+fn end_of_loop(
+    alloc: Global,
+    layout: &Layout,
+    loops: &Loops,
+    label: &str,
+) -> Result<usize, Refusal> {
+    if let Some(start) = layout.place_of(label) {
+        if let Some(found) = loops.from(start) {
+            return Ok(found.end);
+        }
+    }
+    Err(Refusal::NoLoop(String::from_str(alloc, label)?))
+}
+
+impl Way {
+    /// Returns the choices as places, or why a source has no such place.
+    pub fn find(
+        alloc: Global,
+        layout: &Layout,
+        loops: &Loops,
+        choices: &Choices,
+    ) -> Result<Way, Refusal> {
+        let path = match &choices.path {
+            Some(labels) => Some(places_of(alloc, layout, labels)?),
+            None => None,
+        };
+        let mut rounds = BTreeMap::new(alloc);
+        for repeat in choices.repeats.iter() {
+            let end = end_of_loop(alloc, layout, loops, &repeat.label)?;
+            let round = Round {
+                count: repeat.count,
+                done: 0,
+            };
+            rounds.insert(end, round)?;
+        }
+        Ok(Way {
+            path,
+            reached: 0,
+            rounds,
+            schedule: choices.schedule,
+        })
+    }
+
+    /// Returns whether branches are followed.
+    pub fn is_path(&self) -> bool {
+        self.path.is_some()
+    }
+
+    /// Returns the next place of the path, if one is left.
+    pub fn next(&self) -> Option<usize> {
+        self.path.as_ref()?.get(self.reached).copied()
+    }
+
+    /// Notes that a place is reached.
+    pub fn reach(&mut self, place: usize) {
+        if self.next() == Some(place) {
+            self.reached = self.reached.saturating_add(1);
+        }
+    }
+
+    /// Returns whether the loop is written several times that the branch at a place closes.
+    pub fn repeats(&self, end: usize) -> bool {
+        self.rounds.contains_key(&end)
+    }
+
+    /// Returns whether the branch at a place jumps back once more, and counts that it does.
+    pub fn goes_back(&mut self, end: usize) -> bool {
+        let Some(round) = self.rounds.get_mut(&end) else {
+            return false;
+        };
+        round.done = round.done.saturating_add(1);
+        let again = round.done < round.count;
+        if !again {
+            round.done = 0;
+        }
+        again
+    }
+}

@@ -1,0 +1,332 @@
+//! Serves the requests of a step's tasks: an attempt does a request or refuses it, and what is refused is settled by the table
+//! of consequences.
+
+ghost use Rattle.std.specs.Prelude.{◌≡◌, ◌<◌, ◌≤◌, ◌+◌, ◌||◌, ◌↔◌, ℕ, Err, true, false, IfOk, IfSome, OnOk, IsSome, MatchBool, MatchOption, length, slice_get, None, Some};
+ghost use Rattle.std.specs.FinMap.{get};
+ghost use Rattle.mvs_model.specs.Numbers.{most_subpools, subpool_numbers};
+ghost use Rattle.mvs_model.specs.Owners.{is_active};
+ghost use Rattle.mvs_model.specs.Start.{start};
+ghost use Rattle.mvs_model.specs.Causes.{IsRefused};
+ghost use Rattle.mvs_model.specs.Changes.{Granted, Writes};
+ghost use Rattle.mvs_model.specs.Consequences.{Abends, Settles, reply_to};
+ghost use Rattle.mvs_model.specs.Requests.{bytes_from};
+ghost use Rattle.mvs_model.specs.Steps.{Attempts, Step as MachineStep, Tries};
+ghost use Rattle.mvs_model.specs.Reasons.{Explains, MemberLacks};
+ghost use Rattle.mvs_model.specs.declared.refusal.Refusal.TheVariants.{Member};
+ghost use Rattle.mvs_model.specs.Newest.{IsNewest};
+ghost use Rattle.mvs_model.specs.Pools.{Pool};
+ghost use Rattle.mvs_model.specs.Replies.{is_abend};
+ghost use Rattle.mvs_model.specs.NextOwned.{IsNextOwned};
+ghost use Rattle.request_forms.specs.Facts.{owned_at};
+ghost use Rattle.job_step.specs.Told.{IsLeft};
+ghost use Rattle.request_forms.specs.Standing.{free_above, free_below, label_had, label_meant};
+ghost use Rattle.request_forms.specs.Taking.{Takes};
+ghost use Rattle.request_forms.specs.Reports.{HasNone, IsMapEnd, IsMapRun, IsSubpoolLine};
+
+use crate::tell::{
+    tell_area, tell_areas, tell_attached, tell_cell, tell_done, tell_ended, tell_zero,
+};
+use mvs_model::card::Card;
+use mvs_model::code::Code;
+use mvs_model::error::OutOfMemory;
+use mvs_model::name::Name;
+use mvs_model::place::{Addr, Place};
+use mvs_model::reason::{Reason, Shortfall};
+use mvs_model::refusal::{Consequence, Refusal};
+use mvs_model::report::{MapRun, Newest, SubpoolLine};
+use mvs_model::request::{Reply, Request};
+use mvs_model::subpool::{SubNo, SubpoolId};
+use mvs_model::table::reply_to;
+use mvs_model::want::Placement;
+use request_forms::{FreePages, Machine, OwnedSubpool, first_told, no_shortfall};
+use std::alloc::Global;
+use std::marker::Model;
+
+/// The machine of a step, and whether a task has abended.
+#[derive(Drop)]
+pub struct Step {
+    machine: Machine,
+    abended: bool,
+}
+
+impl Model for Step {
+    ghost use Rattle.job_step.specs.Step.{StepValue, step_code};
+
+    ghost Value = { StepValue };
+
+    ghost coded = { step_code };
+
+    ghost view = { λ s. record { state = s.machine; abended = s.abended } };
+}
+
+// Does an active task's request, and writes what it is answered over another reply; or refuses it, and changes nothing. What a member
+// of a list lacks is written to `left`.
+fn act(
+    machine: &mut Machine,
+    name: Name,
+    request: &Request,
+    told: &[Addr],
+    reply: &mut Reply,
+    left: &mut Shortfall,
+) -> Result<(), Refusal>
+    requires { is_active machine.old.owners name ≡ true }
+    ensures answer { Tries (λ _. reply.new) machine.old name request.now result machine.new }
+    ensures no_abend { OnOk result (is_abend reply.new ≡ false) }
+    ensures told { OnOk result (Takes told.now machine.old name request.now reply.new machine.new) }
+    ensures left { IsLeft machine.old name request.now result left.new }
+{
+    match request {
+        Request::Obtain { form, number, ask } => tell_area(
+            machine.obtain(name, *form, *number, ask, first_told(told)),
+            reply,
+        ),
+        Request::ObtainList {
+            number,
+            lengths,
+            start,
+            ..
+        } => tell_areas(
+            machine.obtain_list(name, *number, lengths, *start, told, left),
+            reply,
+        ),
+        Request::Release { number, place, .. } => {
+            tell_zero(machine.release(name, *number, *place), reply)
+        }
+        Request::ReleaseList { number, places, .. } => {
+            tell_zero(machine.release_list(name, *number, places), reply)
+        }
+        Request::ReleaseWhole { number, .. } => {
+            tell_zero(machine.release_whole(name, *number), reply)
+        }
+        Request::Build {
+            pool,
+            number,
+            size,
+            primary,
+            secondary,
+            loc,
+        } => {
+            let plan = machine.plan(name, *size, *primary, *secondary, *loc);
+            tell_zero(
+                machine.build(name, *number, pool, &plan, first_told(told)),
+                reply,
+            )
+        }
+        Request::Get { pool, conditional } => {
+            tell_cell(machine.get(pool, *conditional, told), reply)
+        }
+        Request::Free { pool, cell } => tell_zero(machine.free(pool, *cell), reply),
+        Request::Delete { pool } => tell_zero(machine.delete(pool), reply),
+        Request::Attach {
+            name: subtask,
+            gifts,
+            residence,
+        } => tell_attached(machine.attach(name, subtask, gifts, *residence), reply),
+        Request::Return => tell_ended(machine.finish(name), reply),
+        Request::Abend(code) => Err(Refusal::Asked(code.get() as u16)),
+        Request::Show { from, len } => tell_done(machine.show(*from, *len), reply),
+        Request::Put { to, bytes } => tell_done(machine.put(*to, bytes), reply),
+        Request::Move { to, from, len } => tell_done(machine.move_bytes(*to, *from, *len), reply),
+    }
+}
+
+impl Step {
+    /// Makes the step at its start: only the job step task is active, and nothing is held.
+    pub fn new(alloc: Global, card: &Card, placement: Placement) -> Result<Step, OutOfMemory>
+        ensures { IfOk result (λ s. s ≡ record { state = start card.now; abended = false }) }
+    {
+        let machine = Machine::new(alloc, card, placement)?;
+        Ok(Step {
+            machine,
+            abended: false,
+        })
+    }
+
+    /// Whether the task is active.
+    pub fn is_active(&self, name: &Name) -> bool
+        ensures { result ≡ is_active self.now.state.owners name.now }
+    {
+        self.machine.is_active(*name)
+    }
+
+    /// Whether a task has abended so far.
+    pub fn abended(&self) -> bool
+        ensures { result ≡ self.now.abended }
+    {
+        self.abended
+    }
+
+    /// Returns the bytes of a place, or None if one of them cannot be read: its doubleword is not held, or it is in a part of a
+    /// cell pool and in no taken cell (this project's choice).
+    pub fn bytes(&self, place: Place) -> Option<&[u8]>
+        ensures granted { IsSome result ↔ Granted self.now.state place }
+        ensures len { IfSome result (λ part. length part.now ≡ place.len) }
+        ensures bytes { IfSome result
+            (λ part. (k : ℕ) → k < place.len
+            → slice_get part.now k ≡ get self.now.state.bytes (place.addr + k)) }
+    {
+        self.machine.bytes(place)
+    }
+
+    /// Writes bytes over those of a place, and answers whether it did: where one of them may not be written, all stay.
+    pub fn write(&mut self, place: Place, bytes: &[u8]) -> bool
+        requires { length bytes.now ≡ place.len }
+        ensures written { MatchBool result
+            (Granted self.old.state place
+            × Writes self.old.state place (bytes_from place.addr bytes.now) self.new.state)
+            ((Granted self.old.state place → ⊥) × (self.new.state ≡ self.old.state)) }
+        ensures abended { self.new.abended ≡ self.old.abended }
+    {
+        self.machine.write(place, bytes)
+    }
+
+    /// The line of REPORT SP for the first number at or after `from` that the task has. None where it has none, as where
+    /// it is not active.
+    pub fn subpool_line(&self, name: &Name, from: u8) -> Option<SubpoolLine>
+        ensures { MatchOption result
+            (HasNone self.now.state.owners name.now from subpool_numbers)
+            (IsSubpoolLine self.now.state name.now from) }
+    {
+        self.machine.subpool_line(name, from)
+    }
+
+    /// The first run of REPORT MAP that begins at or after an address. None where there is none.
+    pub fn map_run(&self, from: Addr) -> Option<MapRun>
+        ensures { MatchOption result (IsMapEnd self.now.state from) (IsMapRun self.now.state from) }
+    {
+        self.machine.map_run(from)
+    }
+
+    /// The first subpool from a number on that a task owns.
+    pub fn next_owned(&self, from: u16) -> Option<SubpoolId>
+        requires { from ≤ most_subpools }
+        ensures { IsNextOwned self.now.state.owners from result }
+    {
+        self.machine.next_owned(from)
+    }
+
+    /// A subpool, where a task owns it, and whether another task has it.
+    pub fn owned(&self, subpool: SubpoolId, task: &Name) -> Option<OwnedSubpool>
+        ensures { result ≡ owned_at self.now.state task.now subpool }
+    {
+        self.machine.owned(subpool, task)
+    }
+
+    /// How many pages of each region hold nothing.
+    pub fn free_pages(&self) -> FreePages
+        ensures below { result.below ≡ free_below self.now.state }
+        ensures above { result.above ≡ free_above self.now.state }
+    {
+        self.machine.free_pages()
+    }
+
+    /// The subpool that an active task means by a number that a program may name: the number under which its owner has it, and
+    /// the owner.
+    pub fn label_meant(&self, name: &Name, number: u8) -> Option<(SubNo, Name)>
+        ensures { result ≡ label_meant self.now.state.owners name.now number }
+    {
+        self.machine.label_meant(name, number)
+    }
+
+    /// How many parts the pool of this name has, and which was put to it last. None where no pool has the name.
+    pub fn newest(&self, pool: &Name) -> Option<Newest>
+        ensures { MatchOption result (get self.now.state.pools pool.now ≡ None)
+            (λ newest. (kept : Pool) × (get self.now.state.pools pool.now ≡ Some kept)
+            × IsNewest kept newest) }
+    {
+        self.machine.newest(pool)
+    }
+
+    /// Returns the subpool that an active task has for a number: its owner's number for it, and the owner.
+    pub fn label_had(&self, name: &Name, number: SubNo) -> Option<(SubNo, Name)>
+        ensures { result ≡ label_had self.now.state.owners name.now number }
+    {
+        self.machine.label_had(name, number)
+    }
+
+    /// Says what the refusal of a task's request is about, in the state that the refusal has left as it was: an address, a task, a
+    /// pool or the room for an area. `left` is what the attempt has left there.
+    pub fn details(
+        &self,
+        name: &Name,
+        request: &Request,
+        refusal: Refusal,
+        left: &Shortfall,
+    ) -> Reason
+        requires refused { IsRefused self.now.state name.now request.now refusal }
+        requires left { (k : ℕ) → refusal ≡ Member k
+            → MemberLacks self.now.state name.now request.now k left.now }
+        ensures { Explains self.now.state name.now request.now refusal result }
+    {
+        self.machine.details(*name, request, refusal, left)
+    }
+
+    // Ends a task that abends, and writes the reply. It is a separate function because the compiler clears the space of the names
+    // in the function that needs it.
+    #[inline(never)]
+    fn abend(&mut self, name: Name, code: Code, reply: &mut Reply)
+        requires { is_active self.old.state.owners name ≡ true }
+        ensures abends { Abends self.old.state name code reply.new self.new.state }
+        ensures abended { self.new.abended ≡ true }
+        ensures is_abend { is_abend reply.new ≡ true }
+    {
+        self.abended = true;
+        *reply = Reply::Abended(code, self.machine.abend(name));
+    }
+
+    /// Attempts a request of a task: executes it and writes the reply over another one, or refuses it and changes nothing. An area
+    /// is placed at the hinted address if the machine allows that, and each area of a list at its own; so is a cell. The first cell
+    /// of a new pool is at the hinted address, and that of a further part at the hint after that of the cell. Where a member of a
+    /// list has no place, what it lacks is written to `left`.
+    pub fn attempt(
+        &mut self,
+        name: &Name,
+        request: &Request,
+        told: &[Addr],
+        reply: &mut Reply,
+        left: &mut Shortfall,
+    ) -> Result<(), Refusal>
+        ensures attempt { Attempts (λ _. reply.new) self.old.state name.now request.now result
+            self.new.state }
+        ensures abended { self.new.abended ≡ self.old.abended }
+        ensures no_abend { OnOk result (is_abend reply.new ≡ false) }
+        ensures told { OnOk result
+            (Takes told.now self.old.state name.now request.now reply.new self.new.state) }
+        ensures left { (k : ℕ) → result ≡ Err (Member k)
+            → MemberLacks self.old.state name.now request.now k left.new }
+    {
+        if !self.machine.is_active(*name) {
+            return Err(Refusal::NotActive);
+        }
+        act(&mut self.machine, *name, request, told, reply, left)
+    }
+
+    /// Settles a request that is refused as the table of consequences says, and writes what it is answered over another reply: an
+    /// abend ends the task and its descendants, and any other answer changes nothing.
+    pub fn settle(&mut self, name: &Name, request: &Request, refusal: Refusal, reply: &mut Reply)
+        requires { IsRefused self.old.state name.now request.now refusal }
+        ensures settled { Settles self.old.state name.now (reply_to request.now refusal) reply.new
+            self.new.state }
+        ensures abended { self.new.abended ≡ (self.old.abended || is_abend reply.new) }
+    {
+        match reply_to(request, refusal) {
+            Consequence::NotRun => *reply = Reply::NotRun,
+            Consequence::Rc4 => *reply = Reply::Rc4,
+            Consequence::NoCell => *reply = Reply::NoCell,
+            Consequence::Abend(code) => self.abend(*name, code, reply),
+        }
+    }
+
+    /// Serves a request of any task: attempts it, and settles it where it is refused.
+    pub fn request(&mut self, name: &Name, request: &Request, told: &[Addr], reply: &mut Reply)
+        ensures step { MachineStep self.old.state name.now request.now reply.new self.new.state }
+        ensures abended { self.new.abended ≡ (self.old.abended || is_abend reply.new) }
+        ensures told { Takes told.now self.old.state name.now request.now reply.new self.new.state }
+    {
+        let mut left = no_shortfall();
+        match self.attempt(name, request, told, reply, &mut left) {
+            Ok(()) => {}
+            Err(refusal) => self.settle(name, request, refusal, reply),
+        }
+    }
+}

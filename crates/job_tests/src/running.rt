@@ -1,0 +1,94 @@
+//! Tests of `run_job`. The scripts and their answers are those of docs/SCRIPT.md.
+
+use crate::streams::{Narrow, Refusal, Trickle};
+use mvs_job::{RunFault, Told, run_job};
+use mvs_model::outcome::Outcome;
+use mvs_model::want::Placement;
+use mvs_model::watched::Watched;
+use std::test::Fail;
+
+const FIRST: &[u8] = b"JOB REGION BELOW=1\nJOB GETMAIN R,LV=4096,A=X\nJOB WHERE X\n";
+
+const FIRST_PRINTED: &[u8] =
+    b"1 JOB REGION BELOW 1 ABOVE 0\n2 JOB RC 0\n3 JOB AT 00006000\nSTEP ENDED RC 0\n";
+
+const SHORTAGE: &[u8] =
+    b"JOB REGION BELOW=1\nJOB GETMAIN RC,LV=4097,A=X\nJOB GETMAIN R,LV=4097,A=X\nJOB WHERE X";
+
+const SHORTAGE_PRINTED: &[u8] =
+    b"1 JOB REGION BELOW 1 ABOVE 0\n2 JOB RC 4\n3 JOB ABEND S80A\n4 JOB NOT RUN\nSTEP ENDED RC 8\n";
+
+// A body that always reports that memory is exhausted meets the contract. With enough memory the job runs.
+#[test]
+fn runs_scripts_a_byte_a_call(rt: HostRuntime) -> Result<(), Fail> {
+    for (script, printed, ends) in [
+        (FIRST, FIRST_PRINTED, Outcome::Clean),
+        (SHORTAGE, SHORTAGE_PRINTED, Outcome::SomeAbend),
+        (
+            b"".as_slice(),
+            b"1 JS09\nJOB FAULT RC 12\n".as_slice(),
+            Outcome::ScriptFault,
+        ),
+    ] {
+        let mut reader = Watched::new(Trickle {
+            rest: script,
+            calls: 1_000,
+        });
+        let mut writer = Watched::new(Narrow {
+            bytes: Vec::new(rt.alloc()),
+            most: 1_000,
+            refusal: Refusal::Fails,
+        });
+        let hints = Told::nothing(rt.alloc());
+        let outcome = run_job(rt.alloc(), &mut reader, &mut writer, Placement::Low, hints)?;
+        assert_eq!(rt; outcome, ends);
+        assert!(rt; writer.into_inner().bytes.as_slice() == printed);
+    }
+    Ok(())
+}
+
+// How many lines have ended in a text.
+fn ended_lines(text: &[u8]) -> usize {
+    text.iter().filter(|byte| **byte == b'\n').count()
+}
+
+// The reader fails at each of its calls in turn: the lines that had ended are answered, each by one line.
+#[test]
+fn reports_each_failed_read(rt: HostRuntime) -> Result<(), Fail> {
+    for calls in 0..FIRST.len() + 1 {
+        let mut reader = Watched::new(Trickle { rest: FIRST, calls });
+        let mut writer = Watched::new(Vec::new(rt.alloc()));
+        let hints = Told::nothing(rt.alloc());
+        let ended = run_job(rt.alloc(), &mut reader, &mut writer, Placement::Low, hints);
+        assert_eq!(rt; ended, Err(RunFault::Read), "after {calls} calls");
+        assert!(rt; reader.failed());
+        let written = writer.into_inner();
+        assert!(rt; FIRST_PRINTED.starts_with(written.as_slice()));
+        assert_eq!(rt;
+            ended_lines(written.as_slice()),
+            ended_lines(&FIRST[..calls])
+        );
+    }
+    Ok(())
+}
+
+// The writer refuses each byte in turn, by a failure and by taking none: all bytes before it are written.
+#[test]
+fn reports_each_failed_write(rt: HostRuntime) -> Result<(), Fail> {
+    for refusal in [Refusal::Fails, Refusal::TakesNone] {
+        for most in 0..FIRST_PRINTED.len() {
+            let mut reader = Watched::new(FIRST);
+            let mut writer = Watched::new(Narrow {
+                bytes: Vec::new(rt.alloc()),
+                most,
+                refusal,
+            });
+            let hints = Told::nothing(rt.alloc());
+            let ended = run_job(rt.alloc(), &mut reader, &mut writer, Placement::Low, hints);
+            assert_eq!(rt; ended, Err(RunFault::Write), "after {most} bytes");
+            assert!(rt; writer.failed());
+            assert!(rt; writer.into_inner().bytes.as_slice() == &FIRST_PRINTED[..most]);
+        }
+    }
+    Ok(())
+}

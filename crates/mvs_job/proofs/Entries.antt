@@ -1,0 +1,59 @@
+-- The entry of a line, by the clauses of the call that executes it.
+use Rattle.std.proofs.Common.{◌≡◌, ℕ, inl, inr, List, [], ◌∷◌, Option, Bool, refl, sym, subst}
+use Rattle.mvs_model.specs.declared.line.Fault.{Fault}
+use Rattle.mvs_model.specs.declared.outcome.Outcome.{Outcome}
+use Rattle.mvs_model.specs.Memory.{StopsForMemory}
+use Rattle.mvs_model.specs.Runs.{machine}
+use Rattle.mvs_model.specs.Walk.{Closes}
+use Rattle.mvs_job.specs.declared.walk.LineTold.{LineTold}
+use Rattle.mvs_job.specs.declared.walk.LineTold.TheVariants as told
+use Rattle.mvs_job.specs.Telling.{WalkValue, IsTold, closing, ended}
+use Rattle.mvs_job.specs.declared.consumer.End.TheVariants as end
+use Rattle.mvs_job.specs.Trace.{Entry, IsClosed, IsExecuted, IsExhausted, IsFaulty}
+use Rattle.mvs_job.specs.Consuming.{IsAny, IsEnd, IsEntry}
+
+module _ (w w' : WalkValue) (line : List ℕ) where
+  -- an executed line
+  abbrev pub OfExecuted : ℕ → LineTold → Type 0
+  OfExecuted n t = (e : Entry) × (IsExecuted w.number w.step line e × (e.after ≡ w'.step)) × IsEntry n line w' t e
+
+  pub entry_executed : (n : ℕ) (t : LineTold) → n ≡ w.number → ((fault : Fault) → t ≡ told.Faulted fault → ⊥) → IsTold w line t w' → OfExecuted n t
+  entry_executed n (told.Faulted fault) at other h = absurd (other fault refl)
+  entry_executed n told.Nothing at other (said, of, serves) = subst (λ n. OfExecuted n told.Nothing) (sym at) (_, ((said, _, _, of, serves, refl), refl), record { of_line = (said, _, _, of, serves, refl); events = refl; after = refl })
+  entry_executed n (told.Began ended card) at other (said, of, serves) =
+      subst (λ n. OfExecuted n (told.Began ended card)) (sym at) (_, ((said, _, _, of, serves, refl), refl), record { of_line = (said, _, _, of, serves, refl); events = refl; after = refl })
+  entry_executed n (told.Answered t a) at other (said, of, serves) =
+      subst (λ n. OfExecuted n (told.Answered t a)) (sym at) (_, ((said, _, _, of, serves, refl), refl), record { of_line = (said, _, _, of, serves, refl); events = refl; after = refl })
+
+  -- one with a fault
+  abbrev pub OfFaulty : ℕ → LineTold → Type 0
+  OfFaulty n t = (e : Entry) × IsFaulty w.number w.step line e × IsEntry n line w' t e
+
+  faulty_at : (n : ℕ) (fault : Fault) → n ≡ w.number → IsTold w line (told.Faulted fault) w' → OfFaulty n (told.Faulted fault)
+  faulty_at n fault at (of, same) = subst (λ n. OfFaulty n (told.Faulted fault)) (sym at) (_, (fault, of, refl), record { of_line = (fault, of, refl); events = refl; after = sym same })
+
+  pub entry_faulty : (n : ℕ) (t : LineTold) (fault : Fault) → n ≡ w.number → t ≡ told.Faulted fault → IsTold w line t w' → OfFaulty n t
+  entry_faulty n t fault at is h = subst (OfFaulty n) (sym is) (faulty_at n fault at (subst (λ t. IsTold w line t w') is h))
+
+  -- any line
+  abbrev pub OfAny : ℕ → LineTold → Type 0
+  OfAny n t = (e : Entry) × IsAny w.number w.step line e × IsEntry n line w' t e
+
+  executed_any : (n : ℕ) (t : LineTold) → OfExecuted n t → OfAny n t
+  executed_any n t (e, is, entry) = (e, inl is.0, entry)
+
+  pub entry_any : (n : ℕ) (t : LineTold) → n ≡ w.number → IsTold w line t w' → OfAny n t
+  entry_any n (told.Faulted fault) at h = let r = faulty_at n fault at h in (r.0, inr (inl r.1), r.2)
+  entry_any n told.Nothing at h = executed_any n told.Nothing (entry_executed n told.Nothing at (λ fault e. let f : told.Nothing ≡ told.Faulted fault = e in cc) h)
+  entry_any n (told.Began ended card) at h = executed_any n (told.Began ended card) (entry_executed n (told.Began ended card) at (λ fault e. let f : told.Began ended card ≡ told.Faulted fault = e in cc) h)
+  entry_any n (told.Answered t a) at h = executed_any n (told.Answered t a) (entry_executed n (told.Answered t a) at (λ fault e. let f : told.Answered t a ≡ told.Faulted fault = e in cc) h)
+
+-- a line at which memory is exhausted
+pub entry_exhausted : (w : WalkValue) (line : List ℕ) (n : ℕ) (o : Option Bool) → n ≡ w.number → StopsForMemory w.number w.step (line ∷ []) (ended o) → (e : Entry) × IsExhausted w.number w.step line e × IsEnd n (end.Exhausted o) e
+entry_exhausted w line n o at (said, of, takes) =
+    subst (λ n. (e : Entry) × IsExhausted w.number w.step line e × IsEnd n (end.Exhausted o) e) (sym at) (_, (said, ended o, of, takes, refl), ((line, (said, ended o, of, takes, refl)), refl))
+
+-- the end of the script
+pub entry_closed : (w : WalkValue) (n : ℕ) (o : Option Bool) (outcome : Outcome) → n ≡ w.number → Closes machine w.number w.step (closing w.number o) outcome → (e : Entry) × IsClosed w.number w.step outcome e × IsEnd n (end.Closed o) e
+entry_closed w n o outcome at closes =
+    subst (λ n. (e : Entry) × IsClosed w.number w.step outcome e × IsEnd n (end.Closed o) e) (sym at) (_, (closing w.number o, closes, refl), ((outcome, (closing w.number o, closes, refl)), refl))

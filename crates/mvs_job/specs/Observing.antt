@@ -1,0 +1,98 @@
+-- What an observer hears of the request of a line.
+use Rattle.std.specs.Prelude.{◌≡◌, ◌⊎◌, ◌||◌, ℕ, List, Some, Bool, true, false, MatchOption}
+use Rattle.std.specs.Bool.{MatchBool}
+use Rattle.mvs_model.specs.declared.code.Code.{Code}
+use Rattle.mvs_model.specs.declared.name.Name.{Name}
+use Rattle.mvs_model.specs.declared.line.Line.TheVariants as line
+use Rattle.mvs_model.specs.declared.line.Statement.{Statement}
+use Rattle.mvs_model.specs.declared.line.Statement.TheVariants as says
+use Rattle.mvs_model.specs.declared.reason.Shortfall.{Shortfall}
+use Rattle.mvs_model.specs.declared.refusal.Consequence.TheVariants.{Abend}
+use Rattle.mvs_model.specs.declared.refusal.Refusal.{Refusal}
+use Rattle.mvs_model.specs.declared.refusal.Refusal.TheVariants.{Member}
+use Rattle.mvs_model.specs.declared.request.Reply.{Reply}
+use Rattle.mvs_model.specs.declared.request.Request.{Request}
+use Rattle.mvs_model.specs.declared.request.Request.TheVariants.{Return}
+use Rattle.mvs_model.specs.Answers.{Answer, NotRun, Rc4, NoCell, NoName, Ended, Abended}
+use Rattle.mvs_model.specs.Causes.{IsPassed, IsRefused}
+use Rattle.mvs_model.specs.Consequences.{Settles, reply_to}
+use Rattle.mvs_model.specs.Job.{JobValue}
+use Rattle.mvs_model.specs.Lent.{fallen_in, lent}
+use Rattle.mvs_model.specs.Owners.{is_active}
+use Rattle.mvs_model.specs.Reading.{LineOf}
+use Rattle.mvs_model.specs.Reasons.{MemberLacks}
+use Rattle.mvs_model.specs.Replies.{is_abend}
+use Rattle.mvs_model.specs.Resolving.{resolved}
+use Rattle.mvs_model.specs.State.{State}
+use Rattle.mvs_model.specs.Steps.{Does}
+use Rattle.mvs_model.specs.Walk.{is_first}
+use Rattle.mvs_job.specs.declared.walk.LineTold.{LineTold}
+use Rattle.mvs_job.specs.declared.walk.LineTold.TheVariants as told
+use Rattle.mvs_job.specs.Telling.{WalkValue, card_said}
+
+-- What an observer is after it has heard of a refusal: of a task's request in a job, for something, and of what a member of a list
+-- lacks.
+abbrev pub Hearing : Type 0 → Type 1
+Hearing O = O → JobValue → Name → Request → Refusal → Shortfall → O → Type 0
+
+-- This is what a member of a list lacks, where the request is refused for one.
+abbrev pub LeftFor : JobValue → Name → Request → Refusal → Shortfall → Type 0
+LeftFor job t request refusal left = (k : ℕ) → refusal ≡ Member k → MemberLacks job.state t request k left
+
+-- whether an answer says that a request was made and refused
+abbrev pub is_failure : Answer → Bool
+is_failure Rc4 = true
+is_failure NoCell = true
+is_failure (Abended code fallen) = true
+is_failure _ = false
+
+-- whether an answer is a refusal: no request was made, or it failed
+abbrev pub is_refusal : Answer → Bool
+is_refusal NotRun = true
+is_refusal NoName = true
+is_refusal answer = is_failure answer
+
+-- whether an answer tells that its task ended
+abbrev pub is_end : Answer → Bool
+is_end Ended = true
+is_end (Abended code fallen) = true
+is_end _ = false
+
+-- A task's request in a job was answered so by its step: it passes and is done, and nothing is heard; or it is refused and settled,
+-- and this is heard.
+abbrev pub Hears : {O : Type 0} → Hearing O → O → JobValue → Name → Request → Reply → State → O → Type 0
+Hears heard before job t request reply new after =
+    ((after ≡ before) × IsPassed job.state t request × Does job.state t request reply new)
+    ⊎ ((refusal : Refusal) × (left : Shortfall) × IsRefused job.state t request refusal × LeftFor job t request refusal left × Settles job.state t (reply_to request refusal) reply new
+    × heard before job t request refusal left after)
+
+-- The names stay, and what became of former steps; a task has abended where the reply says so.
+abbrev pub IsRestKept : JobValue → Reply → JobValue → Type 0
+IsRestKept old reply new = (new.names ≡ old.names) × (new.former ≡ old.former) × (new.abended ≡ (old.abended || is_abend reply))
+
+-- A request passed, and this was not heard of; only a return ends its task then.
+abbrev pub Passes : {O : Type 0} → O → JobValue → Name → Request → Answer → O → Type 0
+Passes before job t request answer after = (after ≡ before) × IsPassed job.state t request × (is_refusal answer ≡ false) × (is_end answer ≡ true → request ≡ Return)
+
+-- A request was refused, and this was heard of; its task ends only where the refusal is an abend.
+abbrev pub Fails : {O : Type 0} → Hearing O → O → JobValue → Name → Request → Answer → O → Type 0
+Fails heard before job t request answer after =
+    (refusal : Refusal) × (left : Shortfall) × IsRefused job.state t request refusal × LeftFor job t request refusal left × (is_failure answer ≡ true)
+    × (is_end answer ≡ true → (code : Code) × (reply_to request refusal ≡ Abend code)) × heard before job t request refusal left after
+
+-- An observer of a task's statement in a job, which is answered so: it hears of the request that is made, if that is refused.
+abbrev pub Observes : {O : Type 0} → Hearing O → O → JobValue → Name → Statement → Answer → O → Type 0
+Observes heard before job t (says.Request a) answer after =
+    MatchBool (is_active job.state.owners t)
+    (MatchOption (resolved job.names a) (after ≡ before) (λ r. Passes before job t r answer after ⊎ Fails heard before job t r answer after))
+    (after ≡ before)
+Observes heard before job t s answer after = after ≡ before
+
+-- The same of a line, with what it says: one that is not a statement of a step makes no request.
+abbrev pub ObservesLine : {O : Type 0} → Hearing O → O → WalkValue → List ℕ → LineTold → WalkValue → O → Type 0
+ObservesLine heard before old bytes told.Nothing new after = LineOf (is_first old.step) bytes line.Nothing × (after ≡ before)
+ObservesLine heard before old bytes (told.Began end card) new after = (t : Name) × (s : Statement) × LineOf (is_first old.step) bytes (line.Statement t s) × (card_said t s ≡ Some card) × (after ≡ before)
+ObservesLine heard before old bytes (told.Answered t a) new after =
+    (s : Statement) × (job : JobValue) × (later : JobValue) × LineOf (is_first old.step) bytes (line.Statement t s) × (old.step ≡ Some job) × (new.step ≡ Some later)
+    × Observes heard before job t s (lent later.state (fallen_in new.reply) t a) after
+ObservesLine heard before old bytes (told.Faulted fault) new after = after ≡ before

@@ -1,0 +1,5 @@
+use Rattle.mvs_model.proofs.StorageLaws.{grant_keeps_pages as law}
+use Rattle.mvs_laws.proofs.examples.grant_keeps_pages.Goals as goal
+
+pub returns : goal.returns
+returns c = law

@@ -1,5 +1,0 @@
-use Rattle.mvs_model.proofs.SmallLaws.{across_pages as law}
-use Rattle.mvs_model.proofs.examples.across_pages.Goals as goal
-
-pub returns : goal.returns
-returns c = law

@@ -1,5 +1,0 @@
-use Rattle.mvs_model.proofs.StorageLaws.{grant_keeps_pages as law}
-use Rattle.mvs_model.proofs.examples.grant_keeps_pages.Goals as goal
-
-pub returns : goal.returns
-returns c = law

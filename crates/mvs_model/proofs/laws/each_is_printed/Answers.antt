@@ -1,5 +1,0 @@
-use Rattle.mvs_model.proofs.Going as lemmas
-use Rattle.mvs_model.proofs.laws.each_is_printed.Goals as goal
-
-pub returns : goal.returns
-returns c = lemmas.each_is_printed

@@ -1,5 +1,0 @@
-use Rattle.mvs_model.proofs.EitherWay as lemmas
-use Rattle.mvs_model.proofs.laws.list_either_way.Goals as goal
-
-pub returns : goal.returns
-returns c = lemmas.list_either_way

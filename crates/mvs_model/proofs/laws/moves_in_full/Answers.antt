@@ -1,5 +1,0 @@
-use Rattle.mvs_model.proofs.InFull as lemmas
-use Rattle.mvs_model.proofs.laws.moves_in_full.Goals as goal
-
-pub returns : goal.returns
-returns c = lemmas.moves_in_full

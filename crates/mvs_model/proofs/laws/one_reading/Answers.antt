@@ -1,5 +1,0 @@
-use Rattle.mvs_model.proofs.Reading as reading
-use Rattle.mvs_model.proofs.laws.one_reading.Goals as goal
-
-pub returns : goal.returns
-returns c = reading.one_reading

@@ -1,5 +1,0 @@
-use Rattle.mvs_model.proofs.TidySteps as steps
-use Rattle.mvs_model.proofs.laws.tidy_step.Goals as goal
-
-pub returns : goal.returns
-returns c = steps.tidy_step

@@ -1,5 +1,0 @@
-use Rattle.mvs_model.proofs.Owned as lemmas
-use Rattle.mvs_model.proofs.laws.well_formed.Goals as goal
-
-pub returns : goal.returns
-returns c = lemmas.well_formed

@@ -1,0 +1,21 @@
+mod Accessing
+mod Building
+mod Bytes
+mod Cases
+mod Copying
+mod Ending
+mod Firsts
+mod Halves
+mod Holding
+mod Listing
+mod Longest
+mod Obtaining
+mod Owning
+mod Places
+mod Pooling
+pub mod Refused
+mod Releasing
+mod Reporting
+mod Rooms
+mod Split
+mod CellsTaken

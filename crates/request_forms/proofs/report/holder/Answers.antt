@@ -1,0 +1,5 @@
+use Rattle.request_forms.proofs.Reporting.{label_is}
+use Rattle.request_forms.proofs.report.holder.Goals as goal
+
+pub returns : goal.returns
+returns c = label_is c.args.tasks.now.owners c.args.owner c.in-Some.subpool c.label.result c.label.ensures.kept c.in-Some.is c.label.ensures.label

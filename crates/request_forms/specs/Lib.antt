@@ -1,0 +1,10 @@
+pub mod Access
+pub mod Facts
+pub mod Lists
+pub mod Machine
+pub mod Refused
+pub mod Reports
+pub mod Rooms
+pub mod Standing
+pub mod Taking
+pub mod Places

@@ -1,0 +1,139 @@
+//! Requests for cells of cell pools (Assembler Services Reference, CPOOL).
+
+ghost use Rattle.std.specs.Prelude.{◌≡◌, true, IfOk, OnOk};
+ghost use Rattle.std.specs.FinMap.{get};
+ghost use Rattle.mvs_model.specs.declared.name.Name.{Name as TheName};
+ghost use Rattle.mvs_model.specs.declared.request.Reply.TheVariants.{Cell, Rc0};
+ghost use Rattle.mvs_model.specs.declared.request.Request.TheVariants as request;
+ghost use Rattle.mvs_model.specs.Owners.{is_active};
+ghost use Rattle.mvs_model.specs.Subpool.{IsSubpoolNumber};
+ghost use Rattle.mvs_model.specs.Steps.{Tries, TriesPlan};
+ghost use Rattle.mvs_model.specs.Requests.{residence_of};
+ghost use Rattle.mvs_model.specs.Want.{side_of};
+ghost use Rattle.request_forms.specs.Taking.{TakesCell, TakesPool, further_of};
+
+use crate::machine::Machine;
+use crate::obtain_list::first_told;
+use boundary_loc::side;
+use cell_pool::Plan;
+use mvs_model::bounded::{CellCount, CellSize};
+use mvs_model::name::Name;
+use mvs_model::place::{Addr, Place};
+use mvs_model::refusal::Refusal;
+use mvs_model::subpool::SubNo;
+use mvs_model::want::Loc;
+
+// Returns the hint for the first cell of a further part.
+fn further_told(told: &[Addr]) -> Option<Addr>
+    ensures { result ≡ further_of told.now }
+{
+    match told {
+        [_, first, ..] => Some(*first),
+        [cell] => Some(*cell),
+        [] => None,
+    }
+}
+
+impl Machine {
+    /// What a BUILD of the task plans: a first part of `primary` cells of `size` bytes, and `secondary` cells for each
+    /// further part.
+    pub fn plan(
+        &self,
+        name: Name,
+        size: CellSize,
+        primary: CellCount,
+        secondary: CellCount,
+        loc: Loc,
+    ) -> Plan
+        requires { is_active self.now.owners name ≡ true }
+        ensures { let side = side_of loc (residence_of self.now.owners name) in result
+            ≡ record { cell_size = size; primary = primary; secondary = secondary; side = side } }
+    {
+        Plan {
+            cell_size: size,
+            primary,
+            secondary,
+            side: side(loc, self.tasks.residence(self.tasks.task_of(name))),
+        }
+    }
+
+    // Makes a pool in the subpool that the task means by a number, which is made where there was none, and only where the
+    // pool is made.
+    fn build_pool(
+        &mut self,
+        name: Name,
+        number: SubNo,
+        pool: &Name,
+        plan: &Plan,
+        told: Option<Addr>,
+    ) -> Result<(), Refusal>
+        requires active { is_active self.old.owners name ≡ true }
+        requires valid { IsSubpoolNumber number }
+        ensures answer { TriesPlan self.old name pool.now number plan.now result self.new }
+        ensures told { OnOk result
+            (TakesPool self.old name number pool.now plan.now told self.new) }
+    {
+        let t = self.tasks.task_of(name);
+        match self.tasks.subpool(t, number) {
+            Some(subpool) => self.pools.build(&mut self.store, pool, subpool, plan, told),
+            None => {
+                let subpool = self.tasks.spare(t, number);
+                let built = self.pools.build(&mut self.store, pool, subpool, plan, told);
+                if built.is_ok() {
+                    self.tasks.bind(t, number, subpool);
+                }
+                built
+            }
+        }
+    }
+
+    /// CPOOL BUILD: creates a pool with its first part, and the first cell at the hinted address if the machine allows that.
+    pub fn build(
+        &mut self,
+        name: Name,
+        number: u8,
+        pool: &Name,
+        plan: &Plan,
+        told: Option<Addr>,
+    ) -> Result<(), Refusal>
+        requires { is_active self.old.owners name ≡ true }
+        ensures answer { TriesPlan self.old name pool.now number plan.now result self.new }
+        ensures told { OnOk result
+            (TakesPool self.old name number pool.now plan.now told self.new) }
+    {
+        let Some(number) = SubNo::new(number) else {
+            return Err(Refusal::InvalidNumber);
+        };
+        self.build_pool(name, number, pool, plan, told)
+    }
+
+    /// CPOOL GET: allocates a free cell of the pool. If none is free, a conditional request is refused, and another one gets a cell
+    /// of a further part. If the machine allows that, the cell is at the first hint, and the first cell of a further part at the
+    /// second one or, if there is only one, at that.
+    pub fn get(&mut self, pool: &Name, conditional: bool, told: &[Addr]) -> Result<Place, Refusal>
+        ensures answer { (t : TheName)
+            → Tries Cell self.old t (request.Get pool.now conditional) result self.new }
+        ensures told { IfOk result (TakesCell self.old pool.now told.now) }
+    {
+        let cell = first_told(told);
+        let first = further_told(told);
+        self.pools
+            .get(&mut self.store, pool, conditional, cell, first)
+    }
+
+    /// CPOOL FREE: a taken cell of the pool is given back.
+    pub fn free(&mut self, pool: &Name, cell: Addr) -> Result<(), Refusal>
+        ensures { (t : TheName)
+            → Tries (λ _. Rc0) self.old t (request.Free pool.now cell) result self.new }
+    {
+        self.pools.free(&mut self.store, pool, cell)
+    }
+
+    /// CPOOL DELETE: the pool is given up with all its parts.
+    pub fn delete(&mut self, pool: &Name) -> Result<(), Refusal>
+        ensures { (t : TheName)
+            → Tries (λ _. Rc0) self.old t (request.Delete pool.now) result self.new }
+    {
+        self.pools.delete(&mut self.store, pool)
+    }
+}

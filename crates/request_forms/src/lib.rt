@@ -1,0 +1,23 @@
+//! The requests of a step: what each does with the storage, the tasks and the cell pools that the tasks of the step share, and for
+//! what it is refused.
+#![tactic(auto)]
+
+mod access;
+mod cells;
+mod details;
+mod facts;
+mod holder;
+mod machine;
+mod obtain;
+mod obtain_list;
+mod release;
+mod report;
+mod shortage;
+mod standing;
+mod subtasking;
+mod unreleased;
+
+pub use facts::OwnedSubpool;
+pub use machine::Machine;
+pub use obtain_list::{first_told, no_shortfall};
+pub use standing::FreePages;

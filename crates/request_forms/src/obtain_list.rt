@@ -1,0 +1,235 @@
+//! Requests that obtain a list of areas.
+
+ghost use Rattle.std.specs.Prelude.{◌≡◌, true, ◌+◌, ◌≤◌, ◌<◌, Err, IfErr, IfOk, MatchResult, None, List, ℕ, [], ◌∷◌, ◌++◌, length};
+ghost use Rattle.mvs_model.specs.Changes.{ListGrant};
+ghost use Rattle.mvs_model.specs.Owners.{is_active, keeper};
+ghost use Rattle.mvs_model.specs.Place.{PlaceValue};
+ghost use Rattle.mvs_model.specs.Steps.{Tries};
+ghost use Rattle.mvs_model.specs.declared.code.Form.{Form as TheForm};
+ghost use Rattle.mvs_model.specs.declared.request.Reply.TheVariants.{Listed};
+ghost use Rattle.mvs_model.specs.declared.request.Request.TheVariants as request;
+ghost use Rattle.mvs_model.specs.declared.refusal.Refusal.TheVariants.{Member};
+ghost use Rattle.mvs_model.specs.Reasons.{MemberLacks};
+ghost use Rattle.mvs_model.specs.Storage.{IsStorage, NoPlace, holder};
+ghost use Rattle.request_forms.specs.Lists.{GrantsEach, IsMemberShort, LacksAt, LacksIn, first_of, later_of, list_wants, so_far};
+ghost use Rattle.request_forms.specs.Taking.{TakesAreas};
+
+use crate::machine::Machine;
+use crate::release::take_back;
+use crate::shortage::room_in;
+use mvs_model::bounded::{Exponent, Length};
+use mvs_model::name::Name;
+use mvs_model::place::{Addr, Place};
+use mvs_model::reason::{Room, Shortfall};
+use mvs_model::refusal::Refusal;
+use mvs_model::request::{Lengths, Places};
+use mvs_model::subpool::{SubNo, SubpoolId};
+use mvs_model::want::{Side, Want};
+use subpool_store::Store;
+
+// Appends a place to those that are granted so far.
+fn with_place(granted: Option<Places>, place: Place) -> Places
+    requires { length (so_far granted) < 16 }
+    ensures { result ≡ so_far granted ++ place ∷ [] }
+{
+    match granted {
+        Some(mut places) => {
+            places.push(place);
+            places
+        }
+        None => Places::one(place),
+    }
+}
+
+/// Returns the first hint, if there is one.
+pub fn first_told(told: &[Addr]) -> Option<Addr>
+    ensures { result ≡ first_of told.now }
+{
+    match told {
+        [first, ..] => Some(*first),
+        [] => None,
+    }
+}
+
+// Returns the hints for the later members.
+fn later_told(told: &[Addr]) -> &[Addr]
+    ensures { result.now ≡ later_of told.now }
+{
+    match told {
+        [_, later @ ..] => later,
+        [] => told,
+    }
+}
+
+// The member of a list that has no place, from 1 on, and what it lacks.
+#[derive(Clone, Copy)]
+pub(crate) struct Lack {
+    pub(crate) member: u32,
+    pub(crate) short: Shortfall,
+}
+
+/// Makes room for what a member of a list lacks, before anything does.
+pub fn no_shortfall() -> Shortfall {
+    Shortfall {
+        bytes: 0,
+        room: Room {
+            longest: 0,
+            runs: 0,
+            below: 0,
+            above: 0,
+        },
+    }
+}
+
+// Returns what something lacks that has no place.
+fn shortfall(store: &Store, subpool: SubpoolId, want: &Want) -> Shortfall
+    requires { NoPlace store.now.storage.regions (holder store.now.storage) subpool want.now }
+    ensures { LacksIn store.now.storage subpool want.now result }
+{
+    let bytes = want.least();
+    match room_in(store, subpool, want) {
+        Some(room) => Shortfall { bytes, room },
+        None => unreachable!(),
+    }
+}
+
+// Grants a place for each length, one after another, after those that are granted so far; or none of them, if one does not fit. The
+// error has its number among these, from 1 on.
+fn grant_each(
+    store: &mut Store,
+    subpool: SubpoolId,
+    lengths: &[Length],
+    start: Exponent,
+    told: &[Addr],
+    granted: Option<Places>,
+) -> Result<Places, Lack>
+    requires room { length (so_far granted) + length lengths.now ≤ 16 }
+    requires some { granted ≡ None → 1 ≤ length lengths.now }
+    requires storage { IsStorage store.old.storage }
+    ensures places { MatchResult result
+        (λ ps. (more : List PlaceValue) × (ps ≡ so_far granted ++ more)
+        × GrantsEach store.old.storage subpool (list_wants lengths.now start) told.now more
+        store.new.storage)
+        (λ lack. LacksAt store.old.storage subpool (list_wants lengths.now start) lack.member
+        lack.short
+        × (store.new.storage ≡ store.old.storage)) }
+    ensures few { IfErr result (λ lack. lack.member ≤ length lengths.now) }
+    ensures storage { IsStorage store.new.storage }
+    ensures regions { store.new.storage.regions ≡ store.old.storage.regions }
+{
+    let [length, rest @ ..] = lengths else {
+        return match granted {
+            Some(places) => Ok(places),
+            None => unreachable!(),
+        };
+    };
+    let want = Want::fixed(*length, start, Side::Below);
+    let Some(place) = store.obtain(subpool, &want, first_told(told)) else {
+        return Err(Lack {
+            member: 1,
+            short: shortfall(store, subpool, &want),
+        });
+    };
+    match grant_each(
+        store,
+        subpool,
+        rest,
+        start,
+        later_told(told),
+        Some(with_place(granted, place)),
+    ) {
+        Ok(places) => Ok(places),
+        Err(lack) => {
+            take_back(store, subpool, place);
+            Err(Lack {
+                member: lack.member + 1,
+                short: lack.short,
+            })
+        }
+    }
+}
+
+impl Machine {
+    // Obtains areas of the subpool that the task means by a number, which is made where there was none, and only where all
+    // areas are granted. The error has the member that has no place.
+    fn obtain_areas(
+        &mut self,
+        name: Name,
+        number: SubNo,
+        lengths: &Lengths,
+        start: Exponent,
+        told: &[Addr],
+    ) -> Result<Places, Lack>
+        requires { is_active self.old.owners name ≡ true }
+        ensures granted { MatchResult result
+            (λ ps. ListGrant self.old (keeper self.old.owners name number) number
+            (list_wants lengths.now start) ps self.new)
+            (λ lack. IsMemberShort self.old (keeper self.old.owners name number) number
+            (list_wants lengths.now start) lack.member lack.short
+            × (self.new ≡ self.old)) }
+        ensures told { IfOk result
+            (λ ps. TakesAreas self.old name number lengths.now start told.now ps self.new) }
+    {
+        let t = self.tasks.task_of(name);
+        match self.tasks.subpool(t, number) {
+            Some(subpool) => grant_each(
+                &mut self.store,
+                subpool,
+                lengths.as_slice(),
+                start,
+                told,
+                None,
+            ),
+            None => {
+                let subpool = self.tasks.spare(t, number);
+                let places = match grant_each(
+                    &mut self.store,
+                    subpool,
+                    lengths.as_slice(),
+                    start,
+                    told,
+                    None,
+                ) {
+                    Ok(places) => places,
+                    Err(lack) => return Err(lack),
+                };
+                self.tasks.bind(t, number, subpool);
+                Ok(places)
+            }
+        }
+    }
+
+    /// GETMAIN for a list of areas, all of which are granted or none (Assembler Services Reference, GETMAIN; all or none is this
+    /// project's choice): returns their places. `start` is the power of two of the boundary of each. Each is at its hinted address
+    /// if the machine allows that. Where a member has no place, what it lacks is written to `left`.
+    pub fn obtain_list(
+        &mut self,
+        name: Name,
+        number: u8,
+        lengths: &Lengths,
+        start: Exponent,
+        told: &[Addr],
+        left: &mut Shortfall,
+    ) -> Result<Places, Refusal>
+        requires { is_active self.old.owners name ≡ true }
+        ensures answer { (form : TheForm)
+            → Tries Listed self.old name (request.ObtainList form number lengths.now start) result
+            self.new }
+        ensures told { IfOk result
+            (λ ps. TakesAreas self.old name number lengths.now start told.now ps self.new) }
+        ensures left { (form : TheForm) (k : ℕ) → result ≡ Err (Member k)
+            → MemberLacks self.old name (request.ObtainList form number lengths.now start) k
+            left.new }
+    {
+        let Some(number) = SubNo::new(number) else {
+            return Err(Refusal::InvalidNumber);
+        };
+        match self.obtain_areas(name, number, lengths, start, told) {
+            Ok(places) => Ok(places),
+            Err(lack) => {
+                *left = lack.short;
+                Err(Refusal::Member(lack.member))
+            }
+        }
+    }
+}

@@ -1,4 +1,0 @@
-use Rattle.step_machine.proofs.machine.Machine.delete.Goals as goal
-
-pub returns : goal.returns
-returns c = λ t. rw (← c.self.view_is) (c.delete.ensures.answer c.self.inside.tasks.owners t)

@@ -1,4 +1,0 @@
-use Rattle.step_machine.proofs.machine.Machine.newest.Goals as goal
-
-pub returns : goal.returns
-returns c = rw (← c.self.view_is) c.newest.ensures

@@ -1,7 +1,0 @@
-use Rattle.step_machine.proofs.Accessing.{write_told}
-use Rattle.step_machine.proofs.machine.Machine.write.Goals as goal
-
-pub returns : goal.returns
-returns c = rw (← c.self.view_is)
-    (write_told c.self.inside.pools c.self.inside.store.storage c.self.invariant c.self.inside.tasks.owners c.write_where_granted.result c.write_where_granted.new.store.storage c.args.place c.args.bytes.now c.requires
-    (c.write_where_granted.ensures.written c.self.inside.tasks.owners))

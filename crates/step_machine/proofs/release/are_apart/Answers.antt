@@ -1,9 +1,0 @@
-use Rattle.std.proofs.Common.{arith}
-use Rattle.mvs_model.specs.Steps.{whole}
-use Rattle.step_machine.proofs.Places.{apart_is}
-use Rattle.step_machine.proofs.release.are_apart.Goals as goal
-
-pub returns-else-one-other : goal.returns-else-one-other
-returns-else-one-other c =
-    apart_is (whole c.args.one) (whole c.args.other) _ _ _ _ c.doublewords-one.ensures.first c.doublewords-one.ensures.end c.doublewords-other.ensures.first c.doublewords-other.ensures.end
-    (omega (arith, c.doublewords-one.ensures.some)) (omega (arith, c.doublewords-other.ensures.some)) c.if-one-other.false

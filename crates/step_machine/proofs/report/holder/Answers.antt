@@ -1,5 +1,0 @@
-use Rattle.step_machine.proofs.Reporting.{label_is}
-use Rattle.step_machine.proofs.report.holder.Goals as goal
-
-pub returns : goal.returns
-returns c = label_is c.args.tasks.now.owners c.args.owner c.in-Some.subpool c.label.result c.label.ensures.kept c.in-Some.is c.label.ensures.label

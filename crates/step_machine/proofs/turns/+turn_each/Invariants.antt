@@ -1,5 +1,0 @@
-use Rattle.std.proofs.Common.{length}
-use Rattle.step_machine.proofs.turns.+turn_each.Given as goal
-
-abbrev pub decreases-turn_each : goal.decreases-turn_each
-decreases-turn_each l = length l.lengths.now

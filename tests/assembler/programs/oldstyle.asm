@@ -1,0 +1,85 @@
+*        OLDSTYLE: A PROGRAM OF 1978. IT READS PARAMETERS, OBTAINS TWO
+*        AREAS BY A LIST AND A WORK AREA FOR EACH OF ITS ROUTINES.
+*
+*        OPTIONS --region 192K,4M
+*        LEAK    HOLDAREA
+*        OPEN    THE LENGTH THAT IS READ FROM A CARD; THE BRANCHES.
+OLDSTYLE START 0
+         STM   14,12,12(13)
+         BALR  12,0
+         USING *,12
+         ST    13,SAVE+4
+         LA    15,SAVE
+         ST    15,8(13)
+         LR    13,15
+         OPEN  (CARDS,INPUT)
+         GETMAIN LC,LA=LENGTHS,A=AREAS,SP=1
+         LTR   15,15
+         BNZ   NOCORE
+         BAL   10,READPARM
+         BAL   10,BUILD
+         BAL   10,PRINT
+         FREEMAIN L,LA=LENGTHS,A=AREAS,SP=1
+         B     EXIT
+*
+*        A CARD SAYS HOW LONG THE TABLE IS.
+*
+READPARM GET   CARDS,CARD
+         PACK  DOUBLE,CARD(4)
+         CVB   3,DOUBLE
+         GETMAIN R,LV=(3)
+         ST    1,CARDTAB
+         BR    10
+*
+*        BUILD USES A WORK AREA OF ITS OWN, AND A SECOND ONE THAT IT
+*        HOLDS. LEAK: THE SECOND ONE IS NOT RELEASED.
+*
+BUILD    ST    10,SAVEB
+         GETMAIN EU,LV=1000,A=BUILDAR,SP=2
+         GETMAIN EU,LV=512,A=HOLDAREA,SP=2
+         BAL   9,FILL
+         FREEMAIN E,LV=1000,A=BUILDAR,SP=2
+         L     10,SAVEB
+         BR    10
+FILL     L     4,BUILDAR
+         L     5,HOLDAREA
+         MVC   0(256,4),0(5)
+         BR    9
+*
+*        PRINT OBTAINS AS MUCH AS THERE IS, BUT NOT LESS THAN A LINE.
+*
+PRINT    STM   9,10,SAVEP
+         GETMAIN VU,LA=MINMAX,A=LINES,SP=3
+         L     6,LINES
+         L     7,LINES+4
+PRINTL   MVC   0(120,6),BLANKS
+         LA    6,120(6)
+         SH    7,=H'120'
+         BP    PRINTL
+         FREEMAIN V,A=LINES,SP=3
+         LM    9,10,SAVEP
+         BR    10
+*
+NOCORE   WTO   'OLDSTYLE - NOT ENOUGH STORAGE'
+         LA    15,16
+         B     EXIT1
+EXIT     SR    15,15
+EXIT1    CLOSE (CARDS)
+         L     13,SAVE+4
+         RETURN (14,12),RC=(15)
+*
+SAVE     DC    18F'0'
+SAVEB    DS    F
+SAVEP    DS    2F
+DOUBLE   DS    D
+CARD     DS    CL80
+CARDTAB  DS    A
+BUILDAR  DS    A
+HOLDAREA DS    A
+LENGTHS  DC    F'4096',X'80',AL3(8192)
+AREAS    DS    2A
+MINMAX   DC    F'120',F'12000'
+LINES    DS    2F
+BLANKS   DC    CL120' '
+CARDS    DCB   DDNAME=SYSIN,DSORG=PS,MACRF=GM,EODAD=NOCORE
+         END   OLDSTYLE
