@@ -208,9 +208,11 @@ module _ (number : ℕ) (job later : JobValue) (set : SetLines) (bytes : List �
           at : (v : Option Name) → first_unset job.names (looked_up q) ≡ v → is_some v ≡ true → Stands after (option_map (λ name. NotSet name) v) NoName
           at None f some = false_true some
           at (Some name) f some =
-              silent (says.Request q) after (Some (NotSet name)) NoName of same
-              (subst (λ b. MatchBool b (Some (NotSet name) ≡ Some (Refused NotActive)) (OfSaid job t (says.Request q) (Some (NotSet name)))) (sym on)
-              (subst (λ v. OfAsked job t q v (Some (NotSet name))) (sym none) (sym (ap (option_map (λ name. NotSet name)) f))), refl) (λ request. refl) refl (λ e. false_true e)
+              silent (says.Request q) after (Some (NotSet name)) NoName of same (
+                subst (λ b. MatchBool b (Some (NotSet name) ≡ Some (Refused NotActive)) (OfSaid job t (says.Request q) (Some (NotSet name)))) (sym on)
+                    (subst (λ v. OfAsked job t q v (Some (NotSet name))) (sym none) (sym (ap (option_map (λ name. NotSet name)) f))),
+                refl,
+              ) (λ request. refl) refl (λ e. false_true e)
 
     -- the request passes
     passes : (after : Asking) (y : Answer) (r : Request) → not (is_active job.state.owners t) ≡ false → resolved job.names q ≡ Some r → Passes mid job t r y after → Stands after (full_reason (Some later) after.why.read after.why.reason y) y

@@ -46,6 +46,5 @@ impl Observer for Unobserved {
         _request: &Request,
         _refusal: Refusal,
         _left: &Shortfall,
-    ) {
-    }
+    ) {}
 }

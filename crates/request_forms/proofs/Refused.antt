@@ -42,8 +42,12 @@ module _ (st : State) (t : Name) where
   of_places request number ps x n e active (inr (valid, inl h)) = subst (Concerns st t request) (sym h.1) (ap (list_all on_doubleword) e ∙ not_true (list_all on_doubleword ps) h.0)
   of_places request number ps x n e active (inr (valid, inr (on, inl h))) = subst (Concerns st t request) (sym h.1) (active, ap is_invalid n ∙ valid)
   of_places request number ps x n e active (inr (valid, inr (on, inr (some, inl h)))) =
-      subst (Concerns st t request) (sym h.1) (active, ap is_invalid n ∙ valid, ap (list_all on_doubleword) e ∙ not_false (list_all on_doubleword ps) on,
-      subst (λ v. SomeUnheld st (subpool_meant st.owners t v) (map whole (released request))) (sym n) (subst (λ qs. SomeUnheld st (subpool_meant st.owners t number) (map whole qs)) (sym e) (at (subpool_meant st.owners t number) refl some h.0))) where
+      subst (Concerns st t request) (sym h.1) (
+        active,
+        ap is_invalid n ∙ valid,
+        ap (list_all on_doubleword) e ∙ not_false (list_all on_doubleword ps) on,
+        subst (λ v. SomeUnheld st (subpool_meant st.owners t v) (map whole (released request))) (sym n) (subst (λ qs. SomeUnheld st (subpool_meant st.owners t number) (map whole qs)) (sym e) (at (subpool_meant st.owners t number) refl some h.0)),
+      ) where
         at : (v : Option ℕ) → subpool_meant st.owners t number ≡ v → not (is_some v) ≡ false → (HoldsEach st v (map whole ps) → ⊥) → SomeUnheld st (subpool_meant st.owners t number) (map whole ps)
         at None is some lacks = absurd (let f : true ≡ false = some in cc)
         at (Some s) is some lacks = (s, is, lacks)

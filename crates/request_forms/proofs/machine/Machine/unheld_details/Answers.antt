@@ -15,10 +15,12 @@ returns c =
     sym (c.subpool.ensures ∙ ap (λ n. subpool_meant c.self.inside.tasks.owners n c.in-Some.number) (found_name c.self.inside.tasks c.task_of.result name c.task_of.ensures) ∙ ap (λ (st : State). subpool_meant st.owners name c.in-Some.number) c.self.view_is) ∙ c.in-Some-subpool.is in
     let h = c.in-Some-unheld_in.ensures c.self.inside.tasks.owners in
     let at = c.in-Some-unheld_in.at in
-    let index : at / 8 ≡ h.0 = omega (arith, h.1) in
-    (refl, (
-      h.0,
-      h.1,
-      subst (λ n. FirstUnheld st (subpool_meant st.owners name n) (map whole (released c.args.request.now)) h.0) (c.in-Some.ensures.1 ∙ c.number_of.ensures) (rw (meant, ← c.released.ensures) (subst (λ (st : State). IsUnheld st s (map whole c.released.result.now) h.0) c.self.view_is h.2)),
-      subst (λ d. Holds st d c.holder.result) index c.holder.ensures,
-    ))
+    let index : at / 8 ≡ h.0 = omega (arith, h.1) in (
+      refl,
+      (
+        h.0,
+        h.1,
+        subst (λ n. FirstUnheld st (subpool_meant st.owners name n) (map whole (released c.args.request.now)) h.0) (c.in-Some.ensures.1 ∙ c.number_of.ensures) (rw (meant, ← c.released.ensures) (subst (λ (st : State). IsUnheld st s (map whole c.released.result.now) h.0) c.self.view_is h.2)),
+        subst (λ d. Holds st d c.holder.result) index c.holder.ensures,
+      ),
+    )
