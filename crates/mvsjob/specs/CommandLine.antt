@@ -9,7 +9,7 @@ use Rattle.clap.specs.declared.builder.value_parser.ValueParser.TheVariants.{Nam
 use Rattle.mvsjob.specs.declared.choices.Color.{Color}
 use Rattle.mvsjob.specs.declared.choices.Recipe.{Recipe}
 use Rattle.random_script.specs.declared.Profile.{Profile}
-use Rattle.random_script.specs.declared.Profile.TheVariants.{Tasks, Pools, Tidy, Faults, Storage}
+use Rattle.random_script.specs.declared.Profile.TheVariants.{Tasks, Pools, Tidy, Faults, Lists, Boundaries, Whole, All, Storage}
 use Rattle.mvsjob.specs.declared.choices.Color.TheVariants.{Auto, Always, Never}
 use Rattle.std.specs.Str.Parse.{IsNumeral, digits_value, without_leading_plus}
 use Rattle.mvsjob.specs.declared.choices.Mode.{Mode}
@@ -32,7 +32,7 @@ places = codes "low" ∷ codes "high" ∷ []
 
 -- the values of `--profile`
 abbrev pub profiles : List Text
-profiles = codes "storage" ∷ codes "tasks" ∷ codes "pools" ∷ codes "tidy" ∷ codes "faults" ∷ []
+profiles = codes "storage" ∷ codes "tasks" ∷ codes "pools" ∷ codes "tidy" ∷ codes "faults" ∷ codes "lists" ∷ codes "boundaries" ∷ codes "whole" ∷ codes "all" ∷ []
 
 -- the values of `--color`
 abbrev pub colors : List Text
@@ -94,7 +94,11 @@ pub record IsProfile (said : Option Text) (profile : Profile) : Type 0 where
   pub pools : said ≢ Some (codes "tasks") → said ≡ Some (codes "pools") → profile ≡ Pools
   pub tidy : said ≢ Some (codes "tasks") → said ≢ Some (codes "pools") → said ≡ Some (codes "tidy") → profile ≡ Tidy
   pub faults : said ≢ Some (codes "tasks") → said ≢ Some (codes "pools") → said ≢ Some (codes "tidy") → said ≡ Some (codes "faults") → profile ≡ Faults
-  pub storage : said ≢ Some (codes "tasks") → said ≢ Some (codes "pools") → said ≢ Some (codes "tidy") → said ≢ Some (codes "faults") → profile ≡ Storage
+  pub lists : said ≢ Some (codes "tasks") → said ≢ Some (codes "pools") → said ≢ Some (codes "tidy") → said ≢ Some (codes "faults") → said ≡ Some (codes "lists") → profile ≡ Lists
+  pub boundaries : said ≢ Some (codes "tasks") → said ≢ Some (codes "pools") → said ≢ Some (codes "tidy") → said ≢ Some (codes "faults") → said ≢ Some (codes "lists") → said ≡ Some (codes "boundaries") → profile ≡ Boundaries
+  pub whole : said ≢ Some (codes "tasks") → said ≢ Some (codes "pools") → said ≢ Some (codes "tidy") → said ≢ Some (codes "faults") → said ≢ Some (codes "lists") → said ≢ Some (codes "boundaries") → said ≡ Some (codes "whole") → profile ≡ Whole
+  pub all : said ≢ Some (codes "tasks") → said ≢ Some (codes "pools") → said ≢ Some (codes "tidy") → said ≢ Some (codes "faults") → said ≢ Some (codes "lists") → said ≢ Some (codes "boundaries") → said ≢ Some (codes "whole") → said ≡ Some (codes "all") → profile ≡ All
+  pub storage : said ≢ Some (codes "tasks") → said ≢ Some (codes "pools") → said ≢ Some (codes "tidy") → said ≢ Some (codes "faults") → said ≢ Some (codes "lists") → said ≢ Some (codes "boundaries") → said ≢ Some (codes "whole") → said ≢ Some (codes "all") → profile ≡ Storage
 
 -- It has the seed that `--random` has, and the lines that `--lines` has, or 100.
 pub record IsRecipe (random lines profile : Option Text) (recipe : Recipe) : Type 0 where

@@ -63,7 +63,17 @@ static COLORS: [&str; 3] = ["auto", "always", "never"];
 static PLACES: [&str; 2] = ["low", "high"];
 
 /// The values of the option `--profile`.
-static PROFILES: [&str; 5] = ["storage", "tasks", "pools", "tidy", "faults"];
+static PROFILES: [&str; 9] = [
+    "storage",
+    "tasks",
+    "pools",
+    "tidy",
+    "faults",
+    "lists",
+    "boundaries",
+    "whole",
+    "all",
+];
 
 /// An option, and the options that have no meaning with it.
 type Excluding = (&'static str, &'static [&'static str]);
@@ -460,6 +470,14 @@ fn profile(matches: &ArgMatches<'_>) -> Profile
         Profile::Tidy
     } else if says(matches, "profile", "faults") {
         Profile::Faults
+    } else if says(matches, "profile", "lists") {
+        Profile::Lists
+    } else if says(matches, "profile", "boundaries") {
+        Profile::Boundaries
+    } else if says(matches, "profile", "whole") {
+        Profile::Whole
+    } else if says(matches, "profile", "all") {
+        Profile::All
     } else {
         Profile::Storage
     }
