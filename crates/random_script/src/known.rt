@@ -98,12 +98,18 @@ impl Known {
         self.areas[place].map(|area| (place, area))
     }
 
-    /// An area whose task is active, if one comes up, and its place.
+    /// An area whose task is active, if there is one, and its place.
     pub fn live_area(&self, dice: &mut Dice) -> Option<(usize, Area)> {
-        match self.area(dice) {
-            Some((place, area)) if self.is_active(area.task) => Some((place, area)),
-            Some(_) | None => None,
+        let first = dice.below(AREAS as u32) as usize;
+        for offset in 0..AREAS {
+            let place = (first + offset) % AREAS;
+            if let Some(area) = self.areas[place] {
+                if self.is_active(area.task) {
+                    return Some((place, area));
+                }
+            }
         }
+        None
     }
 
     // Whether a task is active.

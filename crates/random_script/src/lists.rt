@@ -1,5 +1,7 @@
 //! Obtains and releases of several areas by one request.
 
+ghost use Rattle.std.specs.Prelude.{◌<◌};
+
 use crate::dice::Dice;
 use crate::known::{AREAS, Area, Known, Task};
 use crate::operands::{
@@ -18,7 +20,9 @@ pub struct Members {
 }
 
 /// Returns the place of a member.
-pub fn place_of(first: usize, member: usize) -> usize {
+pub fn place_of(first: usize, member: usize) -> usize
+    ensures { result < 16 }
+{
     first.wrapping_add(member) % AREAS
 }
 

@@ -28,7 +28,7 @@ fn write_pool(line: &mut String, dice: &mut Dice) -> Result<(), AllocError> {
     write_location(line, dice)
 }
 
-/// Writes a BUILD of a pool that is not there.
+/// Writes a BUILD of a pool.
 pub fn build(
     line: &mut String,
     dice: &mut Dice,
@@ -63,7 +63,7 @@ fn free(
     Ok(Change::Gives(place))
 }
 
-/// Writes a statement of a cell pool: a BUILD where there is no pool of the name.
+/// Writes a statement of a cell pool: a BUILD where there is no pool of the name, and rarely where there is one.
 pub fn any_pool(
     line: &mut String,
     dice: &mut Dice,
@@ -76,6 +76,7 @@ pub fn any_pool(
     }
     match known.cell(dice) {
         Some(found) if dice.is_one_of(2) => free(line, dice, task, found),
+        _ if task.0 > 0 && dice.is_one_of(8) => build(line, dice, task, pool),
         _ if dice.is_one_of(16) => {
             write!(line, "{task} CPOOL DELETE,CPID=P{pool}")?;
             Ok(Change::Deletes(pool))
@@ -89,14 +90,19 @@ pub fn any_pool(
     }
 }
 
-/// Writes a statement of a pool that is refused: there is none of the name or there is one, or the cell is none.
+/// Writes a statement of a pool that is refused: there is none of the name or there is one, or the cell is none. It may also write a
+/// BUILD that is granted.
 pub fn refused_pool(
     line: &mut String,
     dice: &mut Dice,
     known: &Known,
     task: Task,
 ) -> Result<Change, AllocError> {
-    let pool = dice.below(POOLS as u32) as usize;
+    let other = dice.below(POOLS as u32) as usize;
+    let pool = if known.pools[0] { 0 } else { other };
+    if !known.pools[pool] && dice.is_one_of(2) {
+        return build(line, dice, task, pool);
+    }
     if !known.pools[pool] {
         match dice.below(3) {
             0 => write!(line, "{task} CPOOL GET,CPID=P{pool},CELL=C0")?,
@@ -105,13 +111,13 @@ pub fn refused_pool(
         }
         return Ok(Change::Nothing);
     }
-    match dice.below(4) {
-        0 => write!(line, "{task} CPOOL BUILD,CPID=P{pool},CSIZE=8,PCELLCT=1")?,
-        1 => write!(
+    match dice.below(6) {
+        0..=2 => write!(line, "{task} CPOOL BUILD,CPID=P{pool},CSIZE=8,PCELLCT=1")?,
+        3 => write!(
             line,
             "{task} CPOOL BUILD,CPID=NEW,CSIZE=65536,PCELLCT=65536"
         )?,
-        2 => write!(line, "{task} CPOOL BUILD,CPID=NEW,CSIZE=8,PCELLCT=1,SP=133")?,
+        4 => write!(line, "{task} CPOOL BUILD,CPID=NEW,CSIZE=8,PCELLCT=1,SP=133")?,
         _ => write!(line, "{task} CPOOL FREE,CPID=P{pool},CELL=X'01000004'")?,
     }
     Ok(Change::Nothing)

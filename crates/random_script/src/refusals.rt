@@ -2,7 +2,7 @@
 
 use crate::dice::Dice;
 use crate::forms::{Manner, new_area, obtain_area, release_bytes, release_whole};
-use crate::known::{AREAS, Area, Known, Task};
+use crate::known::{Area, Known, Task};
 use crate::lists::refused_list;
 use crate::operands::invalid_number;
 use crate::pools::refused_pool;
@@ -19,31 +19,19 @@ static OUTSIDE: [&str; 4] = [
     "MOVE X'00006000',X'7FFFFFF8',65536",
 ];
 
-// Returns an area that is known, or one that was never granted.
-fn any_area(known: &Known, dice: &mut Dice, task: Task) -> (usize, Area) {
-    match known.live_area(dice) {
-        Some(found) => found,
-        None => (
-            dice.below(AREAS as u32) as usize,
-            Area {
-                task,
-                number: 0,
-                len: 8,
-                addr: 0x6000,
-            },
-        ),
-    }
-}
-
-// Writes a release that is refused: its number is invalid, its address is not on a doubleword, or the storage is not held.
+// Writes a release that is refused: its number is invalid, its address is not on a doubleword, or the storage is not held. If no
+// area is known, it writes an obtain.
 fn refused_release(
     line: &mut String,
     dice: &mut Dice,
     known: &Known,
     task: Task,
 ) -> Result<Change, AllocError> {
-    let (place, area) = any_area(known, dice, task);
-    match dice.below(5) {
+    let Some((place, area)) = known.live_area(dice) else {
+        let area = new_area(dice, task);
+        return obtain_area(line, dice, Manner::Plain, area);
+    };
+    match dice.below(6) {
         0 | 1 => {
             let number = invalid_number(dice);
             release_bytes(line, dice, (place, Area { number, ..area }), 0, area.len)?;
@@ -52,7 +40,7 @@ fn refused_release(
             let number = invalid_number(dice);
             release_whole(line, dice, task, number)?;
         }
-        3 => {
+        3 | 4 => {
             release_bytes(line, dice, (place, area), 4, 8)?;
         }
         _ => {
@@ -81,10 +69,10 @@ fn refused_obtain(line: &mut String, dice: &mut Dice, task: Task) -> Result<Chan
 
 // Writes a statement of a task that is not active, or with a name that is not set.
 fn not_executed(line: &mut String, dice: &mut Dice, task: Task) -> Result<Change, AllocError> {
-    match dice.below(4) {
-        0 => write!(line, "Z REPORT SP")?,
-        1 => write!(line, "{task} WHERE NOTSET")?,
-        2 => write!(line, "{task} SHOW NOTSET+8,8")?,
+    match dice.below(6) {
+        0..=2 => write!(line, "Z REPORT SP")?,
+        3 => write!(line, "{task} WHERE NOTSET")?,
+        4 => write!(line, "{task} SHOW NOTSET+8,8")?,
         _ => write!(line, "{task} FREEMAIN VC,A=NOTSET")?,
     }
     Ok(Change::Nothing)
