@@ -79,10 +79,10 @@ pub fn obtain_list(line: &mut String, dice: &mut Dice, task: Task) -> Result<Cha
 }
 
 // Returns how many areas from a place on belong together, at most four.
-fn alike(known: &Known, first: usize, area: Area) -> usize {
-    let mut count = 0usize;
-    for member in 0..4usize {
-        let found = known.areas[place_of(first, member)];
+fn alike(known: &Known, first: usize, area: Area) -> u32 {
+    let mut count = 0u32;
+    for member in 0..4u32 {
+        let found = known.areas[place_of(first, member as usize)];
         let is_alike = match found {
             Some(other) => other.task == area.task && other.number == area.number,
             None => false,
@@ -136,7 +136,7 @@ pub fn release_list(
     found: (usize, Area),
 ) -> Result<Change, AllocError> {
     let (first, area) = found;
-    let most = alike(known, first, area) as u32;
+    let most = alike(known, first, area);
     let count = 1 + dice.below(most.max(1)) as usize;
     let form = if dice.is_one_of(4) { "LU" } else { "LC" };
     write!(line, "{} FREEMAIN {form},LA=", area.task)?;
