@@ -18,7 +18,7 @@ from documents import dead_links, documents
 
 TOP = Path(__file__).resolve().parent.parent
 PACKAGES = ("mvsjob", "libmvs0", "libmvs-dev", "mvsjob-conformance")
-PAGES = ("1/mvsjob.1", "1/mvsjob-asm.1", "1/mvsjob-conform.1", "5/mvsjob-script.5")
+PAGES = ("1/mvsjob.1", "1/mvsjob-asm.1", "1/mvsjob-conform.1", "5/mvsjob-script.5", "7/mvsjob-sheet.7")
 EXAMPLES = sorted((TOP / "examples").glob("*.job"))
 FIRST = (TOP / "examples/first.job").read_text()
 PRINTED = (TOP / "examples/first.out").read_text()

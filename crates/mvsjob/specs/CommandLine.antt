@@ -6,6 +6,8 @@ use Rattle.clap.specs.Walk.{Rule}
 use Rattle.clap.specs.declared.builder.action.ArgAction.TheVariants.{SetTrue}
 use Rattle.clap.specs.declared.builder.value_parser.ValueParser.{ValueParser}
 use Rattle.clap.specs.declared.builder.value_parser.ValueParser.TheVariants.{Names, NonEmptyString, Unsigned}
+use Rattle.annotated.specs.declared.report.Format.{Format}
+use Rattle.annotated.specs.declared.report.Format.TheVariants as form
 use Rattle.mvsjob.specs.declared.choices.Color.{Color}
 use Rattle.mvsjob.specs.declared.choices.Recipe.{Recipe}
 use Rattle.random_script.specs.declared.Profile.{Profile}
@@ -20,15 +22,20 @@ abbrev pub IsOneOf : List Text → ValueParser → Type 0
 IsOneOf values (Names names) = map (λ name. name.now) names.now ≡ values
 IsOneOf values _ = ⊥
 
--- how the values of `--place`, of `--profile` and of `--color` are read
+-- how the values of `--place`, of `--format`, of `--profile` and of `--color` are read
 pub record Parsers : Type 0 where
   pub place : ValueParser
+  pub format : ValueParser
   pub profile : ValueParser
   pub color : ValueParser
 
 -- the values of `--place`
 abbrev pub places : List Text
 places = codes "low" ∷ codes "high" ∷ []
+
+-- the values of `--format`
+abbrev pub formats : List Text
+formats = codes "text" ∷ codes "tap" ∷ codes "junit" ∷ []
 
 -- the values of `--profile`
 abbrev pub profiles : List Text
@@ -40,6 +47,7 @@ colors = codes "auto" ∷ codes "always" ∷ codes "never" ∷ []
 
 pub record AreParsers (ps : Parsers) : Type 0 where
   pub place : IsOneOf places ps.place
+  pub format : IsOneOf formats ps.format
   pub profile : IsOneOf profiles ps.profile
   pub color : IsOneOf colors ps.color
 
@@ -55,9 +63,13 @@ value_rule name parser = record (new_rule name) { long = Some name; parser = Som
 abbrev pub versioned : App → App
 versioned a = on_top (λ s. record s { has_version = true }) a
 
--- the command with what is done with a script and the answers that it says
+-- the command with the options that compare answers
+abbrev pub checking_app : App → App
+checking_app a = with_rule (with_rule a (flag_rule (codes "check"))) (flag_rule (codes "hide"))
+
+-- with what else is done with a script and its answers
 abbrev pub answers_app : App → App
-answers_app a = with_rule (with_rule (with_rule a (flag_rule (codes "check"))) (flag_rule (codes "blank"))) (flag_rule (codes "assemble"))
+answers_app a = with_rule (with_rule a (flag_rule (codes "blank"))) (flag_rule (codes "assemble"))
 
 -- with what is asked of the output of another program
 abbrev pub judging_app : App → App
@@ -73,11 +85,11 @@ telling_app a =
     with_rule (with_rule (with_rule (with_rule (with_rule a (flag_rule (codes "explain"))) (flag_rule (codes "json"))) (flag_rule (codes "page")))
     (flag_rule (codes "strict"))) (flag_rule (codes "interactive"))
 
--- the program's command: a word and fifteen options, which may all be left out, and a version
+-- the program's command: a word and seventeen options, which may all be left out, and a version
 abbrev pub command : Parsers → App
 command ps =
-    with_rule (telling_app (with_rule (random_app (judging_app (answers_app
-    (with_rule (with_rule (versioned (new_app (codes "mvsjob"))) (new_rule (codes "FILE"))) (value_rule (codes "place") ps.place)))))
+    with_rule (telling_app (with_rule (random_app (judging_app (answers_app (with_rule (checking_app
+    (with_rule (with_rule (versioned (new_app (codes "mvsjob"))) (new_rule (codes "FILE"))) (value_rule (codes "place") ps.place))) (value_rule (codes "format") ps.format)))))
     (value_rule (codes "profile") ps.profile))) (value_rule (codes "color") ps.color)
 
 -- what of the words clap gives to an argument
@@ -132,3 +144,9 @@ IsTaken words = (ps : Parsers) → AreParsers ps → takes (command ps) words �
 -- Clap finds this wrong with the words: the kinds of error that it may give, and none where it takes them.
 abbrev pub FindsWrong : List Text → Kinds → Type 0
 FindsWrong words kinds = (ps : Parsers) × AreParsers ps × (fault_of (command ps) words ≡ kinds)
+
+-- A report is in the form that `--format` names, and text where it names none.
+pub record IsFormat (said : Option Text) (format : Format) : Type 0 where
+  pub tap : said ≡ Some (codes "tap") → format ≡ form.Tap
+  pub junit : said ≢ Some (codes "tap") → said ≡ Some (codes "junit") → format ≡ form.Junit
+  pub text : said ≢ Some (codes "tap") → said ≢ Some (codes "junit") → format ≡ form.Text

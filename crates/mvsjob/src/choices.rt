@@ -1,5 +1,6 @@
 //! What the words of the command line ask for.
 
+use annotated::Form;
 use mvs_model::want::Placement;
 use random_script::Profile;
 
@@ -58,6 +59,8 @@ pub struct Settings<'a> {
     /// The name of the file with the output that is judged; empty where none is.
     pub judged: &'a str,
     pub mode: Mode,
+    /// How answers that were compared are reported.
+    pub form: Form,
     /// Whether a run says why requests are refused.
     pub explains: bool,
     /// Whether a run prints its events as lines of JSON.

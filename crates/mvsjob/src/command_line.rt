@@ -5,9 +5,10 @@ ghost use Rattle.std.specs.Option.{unwrap_or};
 ghost use Rattle.clap.specs.Words.{IsAmong, Kinds, Text, app_of, first_value, found_of, kind_of, new_app, new_rule, with_rule};
 ghost use Rattle.clap.specs.declared.error.kind.ErrorKind.TheVariants.{OutOfMemory};
 ghost use Rattle.clap.specs.declared.builder.value_parser.ValueParser.{ValueParser as Parser};
-ghost use Rattle.mvsjob.specs.CommandLine.{AreParsers, FindsWrong, IsColor, IsMode, IsNumber, IsOneOf, IsProfile, IsRecipe, IsTaken, Parsers, answers_app, assigned, colors, command, flag_rule, judging_app, places, profiles, random_app, telling_app, value_rule, versioned};
+ghost use Rattle.mvsjob.specs.CommandLine.{AreParsers, FindsWrong, IsColor, IsFormat, IsMode, IsNumber, IsOneOf, IsProfile, IsRecipe, IsTaken, Parsers, answers_app, assigned, checking_app, colors, command, formats, flag_rule, judging_app, places, profiles, random_app, telling_app, value_rule, versioned};
 
 use crate::choices::{Apart, Color, Mode, Recipe, Settings};
+use annotated::{Form, Format};
 use clap::builder::ValueParser;
 use clap::{Arg, ArgAction, ArgMatches, Command};
 use mvs_model::want::Placement;
@@ -30,13 +31,15 @@ const LONG: &str = "Examples:
   mvsjob                             run lines as you type them; Ctrl-D ends
   mvsjob --page a.job > a.html       show storage and tasks after each statement
   mvsjob --check homework.job        compare the answers after => with those of a run
+  mvsjob --check --hide homework.job
+                                     the same, without what would be right
   mvsjob --assemble leak.job         print an HLASM program that makes the same requests
   mvsjob --random 7 --lines 50 | mvsjob --place high
                                      run a random script, its areas at the highest addresses
 
 Exit status:
   0   the script ran to its end, and no task abended
-  1   --check: an answer differs; --judge: no run of the script prints OUTPUT
+  1   --check: an answer is wrong or missing; --judge: no run of the script prints OUTPUT
   2   --judge: not decided
   4   --strict: no task abended, but a line was not executed (NOT RUN or NO NAME)
   8   the script ran to its end, and a task abended
@@ -47,8 +50,9 @@ Exit status:
 mvsjob-script(5) describes the script language.";
 
 /// The options that have a value, where it is a word of its own.
-static VALUED: [&str; 6] = [
+static VALUED: [&str; 7] = [
     "--place",
+    "--format",
     "--judge",
     "--random",
     "--lines",
@@ -58,6 +62,9 @@ static VALUED: [&str; 6] = [
 
 /// The values of the option `--color`.
 static COLORS: [&str; 3] = ["auto", "always", "never"];
+
+/// The values of the option `--format`.
+static FORMATS: [&str; 3] = ["text", "tap", "junit"];
 
 /// The values of the option `--place`.
 static PLACES: [&str; 2] = ["low", "high"];
@@ -173,8 +180,13 @@ static EXCLUDING: [Excluding; 10] = [
     ("interactive", &["explain"]),
 ];
 
-/// The options that have a meaning with `--random` only.
-static OF_RANDOM: [&str; 2] = ["lines", "profile"];
+/// The options that have a meaning with another one only, and that one.
+static NEEDING: [(&str, &str); 4] = [
+    ("lines", "random"),
+    ("profile", "random"),
+    ("hide", "check"),
+    ("format", "check"),
+];
 
 // The command without its words: its name, its version, and what the help says around them.
 fn titled<'a>(alloc: Global) -> Command<'a>
@@ -248,18 +260,46 @@ fn with_place<'a>(command: Command<'a>, alloc: Global) -> Result<Command<'a>, Al
     )
 }
 
-// The command with what is done with the script and the answers that it says.
-fn with_answers<'a>(command: Command<'a>, alloc: Global) -> Result<Command<'a>, AllocError>
-    ensures { IfOk result (λ c. app_of c ≡ answers_app (app_of command.entry)) }
+// Adds the options that compare the answers of a script with those of a run.
+fn with_checking<'a>(command: Command<'a>, alloc: Global) -> Result<Command<'a>, AllocError>
+    ensures { IfOk result (λ c. app_of c ≡ checking_app (app_of command.entry)) }
 {
     let checking = with_flag(
         command,
         alloc,
         "check",
-        "Compare the answers after => in the script with those of a run, and print each difference",
+        "Compare the answers after => in the script with those of a run, and count those that are right",
     )?;
-    let blanking = with_flag(
+    with_flag(
         checking,
+        alloc,
+        "hide",
+        "With --check, do not print what the run has in place of a wrong answer",
+    )
+}
+
+// Adds the option for the form of the report.
+fn with_format<'a>(command: Command<'a>, alloc: Global) -> Result<Command<'a>, AllocError>
+    ensures { IfOk result
+        (λ c. (format : Parser) × IsOneOf formats format
+        × (app_of c ≡ with_rule (app_of command.entry) (value_rule (codes "format") format))) }
+{
+    with_option(
+        command,
+        alloc,
+        "format",
+        "FORMAT",
+        ValueParser::Names(FORMATS.as_slice()),
+        "With --check, print the report as text, as TAP, or as JUnit's XML [default: text]",
+    )
+}
+
+// Adds the other options for what is done with the script.
+fn with_answers<'a>(command: Command<'a>, alloc: Global) -> Result<Command<'a>, AllocError>
+    ensures { IfOk result (λ c. app_of c ≡ answers_app (app_of command.entry)) }
+{
+    let blanking = with_flag(
+        command,
         alloc,
         "blank",
         "Print the script with ? in place of the answers after =>",
@@ -382,13 +422,15 @@ fn with_color<'a>(command: Command<'a>, alloc: Global) -> Result<Command<'a>, Al
     )
 }
 
-// Makes the command: a file and fifteen options, all of which are optional.
+// Makes the command: a file and seventeen options, all of which are optional.
 fn command<'a>(alloc: Global) -> Result<Command<'a>, AllocError>
     ensures { IfOk result (λ c. (ps : Parsers) × AreParsers ps × (app_of c ≡ command ps)) }
 {
     let scripted = with_script(alloc)?;
     let placed = with_place(scripted, alloc)?;
-    let answered = with_answers(placed, alloc)?;
+    let checking = with_checking(placed, alloc)?;
+    let formatted = with_format(checking, alloc)?;
+    let answered = with_answers(formatted, alloc)?;
     let judged = with_judging(answered, alloc)?;
     let random = with_random(judged, alloc)?;
     let profiled = with_profile(random, alloc)?;
@@ -455,6 +497,19 @@ fn color(matches: &ArgMatches<'_>) -> Color
         Color::Never
     } else {
         Color::Auto
+    }
+}
+
+// Returns the form of the report of a check.
+fn format(matches: &ArgMatches<'_>) -> Format
+    ensures { IsFormat (first_value (found_of matches.now) (codes "format")) result }
+{
+    if says(matches, "format", "tap") {
+        Format::Tap
+    } else if says(matches, "format", "junit") {
+        Format::Junit
+    } else {
+        Format::Text
     }
 }
 
@@ -536,9 +591,9 @@ fn apart(matches: &ArgMatches<'_>) -> Option<Apart> {
             }
         }
     }
-    for one in OF_RANDOM {
-        if is_given(matches, one) && !is_given(matches, "random") {
-            return Some(Apart::Needs(one, "random"));
+    for (one, other) in NEEDING {
+        if is_given(matches, one) && !is_given(matches, other) {
+            return Some(Apart::Needs(one, other));
         }
     }
     None
@@ -611,7 +666,10 @@ pub fn settings<'a>(alloc: Global, words: &'a [String]) -> Result<Settings<'a>, 
         × (IsTrue s.interactive
         ↔ assigned ps (map string_bytes words.entry.now) (codes "interactive")
         ≡ Some (codes "true"))
-        × IsColor (assigned ps (map string_bytes words.entry.now) (codes "color")) s.color) }
+        × IsColor (assigned ps (map string_bytes words.entry.now) (codes "color")) s.color
+        × IsFormat (assigned ps (map string_bytes words.entry.now) (codes "format")) s.form.format
+        × (IsTrue s.form.is_hidden
+        ↔ assigned ps (map string_bytes words.entry.now) (codes "hide") ≡ Some (codes "true"))) }
     // Clap finds nothing wrong with words that are taken; an error is of a kind that it finds, or want of memory.
     ensures taken { IfOk result (λ _. FindsWrong (map string_bytes words.entry.now) []) }
     ensures kinds { IfErr result
@@ -634,6 +692,10 @@ pub fn settings<'a>(alloc: Global, words: &'a [String]) -> Result<Settings<'a>, 
         strict: is_set(&matches, "strict"),
         interactive: is_set(&matches, "interactive"),
         color: color(&matches),
+        form: Form {
+            format: format(&matches),
+            is_hidden: is_set(&matches, "hide"),
+        },
         apart: apart(&matches),
     })
 }

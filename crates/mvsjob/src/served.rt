@@ -3,6 +3,7 @@
 ghost use Rattle.std.specs.Prelude.{◌≡◌, ◌≤◌, ◌⊎◌, IfOk, IsTrue, None, Some, false, length};
 ghost use Rattle.mvs_model.specs.Numbers.{most_script_bytes};
 ghost use Rattle.mvsjob.specs.declared.choices.Recipe.{Recipe};
+ghost use Rattle.mvsjob.specs.Checking.{Checks};
 ghost use Rattle.mvsjob.specs.Served.{Asks, Blanks, EndsAtFault, Explains, HasNoForeign, IsFaultOf, IsPrinted, Judges, Pages, RunsStrictly, Tells};
 
 use crate::answers::{check_answers, write_blanks, write_questions};
@@ -213,6 +214,8 @@ pub fn serve_script<'a, W: Write, H: Hears>(
         (H.heard hearer.old) (H.heard hearer.new) script.now result }
     ensures json { settings.now.mode ≡ Mode.Run → IsTrue settings.now.json → IfOk result
         (Tells (W.contents writer.old.inner) (W.contents writer.new.inner) script.now) }
+    ensures check { settings.now.mode ≡ Mode.Check
+        → Checks (W.contents writer.old.inner) (W.contents writer.new.inner) settings.now.form settings.now.file.now script.now result }
     ensures blank { settings.now.mode ≡ Mode.Blank → HasNoForeign script.now
         → Blanks (W.contents writer.old.inner) (W.contents writer.new.inner) script.now result }
     ensures ask { settings.now.mode ≡ Mode.Ask → HasNoForeign script.now
