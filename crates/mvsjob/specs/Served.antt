@@ -1,5 +1,5 @@
 -- The effect of a mode on a script that was read whole: what it writes, how the program ends, and which line to report.
-use Rattle.std.specs.Prelude.{◌≡◌, ℕ, List, ◌∷◌, ◌++◌, ◌==◌, ◌&&◌, ◌||◌, nat_lt, not, position, Option, Some, None, Result, Ok, Err, Bool, true, false, codes}
+use Rattle.std.specs.Prelude.{◌≡◌, ℕ, List, ◌∷◌, ◌++◌, ◌==◌, ◌&&◌, ◌||◌, nat_lt, not, position, Option, Some, None, Result, Ok, Err, Bool, true, false, codes, string_bytes}
 use Rattle.std.specs.Io.KnownBytes.{Appends}
 use Rattle.annotated.specs.Blank.{blank}
 use Rattle.event_json.specs.Lines.{WritesLines}
@@ -22,6 +22,7 @@ use Rattle.mvs_job.specs.declared.run.RunFault.TheVariants as fault
 use Rattle.mvs_job.specs.Explaining.{WritesExplained}
 use Rattle.mvs_job.specs.Streams.{PrintedUpTo}
 use Rattle.mvs_job.specs.Strict.{HearsFront, PrintsStrictly, Skipped}
+use Rattle.reference.specs.Texts.{IsAbout}
 use Rattle.page.specs.Pages.{WritesPage, WritesShown}
 use Rattle.mvsjob.specs.declared.ending.Ending.TheVariants.{Ran, Printed, Judged}
 use Rattle.mvsjob.specs.declared.ending.GiveUp.{GiveUp}
@@ -83,6 +84,10 @@ EndsAtFault script served =
 abbrev pub WritesText : Option (List ℕ) → Option (List ℕ) → List ℕ → Result Served GiveUp → Type 0
 WritesText before after text (Ok served) = Appends before after text × IsPrinted served
 WritesText before after text (Err why) = AppendsFront before after text × (why ≡ Job fault.Write)
+
+-- A text is written that begins with this name.
+abbrev pub WritesAbout : Option (List ℕ) → Option (List ℕ) → List ℕ → Result Served GiveUp → Type 0
+WritesAbout before after name result = (text : List ℕ) × IsAbout name text × WritesText before after (string_bytes text) result
 
 -- The script is written with ? for its answers.
 abbrev pub Blanks : Option (List ℕ) → Option (List ℕ) → List ℕ → Result Served GiveUp → Type 0
