@@ -1,5 +1,5 @@
 -- The effect of a mode on a script that was read whole: what it writes, how the program ends, and which line to report.
-use Rattle.std.specs.Prelude.{◌≡◌, ℕ, List, ◌∷◌, ◌++◌, ◌==◌, ◌&&◌, ◌||◌, nat_lt, not, position, Option, Some, None, Result, Ok, Err, Bool, true, false, codes, string_bytes}
+use Rattle.std.specs.Prelude.{◌≡◌, ℕ, List, ◌∷◌, ◌++◌, ◌==◌, ◌&&◌, ◌||◌, nat_lt, not, position, Option, Some, None, Result, Ok, Err, Bool, true, false, codes}
 use Rattle.std.specs.Io.KnownBytes.{Appends}
 use Rattle.annotated.specs.Blank.{blank}
 use Rattle.event_json.specs.Lines.{WritesLines}
@@ -87,7 +87,7 @@ WritesText before after text (Err why) = AppendsFront before after text × (why 
 
 -- A text is written that begins with this name.
 abbrev pub WritesAbout : Option (List ℕ) → Option (List ℕ) → List ℕ → Result Served GiveUp → Type 0
-WritesAbout before after name result = (text : List ℕ) × IsAbout name text × WritesText before after (string_bytes text) result
+WritesAbout before after name result = (text : List ℕ) × IsAbout name text × WritesText before after text result
 
 -- The script is written with ? for its answers.
 abbrev pub Blanks : Option (List ℕ) → Option (List ℕ) → List ℕ → Result Served GiveUp → Type 0

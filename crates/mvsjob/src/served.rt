@@ -1,6 +1,6 @@
 //! Serves a script that was read whole: what each mode does with it.
 
-ghost use Rattle.std.specs.Prelude.{◌≡◌, ◌≤◌, ◌⊎◌, ℕ, Contains, IfOk, IfSome, IsTrue, None, Some, false, length, string_bytes};
+ghost use Rattle.std.specs.Prelude.{◌≡◌, ◌≤◌, ◌⊎◌, ℕ, Contains, IfOk, IfSome, IsTrue, None, Some, false, length};
 ghost use Rattle.mvs_model.specs.Numbers.{most_script_bytes};
 ghost use Rattle.mvsjob.specs.declared.choices.Recipe.{Recipe};
 ghost use Rattle.mvsjob.specs.Served.{Asks, Blanks, EndsAtFault, Explains, HasNoForeign, IsFaultOf, IsPrinted, Judges, Pages, RunsStrictly, Tells, WritesAbout, WritesText};
@@ -165,7 +165,7 @@ fn write_text<W: Write>(
     text: Option<&'static str>,
 ) -> Result<Served<'static>, GiveUp>
     ensures { IfSome text (λ t. WritesText (W.contents writer.old.inner)
-        (W.contents writer.new.inner) (string_bytes t.now) result) }
+        (W.contents writer.new.inner) t.now result) }
 {
     match text {
         Some(text) => match write_all(writer, text.as_bytes()) {
