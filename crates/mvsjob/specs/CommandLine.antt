@@ -11,23 +11,25 @@ use Rattle.annotated.specs.declared.report.Format.TheVariants as form
 use Rattle.mvsjob.specs.declared.choices.Color.{Color}
 use Rattle.mvsjob.specs.declared.choices.Recipe.{Recipe}
 use Rattle.random_script.specs.declared.Profile.{Profile}
+use Rattle.reference.specs.Texts.{names}
 use Rattle.random_script.specs.declared.Profile.TheVariants.{Tasks, Pools, Tidy, Faults, Lists, Boundaries, Whole, All, Storage}
 use Rattle.mvsjob.specs.declared.choices.Color.TheVariants.{Auto, Always, Never}
 use Rattle.std.specs.Str.Parse.{IsNumeral, digits_value, without_leading_plus}
 use Rattle.mvsjob.specs.declared.choices.Mode.{Mode}
-use Rattle.mvsjob.specs.declared.choices.Mode.TheVariants.{Run, Check, Judge, Blank, Ask, Assemble, Random}
+use Rattle.mvsjob.specs.declared.choices.Mode.TheVariants.{Run, Check, Judge, Blank, Ask, Assemble, Random, Code, Rule as RuleOf}
 
 -- A value has to be one of these.
 abbrev pub IsOneOf : List Text → ValueParser → Type 0
 IsOneOf values (Names names) = map (λ name. name.now) names.now ≡ values
 IsOneOf values _ = ⊥
 
--- how the values of `--place`, of `--format`, of `--profile` and of `--color` are read
+-- how the values of `--place`, `--format`, `--profile`, `--color` and `--code` are read
 pub record Parsers : Type 0 where
   pub place : ValueParser
   pub format : ValueParser
   pub profile : ValueParser
   pub color : ValueParser
+  pub code : ValueParser
 
 -- the values of `--place`
 abbrev pub places : List Text
@@ -50,6 +52,7 @@ pub record AreParsers (ps : Parsers) : Type 0 where
   pub format : IsOneOf formats ps.format
   pub profile : IsOneOf profiles ps.profile
   pub color : IsOneOf colors ps.color
+  pub code : IsOneOf names ps.code
 
 -- an option without a value
 abbrev pub flag_rule : Text → Rule
@@ -85,12 +88,16 @@ telling_app a =
     with_rule (with_rule (with_rule (with_rule (with_rule a (flag_rule (codes "explain"))) (flag_rule (codes "json"))) (flag_rule (codes "page")))
     (flag_rule (codes "strict"))) (flag_rule (codes "interactive"))
 
--- the program's command: a word and seventeen options, which may all be left out, and a version
+-- and with the option for the text of a rule
+abbrev pub rule_app : App → App
+rule_app a = with_rule a (value_rule (codes "rule") (Unsigned 1 74))
+
+-- the program's command: a word and nineteen options, which may all be left out, and a version
 abbrev pub command : Parsers → App
 command ps =
-    with_rule (telling_app (with_rule (random_app (judging_app (answers_app (with_rule (checking_app
+    rule_app (with_rule (with_rule (telling_app (with_rule (random_app (judging_app (answers_app (with_rule (checking_app
     (with_rule (with_rule (versioned (new_app (codes "mvsjob"))) (new_rule (codes "FILE"))) (value_rule (codes "place") ps.place))) (value_rule (codes "format") ps.format)))))
-    (value_rule (codes "profile") ps.profile))) (value_rule (codes "color") ps.color)
+    (value_rule (codes "profile") ps.profile))) (value_rule (codes "color") ps.color)) (value_rule (codes "code") ps.code))
 
 -- what of the words clap gives to an argument
 abbrev pub assigned : Parsers → List Text → Text → Option Text
@@ -122,7 +129,7 @@ pub record IsRecipe (random lines profile : Option Text) (recipe : Recipe) : Typ
 -- A random script is made if `--random` is given; else an output is judged with `--judge`; else answers are compared with
 -- `--check`, removed with `--blank`, WHERE statements added with `--ask`, or a program written with `--assemble`; else the script
 -- is run.
-pub record IsMode (random lines profile judge check blank ask assemble : Option Text) (mode : Mode) : Type 0 where
+pub record IsScriptMode (random lines profile judge check blank ask assemble : Option Text) (mode : Mode) : Type 0 where
   pub makes : (seed : Text) → random ≡ Some seed → (recipe : Recipe) × (mode ≡ Random recipe) × IsRecipe random lines profile recipe
   pub judges : (output : Text) → random ≡ None → judge ≡ Some output → mode ≡ Judge
   pub checks : random ≡ None → judge ≡ None → check ≡ Some (codes "true") → mode ≡ Check
@@ -130,6 +137,12 @@ pub record IsMode (random lines profile judge check blank ask assemble : Option 
   pub asks : random ≡ None → judge ≡ None → check ≢ Some (codes "true") → blank ≢ Some (codes "true") → ask ≡ Some (codes "true") → mode ≡ Ask
   pub assembles : random ≡ None → judge ≡ None → check ≢ Some (codes "true") → blank ≢ Some (codes "true") → ask ≢ Some (codes "true") → assemble ≡ Some (codes "true") → mode ≡ Assemble
   pub runs : random ≡ None → judge ≡ None → check ≢ Some (codes "true") → blank ≢ Some (codes "true") → ask ≢ Some (codes "true") → assemble ≢ Some (codes "true") → mode ≡ Run
+
+-- The text of a code is printed if `--code` is given; else that of the rule that `--rule` names; else a script is served.
+pub record IsMode (code rule random lines profile judge check blank ask assemble : Option Text) (mode : Mode) : Type 0 where
+  pub coded : (name : Text) → code ≡ Some name → mode ≡ Code
+  pub ruled : (text : Text) (n : ℕ) → code ≡ None → rule ≡ Some text → IsNumber text n → n ≤ 74 → mode ≡ RuleOf n
+  pub scripted : code ≡ None → rule ≡ None → IsScriptMode random lines profile judge check blank ask assemble mode
 
 -- Answers are coloured where `--color` says `always`, not where it says `never`, and else as it is found out.
 pub record IsColor (said : Option Text) (color : Color) : Type 0 where

@@ -22,6 +22,7 @@ use Rattle.mvs_job.specs.declared.run.RunFault.TheVariants as fault
 use Rattle.mvs_job.specs.Explaining.{WritesExplained}
 use Rattle.mvs_job.specs.Streams.{PrintedUpTo}
 use Rattle.mvs_job.specs.Strict.{HearsFront, PrintsStrictly, Skipped}
+use Rattle.reference.specs.Texts.{IsAbout}
 use Rattle.page.specs.Pages.{WritesPage, WritesShown}
 use Rattle.mvsjob.specs.declared.ending.Ending.TheVariants.{Ran, Printed, Judged}
 use Rattle.mvsjob.specs.declared.ending.GiveUp.{GiveUp}
@@ -83,6 +84,10 @@ EndsAtFault script served =
 abbrev pub WritesText : Option (List ℕ) → Option (List ℕ) → List ℕ → Result Served GiveUp → Type 0
 WritesText before after text (Ok served) = Appends before after text × IsPrinted served
 WritesText before after text (Err why) = AppendsFront before after text × (why ≡ Job fault.Write)
+
+-- A text is written that begins with this name.
+abbrev pub WritesAbout : Option (List ℕ) → Option (List ℕ) → List ℕ → Result Served GiveUp → Type 0
+WritesAbout before after name result = (text : List ℕ) × IsAbout name text × WritesText before after text result
 
 -- The script is written with ? for its answers.
 abbrev pub Blanks : Option (List ℕ) → Option (List ℕ) → List ℕ → Result Served GiveUp → Type 0

@@ -47,6 +47,10 @@ pub enum Mode {
     Assemble,
     /// A random script is written.
     Random(Recipe),
+    /// The text of a code is written.
+    Code,
+    /// The text of the rule with a number is written.
+    Rule(u32),
 }
 
 /// The script, the placement, and what to do.
@@ -58,6 +62,8 @@ pub struct Settings<'a> {
     pub placement: Placement,
     /// The name of the file with the output that is judged; empty where none is.
     pub judged: &'a str,
+    /// The code of which the text is written; empty if none is.
+    pub code: &'a str,
     pub mode: Mode,
     /// How answers that were compared are reported.
     pub form: Form,
@@ -80,6 +86,11 @@ impl Settings<'_> {
     /// Returns whether answers of a run are printed, and not lines of JSON, a page or what other modes print.
     pub fn is_answers(&self) -> bool {
         self.mode == Mode::Run && !self.json && !self.page
+    }
+
+    /// Returns whether no script is read.
+    pub fn is_without_script(&self) -> bool {
+        matches!(self.mode, Mode::Random(_) | Mode::Code | Mode::Rule(_))
     }
 
     /// Returns whether each line of the script runs before the next one is read.

@@ -5,7 +5,8 @@ ghost use Rattle.std.specs.Option.{unwrap_or};
 ghost use Rattle.clap.specs.Words.{IsAmong, Kinds, Text, app_of, first_value, found_of, kind_of, new_app, new_rule, with_rule};
 ghost use Rattle.clap.specs.declared.error.kind.ErrorKind.TheVariants.{OutOfMemory};
 ghost use Rattle.clap.specs.declared.builder.value_parser.ValueParser.{ValueParser as Parser};
-ghost use Rattle.mvsjob.specs.CommandLine.{AreParsers, FindsWrong, IsColor, IsFormat, IsMode, IsNumber, IsOneOf, IsProfile, IsRecipe, IsTaken, Parsers, answers_app, assigned, checking_app, colors, command, formats, flag_rule, judging_app, places, profiles, random_app, telling_app, value_rule, versioned};
+ghost use Rattle.mvsjob.specs.CommandLine.{AreParsers, FindsWrong, IsColor, IsFormat, IsMode, IsNumber, IsOneOf, IsProfile, IsRecipe, IsScriptMode, IsTaken, Parsers, answers_app, assigned, checking_app, colors, command, formats, flag_rule, judging_app, places, profiles, random_app, rule_app, telling_app, value_rule, versioned};
+ghost use Rattle.reference.specs.Texts.{names};
 
 use crate::choices::{Apart, Color, Mode, Recipe, Settings};
 use annotated::{Form, Format};
@@ -34,6 +35,7 @@ const LONG: &str = "Examples:
   mvsjob --check --hide homework.job
                                      the same, without what would be right
   mvsjob --assemble leak.job         print an HLASM program that makes the same requests
+  mvsjob --code S878                 print what a code means, and what to try
   mvsjob --random 7 --lines 50 | mvsjob --place high
                                      run a random script, its areas at the highest addresses
 
@@ -50,7 +52,7 @@ Exit status:
 mvsjob-script(5) describes the script language.";
 
 /// The options that have a value, where it is a word of its own.
-static VALUED: [&str; 7] = [
+static VALUED: [&str; 9] = [
     "--place",
     "--format",
     "--judge",
@@ -58,6 +60,8 @@ static VALUED: [&str; 7] = [
     "--lines",
     "--profile",
     "--color",
+    "--code",
+    "--rule",
 ];
 
 /// The values of the option `--color`.
@@ -82,11 +86,58 @@ static PROFILES: [&str; 9] = [
     "all",
 ];
 
+/// The values of the option `--code`: what a run can print that has a text of its own.
+static CODES: [&str; 36] = [
+    "S804", "S80A", "S878", "SB04", "SB05", "SB0A", "SB78", "S905", "S90A", "S978", "SA05", "SA0A",
+    "SA78", "S0C4", "SA03", "U4001", "U4002", "U4003", "U4005", "U4006", "U4007", "U4008", "U4009",
+    "JS01", "JS02", "JS03", "JS04", "JS05", "JS06", "JS07", "JS08", "JS09", "RC 4", "NO CELL",
+    "NOT RUN", "NO NAME",
+];
+
 /// An option, and the options that have no meaning with it.
 type Excluding = (&'static str, &'static [&'static str]);
 
 /// The options that have no meaning together.
-static EXCLUDING: [Excluding; 10] = [
+static EXCLUDING: [Excluding; 12] = [
+    (
+        "code",
+        &[
+            "FILE",
+            "rule",
+            "random",
+            "judge",
+            "check",
+            "blank",
+            "ask",
+            "assemble",
+            "explain",
+            "json",
+            "page",
+            "strict",
+            "interactive",
+            "place",
+            "color",
+        ],
+    ),
+    (
+        "rule",
+        &[
+            "FILE",
+            "random",
+            "judge",
+            "check",
+            "blank",
+            "ask",
+            "assemble",
+            "explain",
+            "json",
+            "page",
+            "strict",
+            "interactive",
+            "place",
+            "color",
+        ],
+    ),
     (
         "random",
         &[
@@ -422,7 +473,37 @@ fn with_color<'a>(command: Command<'a>, alloc: Global) -> Result<Command<'a>, Al
     )
 }
 
-// Makes the command: a file and seventeen options, all of which are optional.
+// Adds the option for the text of a code.
+fn with_code<'a>(command: Command<'a>, alloc: Global) -> Result<Command<'a>, AllocError>
+    ensures { IfOk result
+        (λ c. (code : Parser) × IsOneOf names code
+        × (app_of c ≡ with_rule (app_of command.entry) (value_rule (codes "code") code))) }
+{
+    with_option(
+        command,
+        alloc,
+        "code",
+        "CODE",
+        ValueParser::Names(CODES.as_slice()),
+        "Print what CODE means, its usual causes and an example",
+    )
+}
+
+// Adds the option for the text of a rule.
+fn with_rule_text<'a>(command: Command<'a>, alloc: Global) -> Result<Command<'a>, AllocError>
+    ensures { IfOk result (λ c. app_of c ≡ rule_app (app_of command.entry)) }
+{
+    with_option(
+        command,
+        alloc,
+        "rule",
+        "N",
+        ValueParser::Unsigned(1, 74),
+        "Print rule N of the machine, with its source and an example",
+    )
+}
+
+// Makes the command: a file and nineteen options, all of which are optional.
 fn command<'a>(alloc: Global) -> Result<Command<'a>, AllocError>
     ensures { IfOk result (λ c. (ps : Parsers) × AreParsers ps × (app_of c ≡ command ps)) }
 {
@@ -435,7 +516,9 @@ fn command<'a>(alloc: Global) -> Result<Command<'a>, AllocError>
     let random = with_random(judged, alloc)?;
     let profiled = with_profile(random, alloc)?;
     let telling = with_telling(profiled, alloc)?;
-    with_color(telling, alloc)
+    let colored = with_color(telling, alloc)?;
+    let coded = with_code(colored, alloc)?;
+    with_rule_text(coded, alloc)
 }
 
 // The word for the script.
@@ -599,9 +682,24 @@ fn apart(matches: &ArgMatches<'_>) -> Option<Apart> {
     None
 }
 
-// Returns what to do.
-fn mode(matches: &ArgMatches<'_>) -> Mode
-    ensures { IsMode (first_value (found_of matches.now) (codes "random"))
+// The code of which the text is asked for.
+fn coded<'a>(matches: &ArgMatches<'a>) -> &'a str
+    ensures { result.now ≡ unwrap_or (first_value (found_of matches.now) (codes "code")) [] }
+{
+    matches.get_str("code").unwrap_or("")
+}
+
+// Returns the number of the rule of which the text is asked for.
+fn rule_number(matches: &ArgMatches<'_>) -> u32
+    ensures { (text : Text) (n : ℕ) → first_value (found_of matches.now) (codes "rule") ≡ Some text
+        → IsNumber text n → n ≤ 74 → result ≡ n }
+{
+    u32::try_from(number_of(matches, "rule", 0)).unwrap_or(0)
+}
+
+// Returns what to do with a script.
+fn script_mode(matches: &ArgMatches<'_>) -> Mode
+    ensures { IsScriptMode (first_value (found_of matches.now) (codes "random"))
         (first_value (found_of matches.now) (codes "lines"))
         (first_value (found_of matches.now) (codes "profile"))
         (first_value (found_of matches.now) (codes "judge"))
@@ -618,6 +716,28 @@ fn mode(matches: &ArgMatches<'_>) -> Mode
         None if is_set(matches, "ask") => Mode::Ask,
         None if is_set(matches, "assemble") => Mode::Assemble,
         None => Mode::Run,
+    }
+}
+
+// Returns what to do.
+fn mode(matches: &ArgMatches<'_>) -> Mode
+    ensures { IsMode (first_value (found_of matches.now) (codes "code"))
+        (first_value (found_of matches.now) (codes "rule"))
+        (first_value (found_of matches.now) (codes "random"))
+        (first_value (found_of matches.now) (codes "lines"))
+        (first_value (found_of matches.now) (codes "profile"))
+        (first_value (found_of matches.now) (codes "judge"))
+        (first_value (found_of matches.now) (codes "check"))
+        (first_value (found_of matches.now) (codes "blank"))
+        (first_value (found_of matches.now) (codes "ask"))
+        (first_value (found_of matches.now) (codes "assemble")) result }
+{
+    if matches.get_str("code").is_some() {
+        Mode::Code
+    } else if matches.get_str("rule").is_some() {
+        Mode::Rule(rule_number(matches))
+    } else {
+        script_mode(matches)
     }
 }
 
@@ -647,7 +767,11 @@ pub fn settings<'a>(alloc: Global, words: &'a [String]) -> Result<Settings<'a>, 
         ↔ assigned ps (map string_bytes words.entry.now) (codes "place") ≡ Some (codes "high"))
         × (s.judged.now
         ≡ unwrap_or (assigned ps (map string_bytes words.entry.now) (codes "judge")) [])
-        × IsMode (assigned ps (map string_bytes words.entry.now) (codes "random"))
+        × (s.code.now
+        ≡ unwrap_or (assigned ps (map string_bytes words.entry.now) (codes "code")) [])
+        × IsMode (assigned ps (map string_bytes words.entry.now) (codes "code"))
+        (assigned ps (map string_bytes words.entry.now) (codes "rule"))
+        (assigned ps (map string_bytes words.entry.now) (codes "random"))
         (assigned ps (map string_bytes words.entry.now) (codes "lines"))
         (assigned ps (map string_bytes words.entry.now) (codes "profile"))
         (assigned ps (map string_bytes words.entry.now) (codes "judge"))
@@ -685,6 +809,7 @@ pub fn settings<'a>(alloc: Global, words: &'a [String]) -> Result<Settings<'a>, 
         file: file(&matches),
         placement: placement(&matches),
         judged: judged(&matches),
+        code: coded(&matches),
         mode: mode(&matches),
         explains: is_set(&matches, "explain"),
         json: is_set(&matches, "json"),

@@ -186,7 +186,7 @@ fn serve(
 ) -> Result<Ending, GiveUp>
     requires { writer.old.failed ≡ false }
 {
-    if let Mode::Random(_) = settings.mode {
+    if settings.is_without_script() {
         return serve_reader(rt, io::empty(), settings, writer);
     }
     if settings.file == "-" {

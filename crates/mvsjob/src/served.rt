@@ -1,10 +1,11 @@
 //! Serves a script that was read whole: what each mode does with it.
 
-ghost use Rattle.std.specs.Prelude.{◌≡◌, ◌≤◌, ◌⊎◌, IfOk, IsTrue, None, Some, false, length};
+ghost use Rattle.std.specs.Prelude.{◌≡◌, ◌≤◌, ◌⊎◌, ℕ, Contains, IfOk, IfSome, IsTrue, None, Some, false, length};
 ghost use Rattle.mvs_model.specs.Numbers.{most_script_bytes};
 ghost use Rattle.mvsjob.specs.declared.choices.Recipe.{Recipe};
 ghost use Rattle.mvsjob.specs.Checking.{Checks};
-ghost use Rattle.mvsjob.specs.Served.{Asks, Blanks, EndsAtFault, Explains, HasNoForeign, IsFaultOf, IsPrinted, Judges, Pages, RunsStrictly, Tells};
+ghost use Rattle.mvsjob.specs.Served.{Asks, Blanks, EndsAtFault, Explains, HasNoForeign, IsFaultOf, IsPrinted, Judges, Pages, RunsStrictly, Tells, WritesAbout, WritesText};
+ghost use Rattle.reference.specs.Texts.{IsRule, names, rule_name};
 
 use crate::answers::{check_answers, write_blanks, write_questions};
 use crate::assembled::write_assembled;
@@ -14,12 +15,14 @@ use crate::faulty::{Faulty, faulty_in};
 use crate::json::run_json;
 use crate::judging::judge_output;
 use crate::through::Through;
+use job_script::write_all;
 use mvs_job::{Hears, RunFault, explain_script, run_strictly};
 use mvs_model::outcome::Outcome;
 use mvs_model::want::Placement;
 use mvs_model::watched::Watched;
 use page::{FRAME, write_page};
 use random_script::{RandomFault, write_script};
+use reference::{code, rule};
 use std::alloc::Global;
 use std::io::Write;
 
@@ -157,6 +160,23 @@ fn write_random<W: Write>(
     }
 }
 
+// Writes a text of the reference, if there is one.
+fn write_text<W: Write>(
+    writer: &mut Watched<W>,
+    text: Option<&'static str>,
+) -> Result<Served<'static>, GiveUp>
+    ensures { IfSome text (λ t. WritesText (W.contents writer.old.inner)
+        (W.contents writer.new.inner) t.now result) }
+{
+    match text {
+        Some(text) => match write_all(writer, text.as_bytes()) {
+            Ok(()) => Ok(Served::of(Ending::Printed)),
+            Err(_) => Err(GiveUp::Job(RunFault::Write)),
+        },
+        None => Ok(Served::of(Ending::Printed)),
+    }
+}
+
 // Runs a script as the settings have it.
 fn run<'a, W: Write, H: Hears>(
     alloc: Global,
@@ -224,6 +244,12 @@ pub fn serve_script<'a, W: Write, H: Hears>(
         → IfOk result (λ served. IsPrinted served ⊎ EndsAtFault script.now served) }
     ensures random { (recipe : Recipe) → settings.now.mode ≡ Mode.Random recipe
         → IfOk result IsPrinted }
+    ensures code { settings.now.mode ≡ Mode.Code → Contains names settings.now.code.now
+        → WritesAbout (W.contents writer.old.inner) (W.contents writer.new.inner)
+        settings.now.code.now result }
+    ensures rule { (n : ℕ) → settings.now.mode ≡ Mode.Rule n → IsRule n
+        → WritesAbout (W.contents writer.old.inner) (W.contents writer.new.inner) (rule_name n)
+        result }
     ensures judge { settings.now.mode ≡ Mode.Judge
         → Judges (W.contents writer.old.inner) (W.contents writer.new.inner) script.now output.now
         result }
@@ -236,5 +262,7 @@ pub fn serve_script<'a, W: Write, H: Hears>(
         Mode::Ask => write_questions(script, writer),
         Mode::Assemble => write_assembled(alloc, script, writer),
         Mode::Random(recipe) => write_random(alloc, writer, recipe),
+        Mode::Code => write_text(writer, code(settings.code)),
+        Mode::Rule(number) => write_text(writer, rule(number)),
     }
 }
