@@ -8,7 +8,8 @@ ghost use Rattle.clap.specs.declared.builder.value_parser.ValueParser.{ValuePars
 ghost use Rattle.mvsjob.specs.CommandLine.{AreParsers, FindsWrong, IsColor, IsFormat, IsMode, IsNumber, IsOneOf, IsProfile, IsRecipe, IsScriptMode, IsTaken, Parsers, answers_app, assigned, checking_app, colors, command, formats, flag_rule, judging_app, places, profiles, random_app, rule_app, telling_app, value_rule, versioned};
 ghost use Rattle.reference.specs.Texts.{names};
 
-use crate::choices::{Apart, Color, Mode, Recipe, Settings};
+use crate::choices::{Color, Mode, Recipe, Settings};
+use crate::exclusions::apart;
 use annotated::{Form, Format};
 use clap::builder::ValueParser;
 use clap::{Arg, ArgAction, ArgMatches, Command};
@@ -92,151 +93,6 @@ static CODES: [&str; 36] = [
     "SA78", "S0C4", "SA03", "U4001", "U4002", "U4003", "U4005", "U4006", "U4007", "U4008", "U4009",
     "JS01", "JS02", "JS03", "JS04", "JS05", "JS06", "JS07", "JS08", "JS09", "RC 4", "NO CELL",
     "NOT RUN", "NO NAME",
-];
-
-/// An option, and the options that have no meaning with it.
-type Excluding = (&'static str, &'static [&'static str]);
-
-/// The options that have no meaning together.
-static EXCLUDING: [Excluding; 12] = [
-    (
-        "code",
-        &[
-            "FILE",
-            "rule",
-            "random",
-            "judge",
-            "check",
-            "blank",
-            "ask",
-            "assemble",
-            "explain",
-            "json",
-            "page",
-            "strict",
-            "interactive",
-            "place",
-            "color",
-        ],
-    ),
-    (
-        "rule",
-        &[
-            "FILE",
-            "random",
-            "judge",
-            "check",
-            "blank",
-            "ask",
-            "assemble",
-            "explain",
-            "json",
-            "page",
-            "strict",
-            "interactive",
-            "place",
-            "color",
-        ],
-    ),
-    (
-        "random",
-        &[
-            "FILE",
-            "judge",
-            "check",
-            "blank",
-            "ask",
-            "assemble",
-            "explain",
-            "json",
-            "page",
-            "strict",
-            "interactive",
-            "place",
-            "color",
-        ],
-    ),
-    (
-        "judge",
-        &[
-            "check",
-            "blank",
-            "ask",
-            "assemble",
-            "explain",
-            "json",
-            "page",
-            "strict",
-            "interactive",
-            "place",
-            "color",
-        ],
-    ),
-    (
-        "check",
-        &[
-            "blank",
-            "ask",
-            "assemble",
-            "explain",
-            "json",
-            "page",
-            "strict",
-            "interactive",
-            "color",
-        ],
-    ),
-    (
-        "blank",
-        &[
-            "ask",
-            "assemble",
-            "explain",
-            "json",
-            "page",
-            "strict",
-            "interactive",
-            "place",
-            "color",
-        ],
-    ),
-    (
-        "ask",
-        &[
-            "assemble",
-            "explain",
-            "json",
-            "page",
-            "strict",
-            "interactive",
-            "place",
-            "color",
-        ],
-    ),
-    (
-        "assemble",
-        &[
-            "explain",
-            "json",
-            "page",
-            "strict",
-            "interactive",
-            "place",
-            "color",
-        ],
-    ),
-    ("json", &["page", "strict", "interactive", "color"]),
-    ("page", &["strict", "interactive", "color"]),
-    ("strict", &["explain", "interactive"]),
-    ("interactive", &["explain"]),
-];
-
-/// The options that have a meaning with another one only, and that one.
-static NEEDING: [(&str, &str); 4] = [
-    ("lines", "random"),
-    ("profile", "random"),
-    ("hide", "check"),
-    ("format", "check"),
 ];
 
 // The command without its words: its name, its version, and what the help says around them.
@@ -655,31 +511,6 @@ fn recipe(matches: &ArgMatches<'_>) -> Recipe
         lines: lines_of(number_of(matches, "lines", 100)),
         profile: profile(matches),
     }
-}
-
-// Returns whether an option is there; one without a value is, where it is set.
-fn is_given(matches: &ArgMatches<'_>, name: &str) -> bool {
-    match matches.get_str(name) {
-        Some(value) => value != "false",
-        None => false,
-    }
-}
-
-// Returns the first two options that have no meaning together, if there are such.
-fn apart(matches: &ArgMatches<'_>) -> Option<Apart> {
-    for (one, others) in EXCLUDING {
-        for other in others {
-            if is_given(matches, one) && is_given(matches, other) {
-                return Some(Apart::Excludes(one, other));
-            }
-        }
-    }
-    for (one, other) in NEEDING {
-        if is_given(matches, one) && !is_given(matches, other) {
-            return Some(Apart::Needs(one, other));
-        }
-    }
-    None
 }
 
 // The code of which the text is asked for.

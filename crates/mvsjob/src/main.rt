@@ -14,6 +14,7 @@ mod coloured;
 mod command_line;
 mod difference;
 mod ending;
+mod exclusions;
 mod faultless;
 mod faulty;
 mod front;

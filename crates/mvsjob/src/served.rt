@@ -165,7 +165,7 @@ fn write_text<W: Write>(
     writer: &mut Watched<W>,
     text: Option<&'static str>,
 ) -> Result<Served<'static>, GiveUp>
-    ensures { IfSome text (λ t. WritesText (W.contents writer.old.inner)
+    ensures { IfSome text.entry (λ t. WritesText (W.contents writer.old.inner)
         (W.contents writer.new.inner) t.now result) }
 {
     match text {
