@@ -22,11 +22,7 @@ use std::alloc::Global;
 use std::io::Write;
 
 // Runs a script, and keeps what it prints.
-fn printing_of(
-    alloc: Global,
-    place: Placement,
-    script: &[u8],
-) -> (Result<Outcome, Stop>, Vec<u8>)
+fn printing_of(alloc: Global, place: Placement, script: &[u8]) -> (Result<Outcome, Stop>, Vec<u8>)
     requires { length script.now ≤ most_script_bytes }
     ensures { IfOk result.0 (λ outcome. IsPrinting script.now result.1.items outcome) }
 {
