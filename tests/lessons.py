@@ -163,6 +163,25 @@ def is_apart(path):
     return "Answers" not in sheet and "What it shows" not in sheet and numbered(answers_of(path), "Answers") == questions and 3 <= len(questions) <= 5
 
 
+REFUSED = re.compile(r"\d+ \S+ (RC 4|NO CELL|ABEND .*|NOT RUN|NO NAME|ENDED)")
+
+
+def reasons(program, path):
+    """The replies of a solution's questions that are refused or end a task, each with its reasons."""
+    numbers = {str(number) for number, line in enumerate(path.read_text().splitlines(), 1) if " => " in line}
+    printed = subprocess.run([program, "--explain", path], capture_output=True, text=True).stdout
+    found = [block.splitlines() for block in re.split(r"(?m)^(?=\d)", printed)]
+    return [block for block in found if len(block) > 1 and block[0].split()[0] in numbers and REFUSED.fullmatch(block[0])]
+
+
+def is_explained(program, path):
+    """Whether the answers of a lesson show the reasons of each refusal that it asks for, as `--explain` prints them."""
+    shown = re.search(r"(?s)\*\*Reasons\*\* .*?```\n(.*?)```\n", answers_of(path))
+    wanted = reasons(program, path)
+    blocks = [block.splitlines() for block in re.split(r"(?m)^(?=\d)", shown[1]) if block] if shown else []
+    return len(blocks) == len(wanted) and all(len(one) > 1 and one[0] == other[0] and set(one) <= set(other) for one, other in zip(blocks, wanted))
+
+
 def judged(desk):
     """What the judge finds for the outputs of its lesson, after the script was solved: the answers show it."""
     path = FOLDER / "74_judge.job"
@@ -270,6 +289,7 @@ def results(program):
         yield f"{path.name}, an answer changed", is_told(program, path)
         yield f"{path.stem}.md", is_asked(program, path)
         yield f"{path.stem}.md, its answers apart", is_apart(path)
+        yield f"{path.stem}.md, its reasons", is_explained(program, path)
         yield f"{path.name}, by the plain machine", is_plain(path.read_text())
     with tempfile.TemporaryDirectory() as name:
         desk = Desk(Path(name), program)
