@@ -46,11 +46,10 @@ APART = (
     "--json --page",
     "--json --strict",
     "--page --interactive",
-    "--strict --explain",
     "--strict --interactive",
     "--interactive --explain",
 )
-TOGETHER = ("--json --explain", "--page --explain", "--strict --place high", "--explain --color never", "--check --place low", "--interactive --color never")
+TOGETHER = ("--json --explain", "--page --explain", "--strict --explain", "--strict --place high", "--explain --color never", "--check --place low", "--interactive --color never")
 
 
 class Modes:

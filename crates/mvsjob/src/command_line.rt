@@ -159,7 +159,7 @@ static EXCLUDING: [Excluding; 10] = [
     ),
     ("json", &["page", "strict", "interactive", "color"]),
     ("page", &["strict", "interactive", "color"]),
-    ("strict", &["explain", "interactive"]),
+    ("strict", &["interactive"]),
     ("interactive", &["explain"]),
 ];
 

@@ -2,7 +2,7 @@ use Rattle.std.proofs.Common.{Err}
 use Rattle.std.proofs.lemmas.Result.{err_from_is_err_and}
 use Rattle.job_script.proofs.Appending.{front_longer}
 use Rattle.mvs_job.proofs.Serving.{both_written}
-use Rattle.mvs_job.proofs.asking.Asking.print_behind.Goals as goal
+use Rattle.mvs_job.proofs.explained.Explained.print_behind.Goals as goal
 
 pub returns-in_err-print-clause-printed : goal.returns-in_err-print-clause-printed
 returns-in_err-print-clause-printed g c = λ number.
