@@ -25,4 +25,4 @@ module _ (piece : Piece) {S : Type 0} (heard : Hearing S) (sees : S → Option J
   -- a consumer that stops
   pub entry_stopped : (X : Type 0) (why : Stop) (e : Entry) → IsAny w.number w.step line e → Accepts {X = X} piece knows before after s' history e (Err why) → RunsEntry piece knows before after w line w' history s' (Err why)
   entry_stopped X stop.Write e is (front, known) = (e, is, front, known)
-  entry_stopped X stop.Memory e is (needs, kept, known) = inr (e, is, needs, kept, known)
+  entry_stopped X stop.Memory e is ((needs, kept), known) = inr (e, is, needs, kept, known)

@@ -1,8 +1,8 @@
 -- An entry that is printed with its explanations.
-use Rattle.std.proofs.Common.{◌≡◌, ℕ, List, [], ◌∷◌, ◌++◌, inl, inr, true, false, Option, Some, None, Result, Ok, Err, length, ◌≤◌, refl, sym, ap, ◌∙◌, subst}
+use Rattle.std.proofs.Common.{◌≡◌, ℕ, List, [], ◌∷◌, ◌++◌, append-nil, inl, inr, true, false, Option, Some, None, Result, Ok, Err, length, ◌≤◌, refl, sym, ap, ◌∙◌, subst}
 use Rattle.mvs_model.specs.declared.line.Fault.{Fault}
 use Rattle.mvs_model.specs.declared.line.Line.{Line}
-use Rattle.mvs_model.specs.declared.line.Line.TheVariants as line
+use Rattle.mvs_model.specs.declared.line.Line.TheVariants.{Nothing}
 use Rattle.mvs_model.specs.Answers.{Event, Faulted}
 use Rattle.mvs_model.specs.Job.{JobValue}
 use Rattle.mvs_model.specs.Memory.{TakesMemory}
@@ -79,9 +79,9 @@ module _ (n : ℕ) (line : List ℕ) (w : WalkValue) (e : Entry) where
 
   told_so : (t : LineTold) → Said n line t w e → IsTold before_it line t w
   told_so (told.Faulted fault) (of, kind, same) = (of, same)
-  told_so told.Nothing (said, of, serves, more) = (said, of, serves)
-  told_so (told.Began end card) (said, of, serves, more) = (said, of, serves)
-  told_so (told.Answered t a) (said, of, serves, more) = (said, of, serves)
+  told_so told.Nothing (said, of, serves, kind, number, bytes) = (said, of, serves)
+  told_so (told.Began end card) (said, of, serves, kind, number, bytes) = (said, of, serves)
+  told_so (told.Answered t a) (said, of, serves, kind, number, bytes) = (said, of, serves)
 
   -- ---- what is printed of it
 
@@ -112,7 +112,7 @@ module _ (n : ℕ) (line : List ℕ) (w : WalkValue) (e : Entry) where
   -- ---- the names after it
 
   module _ (set : SetLines) (read : Line) (is : IsReadIn e.before line read) where
-    nothing_set : (events : List Event) → read ≡ line.Nothing → set_behind n set read events ≡ set
+    nothing_set : (events : List Event) → read ≡ Nothing → set_behind n set read events ≡ set
     nothing_set events none = ap (λ l. set_behind n set l events) none
 
     set_executed : (t : LineTold) → e.events ≡ events_told n w t → (said : Line) → LineOf (is_first e.before) line said → e.kind ≡ Executed said → e.number ≡ n → set_behind n set read (events_told n w t) ≡ set_after e.before set e e.kind
@@ -150,12 +150,29 @@ module _ (n : ℕ) (line : List ℕ) (w : WalkValue) (e : Entry) where
 
     needs_of : (t : LineTold) → tells_grant (events_told n w t) ≡ true → Said n line t w e → SetsNames e e.kind
     needs_of (told.Faulted fault) grant said = absurd (let f : false ≡ true = grant in cc)
-    needs_of told.Nothing grant (said, of, serves, kind, more) = needs_so told.Nothing grant (said, of, serves) said of kind
-    needs_of (told.Began end card) grant (said, of, serves, kind, more) = needs_so (told.Began end card) grant (said, of, serves) said of kind
-    needs_of (told.Answered t a) grant (said, of, serves, kind, more) = needs_so (told.Answered t a) grant (said, of, serves) said of kind
+    needs_of told.Nothing grant (said, of, serves, kind, number, bytes) = needs_so told.Nothing grant (said, of, serves) said of kind
+    needs_of (told.Began end card) grant (said, of, serves, kind, number, bytes) = needs_so (told.Began end card) grant (said, of, serves) said of kind
+    needs_of (told.Answered t a) grant (said, of, serves, kind, number, bytes) = needs_so (told.Answered t a) grant (said, of, serves) said of kind
 
     pub needs_names : (t : LineTold) → tells_grant (events_told n w t) ≡ true → IsEntry n line w t e → SetsNames e e.kind
     needs_names t grant entry = needs_of t grant (said_by t entry)
+
+-- ---- the text of a line
+
+pub told_more : (x : Explained) (n : ℕ) (w : WalkValue) (t : LineTold) → (more : List ℕ) × (told_text x n w t ≡ printing (events_told n w t) ++ more)
+told_more x n w (told.Faulted fault) = ([], sym (append-nil (printing (events_told n w (told.Faulted fault)))))
+told_more x n w told.Nothing = (behind_said x (events_told n w told.Nothing) w.step, refl)
+told_more x n w (told.Began end card) = (behind_said x (events_told n w (told.Began end card)) w.step, refl)
+told_more x n w (told.Answered t a) = (behind_said x (events_told n w (told.Answered t a)) w.step, refl)
+
+pub told_faulted : (x : Explained) (n : ℕ) (w : WalkValue) (t : LineTold) (fault : Fault) → t ≡ told.Faulted fault → told_text x n w t ≡ printing (events_told n w t)
+told_faulted x n w t fault is = subst (λ t. told_text x n w t ≡ printing (events_told n w t)) (sym is) refl
+
+pub told_behind : (x : Explained) (n : ℕ) (w : WalkValue) (t : LineTold) → ((fault : Fault) → t ≡ told.Faulted fault → ⊥) → told_text x n w t ≡ printing (events_told n w t) ++ behind_said x (events_told n w t) w.step
+told_behind x n w (told.Faulted fault) other = absurd (other fault refl)
+told_behind x n w told.Nothing other = refl
+told_behind x n w (told.Began end card) other = refl
+told_behind x n w (told.Answered t a) other = refl
 
 -- ---- the last entry
 

@@ -1,6 +1,6 @@
 -- A strict run: the lines that were not executed, by the entries of a trace.
 use Rattle.std.proofs.Common.{◌≡◌, ℕ, ◌+◌, ◌-◌, inl, inr, List, [], ◌∷◌, ◌++◌, append_assoc, append-nil, arith, get_or, length, length-append, Option, Some, None, Bool, true, false, Result, Ok, Err, IfErr, IfOk, refl, sym, ap, ◌∙◌, subst}
-use Rattle.std.specs.Prelude.{◌&&◌, not, is_some}
+use Rattle.std.specs.Prelude.{◌&&◌, ◌⊎◌, MatchResult, not, is_some}
 use Rattle.std.specs.List.{list_all}
 use Rattle.std.proofs.Math.Seq.{get_or-append_seam}
 use Rattle.std.proofs.lemmas.Grind.{flat_map-append}
@@ -11,7 +11,6 @@ use Rattle.mvs_model.specs.declared.line.Line.TheVariants as line
 use Rattle.mvs_model.specs.declared.line.Statement.TheVariants as says
 use Rattle.mvs_model.specs.declared.name.Name.{Name}
 use Rattle.mvs_model.specs.declared.outcome.Outcome.{Outcome}
-use Rattle.mvs_model.specs.declared.watched.Failed.{Failed}
 use Rattle.mvs_model.specs.Answers as answer
 use Rattle.mvs_model.specs.Answers.{Answer, Event, Faulted, StepEnded, Told}
 use Rattle.mvs_model.specs.Job.{JobValue}
@@ -28,7 +27,7 @@ use Rattle.mvs_job.specs.declared.strict.Unserved.{Unserved}
 use Rattle.mvs_job.specs.declared.strict.Unserved.TheVariants as why
 use Rattle.mvs_job.specs.declared.walk.LineTold.{LineTold}
 use Rattle.mvs_job.specs.declared.walk.LineTold.TheVariants as told
-use Rattle.mvs_job.specs.Consuming.{Accepts, AcceptsLast, IsEnd, IsEntry, Known, Leaves, LeavesText, Piece, keeps_nothing}
+use Rattle.mvs_job.specs.Consuming.{IsEnd, IsEntry, Known, Leaves, LeavesText, Piece, keeps_nothing}
 use Rattle.mvs_job.specs.Printed.{printed}
 use Rattle.mvs_job.specs.Streams.{PrintedUpTo}
 use Rattle.mvs_job.specs.Strict.{Grows, HearsFront, Observes, PrintsStrictly, RunsObserved, Skipped, all_skipped, is_of_served, line_at, skipped_at, skipped_for, skipped_in}
@@ -249,10 +248,10 @@ observed_so heard b c start first now last all all' ends same new entries kept o
 }
 
 -- what an observer was called for that is borrowed: it has a name for as long, and is at the end what the borrow leaves
-pub observed_at : {H X : Type 0} (heard : H → Option (List Skipped)) (b c : ℕ) (start first now last : H) (all all' : Bool) → (b ≡ c → last ≡ now) → first ≡ start → all ≡ true
-    → (entries : List Entry) → ((b ≡ c) × X × Observes all all' (heard first) (heard now) entries) ⊎ ((b ≡ c) × Observes all all' (heard first) (heard now) entries) → Observes true all' (heard start) (heard last) entries
-observed_at heard b c start first now last all all' ends same new entries (inl (kept, x, o)) = observed_so heard b c start first now last all all' ends same new entries kept o
-observed_at heard b c start first now last all all' ends same new entries (inr (kept, o)) = observed_so heard b c start first now last all all' ends same new entries kept o
+pub observed_at : {H : Type 0} (X : List Entry → Type 0) (heard : H → Option (List Skipped)) (b c : ℕ) (start first now last : H) (all all' : Bool) → (b ≡ c → last ≡ now) → first ≡ start → all ≡ true
+    → (entries : List Entry) → ((b ≡ c) × X entries × Observes all all' (heard first) (heard now) entries) ⊎ ((b ≡ c) × Observes all all' (heard first) (heard now) entries) → Observes true all' (heard start) (heard last) entries
+observed_at X heard b c start first now last all all' ends same new entries (inl (kept, x, o)) = observed_so heard b c start first now last all all' ends same new entries kept o
+observed_at X heard b c start first now last all all' ends same new entries (inr (kept, o)) = observed_so heard b c start first now last all all' ends same new entries kept o
 
 -- ---- a call
 
@@ -303,12 +302,7 @@ none_of (Some why) other = absurd (other why refl)
 pub observes_kept : (fa all all' : Bool) (heard heard1 heard2 : Option (List Skipped)) (history : List Entry) → all' ≡ all → heard2 ≡ heard1 → Observes fa all heard heard1 history → Observes fa all' heard heard2 history
 observes_kept fa all all' heard heard1 heard2 history same stays o = record { served = same ∙ o.served; skipped = subst (λ (h : Option (List Skipped)). Grows heard h (skipped_at history)) (sym stays) o.skipped }
 
--- a call that another one makes, by what is known after it
-module _ {S S' X : Type 0} (piece : Piece) (knows : Known S) (knows' : Known S') (before after : Option (List ℕ)) (s : S) (s' : S') (history : List Entry) (e : Entry) where
-  pub last_maps : (r : Result X Failed) → (knows.has s (history ++ e ∷ []) → knows'.has s' (history ++ e ∷ [])) → (knows.had s history → knows'.had s' history) → AcceptsLast piece knows before after s history e r → AcceptsLast piece knows' before after s' history e r
-  last_maps (Ok x) f g h = (h.0, f h.1)
-  last_maps (Err failed) f g h = (h.0, g h.1)
-
-  pub stopped_maps : (why : Stop) → (knows.had s history → knows'.had s' history) → Accepts {X = X} piece knows before after s history e (Err why) → Accepts {X = X} piece knows' before after s' history e (Err why)
-  stopped_maps stop.Write g h = (h.0, g h.1)
-  stopped_maps stop.Memory g h = (h.0, h.1, g h.2)
+-- what is known after a call, by its result
+pub result_maps : {X E : Type 0} (r : Result X E) (P P' : X → Type 0) (Q Q' : E → Type 0) → ((x : X) → P x → P' x) → ((e : E) → Q e → Q' e) → MatchResult r P Q → MatchResult r P' Q'
+result_maps (Ok x) P P' Q Q' f g h = f x h
+result_maps (Err e) P P' Q Q' f g h = g e h

@@ -1,5 +1,5 @@
 -- What a consumer is given of a run, and what it writes.
-use Rattle.std.specs.Prelude.{◌≡◌, ◌⊎◌, ℕ, ◌+◌, List, [], ◌∷◌, ◌++◌, length, Option, None, Result, Ok, Err, Bool, true, false}
+use Rattle.std.specs.Prelude.{◌≡◌, ◌⊎◌, ℕ, ◌+◌, List, [], ◌∷◌, ◌++◌, length, Option, None, Result, Ok, Err, MatchResult, Bool, true, false}
 use Rattle.std.specs.Io.KnownBytes.{Appends, Keeps}
 use Rattle.mvs_model.specs.declared.outcome.Outcome.{Outcome}
 use Rattle.mvs_model.specs.Job.{JobValue}
@@ -52,12 +52,16 @@ WritesFront piece before after history e = (text : List ℕ) × piece.may histor
 abbrev pub WritesPiece : Piece → Option (List ℕ) → Option (List ℕ) → List Entry → Entry → Type 0
 WritesPiece piece before after history e = (text : List ℕ) × piece.may history e text × Appends before after text
 
--- What the call does that gives a consumer the entry of a line: it writes a piece, and has one entry more. If a write fails it has
--- written a front of one; if memory is exhausted, nothing.
+-- What a call has written that stops: a front of a piece, if a write failed; nothing, if the consumer needs memory for the entry and
+-- there is none.
+abbrev pub WritesUntil : Piece → Option (List ℕ) → Option (List ℕ) → List Entry → Entry → Stop → Type 0
+WritesUntil piece before after history e stop.Write = WritesFront piece before after history e
+WritesUntil piece before after history e stop.Memory = piece.needs e × Keeps before after
+
+-- What the call does that gives a consumer the entry of a line: it writes a piece, and has one entry more; or it stops.
 abbrev pub Accepts : {S X : Type 0} → Piece → Known S → Option (List ℕ) → Option (List ℕ) → S → List Entry → Entry → Result X Stop → Type 0
-Accepts piece knows before after s history e (Ok x) = WritesPiece piece before after history e × knows.has s (history ++ e ∷ [])
-Accepts piece knows before after s history e (Err stop.Write) = WritesFront piece before after history e × knows.had s history
-Accepts piece knows before after s history e (Err stop.Memory) = piece.needs e × Keeps before after × knows.had s history
+Accepts piece knows before after s history e result =
+    MatchResult result (λ _. WritesPiece piece before after history e × knows.has s (history ++ e ∷ [])) (λ why. WritesUntil piece before after history e why × knows.had s history)
 
 -- It does so whatever entries it had, for each entry that its arguments describe: it has looked at the line, and then it heard of the
 -- refusal of its request, if there was one.
@@ -67,8 +71,8 @@ AcceptsLine {S = S} piece heard sees knows before after s s' number line w t res
 
 -- What the call for the last entry does; it needs no memory.
 abbrev pub AcceptsLast : {S X : Type 0} → Piece → Known S → Option (List ℕ) → Option (List ℕ) → S → List Entry → Entry → Result X Failed → Type 0
-AcceptsLast piece knows before after s history e (Ok x) = WritesPiece piece before after history e × knows.has s (history ++ e ∷ [])
-AcceptsLast piece knows before after s history e (Err failed) = WritesFront piece before after history e × knows.had s history
+AcceptsLast piece knows before after s history e result =
+    MatchResult result (λ _. WritesPiece piece before after history e × knows.has s (history ++ e ∷ [])) (λ _. WritesFront piece before after history e × knows.had s history)
 
 -- It does so whatever entries it had, for each entry that its arguments describe.
 abbrev pub AcceptsEnd : {S X : Type 0} → Piece → Known S → Option (List ℕ) → Option (List ℕ) → S → S → ℕ → End → Result X Failed → Type 0

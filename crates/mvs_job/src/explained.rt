@@ -256,11 +256,9 @@ impl Explained {
         ensures lines { self.new.lines ≡ self.old.lines }
     {
         print_line(writer, number, walk, told)?;
-        match told {
-            LineTold::Nothing | LineTold::Began { .. } | LineTold::Answered { .. } => {
-                self.print_behind(walk, told, writer)
-            }
-            LineTold::Faulted(_) => Ok(()),
+        if let LineTold::Faulted(_) = told {
+            return Ok(());
         }
+        self.print_behind(walk, told, writer)
     }
 }

@@ -82,15 +82,15 @@ fn why_of(walk: &Walk, told: &LineTold) -> Option<Unserved>
 /// A consumer with an observer of the lines that were not executed.
 #[derive(Drop)]
 pub struct Strict<'a, C, H> {
-    consumer: C,
+    consumer: &'a mut C,
     hearer: &'a mut H,
     all_served: bool,
 }
 
 impl<'a, C, H> Strict<'a, C, H> {
     /// Wraps a consumer, before the first line.
-    pub fn new(consumer: C, hearer: &'a mut H) -> Strict<'a, C, H>
-        ensures consumer { result.consumer ≡ consumer }
+    pub fn new(consumer: &'a mut C, hearer: &'a mut H) -> Strict<'a, C, H>
+        ensures consumer { result.consumer ≡ consumer.entry }
         ensures hearer { result.hearer ≡ hearer.entry }
         ensures all_served { result.all_served ≡ true }
     {
@@ -104,7 +104,7 @@ impl<'a, C, H> Strict<'a, C, H> {
 
 impl<'a, C: Consumer, H: Hears> Observer for Strict<'a, C, H> {
     ghost heard = { λ old job t request refusal left new.
-        C.heard old.consumer job t request refusal left new.consumer
+        C.heard old.consumer.now job t request refusal left new.consumer.now
         × (new.hearer ≡ old.hearer) × (new.all_served ≡ old.all_served) };
 
     fn refused(
@@ -123,15 +123,16 @@ impl<'a, C: Consumer, H: Hears> Consumer for Strict<'a, C, H> {
     ghost piece = { C.piece };
 
     ghost knows = { λ first. record {
-        has = λ now entries. (now.hearer.ghost_name ≡ first.hearer.ghost_name)
-        × (C.knows first.consumer).has now.consumer entries
-        × Observes first.all_served now.all_served (H.heard first.hearer.now)
-        (H.heard now.hearer.now) entries;
-        had = λ now entries. (now.hearer.ghost_name ≡ first.hearer.ghost_name)
-        × Observes first.all_served now.all_served (H.heard first.hearer.now)
-        (H.heard now.hearer.now) entries } };
+      has = λ now entries. (now.hearer.ghost_name ≡ first.hearer.ghost_name)
+          × (C.knows first.consumer.now).has now.consumer.now entries
+          × Observes first.all_served now.all_served (H.heard first.hearer.now)
+          (H.heard now.hearer.now) entries;
+      had = λ now entries. (now.hearer.ghost_name ≡ first.hearer.ghost_name)
+          × Observes first.all_served now.all_served (H.heard first.hearer.now)
+          (H.heard now.hearer.now) entries;
+    } };
 
-    ghost sees = { λ s step line. C.sees s.consumer step line };
+    ghost sees = { λ s step line. C.sees s.consumer.now step line };
 
     fn look(&mut self, walk: &Walk, line: &[u8]) {
         self.consumer.look(walk, line);
@@ -165,16 +166,16 @@ impl<'a, C: Consumer, H: Hears> Consumer for Strict<'a, C, H> {
 
 /// Runs a script, gives each entry of the run to a consumer, and lets each line be heard of that was not executed. The script has
 /// at most 16,777,215 bytes.
-pub fn run_observed<W: Write, H: Hears, C: Consumer + Drop>(
+pub fn run_observed<W: Write, H: Hears, C: Consumer>(
     alloc: Global,
     script: &[u8],
     writer: &mut Watched<W>,
     placement: Placement,
-    consumer: C,
+    consumer: &mut C,
     hearer: &mut H,
 ) -> Result<StrictEnd, Stop>
     requires script { length script.now ≤ most_script_bytes }
-    requires new { (C.knows consumer).has consumer [] }
+    requires new { (C.knows consumer.old).has consumer.old [] }
     // What is written is what the consumer writes for a trace of the script, in which each line was executed, or not; and what is heard
     // of is each line that was not, by its number, its text and the cause, in their order, and nothing else.
     ensures run { IfOk result
@@ -221,5 +222,5 @@ pub fn run_strictly<W: Write, H: Hears>(
     ensures ok { OnOk result (writer.new.failed ≡ writer.old.failed) }
     ensures write { IsErrOf result Stop.Write → writer.new.failed ≡ true }
 {
-    run_observed(alloc, script, writer, placement, Printer, hearer)
+    run_observed(alloc, script, writer, placement, &mut Printer, hearer)
 }

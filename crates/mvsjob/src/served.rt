@@ -127,8 +127,8 @@ fn explain_strict<'a, W: Write, H: Hears>(
     ensures { ExplainsStrictly (W.contents writer.old.inner) (W.contents writer.new.inner)
         (H.heard hearer.old) (H.heard hearer.new) script.now result }
 {
-    let explained = Explained::new(alloc);
-    match run_observed(alloc, script, writer, placement, explained, hearer) {
+    let mut explained = Explained::new(alloc);
+    match run_observed(alloc, script, writer, placement, &mut explained, hearer) {
         Ok(end) => Ok(Served {
             ending: Ending::of_strict(end),
             faulty: fault_of(script, end.outcome),

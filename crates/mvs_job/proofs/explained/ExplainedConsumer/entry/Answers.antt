@@ -22,7 +22,7 @@ returns-in_default-clause-accepted g c first mid history e is seen observed know
     let stays = line_keeps e.before w line mid after t observed in
     let read_in = subst (IsReadIn e.before line) (sym stays.0) seen.read in
     let lacks = err_of c.keep.result c.in_default.not-Ok c.keep.ensures.err in
-    (needs_names n line w e after.why.read read_in lacks.0 t lacks.1 is, Keeps-refl _, tt)
+    ((needs_names n line w e after.why.read read_in lacks.0 t lacks.1 is, Keeps-refl _), tt)
 
 pub returns-in-Ok-print-clause-accepted : goal.returns-in-Ok-print-clause-accepted
 returns-in-Ok-print-clause-accepted g c first mid history e is seen observed known =
