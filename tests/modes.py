@@ -52,11 +52,10 @@ APART = (
     "--json --page",
     "--json --strict",
     "--page --interactive",
-    "--strict --explain",
     "--strict --interactive",
     "--interactive --explain",
 )
-TOGETHER = ("--json --explain", "--page --explain", "--strict --place high", "--explain --color never", "--check --place low", "--check --hide --format tap --place high", "--interactive --color never")
+TOGETHER = ("--json --explain", "--page --explain", "--strict --explain", "--strict --place high", "--explain --color never", "--check --place low", "--check --hide --format tap --place high", "--interactive --color never")
 
 
 class Modes:

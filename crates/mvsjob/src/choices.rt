@@ -95,6 +95,6 @@ impl Settings<'_> {
 
     /// Returns whether each line of the script runs before the next one is read.
     pub fn is_as_it_comes(&self) -> bool {
-        self.is_answers() && !self.explains && !self.strict
+        self.is_answers() && !self.strict
     }
 }

@@ -136,7 +136,7 @@ static EXCLUDING: [Excluding; 12] = [
     ),
     ("json", &["page", "strict", "interactive", "color"]),
     ("page", &["strict", "interactive", "color"]),
-    ("strict", &["explain", "interactive"]),
+    ("strict", &["interactive"]),
     ("interactive", &["explain"]),
 ];
 

@@ -4,7 +4,7 @@ ghost use Rattle.std.specs.Prelude.{◌≡◌, ◌≤◌, ◌⊎◌, ℕ, Contai
 ghost use Rattle.mvs_model.specs.Numbers.{most_script_bytes};
 ghost use Rattle.mvsjob.specs.declared.choices.Recipe.{Recipe};
 ghost use Rattle.mvsjob.specs.Checking.{Checks};
-ghost use Rattle.mvsjob.specs.Served.{Asks, Blanks, EndsAtFault, Explains, HasNoForeign, IsFaultOf, IsPrinted, Judges, Pages, RunsStrictly, Tells, WritesAbout, WritesText};
+ghost use Rattle.mvsjob.specs.Served.{Asks, Blanks, EndsAtFault, ExplainsStrictly, HasNoForeign, IsFaultOf, IsPrinted, Judges, Pages, RunsStrictly, Tells, WritesAbout, WritesText};
 ghost use Rattle.reference.specs.Texts.{IsRule, names, rule_name};
 
 use crate::answers::{check_answers, write_blanks, write_questions};
@@ -16,7 +16,7 @@ use crate::json::run_json;
 use crate::judging::judge_output;
 use crate::through::Through;
 use job_script::write_all;
-use mvs_job::{Hears, RunFault, explain_script, run_strictly};
+use mvs_job::{Explained, Hears, RunFault, run_observed, run_strictly};
 use mvs_model::outcome::Outcome;
 use mvs_model::want::Placement;
 use mvs_model::watched::Watched;
@@ -78,26 +78,6 @@ pub fn fault_of(script: &[u8], outcome: Outcome) -> Option<Faulty<'_>>
     }
 }
 
-// Explains a run.
-fn explain<'a, W: Write>(
-    alloc: Global,
-    script: &'a [u8],
-    writer: &mut Watched<W>,
-    placement: Placement,
-) -> Result<Served<'a>, GiveUp>
-    requires { length script.now ≤ most_script_bytes }
-    ensures { Explains (W.contents writer.old.inner) (W.contents writer.new.inner) script.now
-        result }
-{
-    match explain_script(alloc, script, writer, placement) {
-        Ok(outcome) => Ok(Served {
-            ending: Ending::Ran(outcome),
-            faulty: fault_of(script, outcome),
-        }),
-        Err(stop) => Err(GiveUp::of(stop)),
-    }
-}
-
 // Writes a run as a page.
 fn page<'a, W: Write>(
     alloc: Global,
@@ -131,6 +111,28 @@ fn run_strict<'a, W: Write, H: Hears>(
         (H.heard hearer.old) (H.heard hearer.new) script.now result }
 {
     match run_strictly(alloc, script, writer, placement, hearer) {
+        Ok(end) => Ok(Served {
+            ending: Ending::of_strict(end),
+            faulty: fault_of(script, end.outcome),
+        }),
+        Err(stop) => Err(GiveUp::of(stop)),
+    }
+}
+
+// Runs a script with explanations, and reports each line that was not executed to an observer.
+fn explain_strict<'a, W: Write, H: Hears>(
+    alloc: Global,
+    script: &'a [u8],
+    writer: &mut Watched<W>,
+    placement: Placement,
+    hearer: &mut H,
+) -> Result<Served<'a>, GiveUp>
+    requires { length script.now ≤ most_script_bytes }
+    ensures { ExplainsStrictly (W.contents writer.old.inner) (W.contents writer.new.inner)
+        (H.heard hearer.old) (H.heard hearer.new) script.now result }
+{
+    let mut explained = Explained::new(alloc);
+    match run_observed(alloc, script, writer, placement, &mut explained, hearer) {
         Ok(end) => Ok(Served {
             ending: Ending::of_strict(end),
             faulty: fault_of(script, end.outcome),
@@ -193,7 +195,8 @@ fn run<'a, W: Write, H: Hears>(
         result }
     ensures explain { settings.now.json ≡ false → settings.now.page ≡ false
         → IsTrue settings.now.explains
-        → Explains (W.contents writer.old.inner) (W.contents writer.new.inner) script.now result }
+        → ExplainsStrictly (W.contents writer.old.inner) (W.contents writer.new.inner)
+        (H.heard hearer.old) (H.heard hearer.new) script.now result }
     ensures strict { settings.now.json ≡ false → settings.now.page ≡ false
         → settings.now.explains ≡ false
         → RunsStrictly (W.contents writer.old.inner) (W.contents writer.new.inner)
@@ -205,7 +208,7 @@ fn run<'a, W: Write, H: Hears>(
     } else if settings.page {
         page(alloc, script, writer, placement)
     } else if settings.explains {
-        explain(alloc, script, writer, placement)
+        explain_strict(alloc, script, writer, placement, hearer)
     } else {
         run_strict(alloc, script, writer, placement, hearer)
     }
@@ -227,7 +230,8 @@ pub fn serve_script<'a, W: Write, H: Hears>(
         result }
     ensures explain { settings.now.mode ≡ Mode.Run → settings.now.json ≡ false
         → settings.now.page ≡ false → IsTrue settings.now.explains
-        → Explains (W.contents writer.old.inner) (W.contents writer.new.inner) script.now result }
+        → ExplainsStrictly (W.contents writer.old.inner) (W.contents writer.new.inner)
+        (H.heard hearer.old) (H.heard hearer.new) script.now result }
     ensures strict { settings.now.mode ≡ Mode.Run → settings.now.json ≡ false
         → settings.now.page ≡ false → settings.now.explains ≡ false
         → RunsStrictly (W.contents writer.old.inner) (W.contents writer.new.inner)
