@@ -181,7 +181,7 @@ fn with_checking<'a>(command: Command<'a>, alloc: Global) -> Result<Command<'a>,
         checking,
         alloc,
         "hide",
-        "With --check, do not print what the run has in place of a wrong answer",
+        "With --check, print which answers are wrong, but not what would be right",
     )
 }
 
