@@ -453,7 +453,7 @@ def of_completion():
     yield "its values", completed("--schedule", "") == ["attach", "end"]
     yield "its value after =", completed("--schedule", "=", "e") == ["end"]
     yield "a source", completed("orders") == ["orders.asm"]
-    yield "a folder", completed("-I", "r") == ["rust"]
+    yield "a folder", completed("-I", "s") == ["s390"]
 
 
 def run_script(program, script):

@@ -164,6 +164,7 @@ def verifying():
 def packages(folder):
     """The packages, made twice: the second time as docs/VERIFY.md says, in another folder, without git, with another umask, locale and zone."""
     version = output(TOP / "tools/version").split()[1]
+    output(TOP / "tools/library", folder / "library")  # makes the archive that the copy needs, if there is none
     first, copy = folder / "once", without_git(folder / "copy")
     again, odd = copy / "out", os.environ | {"LC_ALL": "C.UTF-8", "TZ": "Asia/Tokyo"}
     output(TOP / "x", "package", first)
