@@ -66,7 +66,7 @@ def commands():
         is_sheet = re.match(r"lessons/\d", name) and not name.startswith("lessons/11")
         if name.startswith(("README", "docs/", "examples/", "lessons/")) and not is_sheet:
             for number, block in enumerate(re.findall(r"(?ms)^```sh\n(.*?)^```$", path.read_text()), 1):
-                if not block.startswith(("machines=", "rt version")):  # tests/conform.py and tests/package.py run these
+                if not block.startswith(("machines=", "rt version", "apt-get install libunicorn-dev")):  # tests/conform.py, package.py and library.py run these
                     yield f"{name} {number}", block
 
 
