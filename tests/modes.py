@@ -55,7 +55,7 @@ APART = (
     "--strict --interactive",
     "--interactive --explain",
 )
-TOGETHER = ("--json --explain", "--page --explain", "--strict --explain", "--strict --place high", "--explain --color never", "--check --place low", "--check --hide --format tap --place high", "--interactive --color never")
+TOGETHER = ("--json --explain", "--page --explain", "--strict --explain", "--strict --place high", "--explain --color never", "--check --place low", "--check --hide --format tap --place low", "--interactive --color never")
 
 
 class Modes:
