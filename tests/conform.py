@@ -93,7 +93,9 @@ def found(conform):
     """What is found of programs that answer well, wrongly, nothing, or too late."""
     status, out, err = conform.run(str(conform.program))
     yield "mvsjob itself", (status, err) == (0, "") and out.splitlines()[-1] == f"{CORPUS} passed, 0 failed"
-    status, out, _ = conform.run(f"{PLAIN} high", "--rule", "24-37", "--random", "5")
+    status, out, _ = conform.run(f"{PLAIN} high", "--rule", "24-37")
+    yield "another placement", status == 0 and out.splitlines()[-1].endswith(" passed, 0 failed")
+    status, out, _ = conform.run(f"{PLAIN} low", "--rule", "24", "--random", "5")
     yield "another implementation", status == 0 and out.splitlines()[-2:-1] == ["random scripts: 5 passed, 0 failed"]
     status, out, _ = conform.run(f"{PLAIN} low FreesAll", "--rule", "28", "--shown", "1")
     line = next((line for line in out.splitlines() if line.startswith("rule 28: ")), "")

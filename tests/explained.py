@@ -2,8 +2,8 @@
 docs/EXPLAIN.md, and the cost."""
 
 import re
+import resource
 import subprocess
-import time
 from functools import partial
 from pathlib import Path
 
@@ -92,20 +92,58 @@ def texts():
         yield f"line {line}", any(pattern.fullmatch(line) for pattern in patterns.values()) and cited and cited <= rules
 
 
+def used():
+    """The processor time, in seconds, of the programs that ended."""
+    times = resource.getrusage(resource.RUSAGE_CHILDREN)
+    return times.ru_utime + times.ru_stime
+
+
 def quick_enough(program):
     """Whether a long script takes at most five times as long with reasons."""
     script = called(program, b"", "--random", "1", "--lines", "100000")[0]
 
     def seconds(*words):
-        before = time.monotonic()
+        before = used()
         called(program, script, *words)
-        return time.monotonic() - before
+        return used() - before
 
     return min(seconds("--explain") for _ in range(3)) <= 5 * min(seconds() for _ in range(3))
 
 
 def cost(program):
     yield "long script", quick_enough(program)
+
+
+# The second line is refused, the third is not executed, and the last has a fault.
+REFUSED = b"JOB REGION BELOW=1\n", b"JOB GETMAIN RC,LV=999992,A=X\n"
+SKIPPED = b"JOB WHERE X\n"
+
+
+def answered_at_once(program):
+    """Whether the reply to a line and its reason are printed before the next line is there."""
+    with subprocess.Popen([program, "--explain"], stdin=subprocess.PIPE, stdout=subprocess.PIPE) as run:
+        printed = []
+        for line in REFUSED:
+            run.stdin.write(line)
+            run.stdin.flush()
+            printed.append(run.stdout.readline())
+        printed.append(run.stdout.readline())
+        run.stdin.close()
+        return printed[:2] == [b"1 JOB REGION BELOW 1 ABOVE 0\n", b"2 JOB RC 4\n"] and printed[2].startswith(b"* ") and run.wait(600) == 0
+
+
+def both(program, end):
+    """Whether `--explain --strict` prints what `--explain` prints, and reports what `--strict` reports."""
+    script = b"".join(REFUSED) + SKIPPED + end
+    explained, strict = called(program, script, "--explain"), called(program, script, "--strict")
+    return called(program, script, "--explain", "--strict") == (explained[0], strict[1], strict[2]) and explained[0].count(b"*") > 1
+
+
+def combined(program):
+    yield "as it comes", answered_at_once(program)
+    yield "with --strict", both(program, b"")
+    yield "with --strict and an abend", both(program, b"JOB ABEND 1\n")
+    yield "with --strict and a fault", both(program, b"JOB NOTHING\n")
 
 
 def groups(program):
@@ -115,3 +153,4 @@ def groups(program):
     yield "wants of random scripts", each(partial(as_wanting, program), seeds(WANTING_SCRIPTS), str, chunksize=5)
     yield "texts of reasons", whole(texts)
     yield "cost of reasons", whole(cost, program)
+    yield "explained as it comes", whole(combined, program)

@@ -10,10 +10,10 @@ PREFIX = "JOB REGION BELOW=1\nJOB GETMAIN RU,LV=8,A=X\n"
 
 
 def blocks():
-    """The code blocks of the document that have `=>`, each a list of lines, and the text before each."""
+    """The scripts of the document with `=>`, each a list of lines, and the text before each."""
     text = (TOP / "docs/SCRIPT.md").read_text()
     for match in re.finditer(r"^```\n(.*?)^```\n", text, re.M | re.S):
-        if "=>" in match[1]:
+        if re.search(r"(?m)^[A-Z]\w* .*=>", match[1]):
             before = text[: match.start()].rstrip().rsplit("\n", 1)[-1]
             yield before, match[1].splitlines()
 

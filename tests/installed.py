@@ -17,8 +17,14 @@ from cases import Lacking
 from documents import dead_links, documents
 
 TOP = Path(__file__).resolve().parent.parent
-PACKAGES = ("mvsjob", "libmvs0", "libmvs-dev", "mvsjob-conformance")
-PAGES = ("1/mvsjob.1", "1/mvsjob-asm.1", "1/mvsjob-conform.1", "5/mvsjob-script.5")
+PACKAGES = ("mvsjob", "libmvs0", "libmvs-dev", "mvsjob-conformance", "python3-mvs")
+WITHOUT_DOCUMENTS = ("libmvs0", "python3-mvs")
+PYTHON = """import mvs
+with mvs.Session() as session:
+    session.line("JOB REGION BELOW=1")
+    print(session.line("JOB GETMAIN R,LV=8,A=X").kind.name, session.text(), end="")
+"""
+PAGES = ("1/mvsjob.1", "1/mvsjob-asm.1", "1/mvsjob-conform.1", "5/mvsjob-script.5", "7/mvsjob-sheet.7")
 EXAMPLES = sorted((TOP / "examples").glob("*.job"))
 FIRST = (TOP / "examples/first.job").read_text()
 PRINTED = (TOP / "examples/first.out").read_text()
@@ -131,7 +137,7 @@ class Installation:
         doc = self.machine.root / "usr/share/doc" / name
         texts = documents(doc) + sorted(doc.rglob("*.html"))
         dead = [f"{path.name}: {link}" for path in texts for link in dead_links(path)]
-        return not dead and bool(texts or name == "libmvs0")
+        return not dead and bool(texts or name in WITHOUT_DOCUMENTS)
 
     def typed(self, block):
         """Whether the commands of a document do their work in a copy of the documents, beside the packages and the proved program.
@@ -162,6 +168,11 @@ class Installation:
         source = f"{root}/share/doc/{'mvsjob' if prefix else 'libmvs-dev'}/examples/c/handler.c"
         status, out, _ = self.machine.run(f"cc {source} -o /tmp/handler {flags} $({words}) && /tmp/handler")
         return status == 0 and out.startswith("SVC 4: R15=00000000")
+
+    def imported(self):
+        """Whether the module is found, and loads the library of its package."""
+        (self.machine.root / "tmp/imported.py").write_text(PYTHON)
+        return self.machine.run("python3 /tmp/imported.py", user="nobody") == (0, "RC_0 2 JOB RC 0\n", "")
 
     def archive(self):
         """Whether the archive runs from a folder of its own, and its library is found there."""
@@ -214,6 +225,7 @@ def cases():
         yield name, lambda it, block=block: it.typed(block)
     yield "linked with the shared library", lambda it: it.linked("")
     yield "linked with the static library", lambda it: it.linked("-static")
+    yield "the module in Python", Installation.imported
     yield "the archive", Installation.archive
     yield "remove", Installation.removed
     yield "rpm", Installation.rpm

@@ -3,6 +3,13 @@
 import json
 import re
 import subprocess
+from pathlib import Path
+
+from cases import Lacking
+
+TOP = Path(__file__).resolve().parent.parent
+SCHEMA = TOP / "docs/events.schema.json"
+SCRIPTS = ("examples/*.job", "lessons/*.job", "conformance/scripts/*.job", "tests/reasons/*.job")
 
 PLAIN = {"not_run": "NOT RUN", "no_name": "NO NAME", "cell": "CELL", "no_cell": "NO CELL", "attached": "ATTACHED", "ended": "ENDED", "done": "OK"}
 
@@ -85,3 +92,38 @@ def holds(program, script):
 def random_holds(program, profile, seed):
     script = subprocess.run([program, "--random", str(seed), "--profile", profile], capture_output=True, timeout=600).stdout
     return holds(program, script)
+
+
+def kinds(schema):
+    """The answers and the kinds of reasons that the schema has, as (member, value)."""
+    for name, value in schema.items() if isinstance(schema, dict) else enumerate(schema) if isinstance(schema, list) else ():
+        if name in ("answer", "kind"):
+            yield from ((name, word) for word in value.get("enum", [value.get("const")]))
+        else:
+            yield from kinds(value)
+
+
+def lines(program):
+    """The lines of JSON of many scripts, with reasons."""
+    for pattern in SCRIPTS:
+        for path in sorted(TOP.glob(pattern)):
+            ran = subprocess.run([program, "--json", "--explain", path], capture_output=True, text=True, timeout=600)
+            yield from map(json.loads, ran.stdout.splitlines())
+
+
+def schema_results(program):
+    """Whether docs/events.schema.json describes the lines: each fits, each kind occurs, and none fits without one of its members."""
+    try:
+        from jsonschema import Draft202012Validator
+    except ImportError:
+        yield "docs/events.schema.json", Lacking("python3-jsonschema")
+        return
+    schema = json.loads(SCHEMA.read_text())
+    validator, events = Draft202012Validator(schema), list(lines(program))
+    yield "is a schema", Draft202012Validator.check_schema(schema) is None
+    yield "each line fits", len(events) > 3000 and all(map(validator.is_valid, events))
+    found = {(name, each[name]) for event in events for each in (event, event.get("reason", {})) for name in ("answer", "kind") if name in each}
+    yield "each kind occurs", found == set(kinds(schema))
+    shorter = [{name: value for name, value in event.items() if name != left} for event in events[:300] for left in event if left not in ("reason", "areas", "length")]
+    yield "no line fits without a member", not any(map(validator.is_valid, shorter))
+    yield "no line fits with a member more", not any(validator.is_valid(event | {"other": 0}) for event in events[:300])

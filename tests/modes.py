@@ -5,6 +5,7 @@ import subprocess
 import tempfile
 import time
 from pathlib import Path
+from xml.etree import ElementTree
 
 import annotated
 
@@ -40,17 +41,21 @@ APART = (
     "--judge OUTPUT --place high",
     "--check --blank",
     "--check --color never",
+    "--hide",
+    "--format tap",
+    "--blank --hide",
+    "--explain --format text",
+    "--random 1 --format junit",
     "--ask --explain",
     "--assemble --json",
     "--blank --strict",
     "--json --page",
     "--json --strict",
     "--page --interactive",
-    "--strict --explain",
     "--strict --interactive",
     "--interactive --explain",
 )
-TOGETHER = ("--json --explain", "--page --explain", "--strict --place high", "--explain --color never", "--check --place low", "--interactive --color never")
+TOGETHER = ("--json --explain", "--page --explain", "--strict --explain", "--strict --place high", "--explain --color never", "--check --place low", "--check --hide --format tap --place low", "--interactive --color never")
 
 
 class Modes:
@@ -115,15 +120,97 @@ def pipes(modes):
 
 
 def checks(modes):
-    yield "a check of nothing", modes.run("--check", b"") == (1, b"-: no answers to compare\n", "-:1:1: JS09: the script has no statement\n")
-    yield "a check without answers", modes.run("--check", REGION) == (1, b"-: no answers to compare\n", "")
+    none = b"-: no answers to compare\n0 of 0 right, 0 wrong, 0 not answered\n"
+    yield "a check of nothing", modes.run("--check", b"") == (1, none, "-:1:1: JS09: the script has no statement\n")
+    yield "a check without answers", modes.run("--check", REGION) == (1, none, "")
     status, out, err = modes.run("--check", b"JOB REGION BELOW=1 => REGION BELOW 1 ABOVE 0\nJOB FOO\n")
-    yield "a fault that no answer names", (status, out) == (12, b"") and "-:2:5: JS03" in err
-    status, out, err = modes.run("--check", b"JOB REGION BELOW=1 => REGION BELOW 1 ABOVE 0\nJOB FOO => JS03\n")
-    yield "a fault that is named", (status, out) == (0, b"")
+    yield "a fault that no answer names", (status, out) == (12, counts(1, 0, 0)) and "-:2:5: JS03" in err
+    named = b"JOB REGION BELOW=1 => REGION BELOW 1 ABOVE 0\nJOB FOO => JS03\n"
+    status, out, err = modes.run("--check", named)
+    yield "a fault that is named", (status, out) == (0, counts(2, 0, 0)) and "-:2:5: JS03" in err
+    yield "a fault that is named, hidden", modes.run("--check --hide", named) == (0, counts(2, 0, 0), "")
+    yield "a fault that is asked for, hidden", modes.run("--check --hide", named.replace(b"=> JS03", b"=> ?"))[2] == ""
+    status, out, err = modes.run("--check --hide", b"JOB REGION BELOW=1 => ?\nJOB FOO\n")
+    yield "a fault after the last answer, hidden", (status, out) == (1, b"-:1: not answered\n" + counts(0, 0, 1)) and "-:2:5: JS03" in err
     status, out, err = modes.run("--check", b"JOB REGION BELOW=1 => \x1b]0;x\x07\n")
     yield "an answer with an escape", status == 1 and b"\x1b" not in out and "\x1b" not in err
     yield "a program without a statement", modes.run("--assemble", b"* nothing\n") == (12, b"", "-:2:1: JS09: the script has no statement\n")
+
+
+def counts(right, wrong, missing):
+    return f"{right} of {right + wrong + missing} right, {wrong} wrong, {missing} not answered\n".encode()
+
+
+# Five answers, of which one is right, one wrong, one asked for and two are empty.
+ANSWERED = b"""JOB REGION BELOW=1 => REGION BELOW 1 ABOVE 0
+JOB GETMAIN RC,LV=9000,A=X   =>  RC <0>
+JOB ATTACH TASK=S => ?
+JOB REPORT SP =>
+JOB RETURN =>   
+* STEP ENDED RC 8
+"""
+TAP = """TAP version 13
+1..6
+ok 1 - line 1
+not ok 2 - line 2
+  ---
+  message: |
+    expected RC <0>, got RC 4
+  ...
+not ok 3 - line 3
+  ---
+  message: |
+    not answered
+  ...
+not ok 4 - line 4
+  ---
+  message: |
+    nothing after =>
+  ...
+not ok 5 - line 5
+  ---
+  message: |
+    nothing after =>
+  ...
+ok 6 - line 6
+# 2 of 6 right, 1 wrong, 3 not answered
+"""
+WRONG = ((2, "expected RC <0>, got RC 4"), (3, "not answered"), (4, "nothing after =>"), (5, "nothing after =>"))
+
+
+def forms(modes):
+    """The report of a check in each form, with what the run has hidden or not."""
+    text = "".join(f"-:{line}: {message}\n" for line, message in WRONG).encode() + counts(2, 1, 3)
+    hidden = text.replace(b"expected RC <0>, got RC 4", b"wrong")
+    yield "a check, text", modes.run("--check", ANSWERED) == modes.run("--check --format text", ANSWERED) == (1, text, "")
+    yield "a check, hidden", modes.run("--check --hide", ANSWERED) == (1, hidden, "")
+    yield "a check, TAP", modes.run("--check --format tap", ANSWERED) == (1, TAP.encode(), "")
+    yield "a check, TAP, hidden", modes.run("--check --hide --format tap", ANSWERED) == (1, TAP.replace("expected RC <0>, got RC 4", "wrong").encode(), "")
+    status, out, _ = modes.run("--check --format junit", ANSWERED)
+    suite = ElementTree.fromstring(out).find("testsuite")
+    cases = [(int(case.get("name").removeprefix("line ")), case.find("failure")) for case in suite]
+    yield "a check, JUnit", (status, suite.attrib, [line for line, _ in cases]) == (1, {"name": "-", "tests": "6", "failures": "4"}, [1, 2, 3, 4, 5, 6])
+    yield "a check, JUnit, failures", tuple((line, failure.get("message")) for line, failure in cases if failure is not None) == WRONG
+    yield "a check, JUnit, hidden", b"RC 4" not in modes.run("--check --hide --format junit", ANSWERED)[1]
+    for form in ("tap", "junit"):
+        status, out, _ = modes.run(f"--check --format {form}", REGION)
+        yield f"no answers, {form}", status == 1 and out.count(b"no answers to compare") == 1 and (b"\n1..1\nnot ok 1 - answers\n" in out or b'tests="1" failures="1"' in out)
+    high = ANSWERED.replace(b"JOB REPORT SP =>", b"JOB WHERE X => NO NAME")
+    yield "a check, placed high", modes.run("--check --place high", high) == modes.run("--check", high)
+    yield "a step that ends", modes.run("--check", REGION + b"JOB REGION BELOW=1 => STEP ENDED RC 0 / REGION BELOW 1 ABOVE 0\n") == (0, counts(1, 0, 0), "")
+    yield "a line that prints nothing", modes.run("--check", b"* => nothing\n" + REGION + b"JOB FOO => JS03\nJOB RETURN => nothing\n* JOB FAULT RC 12\n")[:2] == (0, counts(4, 0, 0))
+
+
+def named(modes):
+    """The name of a script in a report: control characters are points, and in XML it is escaped."""
+    with tempfile.TemporaryDirectory() as folder:
+        path = Path(folder) / "a&<\x1b[2J\u009b\u00fc\">.job"
+        path.write_bytes(REGION + b"JOB FOO => ?\n")
+        shown = f"{folder}/a&<.[2J.\u00fc\">.job"
+        status, out, _ = modes.run(f"--check --hide {path}", b"")
+        yield "a name in a report", (status, out.decode().splitlines()[0]) == (1, f"{shown}:2: not answered")
+        suite = ElementTree.fromstring(modes.run(f"--check --format junit {path}", b"")[1]).find("testsuite")
+        yield "a name in JUnit's XML", suite.get("name") == suite[0].get("classname") == shown
 
 
 def judgements(modes):
@@ -174,5 +261,5 @@ def placed_high(program):
 def results(program):
     with tempfile.TemporaryDirectory() as folder:
         modes = Modes(program, folder)
-        groups = (reading, pipes, checks, judgements, options, unserved, names)
+        groups = (reading, pipes, checks, forms, named, judgements, options, unserved, names)
         return [case for group in groups for case in group(modes)] + list(placed_high(program))

@@ -23,6 +23,7 @@ PAGES = {
     "man1/mvsjob-asm.1": ("OPTIONS", "EXIT STATUS", "CONVERSION", "SEE ALSO"),
     "man1/mvsjob-conform.1": ("OPTIONS", "EXIT STATUS", "SEE ALSO"),
     "man5/mvsjob-script.5": ("GETMAIN", "CPOOL", "FAULTS", "LIMITS"),
+    "man7/mvsjob-sheet.7": ("GETMAIN", "CODES", "TEN MISTAKES", "S804, S80A, S878"),
 }
 PROGRAMS = ("mvsjob", "mvsjob-asm", "mvsjob-conform")
 COMPLETIONS = {
@@ -35,8 +36,9 @@ PACKAGES = {  # their files' modes
     "libmvs0": {"-rw-r--r--"},
     "libmvs-dev": {"-rw-r--r--", "lrwxrwxrwx"},
     "mvsjob-conformance": {"-rw-r--r--", "-rwxr-xr-x"},
+    "python3-mvs": {"-rw-r--r--"},
 }
-MADE = ("{0}_{1}_amd64.deb", "libmvs0_{1}_amd64.deb", "libmvs-dev_{1}_amd64.deb", "mvsjob-conformance_{1}_all.deb", "{0}-{1}-linux-x86_64.tar.gz")
+MADE = ("{0}_{1}_amd64.deb", "libmvs0_{1}_amd64.deb", "libmvs-dev_{1}_amd64.deb", "mvsjob-conformance_{1}_all.deb", "python3-mvs_{1}_all.deb", "{0}-{1}-linux-x86_64.tar.gz")
 RPM = ("{0}-{1}-1.x86_64.rpm", "libmvs-{1}-1.x86_64.rpm", "libmvs-devel-{1}-1.x86_64.rpm", "mvsjob-conformance-{1}-1.noarch.rpm")
 COMPLETED = {
     ("--pl",): "--place",

@@ -49,7 +49,7 @@ def inputs(program, folder):
     yield "bytes that are no text", shell(program, '"$MVSJOB"', stdin=bytes([0, 1, 2, 255])) == (12, "1 JS02\nJOB FAULT RC 12\n", said)
     checked = b"JOB REGION BELOW=1\nJOB GETMIAN R => RC 0\n"
     said = "-:2:5: JS03: unknown operation GETMIAN\n    JOB GETMIAN R\n        ^^^^^^^ did you mean GETMAIN?\n"
-    yield "a fault that is checked", shell(program, '"$MVSJOB" --check', stdin=checked) == (1, "-:2: expected RC 0, got JS03\n", said)
+    yield "a fault that is checked", shell(program, '"$MVSJOB" --check', stdin=checked) == (1, "-:2: expected RC 0, got JS03\n0 of 1 right, 1 wrong, 0 not answered\n", said)
     status, out, err = shell(program, '"$MVSJOB"', stdin=b"JOB" + bytes(300))
     yield "a long line of no text", (status, out, err) == (12, "1 JS01\nJOB FAULT RC 12\n", "-:1:256: JS01: a line has at most 255 bytes; is the file a script?\n")
     status, out, err = shell(program, 'head -c 17000000 /dev/zero | tr "\\0" "\\n" | "$MVSJOB"')

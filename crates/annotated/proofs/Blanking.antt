@@ -8,31 +8,7 @@ use Rattle.std.proofs.KnownBytes.{Appends-trans}
 use Rattle.job_script.specs.Writing.{AppendsFront}
 use Rattle.job_script.proofs.Appending.{front_longer, front_more}
 use Rattle.mvs_model.specs.Lines.{lines_of}
-use Rattle.annotated.specs.Blank.{IsPartedAt, blank, blank_end, blank_line, blank_lines, place_of, up_to}
-
--- ---- the first line
-
-abbrev place : List ℕ → ℕ
-place text = position_or_len (λ b. b == 10) text
-
-pub first_line : (text : List ℕ) → 0 < length text → lines_of text ≡ before_first (λ b. b == 10) text ∷ lines_of (after_first (λ b. b == 10) text)
-first_line [] some = absurd (omega arith)
-first_line (b ∷ []) some = at (b == 10) where
-  at : (f : Bool) → (if f then [] ∷ [] else onto_first b []) ≡ take (cond (not f) 1 0) (b ∷ []) ∷ lines_of (drop (cond (not f) 1 0 + 1) (b ∷ []))
-  at true = refl
-  at false = refl
-first_line (b ∷ c ∷ bytes) some = at (b == 10) (first_line (c ∷ bytes) (omega arith)) where
-  at : (f : Bool) → lines_of (c ∷ bytes) ≡ before_first (λ b. b == 10) (c ∷ bytes) ∷ lines_of (after_first (λ b. b == 10) (c ∷ bytes))
-      → (if f then [] ∷ lines_of (c ∷ bytes) else onto_first b (lines_of (c ∷ bytes)))
-      ≡ take (cond (not f) (1 + place (c ∷ bytes)) 0) (b ∷ c ∷ bytes) ∷ lines_of (drop (cond (not f) (1 + place (c ∷ bytes)) 0 + 1) (b ∷ c ∷ bytes))
-  at true rest = refl
-  at false rest =
-      let m = place (c ∷ bytes) in
-      let one : suc m ≡ 1 + m = omega arith in
-      let two : suc (m + 1) ≡ 1 + m + 1 = omega arith in
-      ap (onto_first b) rest
-      ∙ ap (λ n. take n (b ∷ c ∷ bytes) ∷ lines_of (drop (m + 1) (c ∷ bytes))) one
-      ∙ ap (λ n. take (1 + m) (b ∷ c ∷ bytes) ∷ lines_of (drop n (b ∷ c ∷ bytes))) two
+use Rattle.annotated.specs.Blank.{IsPartedAt, arrow, blank, blank_end, blank_line, blank_lines, place_of, up_to}
 
 -- ---- a line
 
@@ -40,16 +16,6 @@ first_line (b ∷ c ∷ bytes) some = at (b == 10) (first_line (c ∷ bytes) (om
 pub of_parted : (separator text before : List ℕ) (after : Option (List ℕ)) → IsPartedAt separator text before after → (before ≡ up_to (place_of separator text) text) × (is_some after ≡ is_some (place_of separator text))
 of_parted separator text before None p = (p.1 ∙ sym (ap (λ o. up_to o text) p.0), sym (ap is_some p.0))
 of_parted separator text before (Some after) p = (p.2 ∙ sym (ap (λ o. up_to o text) p.1), sym (ap is_some p.1))
-
--- what is after it
-pub next_of : (text : List ℕ) (more : Option (Bor (List ℕ))) (none next : Bor (List ℕ)) → none.now ≡ [] → MatchOption more ((list_any (λ b. b == 10) text ≡ false) × (after_first (λ b. b == 10) text ≡ [])) (λ rest. (list_any (λ b. b == 10) text ≡ true) × (rest.now ≡ after_first (λ b. b == 10) text))
-    → next ≡ unwrap_or more none → next.now ≡ after_first (λ b. b == 10) text
-next_of text None none next empty after is = ap (λ n. n.now) is ∙ empty ∙ sym after.1
-next_of text (Some rest) none next empty after is = ap (λ n. n.now) is ∙ after.1
-
-pub some_left : (text : List ℕ) (f : Bool) → f ≡ (length text == 0) → f ≡ false → 0 < length text
-some_left [] f e some = absurd (let g : true ≡ false = sym e ∙ some in cc)
-some_left (b ∷ text) f e some = omega arith
 
 pub as_answered : (tail : List ℕ) (answers : Option (Bor (List ℕ))) (answered : Bool) → tail ≡ blank_end answered → answered ≡ is_some answers → tail ≡ blank_end (is_some (option_map (λ a. a.now) answers))
 as_answered tail None answered end is = end ∙ ap blank_end is
@@ -60,11 +26,11 @@ as_answered tail (Some a) answered end is = end ∙ ap blank_end is
 abbrev pub SoFar : Option (List ℕ) → Option (List ℕ) → List ℕ → List ℕ → Type 0
 SoFar start now script rest = (written : List ℕ) × Appends start now written × (blank script ≡ written ++ blank rest)
 
-module _ (start before mid now : Option (List ℕ)) (script text line next statement tail : List ℕ) (answers : Option (List ℕ)) (cut : lines_of text ≡ line ∷ lines_of next) (so_far : SoFar start before script text) (parted : IsPartedAt (codes " => ") line statement answers) (end : tail ≡ blank_end (is_some answers)) where
+module _ (start before mid now : Option (List ℕ)) (script text line next statement tail : List ℕ) (answers : Option (List ℕ)) (cut : lines_of text ≡ line ∷ lines_of next) (so_far : SoFar start before script text) (parted : IsPartedAt arrow line statement answers) (end : tail ≡ blank_end (is_some answers)) where
   of_line : statement ++ tail ≡ blank_line line
   of_line =
-      let p = of_parted (codes " => ") line statement answers parted in
-      ap (λ t. statement ++ t) (end ∙ ap blank_end p.1) ∙ ap (λ s. s ++ blank_end (is_some (place_of (codes " => ") line))) p.0
+      let p = of_parted arrow line statement answers parted in
+      ap (λ t. statement ++ t) (end ∙ ap blank_end p.1) ∙ ap (λ s. s ++ blank_end (is_some (place_of arrow line))) p.0
 
   whole : blank script ≡ so_far.0 ++ ((statement ++ tail) ++ blank next)
   whole = so_far.2 ∙ ap (λ t. so_far.0 ++ t) (ap blank_lines cut ∙ ap (λ t. t ++ blank next) (sym of_line))

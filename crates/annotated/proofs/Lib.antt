@@ -1,2 +1,5 @@
--- Lemmas; Blanking serves the crate above too.
-pub mod Blanking
+-- Lemmas; Cutting serves the crate above too.
+mod Blanking
+pub mod Cutting
+mod Texts
+mod Walking

@@ -17,13 +17,17 @@ abbrev pub up_to : Option ℕ → List ℕ → List ℕ
 up_to None text = text
 up_to (Some n) text = take n text
 
+-- what begins the answers of a line
+abbrev pub arrow : List ℕ
+arrow = codes " =>"
+
 -- what comes after a statement: whether it has answers or not
 abbrev pub blank_end : Bool → List ℕ
 blank_end answered = if answered then codes " => ?" ++ 10 ∷ [] else 10 ∷ []
 
 -- a line with ? in place of its answers, and its newline
 abbrev pub blank_line : List ℕ → List ℕ
-blank_line line = up_to (place_of (codes " => ") line) line ++ blank_end (is_some (place_of (codes " => ") line))
+blank_line line = up_to (place_of arrow line) line ++ blank_end (is_some (place_of arrow line))
 
 -- some lines, each blank
 abbrev pub blank_lines : List (List ℕ) → List ℕ

@@ -4,38 +4,39 @@
 //! `* JOB FAULT RC 12` is the last line that is expected. A script is bytes: its lines end at X'0A', as those of a run.
 #![tactic(auto)]
 
-ghost use Rattle.std.specs.Prelude.{◌≡◌};
+ghost use Rattle.std.specs.Prelude.{◌≡◌, IfOk};
 ghost use Rattle.job_script.specs.Writing.{Prints};
+ghost use Rattle.annotated.specs.Asked.{statements};
 ghost use Rattle.annotated.specs.Blank.{blank, blank_end};
 
-mod difference;
+mod asked;
 mod lines;
 mod printed;
+mod report;
+mod shown;
 
-pub use difference::{Comparison, write_differences};
 use job_script::parted::parted;
 use job_script::write_all;
-use lines::{ARROW, end_of, parted_at, statement_of, without_end};
+use lines::{ARROW, parted_at, statement_of};
 use mvs_model::watched::{Failed, Watched};
-use std::io::{self, Write};
+pub use report::{Counts, Form, Format, Report, report_answers};
+use std::alloc::{AllocError, Global};
+use std::io::Write;
 
-// Writes a line with its end.
-fn write_line<W: Write>(writer: &mut W, line: &[u8]) -> io::Result<()> {
-    writer.write_all(line)?;
-    writer.write_all(b"\n")
-}
-
-/// Writes the statements of a script, without the answers after them. A line with a byte that no script may have is written whole.
-pub fn write_statements<W: Write>(writer: &mut W, script: &[u8]) -> io::Result<()> {
-    let mut is_first = true;
-    for line in script.split(|byte| *byte == b'\n') {
-        if !is_first {
-            writer.write_all(b"\n")?;
-        }
-        writer.write_all(statement_of(line))?;
-        is_first = false;
+/// Returns the statements of a script, without the answers after them, as a script. A line with a byte that no script may have is whole.
+pub fn statements(alloc: Global, script: &[u8]) -> Result<Vec<u8>, AllocError>
+    ensures { IfOk result (λ run. run.items ≡ statements script.now) }
+{
+    let mut run = Vec::new(alloc);
+    let mut rest = script;
+    'lines: while !rest.is_empty() {
+        let (line, more) = parted(rest, b'\n');
+        run.extend_from_slice(statement_of(line))?;
+        run.push(b'\n')?;
+        rest = more.unwrap_or(&[]);
     }
-    Ok(())
+    run.truncate(script.len());
+    Ok(run)
 }
 
 /// Returns the statement in the line of a number, without the answers after it; an empty one where the script has no such line.
@@ -70,18 +71,4 @@ pub fn write_blank<W: Write>(writer: &mut Watched<W>, script: &[u8]) -> Result<(
         rest = more.unwrap_or(&[]);
     }
     Ok(())
-}
-
-/// Returns whether a script has an answer of the line of a number, or of the end of the job.
-pub fn has_answer(script: &[u8], line_number: u32) -> bool {
-    let mut number = 0u32;
-    let mut last: &[u8] = b"";
-    for line in without_end(script).split(|byte| *byte == b'\n') {
-        number = number.saturating_add(1);
-        if number == line_number && parted_at(line, ARROW).1.is_some() {
-            return true;
-        }
-        last = line;
-    }
-    end_of(last).is_some()
 }

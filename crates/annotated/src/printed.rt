@@ -1,45 +1,115 @@
 //! The printed lines of a run, statement by statement.
 
-ghost use Rattle.std.specs.Prelude.{◌≤◌, length};
+ghost use Rattle.std.specs.Prelude.{◌≡◌, ◌≢◌, ◌++◌, ◌==◌, [], IfOk, OnOk, codes, decimal, if◌then◌else◌, is_some, length, true};
+ghost use Rattle.std.specs.Option.{option_map};
+ghost use Rattle.mvs_model.specs.Lines.{lines_of};
+ghost use Rattle.annotated.specs.Asked.{begins_with, ends_step, after_own, is_own, joined, last_or, numbered, own_texts, text_of, without_task};
 
-// Whether a printed line has the number of a statement's line.
-fn is_of(line: &str, number: u32) -> bool {
-    match line.split_once(' ') {
-        Some((digits, _)) => digits.parse::<u32>() == Ok(number),
-        None => false,
-    }
-}
+use crate::lines::after_prefix;
+use job_script::parted::parted;
+use job_script::text::Text;
+use std::alloc::AllocError;
 
-fn ends_step(line: &str) -> bool {
-    line.starts_with("STEP ENDED ")
-}
-
-/// Returns the number of printed lines that begin a list and belong to the statement of a line. The end of a step belongs to the
-/// REGION statement after it.
-pub fn end_of_answers(lines: &[&str], number: u32) -> usize
-    ensures { result ≤ length lines.now }
+// Returns the text of a printed line after its number, if it has this number.
+fn numbered(line: &[u8], number: u32) -> Option<&[u8]>
+    ensures { option_map (λ text. text.now) result ≡ numbered number line.now }
 {
-    let mut end = match lines {
-        [first, second, ..] if ends_step(first) && is_of(second, number) => 1,
-        _ => 0,
-    };
-    while end < lines.len() && is_of(lines[end], number) {
-        end += 1;
-    }
-    end
+    let mut head = Text::new();
+    head.push_decimal(number);
+    head.push_all(b" ");
+    after_prefix(line, head.as_slice())
 }
 
-/// Returns the text of a printed line, without the number of its line and the task of its statement.
-pub fn text<'a>(line: &'a str, task: &[u8]) -> &'a str {
-    if ends_step(line) {
-        return line;
+// Returns whether a printed line is the end of a step.
+fn ends_step(line: &[u8]) -> bool
+    ensures { result ≡ ends_step line.now }
+{
+    after_prefix(line, b"STEP ENDED ").is_some()
+}
+
+// Returns whether the first of some printed lines has this number.
+fn begins_with(printed: &[u8], number: u32) -> bool
+    ensures { result ≡ begins_with number (lines_of printed.now) }
+{
+    let (line, _) = parted(printed, b'\n');
+    numbered(line, number).is_some()
+}
+
+// Returns whether the first of some printed lines is of the statement with this number. The end of a step is of the REGION statement
+// after it.
+fn is_own(printed: &[u8], number: u32) -> bool
+    ensures own { result ≡ is_own number (lines_of printed.now) }
+    ensures some { result ≡ true → printed.now ≢ [] }
+{
+    let (line, more) = parted(printed, b'\n');
+    if numbered(line, number).is_some() {
+        return true;
     }
-    let numbered = match line.split_once(' ') {
-        Some((_, text)) => text,
+    ends_step(line) && begins_with(more.unwrap_or(&[]), number)
+}
+
+// Returns a text without the name of the task of the statement.
+fn without_task<'a>(text: &'a [u8], task: &[u8]) -> &'a [u8]
+    ensures { result.now ≡ without_task task.now text.now }
+{
+    match after_prefix(text, task) {
+        Some(rest) => after_prefix(rest, b" ").unwrap_or(text),
+        None => text,
+    }
+}
+
+// Returns the text of a printed line, without its number and the task of the statement.
+fn text_of<'a>(line: &'a [u8], number: u32, task: &[u8]) -> &'a [u8]
+    ensures { result.now ≡ text_of number task.now line.now }
+{
+    match numbered(line, number) {
+        Some(text) => without_task(text, task),
         None => line,
-    };
-    match numbered.split_once(' ') {
-        Some((of, text)) if of.as_bytes() == task => text,
-        _ => numbered,
     }
+}
+
+// Appends a text to others, after ` / ` if it is not the first.
+fn push_text(texts: &mut Vec<u8>, text: &[u8]) -> Result<(), AllocError>
+    ensures { OnOk result
+        (texts.new.items ≡ (if length texts.old.items == 0 then text.now else texts.old.items ++ (codes " / " ++ text.now))) }
+{
+    if !texts.is_empty() {
+        texts.extend_from_slice(b" / ")?;
+    }
+    texts.extend_from_slice(text)
+}
+
+/// Returns the last line of what was printed, or the word for none.
+pub fn last_line(printed: &[u8]) -> &[u8]
+    ensures { result.now ≡ last_or (codes "nothing") (lines_of printed.now) }
+{
+    let mut last = b"nothing".as_slice();
+    let mut rest = printed;
+    'lines: while !rest.is_empty() {
+        let (line, more) = parted(rest, b'\n');
+        last = line;
+        rest = more.unwrap_or(&[]);
+    }
+    last
+}
+
+/// Appends the texts of the first printed lines, as far as they are of the statement with this number, and returns what is printed
+/// after them.
+pub fn take_own<'a>(
+    texts: &mut Vec<u8>,
+    printed: &'a [u8],
+    number: u32,
+    task: &[u8],
+) -> Result<&'a [u8], AllocError>
+    ensures texts { OnOk result
+        (texts.new.items ≡ joined texts.old.items (own_texts number task.now (lines_of printed.now))) }
+    ensures rest { IfOk result (λ rest. lines_of rest.now ≡ after_own number (lines_of printed.now)) }
+{
+    let mut rest = printed;
+    'own: while is_own(rest, number) {
+        let (line, more) = parted(rest, b'\n');
+        push_text(texts, text_of(line, number, task))?;
+        rest = more.unwrap_or(&[]);
+    }
+    Ok(rest)
 }

@@ -27,34 +27,29 @@ use Rattle.mvs_model.specs.Reading.{LineOf, FaultOf}
 use Rattle.mvs_model.specs.Replies.{where_answer}
 use Rattle.mvs_model.specs.Resolving.{first_unset, looked_up, resolved}
 use Rattle.mvs_model.specs.Runs.{Any, Does, Asks, Tells, machine}
-use Rattle.mvs_model.specs.Walk.{Serves, is_first, ending, has_abended}
+use Rattle.mvs_model.specs.Walk.{Serves, is_first}
 use Rattle.mvs_model.proofs.Reading.{one_reading}
 use Rattle.mvs_model.proofs.Tests.{by_test, false_true, true_false, none_some, some_none}
 use Rattle.request_forms.specs.Facts.{owned_subpools}
 use Rattle.request_forms.specs.declared.facts.OwnedSubpool.{OwnedSubpool}
-use Rattle.mvs_job.specs.declared.asking.Asking.{Asking}
+use Rattle.mvs_job.specs.declared.explained.Explained.{Explained}
 use Rattle.mvs_job.specs.declared.granting.Before.{Before}
 use Rattle.mvs_job.specs.declared.naming.SetLines.{SetLines as Lines}
 use Rattle.mvs_job.specs.declared.walk.LineTold.{LineTold}
 use Rattle.mvs_job.specs.declared.walk.LineTold.TheVariants as told
-use Rattle.mvs_job.specs.Asking.{IsLooking, KeepsAsking, MayStop, StopsLine}
-use Rattle.mvs_job.specs.Explaining.{IsBehind, behind_said, reason_text, said_of, LeadsTo}
+use Rattle.mvs_job.specs.Looking.{IsLooking, KeepsExplained}
+use Rattle.mvs_job.specs.Apart.{StandsBehind}
+use Rattle.mvs_job.specs.Explaining.{IsBehind, behind_said, reason_text, said_of}
 use Rattle.mvs_job.specs.Facts.{end_of, ended_by, freed_lines, freed_text}
 use Rattle.mvs_job.specs.Granting.{IsGranting, IsReadIn, before_line, done_text, granted_text, tells_grant}
-use Rattle.mvs_job.specs.Naming.{IsNamingOf, SetLines, address_in, address_told, naming_text}
+use Rattle.mvs_job.specs.Naming.{IsNamingOf, SetLines, address_in, address_told, lines_before, naming_text}
 use Rattle.mvs_job.specs.Observing.{Fails, Hearing, Observes, ObservesLine, Passes, is_end, is_failure, is_refusal}
 use Rattle.mvs_job.specs.Telling.{IsTold, WalkValue, card_said, ended, events_told, lent_in}
 use Rattle.mvs_job.specs.Why.{IsRequestOf, OfNext, OfAsked, OfLine, OfRead, OfSaid, answer_reason, line_reason, refused, spoken, tells_refusal, unset_of, OfStatement}
 use Rattle.mvs_job.proofs.Observed.{is_return, some_unset}
 use Rattle.mvs_model.specs.declared.line.Fault.{Fault}
 use Rattle.mvs_model.specs.Place.{PlaceValue}
-use Rattle.mvs_model.specs.Memory.{StopsForMemory, TakesMemory}
-use Rattle.mvs_model.specs.Texts.{printing}
-use Rattle.mvs_model.specs.Lines.{card_of}
-use Rattle.job_script.specs.Writing.{AppendsFront}
-use Rattle.mvs_job.proofs.Serving.{nothing_kept}
-use Rattle.mvs_laws.proofs.Going.{printed_both}
-use Rattle.job_script.proofs.Appending.{front_longer}
+use Rattle.std.specs.Io.KnownBytes.{Appends}
 
 -- ---- what the line did, by what was looked at before
 
@@ -77,14 +72,14 @@ granting (Some job) l read before (inr (fault, of, is)) looked events new =
 -- ---- the parts of the text
 
 -- The text explains the next line, and this is why it was not executed as it asks.
-abbrev Stood : Option JobValue → SetLines → List ℕ → List Event → Option JobValue → Asking → Type 0
+abbrev Stood : Option JobValue → SetLines → List ℕ → List Event → Option JobValue → Explained → Type 0
 Stood old set bytes events new x = IsBehind old set bytes events new (behind_said x events new) × OfNext old bytes events x.reason
 
 said_nothing : (request : Request) (r : Option LineReason) → said_of line.Nothing request r ≡ []
 said_nothing request None = refl
 said_nothing request (Some reason) = refl
 
-assemble : (job : JobValue) (set : SetLines) (bytes : List ℕ) (l : Line) (events : List Event) (new : Option JobValue) (x : Asking) → LineOf false bytes l → OfRead job l events x.reason
+assemble : (job : JobValue) (set : SetLines) (bytes : List ℕ) (l : Line) (events : List Event) (new : Option JobValue) (x : Explained) → LineOf false bytes l → OfRead job l events x.reason
     → said_of x.why.read x.why.request x.reason ≡ reason_text job l x.reason → IsNamingOf job set (address_in job l x.reason) x.naming → freed_lines x.why.subpools (ended_by events) ≡ freed_text job (ended_by events)
     → IsGranting (Some job) bytes events new (granted_text x.why.before x.why.read events new) → Stood (Some job) set bytes events new x
 assemble job set bytes l events new x of why text names frees grants = (
@@ -103,7 +98,7 @@ assemble job set bytes l events new x of why text names frees grants = (
 )
 
 -- before the first step
-nowhere : (set : SetLines) (bytes : List ℕ) (events : List Event) (new : Option JobValue) (x : Asking) → x.why.read ≡ line.Nothing → x.naming ≡ None → x.reason ≡ None → ended_by events ≡ None
+nowhere : (set : SetLines) (bytes : List ℕ) (events : List Event) (new : Option JobValue) (x : Explained) → x.why.read ≡ line.Nothing → x.naming ≡ None → x.reason ≡ None → ended_by events ≡ None
     → IsGranting None bytes events new (granted_text x.why.before x.why.read events new) → Stood None set bytes events new x
 nowhere set bytes events new x read unnamed unsaid none grants = (
   (
@@ -132,7 +127,7 @@ of_answer job t answer subpools owned = refl
 
 -- ---- a line of which nothing was heard
 
-module _ (job : JobValue) (set : SetLines) (bytes : List ℕ) (l : Line) (of : LineOf false bytes l) (mid : Asking) (look : IsLooking (Some job) set bytes mid) where
+module _ (job : JobValue) (set : SetLines) (bytes : List ℕ) (l : Line) (of : LineOf false bytes l) (mid : Explained) (look : IsLooking (Some job) set bytes mid) where
   read_is : mid.why.read ≡ l
   read_is = elim look.read [ inl is ↦ one_reading.one_line false bytes mid.why.read l is of | inr f ↦ absurd (one_reading.not_both false bytes l f.0 of f.1) ]
 
@@ -171,18 +166,18 @@ failure_refuses NoName e = refl
 failure_refuses y e = e
 
 -- what is kept of a refusal
-abbrev keeps : Hearing Asking
-keeps old job t request refusal left new = KeepsAsking old job t request refusal new
+abbrev pub keeps : Hearing Explained
+keeps old job t request refusal left new = KeepsExplained old job t request refusal new
 
 -- ---- a statement of a step
 
-module _ (number : ℕ) (job later : JobValue) (set : SetLines) (bytes : List ℕ) (t : Name) (mid : Asking) (look : IsLooking (Some job) set bytes mid) (lines : Lines) where
+module _ (number : ℕ) (job later : JobValue) (set : SetLines) (bytes : List ℕ) (t : Name) (mid : Explained) (look : IsLooking (Some job) set bytes mid) (lines : Lines) where
   -- what is printed behind a statement that was answered so, after which this is kept
-  abbrev Stands : Asking → Option LineReason → Answer → Type 0
+  abbrev Stands : Explained → Option LineReason → Answer → Type 0
   Stands after r y = Stood (Some job) set bytes (Told number t y ∷ []) (Some later) (record { why = after.why; reason = r; naming = after.naming; lines = lines })
 
   -- where nothing was heard
-  silent : (s : Statement) (after : Asking) (r : Option LineReason) (y : Answer) → LineOf false bytes (line.Statement t s) → after ≡ mid → OfRead job (line.Statement t s) (Told number t y ∷ []) r
+  silent : (s : Statement) (after : Explained) (r : Option LineReason) (y : Answer) → LineOf false bytes (line.Statement t s) → after ≡ mid → OfRead job (line.Statement t s) (Told number t y ∷ []) r
       → ((request : Request) → said_of (line.Statement t s) request r ≡ reason_text job (line.Statement t s) r) → address_in job (line.Statement t s) r ≡ None → (is_end y ≡ true → mid.why.subpools ≡ owned_subpools job.state t) → Stands after r y
   silent s after r y of same why text none owned =
       subst (λ a. Stands a r y) (sym same) (unheard job set bytes (line.Statement t s) of mid look (Told number t y ∷ []) (Some later) r lines why text none (of_answer job t y mid.why.subpools owned))
@@ -192,18 +187,18 @@ module _ (number : ℕ) (job later : JobValue) (set : SetLines) (bytes : List �
     read_request = read_is job set bytes (line.Statement t (says.Request q)) of mid look
 
     -- its task is not active
-    inactive : (after : Asking) (y : Answer) → not (is_active job.state.owners t) ≡ true → after ≡ mid → y ≡ NotRun → Stands after (full_reason (Some later) after.why.read after.why.reason y) y
+    inactive : (after : Explained) (y : Answer) → not (is_active job.state.owners t) ≡ true → after ≡ mid → y ≡ NotRun → Stands after (full_reason (Some later) after.why.read after.why.reason y) y
     inactive after y off same is =
         subst (λ z. Stands after (full_reason (Some later) after.why.read after.why.reason z) z) (sym is)
         (silent (says.Request q) after (Some (Refused NotActive)) NotRun of same (subst (λ b. MatchBool b (Some (Refused NotActive) ≡ Some (Refused NotActive)) (OfSaid job t (says.Request q) (Some (Refused NotActive)))) (sym off) refl, refl) (λ request. refl) refl (λ e. false_true e))
 
     -- a name is not set
-    unset : (after : Asking) (y : Answer) → not (is_active job.state.owners t) ≡ false → resolved job.names q ≡ None → after ≡ mid → later ≡ job → y ≡ NoName → Stands after (full_reason (Some later) after.why.read after.why.reason y) y
+    unset : (after : Explained) (y : Answer) → not (is_active job.state.owners t) ≡ false → resolved job.names q ≡ None → after ≡ mid → later ≡ job → y ≡ NoName → Stands after (full_reason (Some later) after.why.read after.why.reason y) y
     unset after y on none same stays is =
         subst (λ z. Stands after (full_reason (Some later) after.why.read after.why.reason z) z) (sym is)
         (subst (λ r. Stands after r NoName) (sym told_is) (at (first_unset job.names (looked_up q)) refl (some_unset job.names q none))) where
           told_is : unset_of (Some later) after.why.read ≡ option_map (λ name. NotSet name) (first_unset job.names (looked_up q))
-          told_is = ap (λ j. unset_of (Some j) after.why.read) stays ∙ ap (λ (x : Asking). unset_of (Some job) x.why.read) same ∙ ap (unset_of (Some job)) read_request
+          told_is = ap (λ j. unset_of (Some j) after.why.read) stays ∙ ap (λ (x : Explained). unset_of (Some job) x.why.read) same ∙ ap (unset_of (Some job)) read_request
 
           at : (v : Option Name) → first_unset job.names (looked_up q) ≡ v → is_some v ≡ true → Stands after (option_map (λ name. NotSet name) v) NoName
           at None f some = false_true some
@@ -215,15 +210,15 @@ module _ (number : ℕ) (job later : JobValue) (set : SetLines) (bytes : List �
               ) (λ request. refl) refl (λ e. false_true e)
 
     -- the request passes
-    passes : (after : Asking) (y : Answer) (r : Request) → not (is_active job.state.owners t) ≡ false → resolved job.names q ≡ Some r → Passes mid job t r y after → Stands after (full_reason (Some later) after.why.read after.why.reason y) y
+    passes : (after : Explained) (y : Answer) (r : Request) → not (is_active job.state.owners t) ≡ false → resolved job.names q ≡ Some r → Passes mid job t r y after → Stands after (full_reason (Some later) after.why.read after.why.reason y) y
     passes after y r on is h =
-        subst (λ x. Stands after x y) (sym (by_refusal (Some later) after.why.read after.why.reason y h.2 ∙ ap refused (ap (λ (x : Asking). x.why.reason) h.0 ∙ look.unheard)))
+        subst (λ x. Stands after x y) (sym (by_refusal (Some later) after.why.read after.why.reason y h.2 ∙ ap refused (ap (λ (x : Explained). x.why.reason) h.0 ∙ look.unheard)))
         (silent (says.Request q) after None y of h.0
         (subst (λ b. MatchBool b (None ≡ Some (Refused NotActive)) (OfSaid job t (says.Request q) None)) (sym on) (subst (λ v. OfAsked job t q v None) (sym is) (None, h.1, refl)), sym h.2)
         (λ request. refl) refl (λ e. look.subpools job refl t (read_request ∙ ap (λ x. line.Statement t (says.Request x)) (is_return job.names q (is ∙ ap (λ x. Some x) (h.3 e))))))
 
     -- the request is refused
-    fails : (after : Asking) (y : Answer) (r : Request) → not (is_active job.state.owners t) ≡ false → resolved job.names q ≡ Some r → Fails keeps mid job t r y after → Stands after (full_reason (Some later) after.why.read after.why.reason y) y
+    fails : (after : Explained) (y : Answer) (r : Request) → not (is_active job.state.owners t) ≡ false → resolved job.names q ≡ Some r → Fails keeps mid job t r y after → Stands after (full_reason (Some later) after.why.read after.why.reason y) y
     fails after y r on is (refusal, left, refuses, lacks, failed, ends, kept) =
         subst (λ x. Stands after x y) (sym (by_failure (Some later) after.why.read after.why.reason y failed ∙ ap refused kept.why.told))
         (assemble job set bytes (line.Statement t (says.Request q)) (Told number t y ∷ []) (Some later) (record { why = after.why; reason = Some (Refused kept.why.reason); naming = after.naming; lines = lines }) of
@@ -247,16 +242,16 @@ module _ (number : ℕ) (job later : JobValue) (set : SetLines) (bytes : List �
           names : IsNamingOf job set (address_in job (line.Statement t (says.Request q)) (Some (Refused reason))) after.naming
           names = subst (λ v. IsNamingOf job set (address_told (spoken v) reason) after.naming) (sym is)
               (subst (λ x. IsNamingOf job set (address_told x reason) after.naming) asks
-              (subst (λ v. IsNamingOf job set (option_and_then (address_told after.why.request) v) after.naming) kept.why.told (subst (λ lines. IsNamingOf job lines (option_and_then (address_told after.why.request) after.why.reason) after.naming) look.lines kept.naming)))
+              (subst (λ v. IsNamingOf job set (option_and_then (address_told after.why.request) v) after.naming) kept.why.told (subst (λ lines. IsNamingOf job lines (option_and_then (address_told after.why.request) after.why.reason) after.naming) (look.lines job refl) kept.naming)))
 
     -- a request of a task that is active
-    asked_stands : (after : Asking) (y : Answer) → not (is_active job.state.owners t) ≡ false → (v : Option Request) → resolved job.names q ≡ v → Asks Any job t q v y later
+    asked_stands : (after : Explained) (y : Answer) → not (is_active job.state.owners t) ≡ false → (v : Option Request) → resolved job.names q ≡ v → Asks Any job t q v y later
         → MatchOption v (after ≡ mid) (λ r. Passes mid job t r y after ⊎ Fails keeps mid job t r y after) → Stands after (full_reason (Some later) after.why.read after.why.reason y) y
     asked_stands after y on None is does same = unset after y on is same does.1 does.0
     asked_stands after y on (Some r) is does (inl h) = passes after y r on is h
     asked_stands after y on (Some r) is does (inr h) = fails after y r on is h
 
-    request_stands : (after : Asking) (y : Answer) → Does Any job t (says.Request q) y later → Observes keeps mid job t (says.Request q) y after → Stands after (full_reason (Some later) after.why.read after.why.reason y) y
+    request_stands : (after : Explained) (y : Answer) → Does Any job t (says.Request q) y later → Observes keeps mid job t (says.Request q) y after → Stands after (full_reason (Some later) after.why.read after.why.reason y) y
     request_stands after y does observes = at (is_active job.state.owners t) refl does observes where
       at : (b : Bool) → is_active job.state.owners t ≡ b → MatchBool (not b) (Tells job NotRun y later) (Asks Any job t q (resolved job.names q) y later)
           → MatchBool b (MatchOption (resolved job.names q) (after ≡ mid) (λ r. Passes mid job t r y after ⊎ Fails keeps mid job t r y after)) (after ≡ mid) → Stands after (full_reason (Some later) after.why.read after.why.reason y) y
@@ -264,15 +259,15 @@ module _ (number : ℕ) (job later : JobValue) (set : SetLines) (bytes : List �
       at false e does observes = inactive after y (ap not e) observes does.0
 
   -- a question, of a task that is not active, and of one that is
-  off_stands : (s : Statement) (after : Asking) (y : Answer) → LineOf false bytes (line.Statement t s) → OfLine job (line.Statement t s) (Some (Refused NotActive)) → ((request : Request) → said_of (line.Statement t s) request (Some (Refused NotActive)) ≡ reason_text job (line.Statement t s) (Some (Refused NotActive)))
+  off_stands : (s : Statement) (after : Explained) (y : Answer) → LineOf false bytes (line.Statement t s) → OfLine job (line.Statement t s) (Some (Refused NotActive)) → ((request : Request) → said_of (line.Statement t s) request (Some (Refused NotActive)) ≡ reason_text job (line.Statement t s) (Some (Refused NotActive)))
       → address_in job (line.Statement t s) (Some (Refused NotActive)) ≡ None → after ≡ mid → y ≡ NotRun → Stands after (full_reason (Some later) after.why.read after.why.reason y) y
   off_stands s after y of why text none same is =
       subst (λ z. Stands after (full_reason (Some later) after.why.read after.why.reason z) z) (sym is) (silent s after (Some (Refused NotActive)) NotRun of same (why, refl) text none (λ e. false_true e))
 
-  plain_stands : (s : Statement) (after : Asking) (y : Answer) → LineOf false bytes (line.Statement t s) → OfLine job (line.Statement t s) None → address_in job (line.Statement t s) None ≡ None → after ≡ mid → is_refusal y ≡ false → is_end y ≡ false
+  plain_stands : (s : Statement) (after : Explained) (y : Answer) → LineOf false bytes (line.Statement t s) → OfLine job (line.Statement t s) None → address_in job (line.Statement t s) None ≡ None → after ≡ mid → is_refusal y ≡ false → is_end y ≡ false
       → Stands after (full_reason (Some later) after.why.read after.why.reason y) y
   plain_stands s after y of why none same granted stays =
-      subst (λ x. Stands after x y) (sym (by_refusal (Some later) after.why.read after.why.reason y granted ∙ ap refused (ap (λ (x : Asking). x.why.reason) same ∙ look.unheard)))
+      subst (λ x. Stands after x y) (sym (by_refusal (Some later) after.why.read after.why.reason y granted ∙ ap refused (ap (λ (x : Explained). x.why.reason) same ∙ look.unheard)))
       (silent s after None y of same (why, sym granted) (λ request. refl) none (λ e. true_false (sym e ∙ stays)))
 
   off_reason : (s : Statement) → not (is_active job.state.owners t) ≡ true → (r : Option LineReason) → r ≡ Some (Refused NotActive) → OfStatement job t s r
@@ -281,7 +276,7 @@ module _ (number : ℕ) (job later : JobValue) (set : SetLines) (bytes : List �
   on_reason : (s : Statement) → not (is_active job.state.owners t) ≡ false → (r : Option LineReason) → OfSaid job t s r → OfStatement job t s r
   on_reason s on r h = subst (λ b. MatchBool b (r ≡ Some (Refused NotActive)) (OfSaid job t s r)) (sym on) h
 
-  where_stands : (name : Name) (after : Asking) (y : Answer) → LineOf false bytes (line.Statement t (says.Where name)) → Does Any job t (says.Where name) y later → after ≡ mid → Stands after (full_reason (Some later) after.why.read after.why.reason y) y
+  where_stands : (name : Name) (after : Explained) (y : Answer) → LineOf false bytes (line.Statement t (says.Where name)) → Does Any job t (says.Where name) y later → after ≡ mid → Stands after (full_reason (Some later) after.why.read after.why.reason y) y
   where_stands name after y of does same = at (not (is_active job.state.owners t)) refl does where
     s : Statement
     s = says.Where name
@@ -289,7 +284,7 @@ module _ (number : ℕ) (job later : JobValue) (set : SetLines) (bytes : List �
     found : (v : Option PlaceValue) → get job.names name ≡ v → not (is_active job.state.owners t) ≡ false → y ≡ where_answer v → Stands after (full_reason (Some later) after.why.read after.why.reason y) y
     found None e on is =
         subst (λ z. Stands after (full_reason (Some later) after.why.read after.why.reason z) z) (sym is)
-        (subst (λ r. Stands after r NoName) (sym (ap (λ (x : Asking). unset_of (Some later) x.why.read) same ∙ ap (unset_of (Some later)) (read_is job set bytes (line.Statement t s) of mid look)))
+        (subst (λ r. Stands after r NoName) (sym (ap (λ (x : Explained). unset_of (Some later) x.why.read) same ∙ ap (unset_of (Some later)) (read_is job set bytes (line.Statement t s) of mid look)))
         (silent s after (Some (NotSet name)) NoName of same (on_reason s on (Some (NotSet name)) (subst (λ v. MatchOption v (Some (NotSet name) ≡ Some (NotSet name)) (λ _. Some (NotSet name) ≡ None)) (sym e) refl), refl) (λ request. refl) refl (λ f. false_true f)))
     found (Some p) e on is =
         subst (λ z. Stands after (full_reason (Some later) after.why.read after.why.reason z) z) (sym is)
@@ -299,7 +294,7 @@ module _ (number : ℕ) (job later : JobValue) (set : SetLines) (bytes : List �
     at true off h = off_stands s after y of (off_reason s off (Some (Refused NotActive)) refl) (λ request. refl) refl same h.0
     at false on h = found (get job.names name) refl on h.0
 
-  report_stands : (s : Statement) (answer after_answer : Answer) (after : Asking) (y : Answer) → answer ≡ after_answer → LineOf false bytes (line.Statement t s) → ((r : Option LineReason) → OfStatement job t s r → OfLine job (line.Statement t s) r) → OfSaid job t s None
+  report_stands : (s : Statement) (answer after_answer : Answer) (after : Explained) (y : Answer) → answer ≡ after_answer → LineOf false bytes (line.Statement t s) → ((r : Option LineReason) → OfStatement job t s r → OfLine job (line.Statement t s) r) → OfSaid job t s None
       → ((request : Request) → said_of (line.Statement t s) request (Some (Refused NotActive)) ≡ reason_text job (line.Statement t s) (Some (Refused NotActive))) → ((r : Option LineReason) → address_in job (line.Statement t s) r ≡ None)
       → is_refusal answer ≡ false → is_end answer ≡ false → MatchBool (not (is_active job.state.owners t)) (Tells job NotRun y later) (Tells job answer y later) → after ≡ mid → Stands after (full_reason (Some later) after.why.read after.why.reason y) y
   report_stands s answer _ after y _ of opens said text none granted stays does same = at (not (is_active job.state.owners t)) refl does where
@@ -307,7 +302,7 @@ module _ (number : ℕ) (job later : JobValue) (set : SetLines) (bytes : List �
     at true off h = off_stands s after y of (opens _ (off_reason s off (Some (Refused NotActive)) refl)) text (none _) same h.0
     at false on h = plain_stands s after y of (opens _ (on_reason s on None said)) (none _) same (ap is_refusal h.0 ∙ granted) (ap is_end h.0 ∙ stays)
 
-  statement_stands : (s : Statement) (after : Asking) (y : Answer) → LineOf false bytes (line.Statement t s) → Does Any job t s y later → Observes keeps mid job t s y after → card_said t s ≡ None → Stands after (full_reason (Some later) after.why.read after.why.reason y) y
+  statement_stands : (s : Statement) (after : Explained) (y : Answer) → LineOf false bytes (line.Statement t s) → Does Any job t s y later → Observes keeps mid job t s y after → card_said t s ≡ None → Stands after (full_reason (Some later) after.why.read after.why.reason y) y
   statement_stands (says.Request q) after y of does observes plain = request_stands q of after y does observes
   statement_stands (says.Region below above fill residence) after y of does observes plain = some_none plain
   statement_stands (says.Where name) after y of does observes plain = where_stands name after y of does observes
@@ -333,19 +328,25 @@ answered_does number job later t (says.Where name) y (z, last, does, e, f) = (su
 answered_does number job later t says.ReportSubpools y (z, last, does, e, f) = (subst (λ x. Does Any job t says.ReportSubpools x later) (sym (one_event y z number t e)) (subst (Does Any job t says.ReportSubpools z) (sym (some_job later last f)) does), refl)
 answered_does number job later t says.ReportMap y (z, last, does, e, f) = (subst (λ x. Does Any job t says.ReportMap x later) (sym (one_event y z number t e)) (subst (Does Any job t says.ReportMap z) (sym (some_job later last f)) does), refl)
 
-module _ (set : SetLines) (bytes : List ℕ) (mid after : Asking) (lines : Lines) where
+module _ (set : SetLines) (bytes : List ℕ) (mid after : Explained) (lines : Lines) where
   -- what is kept of a line with this reason
-  abbrev kept_with : Option LineReason → Asking
+  abbrev pub kept_with : Option LineReason → Explained
   kept_with r = record { why = after.why; reason = r; naming = after.naming; lines = lines }
+
+  -- so is one with the same parts
+  pub kept_same : (x : Explained) (r : Option LineReason) → x.why ≡ after.why → x.naming ≡ after.naming → x.reason ≡ r → x.lines ≡ lines → kept_with r ≡ x
+  kept_same x r why naming reason same =
+      ap (λ y. record { why = y; reason = r; naming = after.naming; lines = lines }) (sym why) ∙ ap (λ y. record { why = x.why; reason = y; naming = after.naming; lines = lines }) (sym reason)
+      ∙ ap (λ y. record { why = x.why; reason = x.reason; naming = y; lines = lines }) (sym naming) ∙ ap (λ y. record { why = x.why; reason = x.reason; naming = x.naming; lines = y }) (sym same)
 
   -- a line that asks for nothing
   quiet_line : (l : Line) (events : List Event) (step new : Option JobValue) → IsLooking step set bytes mid → LineOf (is_first step) bytes l → ((job : JobValue) → OfLine job l None) → ((job : JobValue) → address_in job l None ≡ None) → tells_refusal events ≡ false → ended_by events ≡ None
       → after ≡ mid → Stood step set bytes events new (kept_with None)
   quiet_line l events None new look of why none quiet stays same =
-      subst (λ (a : Asking). Stood None set bytes events new (record { why = a.why; reason = None; naming = a.naming; lines = lines })) (sym same)
+      subst (λ (a : Explained). Stood None set bytes events new (record { why = a.why; reason = None; naming = a.naming; lines = lines })) (sym same)
       (nowhere set bytes events new (record { why = mid.why; reason = None; naming = mid.naming; lines = lines }) look.read look.unnamed refl stays (granting None bytes mid.why.read mid.why.before look.read look.before events new))
   quiet_line l events (Some job) new look of why none quiet stays same =
-      subst (λ (a : Asking). Stood (Some job) set bytes events new (record { why = a.why; reason = None; naming = a.naming; lines = lines })) (sym same)
+      subst (λ (a : Explained). Stood (Some job) set bytes events new (record { why = a.why; reason = None; naming = a.naming; lines = lines })) (sym same)
       (unheard job set bytes l of mid look events new None lines (why job, sym quiet) (λ request. refl) (none job) (no_end job mid.why.subpools events stays))
 
   -- a REGION statement
@@ -368,10 +369,10 @@ module _ (set : SetLines) (bytes : List ℕ) (mid after : Asking) (lines : Lines
   -- a line with a fault
   fault_line : (number : ℕ) (fault : Fault) (step new : Option JobValue) → IsLooking step set bytes mid → FaultOf (is_first step) bytes fault → after ≡ mid → Stood step set bytes (Faulted number fault ∷ []) new (kept_with None)
   fault_line number fault None new look of same =
-      subst (λ (a : Asking). Stood None set bytes (Faulted number fault ∷ []) new (record { why = a.why; reason = None; naming = a.naming; lines = lines })) (sym same)
+      subst (λ (a : Explained). Stood None set bytes (Faulted number fault ∷ []) new (record { why = a.why; reason = None; naming = a.naming; lines = lines })) (sym same)
       (nowhere set bytes (Faulted number fault ∷ []) new (record { why = mid.why; reason = None; naming = mid.naming; lines = lines }) look.read look.unnamed refl refl (granting None bytes mid.why.read mid.why.before look.read look.before (Faulted number fault ∷ []) new))
   fault_line number fault (Some job) new look of same =
-      subst (λ (a : Asking). Stood (Some job) set bytes (Faulted number fault ∷ []) new (record { why = a.why; reason = None; naming = a.naming; lines = lines })) (sym same) (
+      subst (λ (a : Explained). Stood (Some job) set bytes (Faulted number fault ∷ []) new (record { why = a.why; reason = None; naming = a.naming; lines = lines })) (sym same) (
         (
           [],
           naming_text mid.naming,
@@ -406,7 +407,7 @@ module _ (set : SetLines) (bytes : List ℕ) (mid after : Asking) (lines : Lines
         (subst (λ o. Serves machine w.number o (line.Statement t s) (Told w.number t (lent later.state (fallen_in w'.reply) t a) ∷ []) (Some later)) is (subst (λ o. Serves machine w.number w.step (line.Statement t s) (Told w.number t (lent_in o (fallen_in w'.reply) t a) ∷ []) o) new serves))))
 
     -- what is kept of any line, and printed behind it
-    pub kept_behind : (t : LineTold) → IsTold w bytes t w' → ObservesLine keeps mid w bytes t w' after → Stood w.step set bytes (events_told w.number w' t) w'.step (kept_with (line_reason w'.step after.why.read after.why.reason t))
+    pub kept_behind : (t : LineTold) → IsTold w bytes t w' → ObservesLine keeps mid w.step bytes t w' after → Stood w.step set bytes (events_told w.number w' t) w'.step (kept_with (line_reason w'.step after.why.read after.why.reason t))
     kept_behind told.Nothing tells (of, same) = quiet_line line.Nothing [] w.step w'.step look of (λ job. refl) (λ job. refl) refl refl same
     kept_behind (told.Began end card) tells (t, s, of, is, same) = region_line w.number t s end card card card.name w.step w'.step look of is same
     kept_behind (told.Faulted fault) tells same = fault_line w.number fault w.step w'.step look tells.0 same
@@ -415,13 +416,13 @@ module _ (set : SetLines) (bytes : List ℕ) (mid after : Asking) (lines : Lines
 -- ---- what stays
 
 -- What was read stays, and so do the lines that have set names.
-abbrev Stays : Asking → Asking → Type 0
+abbrev Stays : Explained → Explained → Type 0
 Stays old new = (new.why.read ≡ old.why.read) × (new.lines ≡ old.lines)
 
-stays_same : (old new : Asking) → new ≡ old → Stays old new
-stays_same old new e = (ap (λ (x : Asking). x.why.read) e, ap (λ (x : Asking). x.lines) e)
+stays_same : (old new : Explained) → new ≡ old → Stays old new
+stays_same old new e = (ap (λ (x : Explained). x.why.read) e, ap (λ (x : Explained). x.lines) e)
 
-module _ (mid after : Asking) (job : JobValue) (t : Name) (y : Answer) where
+module _ (mid after : Explained) (job : JobValue) (t : Name) (y : Answer) where
   request_keeps : (v : Option Request) → MatchOption v (after ≡ mid) (λ r. Passes mid job t r y after ⊎ Fails keeps mid job t r y after) → Stays mid after
   request_keeps None same = stays_same mid after same
   request_keeps (Some r) (inl h) = stays_same mid after h.0
@@ -434,55 +435,21 @@ module _ (mid after : Asking) (job : JobValue) (t : Name) (y : Answer) where
   statement_keeps says.ReportSubpools same = stays_same mid after same
   statement_keeps says.ReportMap same = stays_same mid after same
 
-pub line_keeps : (w w' : WalkValue) (bytes : List ℕ) (mid after : Asking) (t : LineTold) → ObservesLine keeps mid w bytes t w' after → Stays mid after
-line_keeps w w' bytes mid after told.Nothing (of, same) = stays_same mid after same
-line_keeps w w' bytes mid after (told.Began end card) (t, s, of, is, same) = stays_same mid after same
-line_keeps w w' bytes mid after (told.Faulted fault) same = stays_same mid after same
-line_keeps w w' bytes mid after (told.Answered t a) (s, job, later, of, is, new, observes) = statement_keeps mid after job t (lent later.state (fallen_in w'.reply) t a) s observes
+pub line_keeps : (step : Option JobValue) (w' : WalkValue) (bytes : List ℕ) (mid after : Explained) (t : LineTold) → ObservesLine keeps mid step bytes t w' after → Stays mid after
+line_keeps step w' bytes mid after told.Nothing (of, same) = stays_same mid after same
+line_keeps step w' bytes mid after (told.Began end card) (t, s, of, is, same) = stays_same mid after same
+line_keeps step w' bytes mid after (told.Faulted fault) same = stays_same mid after same
+line_keeps step w' bytes mid after (told.Answered t a) (s, job, later, of, is, new, observes) = statement_keeps mid after job t (lent later.state (fallen_in w'.reply) t a) s observes
 
--- ---- a line for which memory is wanting
+-- ---- a line whose explanations are printed apart
 
--- how the step ended that ran
-abbrev end_of_step : Option JobValue → Option Bool
-end_of_step None = None
-end_of_step (Some job) = Some job.abended
+-- before the first step the names of former lines are forgotten
+pub looking_begun : (step : Option JobValue) (set begun : SetLines) (bytes : List ℕ) (x : Explained) → begun ≡ lines_before step set → IsLooking step begun bytes x → IsLooking step set bytes x
+looking_begun step set begun bytes x e look =
+    record { read = look.read; before = look.before; subpools = look.subpools; unheard = look.unheard; unnamed = look.unnamed; lines = λ job is. look.lines job is ∙ e ∙ ap (λ o. lines_before o set) is }
 
-ended_is : (o : Option JobValue) → ended (end_of_step o) ≡ ending machine o
-ended_is None = refl
-ended_is (Some job) = refl
-
-pub may_stop : (w : WalkValue) (set : SetLines) (bytes : List ℕ) (mid : Asking) → IsLooking w.step set bytes mid → (events : List Event) → StopsForMemory w.number w.step (bytes ∷ []) events → MayStop w set bytes events
-may_stop w set bytes mid look events h = at w.step h.0 h.1 h.2 refl where
-  at : (o : Option JobValue) (l : Line) → LineOf (is_first o) bytes l → TakesMemory o l events → o ≡ w.step → MayStop w set bytes events
-  at o (line.Statement t (says.Region below above fill residence)) is e same =
-      let card = card_of t below above fill residence in
-      let more = Told w.number t (Region card) ∷ [] in
-      let s = says.Region below above fill residence in
-      let new : Option JobValue = Some (machine.starts card (has_abended machine o)) in
-      let leads : LeadsTo w.number w.step bytes (ending machine o ++ more) new = subst (λ x. LeadsTo w.number x bytes (ending machine o ++ more) new) same (inl (line.Statement t s, is, (refl, refl))) in
-      let behind = region_line set bytes mid mid mid.lines w.number t s (end_of_step o) card card t w.step new look (subst (λ o. LineOf (is_first o) bytes (line.Statement t s)) same is) refl refl in
-      let at_end = subst (λ x. Stood w.step set bytes (x ++ more) new (kept_with set bytes mid mid mid.lines None)) (ended_is o ∙ sym e) behind in
-      inr (more, behind_said (kept_with set bytes mid mid mid.lines None) (events ++ more) new, new, subst (λ x. LeadsTo w.number w.step bytes (x ++ more) new) (sym e) leads, at_end.0)
-  at (Some job) (line.Statement t (says.Request r)) is h same = inl h.0
-  at None line.Nothing is h same = absurd h
-  at (Some job) line.Nothing is h same = absurd h
-  at None (line.Statement t (says.Request r)) is h same = absurd h
-  at None (line.Statement t (says.Where name)) is h same = absurd h
-  at None (line.Statement t says.ReportSubpools) is h same = absurd h
-  at None (line.Statement t says.ReportMap) is h same = absurd h
-  at (Some job) (line.Statement t (says.Where name)) is h same = absurd h
-  at (Some job) (line.Statement t says.ReportSubpools) is h same = absurd h
-  at (Some job) (line.Statement t says.ReportMap) is h same = absurd h
-
--- a write that fails while the end of a step is printed
-pub stopped_line : (w : WalkValue) (set : SetLines) (bytes : List ℕ) (events : List Event) (a b : Option (List ℕ)) → MayStop w set bytes events → AppendsFront a b (printing events) → StopsLine a b w set bytes
-stopped_line w set bytes events a b (inl e) f = inl (nothing_kept a b (subst (λ x. AppendsFront a b (printing x)) e f))
-stopped_line w set bytes events a b (inr (more, why, end, leads, is)) f =
-    inr (events ++ more, why, end, leads, is, front_longer a b (printing (events ++ more)) why (rw (printed_both events more) (front_longer a b (printing events) (printing more) f)))
-
--- what a line leads to
-pub line_leads : (w w' : WalkValue) (bytes : List ℕ) (t : LineTold) → IsTold w bytes t w' → LeadsTo w.number w.step bytes (events_told w.number w' t) w'.step
-line_leads w w' bytes (told.Faulted fault) h = inr (fault, h.0, refl)
-line_leads w w' bytes told.Nothing h = inl h
-line_leads w w' bytes (told.Began end card) h = inl h
-line_leads w w' bytes (told.Answered t a) h = inl h
+pub stands_behind : (before after : Option (List ℕ)) (w : WalkValue) (set : SetLines) (l : List ℕ) (w' : WalkValue) (t : LineTold) (text : List ℕ) → Appends before after text → IsBehind w.step set l (events_told w.number w' t) w'.step text → StandsBehind before after w set l w' t
+stands_behind before after w set l w' (told.Faulted fault) text a is = tt
+stands_behind before after w set l w' told.Nothing text a is = (text, a, is)
+stands_behind before after w set l w' (told.Began end card) text a is = (text, a, is)
+stands_behind before after w set l w' (told.Answered t x) text a is = (text, a, is)

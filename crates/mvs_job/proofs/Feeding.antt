@@ -19,7 +19,7 @@ use Rattle.mvs_job.specs.declared.printing.Stop.{Stop}
 use Rattle.mvs_job.specs.declared.printing.Stop.TheVariants as why
 use Rattle.mvs_job.specs.declared.run.RunFault.{RunFault}
 use Rattle.mvs_job.specs.declared.run.RunFault.TheVariants.{Read, Write, Memory, ReadTooLong}
-use Rattle.mvs_job.specs.Consuming.{IsAny, IsFront, Leaves, Piece, RunsEntry, RunsLast, RunsNext, written}
+use Rattle.mvs_job.specs.Consuming.{IsAny, IsFront, Known, Leaves, Piece, RunsEntry, RunsLast, RunsNext}
 use Rattle.mvs_job.specs.Exchanging.{IsRest}
 use Rattle.mvs_job.specs.Streams.{Feeds, FeedsSome, Finishes, HasAnswered, HasEnded, HasGivenUp, IsUnderWay, Stands, fault_of}
 use Rattle.mvs_job.specs.Telling.{WalkValue, new_walk}
@@ -105,18 +105,19 @@ each_more : (lines : List (List ℕ)) (l : List ℕ) → AllByRecursion IsUnende
 each_more [] l each last = (last, tt)
 each_more (x ∷ lines) l each last = (each.0, each_more lines l each.1 last)
 
-module _ (piece : Piece) {S : Type 0} (knows : S → List Entry → Type 0) where
+module _ (piece : Piece) {S : Type 0} (knows : Known S) where
   -- so what its first 256 bytes do the whole line does
   long_ran : (before after : Option (List ℕ)) (w w' : WalkValue) (line rest : List ℕ) (history : List Entry) (s' : S) (r : Result Bool Stop) → length line ≡ 256
       → RunsEntry piece knows before after w line w' history s' r → RunsEntry piece knows before after w (line ++ rest) w' history s' r
   long_ran before after w w' line rest history s' (Ok true) size (e, is, to, a, known) = absurd (not_long (is_first w.step) line is.0 (omega (arith, size)) is.3)
   long_ran before after w w' line rest history s' (Ok false) size (e, is, a, known) = (e, long_faulty w.number w.step line rest e size is, a, known)
   long_ran before after w w' line rest history s' (Err why.Write) size (e, is, f, known) = (e, long_any w.number w.step line rest e size is, f, known)
-  long_ran before after w w' line rest history s' (Err why.Memory) size (e, is, a, known) = absurd (not_long (is_first w.step) line is.0 (omega (arith, size)) is.2)
+  long_ran before after w w' line rest history s' (Err why.Memory) size (inl (e, is, a, known)) = absurd (not_long (is_first w.step) line is.0 (omega (arith, size)) is.2)
+  long_ran before after w w' line rest history s' (Err why.Memory) size (inr (e, is, needs, kept, known)) = inr (e, long_any w.number w.step line rest e size is, needs, kept, known)
 
   -- ---- a piece
 
-  pub stands_start : (start : Option (List ℕ)) (s : S) → knows s [] → Stands piece knows start start [] new_walk [] s
+  pub stands_start : (start : Option (List ℕ)) (s : S) → knows.has s [] → Stands piece knows start start [] new_walk [] s
   stands_start start s known = record { lines = []; cut = refl; each = tt; unended = tt; run = run_start piece knows start new_walk s refl known }
 
   -- bytes of one line
@@ -213,7 +214,7 @@ at_split told bytes more i h =
 feed_split : (told bytes more : List ℕ) (end : ℕ) → end < length bytes → get_or bytes end 0 ≡ 10 → (told ++ take end bytes) ++ (10 ∷ (drop (end + 1) bytes ++ more)) ≡ told ++ (bytes ++ more)
 feed_split told bytes more end h e = subst (λ b. (told ++ take end bytes) ++ (b ∷ (drop (end + 1) bytes ++ more)) ≡ told ++ (bytes ++ more)) e (at_split told bytes more end h)
 
-module _ (piece : Piece) {S : Type 0} (knows : S → List Entry → Type 0) (before after : Option (List ℕ)) (bytes : List ℕ) (w w' : WalkValue) (s s' : S) where
+module _ (piece : Piece) {S : Type 0} (knows : Known S) (before after : Option (List ℕ)) (bytes : List ℕ) (w w' : WalkValue) (s s' : S) where
   -- a line that is whole, where none is kept
   module _ (end : ℕ) (fits : end < length bytes) (found : get_or bytes end 0 ≡ 10) (none : (k : ℕ) → k < end → get_or bytes k 0 ≢ 10)
       (next : w'.number ≡ w.number + 1) (start : Option (List ℕ)) (told : List ℕ) (st : Stands piece knows start before told w [] s) where
@@ -286,7 +287,7 @@ no_lines : (k : List ℕ) → length k ≡ 0 → lines_of (k ++ []) ≡ []
 no_lines [] e = refl
 no_lines (b ∷ k) e = absurd (omega arith)
 
-module _ (piece : Piece) {S : Type 0} (knows : S → List Entry → Type 0) (start now : Option (List ℕ)) (told : List ℕ) (w : WalkValue) (k : List ℕ) (s : S) (st : Stands piece knows start now told w k s) where
+module _ (piece : Piece) {S : Type 0} (knows : Known S) (start now : Option (List ℕ)) (told : List ℕ) (w : WalkValue) (k : List ℕ) (s : S) (st : Stands piece knows start now told w k s) where
   -- nothing is kept
   pub last_none : (later : Option (List ℕ)) (s' : S) (r : Result Outcome Stop) → length k ≡ 0 → RunsLast piece knows now later w s s' r → Leaves piece knows start later told s' r
   last_none later s' r none h =
@@ -320,24 +321,24 @@ none_left : (left : Option (List ℕ)) → IsAtEnd left → IsRest left []
 none_left None e = tt
 none_left (Some xs) e = e
 
-module _ (piece : Piece) {S : Type 0} (knows : S → List Entry → Type 0) where
+module _ (piece : Piece) {S : Type 0} (knows : Known S) where
   stands_kept : (start now later : Option (List ℕ)) (told : List ℕ) (w : WalkValue) (k : List ℕ) (s : S) → Stands piece knows start now told w k s → Keeps now later → Stands piece knows start later told w k s
   stands_kept start now later told w k s st kept = record {
     lines = st.lines;
     cut = st.cut;
     each = st.each;
     unended = st.unended;
-    run = record { entries = st.run.entries; trace = st.run.trace; counted = st.run.counted; text = Appends-kept start now later (written piece st.run.entries) st.run.text kept; known = st.run.known };
+    run = record { entries = st.run.entries; trace = st.run.trace; counted = st.run.counted; text = st.run.text; is = st.run.is; appended = Appends-kept start now later st.run.text st.run.appended kept; known = st.run.known };
   }
 
-  has_answered : (start now : Option (List ℕ)) (told : List ℕ) (w : WalkValue) (k : List ℕ) (s : S) (st : Stands piece knows start now told w k s) → length k < 256 → HasAnswered piece knows told (written piece st.run.entries) s
-  has_answered start now told w k s st short = record { lines = st.lines; kept = k; cut = st.cut; each = st.each; unended = st.unended; short = short; entries = st.run.entries; step = w.step; trace = st.run.trace; known = st.run.known; is = refl }
+  has_answered : (start now : Option (List ℕ)) (told : List ℕ) (w : WalkValue) (k : List ℕ) (s : S) (st : Stands piece knows start now told w k s) → length k < 256 → HasAnswered piece knows told st.run.text s
+  has_answered start now told w k s st short = record { lines = st.lines; kept = k; cut = st.cut; each = st.each; unended = st.unended; short = short; entries = st.run.entries; step = w.step; trace = st.run.trace; known = st.run.known; is = st.run.is }
 
   -- what was written is a front, however the script goes on
-  stands_front : (start now : Option (List ℕ)) (told : List ℕ) (w : WalkValue) (k : List ℕ) (s : S) (st : Stands piece knows start now told w k s) (more : List ℕ) → IsFront piece knows (told ++ more) (written piece st.run.entries) s
+  stands_front : (start now : Option (List ℕ)) (told : List ℕ) (w : WalkValue) (k : List ℕ) (s : S) (st : Stands piece knows start now told w k s) (more : List ℕ) → IsFront piece knows (told ++ more) st.run.text s
   stands_front start now told w k s st more = run_front piece knows start now now st.lines w s st.run (told ++ more) (lines_of (k ++ more)) (script_cut piece knows start now told w k s st more)
 
-  pub under_way_start : (unread start : Option (List ℕ)) (w : WalkValue) (k : List ℕ) (s : S) → w ≡ new_walk → k ≡ [] → knows s [] → IsUnderWay piece knows unread unread start start 0 w k s
+  pub under_way_start : (unread start : Option (List ℕ)) (w : WalkValue) (k : List ℕ) (s : S) → w ≡ new_walk → k ≡ [] → knows.has s [] → IsUnderWay piece knows unread unread start start 0 w k s
   under_way_start unread start w k s e h known = rw (e, h) ([], Consumes-nil unread, refl, stands_start piece knows start s known, omega arith)
 
   -- what a run leaves that ended, or stopped
@@ -359,10 +360,10 @@ module _ (piece : Piece) {S : Type 0} (knows : S → List Entry → Type 0) wher
     read_failed room ReadTooLong other short same = absurd (short refl)
     read_failed room Write other short same =
         let r = rest_of left' in
-        (u.0, r.0, written piece here.run.entries, Consumes-kept unread left left' u.0 u.1 same, r.1, here.run.text, (rw (u.2) (omega arith), stands_front start flushed u.0 w k s here r.0))
+        (u.0, r.0, here.run.text, Consumes-kept unread left left' u.0 u.1 same, r.1, here.run.appended, (rw (u.2) (omega arith), stands_front start flushed u.0 w k s here r.0))
     read_failed room Read other short same =
         let r = rest_of left' in
-        (u.0, r.0, written piece here.run.entries, Consumes-kept unread left left' u.0 u.1 same, r.1, here.run.text, (rw (u.2) (omega arith), stands_front start flushed u.0 w k s here r.0, has_answered start flushed u.0 w k s here u.4))
+        (u.0, r.0, here.run.text, Consumes-kept unread left left' u.0 u.1 same, r.1, here.run.appended, (rw (u.2) (omega arith), stands_front start flushed u.0 w k s here r.0, has_answered start flushed u.0 w k s here u.4))
 
     -- the end of the script
     module _ (after : Option (List ℕ)) (most m : ℕ) (s' : S) (chunk : List ℕ) (enough : count ≤ most) (none : m ≡ 0) (ended : IsAtEnd left') (c : Consumes left left' (take m chunk)) where
@@ -404,10 +405,10 @@ module _ (piece : Piece) {S : Type 0} (knows : S → List Entry → Type 0) wher
       pub read_too_many : HasGivenUp piece knows unread left' start flushed count s ReadTooLong
       read_too_many =
           let r = rest_of left' in
-          let p : IsFront piece knows ((u.0 ++ take m chunk) ++ r.0) (written piece here.run.entries) s = rw (append_assoc u.0 (take m chunk) r.0) (stands_front start flushed u.0 w k s here (take m chunk ++ r.0)) in
+          let p : IsFront piece knows ((u.0 ++ take m chunk) ++ r.0) here.run.text s = rw (append_assoc u.0 (take m chunk) r.0) (stands_front start flushed u.0 w k s here (take m chunk ++ r.0)) in
           let first : take count (u.0 ++ take m chunk) ≡ u.0 = take_at u.0 (take m chunk) count u.2 in
           let told : length (u.0 ++ take m chunk) ≡ count + m = length-append u.0 (take m chunk) ∙ rw (u.2, length-take-le m chunk fits) refl in
-          (u.0 ++ take m chunk, r.0, written piece here.run.entries, Consumes-trans unread left left' u.0 _ u.1 c, r.1, here.run.text, (told ∙ ap (λ m. count + m) (let one : m ≡ 1 = omega arith in one), p, rw first (has_answered start flushed u.0 w k s here u.4)))
+          (u.0 ++ take m chunk, r.0, here.run.text, Consumes-trans unread left left' u.0 _ u.1 c, r.1, here.run.appended, (told ∙ ap (λ m. count + m) (let one : m ≡ 1 = omega arith in one), p, rw first (has_answered start flushed u.0 w k s here u.4)))
 
   -- ---- the end of a job in the terms of its contract
 

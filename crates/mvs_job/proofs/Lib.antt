@@ -1,6 +1,10 @@
 pub mod Behind
 pub mod Observed
-pub mod Explained
+pub mod LineEnd
+pub mod Accepting
+pub mod Hearing
+pub mod Forgetting
+pub mod ExplainedLine
 pub mod Feeding
 pub mod FirstLine
 pub mod Freeing

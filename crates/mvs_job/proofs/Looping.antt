@@ -7,17 +7,17 @@ use Rattle.mvs_model.specs.Lines.{lines_of}
 use Rattle.mvs_job.specs.declared.printing.Stop.{Stop}
 use Rattle.mvs_job.specs.Telling.{WalkValue, new_walk}
 use Rattle.mvs_job.specs.Trace.{Entry}
-use Rattle.mvs_job.specs.Consuming.{HasRun, Leaves, Piece, RunsEntry, RunsLast, RunsNext}
+use Rattle.mvs_job.specs.Consuming.{HasRun, Known, Leaves, Piece, RunsEntry, RunsLast, RunsNext}
 use Rattle.mvs_job.proofs.Driving.{run_ended, run_fault, run_next, run_start, run_stopped}
 
 -- A run of some lines of a script, with this text left.
-pub record IsAt (piece : Piece) {S : Type 0} (knows : S → List Entry → Type 0) (start now : Option (List ℕ)) (script left : List ℕ) (w : WalkValue) (s : S) : Type 0 where
+pub record IsAt (piece : Piece) {S : Type 0} (knows : Known S) (start now : Option (List ℕ)) (script left : List ℕ) (w : WalkValue) (s : S) : Type 0 where
   pub lines : List (List ℕ)
   pub cut : lines_of script ≡ lines ++ lines_of left
   pub run : HasRun piece knows start now lines w s
 
-module _ (piece : Piece) {S : Type 0} (knows : S → List Entry → Type 0) (start : Option (List ℕ)) (script : List ℕ) where
-  pub at_start : (w : WalkValue) (s : S) → w ≡ new_walk → knows s [] → IsAt piece knows start start script script w s
+module _ (piece : Piece) {S : Type 0} (knows : Known S) (start : Option (List ℕ)) (script : List ℕ) where
+  pub at_start : (w : WalkValue) (s : S) → w ≡ new_walk → knows.has s [] → IsAt piece knows start start script script w s
   at_start w s is known = record { lines = []; cut = refl; run = run_start piece knows start w s is known }
 
   module _ (before after : Option (List ℕ)) (rest : List ℕ) (at len : ℕ) (w w' : WalkValue) (s s' : S) (is : rest ≡ drop at script)

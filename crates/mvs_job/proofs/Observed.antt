@@ -30,7 +30,7 @@ use Rattle.mvs_model.specs.Owners.{is_active}
 use Rattle.mvs_model.specs.Place.{PlaceValue, place_at}
 use Rattle.mvs_model.specs.Pools.{Pool}
 use Rattle.mvs_model.specs.Replies.{answer_of, done_answer, grant_answer}
-use Rattle.mvs_model.specs.Resolving.{address_of, first_unset, looked_up, name_in, places_of, resolved}
+use Rattle.mvs_model.specs.Resolving.{address_of, first_unset, looked_up, name_in, places_in, places_of, resolved}
 use Rattle.mvs_model.specs.State.{State}
 use Rattle.mvs_model.specs.Steps.{Does, TakesSome}
 use Rattle.mvs_model.proofs.Tests.{false_true, none_some, some_none, true_false}
@@ -228,3 +228,15 @@ heard_said heard before after job t a r x new st active (inr h) =
     let made = made_by (form_of r) (obtains r) h.0 (not_inactive job.state t r h.0 active h.2) in
     let said = settled_said st job.state new t a r (reply_to r h.0) x made h.4 in
     inr (h.0, h.1, h.2, h.3, said.0, said.1, h.5)
+
+-- what is settled gives no place
+settled_none : (st new : State) (t : Name) (c : Consequence) (x : Reply) → Settles st t c x new → places_in x ≡ []
+settled_none st new t consequence.NotRun x s = ap places_in s.0
+settled_none st new t consequence.Rc4 x s = ap places_in s.0
+settled_none st new t consequence.NoCell x s = ap places_in s.0
+settled_none st new t (consequence.Abend code) x s = ap places_in s.1
+
+-- of a request that is answered with a place nothing is heard
+pub unheard : {O : Type 0} (heard : Hearing O) (before after : O) (job : JobValue) (t : Name) (r : Request) (x : Reply) (new : State) → Hears heard before job t r x new after → (places_in x ≡ [] → ⊥) → after ≡ before
+unheard heard before after job t r x new (inl h) some = h.0
+unheard heard before after job t r x new (inr h) some = absurd (some (settled_none job.state new t (reply_to r h.0) x h.4))

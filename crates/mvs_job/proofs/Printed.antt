@@ -15,35 +15,45 @@ use Rattle.mvs_laws.specs.Tidy.{Tidy, IsPrintingInFull}
 use Rattle.mvs_laws.proofs.Going.{front_at_memory, front_so_far, printed_both}
 use Rattle.mvs_laws.proofs.TidySteps.{tidy_text}
 use Rattle.job_script.specs.Writing.{AppendsFront, WritesAll}
+use Rattle.mvs_model.specs.declared.watched.Failed.{Failed}
+use Rattle.mvs_model.specs.Job.{JobValue}
+use Rattle.mvs_job.specs.declared.consumer.End.{End}
 use Rattle.mvs_job.specs.declared.printer.Printer.{Printer}
+use Rattle.mvs_job.specs.declared.walk.LineTold.{LineTold}
 use Rattle.mvs_job.specs.declared.printing.Stop.{Stop}
 use Rattle.mvs_job.specs.declared.printing.Stop.TheVariants as stop
 use Rattle.mvs_job.specs.declared.run.RunFault.{RunFault}
 use Rattle.mvs_job.specs.declared.run.RunFault.TheVariants.{Read, Write, Memory, ReadTooLong}
-use Rattle.mvs_job.specs.Consuming.{AcceptsEach, IsAny, IsFront, IsWritten, Leaves, RunsNext, written, written_after}
+use Rattle.mvs_job.specs.Consuming.{AcceptsEnd, AcceptsLine, IsAny, IsEnd, IsFront, IsShort, IsWritten, Known, Leaves, RunsEntry, RunsNext, WritesPiece, WrittenAfter, keeps_nothing}
 use Rattle.mvs_job.specs.Exchanging.{Exchanges}
-use Rattle.mvs_job.specs.Printed.{keeps_nothing, printed}
+use Rattle.mvs_job.specs.Printed.{printed}
 use Rattle.mvs_job.specs.Serving.{RunsLine}
 use Rattle.mvs_job.specs.Streams.{GivesUp, HasAnswered, HasEnded, HasGivenUp}
-use Rattle.mvs_job.specs.Telling.{WalkValue}
+use Rattle.mvs_job.specs.Observing.{Hearing}
+use Rattle.mvs_job.specs.Telling.{WalkValue, events_told}
 use Rattle.mvs_job.specs.Trace.{Arrives, Ending, Ends, Entry, Exhausts, IsTrace, Stops, events_of}
-use Rattle.mvs_job.proofs.Driving.{written_then}
 use Rattle.mvs_job.proofs.Serving.{stopped_front}
 use Rattle.mvs_job.proofs.Tracing.{IsSplit, stops_walk, trace_split, traces_are_runs, walk_of}
 
 -- what is printed of entries is the printing of their events
-pub printed_events : (history entries : List Entry) → written_after printed history entries ≡ printing (events_of entries)
-printed_events history [] = refl
-printed_events history (e ∷ entries) = ap (λ x. printing e.events ++ x) (printed_events (history ++ e ∷ []) entries) ∙ sym (printed_both e.events (events_of entries))
+pub printed_events : (history entries : List Entry) (text : List ℕ) → WrittenAfter printed history entries text → text ≡ printing (events_of entries)
+printed_events history [] text is = is
+printed_events history (e ∷ entries) text (one, rest, first, is, cut) =
+    cut ∙ ap (λ x. x ++ rest) first ∙ ap (λ x. printing e.events ++ x) (printed_events (history ++ e ∷ []) entries rest is) ∙ sym (printed_both e.events (events_of entries))
 
--- a call that prints the events of an entry
-on_any : {X E : Type 0} (result : Result X E) → MatchResult result (λ _. Unit {0}) (λ _. Unit {0})
-on_any (Ok x) = tt
-on_any (Err x) = tt
+-- ---- a call that prints the events of an entry
 
-pub prints_each : {S X E : Type 0} (before after : Option (List ℕ)) (first s s' : S) (Is : Entry → Type 0) (result : Result X E) (events : List Event) → ((e : Entry) → Is e → e.events ≡ events)
-    → WritesAll before after result (printing events) → AcceptsEach {S = S} {X = X} {E = E} printed (keeps_nothing first) before after s s' Is result
-prints_each before after first s s' Is result events same p history e is known = record { text = subst (λ x. WritesAll before after result (printing x)) (sym (same e is)) p; known = on_any result }
+pub prints_end : {S X : Type 0} (before after : Option (List ℕ)) (first s s' : S) (n : ℕ) (how : End) (result : Result X Failed) (events : List Event) → ((e : Entry) → IsEnd n how e → e.events ≡ events) → WritesAll before after result (printing events)
+    → AcceptsEnd {S = S} {X = X} printed (keeps_nothing first) before after s s' n how result
+prints_end before after first s s' n how (Ok x) events same p history e is known = ((printing events, ap printing (sym (same e is)), p), tt)
+prints_end before after first s s' n how (Err failed) events same p history e is known = ((printing events, ap printing (sym (same e is)), p), tt)
+
+module _ {S : Type 0} (heard : Hearing S) (sees : S → Option JobValue → List ℕ → Type 0) (before after : Option (List ℕ)) (first s s' : S) (n : ℕ) (line : List ℕ) (w : WalkValue) (t : LineTold) where
+  pub prints_line : {X : Type 0} (x : X) → Appends before after (printing (events_told n w t)) → AcceptsLine {S = S} {X = X} printed heard sees (keeps_nothing first) before after s s' n line w t (Ok x)
+  prints_line x a mid history e is seen observed known = ((printing (events_told n w t), ap printing (sym is.events), a), tt)
+
+  pub prints_front : (X : Type 0) → AppendsFront before after (printing (events_told n w t)) → AcceptsLine {S = S} {X = X} printed heard sees (keeps_nothing first) before after s s' n line w t (Err stop.Write)
+  prints_front X a mid history e is seen observed known = ((printing (events_told n w t), ap printing (sym is.events), a), tt)
 
 -- ---- the text of a trace
 
@@ -69,28 +79,39 @@ module _ (script : List ℕ) where
   trace_front (Arrives new) entries t =
       front_so_far (lines_of script) (events_of entries) (1 + length (lines_of script)) new [] (record { served = lines_of script; lines = sym (append-nil (lines_of script)); counted = refl; leads = walk_of (Arrives new) 1 None (lines_of script) entries t })
 
-  module _ {S : Type 0} (knows : S → List Entry → Type 0) (text : List ℕ) (s : S) where
+  -- a front of a piece for the next entry
+  next_front : (how : Ending) (entries rest : List Entry) (next : Entry) (done front left : List ℕ) → IsTrace script (entries ++ next ∷ rest) how → done ≡ printing (events_of entries) → front ++ left ≡ printing next.events → IsPrintingFront script (done ++ front)
+  next_front how entries rest next done front left t is cut =
+      let after = printing (events_of rest) in
+      let f = trace_front how (entries ++ next ∷ rest) t in
+      let whole : (done ++ front) ++ (left ++ after) ≡ printing (events_of (entries ++ next ∷ rest)) =
+      append_assoc done front (left ++ after) ∙ ap (λ x. done ++ x) (sym (append_assoc front left after)) ∙ ap (λ x. done ++ (x ++ after)) cut
+      ∙ ap (λ x. done ++ x) (sym (printed_both next.events (events_of rest))) ∙ ap (λ x. x ++ printing (next.events ++ events_of rest)) is
+      ∙ sym (printed_both (events_of entries) (next.events ++ events_of rest)) ∙ ap printing (sym (events_both entries (next ∷ rest))) in
+      ((left ++ after) ++ f.0, f.1, (f.2.0, f.2.1, sym (append_assoc (done ++ front) (left ++ after) f.0) ∙ ap (λ x. x ++ f.0) whole ∙ f.2.2))
+
+  cut_front : (how : Ending) (entries rest : List Entry) (next : Entry) (done front : List ℕ) → IsTrace script (entries ++ next ∷ rest) how → done ≡ printing (events_of entries) → (front ≡ []) ⊎ ((left : List ℕ) × (front ++ left ≡ printing next.events)) → IsPrintingFront script (done ++ front)
+  cut_front how entries rest next done front t is (inl none) = next_front how entries rest next done front (printing next.events) t is (ap (λ x. x ++ printing next.events) none)
+  cut_front how entries rest next done front t is (inr (left, cut)) = next_front how entries rest next done front left t is cut
+
+  module _ {S : Type 0} (knows : Known S) (text : List ℕ) (s : S) where
     pub ended_printing : (outcome : Outcome) → IsWritten printed knows script text (Ends outcome) s → IsPrinting script text outcome
-    ended_printing outcome w = (events_of w.entries, traces_are_runs script w.entries outcome w.trace, w.is ∙ printed_events [] w.entries)
+    ended_printing outcome w = (events_of w.entries, traces_are_runs script w.entries outcome w.trace, printed_events [] w.entries text w.is)
 
-    pub exhausted_printing : IsWritten printed knows script text Exhausts s → IsPrintingBefore script text
-    exhausted_printing w = (events_of w.entries, walk_of Exhausts 1 None (lines_of script) w.entries w.trace, w.is ∙ printed_events [] w.entries)
+    pub exhausted_printing : IsWritten printed knows script text Exhausts s ⊎ IsShort printed knows script text s → IsPrintingBefore script text
+    exhausted_printing (inl w) = (events_of w.entries, walk_of Exhausts 1 None (lines_of script) w.entries w.trace, printed_events [] w.entries text w.is)
+    exhausted_printing (inr (entries, next, needs, known, begun)) = absurd needs
 
-    pub exhausted_is_front : IsWritten printed knows script text Exhausts s → IsPrintingFront script text
-    exhausted_is_front w = subst (IsPrintingFront script) (sym (w.is ∙ printed_events [] w.entries)) (trace_front Exhausts w.entries w.trace)
+    pub exhausted_is_front : IsWritten printed knows script text Exhausts s ⊎ IsShort printed knows script text s → IsPrintingFront script text
+    exhausted_is_front (inl w) = subst (IsPrintingFront script) (sym (printed_events [] w.entries text w.is)) (trace_front Exhausts w.entries w.trace)
+    exhausted_is_front (inr (entries, next, needs, known, begun)) = absurd needs
 
     pub front_printing : IsFront printed knows script text s → IsPrintingFront script text
-    front_printing w =
-        let after = written_after printed (w.entries ++ w.next ∷ []) w.rest in
-        let f = trace_front w.how (w.entries ++ w.next ∷ w.rest) w.trace in
-        let whole : text ++ (w.left ++ after) ≡ printing (events_of (w.entries ++ w.next ∷ w.rest)) =
-        ap (λ x. x ++ (w.left ++ after)) w.is ∙ append_assoc (written printed w.entries) w.front (w.left ++ after) ∙ ap (λ x. written printed w.entries ++ x) (sym (append_assoc w.front w.left after)) ∙ ap (λ x. written printed w.entries ++ (x ++ after)) (sym w.cut)
-        ∙ sym (written_then printed [] w.entries (w.next ∷ w.rest)) ∙ printed_events [] (w.entries ++ w.next ∷ w.rest) in
-        ((w.left ++ after) ++ f.0, f.1, (f.2.0, f.2.1, sym (append_assoc text (w.left ++ after) f.0) ∙ ap (λ x. x ++ f.0) whole ∙ f.2.2))
+    front_printing w = subst (IsPrintingFront script) (sym w.is) (cut_front w.begun.how w.entries w.begun.rest w.next w.done w.front w.begun.trace (printed_events [] w.entries w.done w.begun.is) w.cut)
 
   pub answered_printing : (consumed text : List ℕ) (first s : Printer) → HasAnswered printed (keeps_nothing first) consumed text s → IsAnswered consumed text
   answered_printing consumed text first s h =
-      record { lines = h.lines; kept = h.kept; cut = h.cut; each = h.each; unended = h.unended; short = h.short; events = events_of h.entries; step = h.step; leads = walk_of (Arrives h.step) 1 None h.lines h.entries h.trace; printed = h.is ∙ printed_events [] h.entries }
+      record { lines = h.lines; kept = h.kept; cut = h.cut; each = h.each; unended = h.unended; short = h.short; events = events_of h.entries; step = h.step; leads = walk_of (Arrives h.step) 1 None h.lines h.entries h.trace; printed = printed_events [] h.entries text h.is }
 
 -- what a run leaves that prints
 pub lines_printed : (before after : Option (List ℕ)) (script : List ℕ) (first s : Printer) (r : Result Outcome Stop) → Leaves printed (keeps_nothing first) before after script s r → IfOk r (λ outcome. (text : List ℕ) × Appends before after text × IsPrinting script text outcome)
@@ -162,10 +183,17 @@ module _ (before after : Option (List ℕ)) (w : WalkValue) (line : List ℕ) (n
   any_line e (inr (inl (fault, of, is))) f = inr (Faulted w.number fault ∷ [], inr (fault, of, refl), front_at e (Faulted w.number fault ∷ []) (ap (λ e. e.events) is) f)
   any_line e (inr (inr (said, events, of, takes, is))) f = stopped_front w line events before after (said, of, takes) (front_at e events (ap (λ e. e.events) is) f)
 
+  -- what is written for an entry
+  piece_at : (e : Entry) (events : List Event) → e.events ≡ events → WritesPiece printed before after [] e → Appends before after (printing events)
+  piece_at e events is (one, may, a) = printed_at e events is (subst (Appends before after) may a)
+
   pub printed_line : (r : Result Bool Stop) → RunsNext printed (keeps_nothing first) before after w line new s s' r → RunsLine before after w line new r
   printed_line (Ok true) ran =
       let (e, (said, events, later, of, serves, is), to, a, known) = ran [] tt in
-      (events, printed_at e events (ap (λ e. e.events) is) a, (said, of, subst (Serves machine w.number w.step said events) (sym (ap (λ e. e.after) is) ∙ to) serves))
-  printed_line (Ok false) ran = let (e, (fault, of, is), a, known) = ran [] tt in (Faulted w.number fault ∷ [], printed_at e (Faulted w.number fault ∷ []) (ap (λ e. e.events) is) a, (fault, of, refl))
-  printed_line (Err stop.Write) ran = let (e, is, f, known) = ran [] tt in any_line e is f
-  printed_line (Err stop.Memory) ran = let (e, (said, events, of, takes, is), a, known) = ran [] tt in (events, printed_at e events (ap (λ e. e.events) is) a, (said, of, takes))
+      (events, piece_at e events (ap (λ e. e.events) is) a, (said, of, subst (Serves machine w.number w.step said events) (sym (ap (λ e. e.after) is) ∙ to) serves))
+  printed_line (Ok false) ran = let (e, (fault, of, is), a, known) = ran [] tt in (Faulted w.number fault ∷ [], piece_at e (Faulted w.number fault ∷ []) (ap (λ e. e.events) is) a, (fault, of, refl))
+  printed_line (Err stop.Write) ran = let (e, is, (one, may, f), known) = ran [] tt in any_line e is (subst (AppendsFront before after) may f)
+  printed_line (Err stop.Memory) ran = exhausted (ran [] tt) where
+    exhausted : RunsEntry printed (keeps_nothing first) before after w line new [] s' (Err stop.Memory) → RunsLine before after w line new (Err stop.Memory)
+    exhausted (inl (e, (said, events, of, takes, is), a, known)) = (events, piece_at e events (ap (λ e. e.events) is) a, (said, of, takes))
+    exhausted (inr (e, is, needs, kept, known)) = absurd needs

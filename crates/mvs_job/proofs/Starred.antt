@@ -4,12 +4,10 @@ use Rattle.std.specs.Prelude.{slice_index}
 use Rattle.std.specs.List.{flat_map, filter, before_first, position_or_len, AllByRecursion}
 use Rattle.std.proofs.lemmas.List.Elements.{filter-append}
 use Rattle.std.proofs.lemmas.List.Sums.{fails_before_first, prefix_len-le-length}
-use Rattle.std.specs.Io.KnownBytes.{Appends}
 use Rattle.mvs_model.specs.declared.name.Name.{Name}
 use Rattle.mvs_model.specs.declared.line.Line.{Line}
 use Rattle.mvs_model.specs.declared.line.Line.TheVariants as line
 use Rattle.mvs_model.specs.declared.line.Statement.TheVariants as says
-use Rattle.mvs_model.specs.declared.outcome.Outcome.{Outcome}
 use Rattle.mvs_model.specs.declared.reason.LineReason.{LineReason}
 use Rattle.mvs_model.specs.declared.request.Request.{Request}
 use Rattle.mvs_model.specs.declared.request.Request.TheVariants.{Return}
@@ -18,9 +16,7 @@ use Rattle.mvs_model.specs.Job.{JobValue}
 use Rattle.mvs_model.specs.Lines.{ended_text, lines_of, IsUnended}
 use Rattle.mvs_model.specs.Name.{trimmed}
 use Rattle.mvs_model.specs.Resolving.{resolved}
-use Rattle.mvs_model.specs.Runs.{machine, IsPrinting}
 use Rattle.mvs_model.specs.Texts.{answer_text, code_text, data_lines, fault_number, map_text, printing, reply_line, said, subpool_text, text_of}
-use Rattle.mvs_model.specs.Walk.{JobEnds, Walks}
 use Rattle.mvs_laws.proofs.Going.{printed_both}
 use Rattle.job_script.specs.ReasonTexts.{one_line, reason_line, why_said}
 use Rattle.mvs_model.specs.Owners.{goes}
@@ -32,9 +28,13 @@ use Rattle.mvs_job.specs.declared.granting.Before.{Before}
 use Rattle.mvs_job.specs.Granting.{IsGranting, before_line, done_text, facts_of, granted_text, tells_grant}
 use Rattle.job_script.specs.NamingTexts.{naming_said}
 use Rattle.mvs_job.specs.declared.naming.Naming.{Naming}
-use Rattle.mvs_job.specs.Naming.{IsNamed, SetLines, naming_text, no_lines}
+use Rattle.mvs_job.specs.Naming.{IsNamed, SetLines, naming_text}
 use Rattle.mvs_job.specs.Why.{spoken}
-use Rattle.mvs_job.specs.Explaining.{Explains, IsBehind, IsExplanation, NoLineIsStarred, WritesExplained, reason_text, without_starred}
+use Rattle.mvs_job.specs.Consuming.{WrittenAfter}
+use Rattle.mvs_job.specs.Explained.{ExplainedArePrintings, IsExplainedAs, explained, set_by_entries}
+use Rattle.mvs_job.specs.Explaining.{IsBehind, IsExplanation, NoLineIsStarred, reason_text, without_starred}
+use Rattle.mvs_job.specs.Trace.{Closed, Entry, Executed, Exhausted, Faulty, Kind, events_of}
+use Rattle.mvs_job.proofs.Tracing.{traces_are_runs}
 use Rattle.mvs_job.proofs.Feeding.{all_before, lines_cut, lines_ended}
 
 -- ---- texts that end in a line feed
@@ -230,26 +230,26 @@ behind_out old set l events new text (why, named, freed, done, is, names, frees,
 
 -- ---- a run
 
-abbrev Left : Outcome → ℕ → Option JobValue → List (List ℕ) → List ℕ → Type 0
-Left outcome number old lines text = (events : List Event) × Walks machine (JobEnds machine outcome) number old lines events × (without_starred text ≡ without_starred (printing events))
+-- the text of an entry is the printing of its events, and what is left out
+entry_out : (set : SetLines) (e : Entry) (kind : Kind) (text : List ℕ) → IsExplainedAs set e kind text → (why : List ℕ) × (text ≡ printing e.events ++ why) × IsLeftOut why
+entry_out set e (Executed said) text (why, is, same) = (why, same, behind_out e.before set e.bytes e.events e.after why is)
+entry_out set e (Faulty fault) text same = ([], same ∙ sym (append-nil (printing e.events)), none_left_out [] refl)
+entry_out set e Closed text same = ([], same ∙ sym (append-nil (printing e.events)), none_left_out [] refl)
+entry_out set e (Exhausted said) text same = ([], same ∙ sym (append-nil (printing e.events)), none_left_out [] refl)
 
-left : (outcome : Outcome) (lines : List (List ℕ)) (number : ℕ) (old : Option JobValue) (set : SetLines) (text : List ℕ) → Explains (Ok outcome) number old set lines text → Left outcome number old lines text
-left outcome [] number old set text h = (h.0, h.1, ap without_starred h.2)
-left outcome (l ∷ lines) number old set text (inl h) = (h.0, inl (h.1, h.2), ap without_starred h.3)
-left outcome (l ∷ lines) number old set text (inr (mid, later, events, why, rest, serves, sets, is, e, more)) =
-    let s = left outcome lines (number + 1) mid later rest more in
-    let told = printing events in (
-      events ++ s.0,
-      inr (mid, events, s.0, serves, refl, s.1),
-      ap without_starred (e ∙ append_assoc told why rest)
-          ∙ left_both told (why ++ rest) (printing_ended events)
-          ∙ ap (λ x. without_starred told ++ x) (behind_out old set l events mid why is rest ∙ s.2)
-          ∙ sym (left_both told (printing s.0) (printing_ended events))
-          ∙ ap without_starred (sym (printed_both events s.0)),
-    )
+left : (history entries : List Entry) (text : List ℕ) → WrittenAfter explained history entries text → without_starred text ≡ without_starred (printing (events_of entries))
+left history [] text is = ap without_starred is
+left history (e ∷ entries) text (one, rest, first, is, cut) =
+    let told = printing e.events in
+    let (why, same, out) = entry_out (set_by_entries history) e e.kind one first in
+    ap without_starred (cut ∙ ap (λ x. x ++ rest) same ∙ append_assoc told why rest)
+    ∙ left_both told (why ++ rest) (printing_ended e.events)
+    ∙ ap (λ x. without_starred told ++ x) (out rest ∙ left (history ++ e ∷ []) entries rest is)
+    ∙ sym (left_both told (printing (events_of entries)) (printing_ended e.events))
+    ∙ ap without_starred (sym (printed_both e.events (events_of entries)))
 
--- Without its lines that begin with an asterisk the text of a run with reasons is the printing of a run.
-pub annotates : NoLineIsStarred → (start after : Option (List ℕ)) (script : List ℕ) (outcome : Outcome) → WritesExplained start after script (Ok outcome) → (text : List ℕ) × Appends start after text × IsPrinting script (without_starred text) outcome
-annotates none start after script outcome h =
-    let s = left outcome (lines_of script) 1 None no_lines h.0 h.2 in
-    (h.0, h.1, (s.0, s.1, s.2 ∙ none script (printing s.0) outcome (s.0, s.1, refl)))
+-- Without its lines that begin with an asterisk the text of a run with explanations is the printing of a run.
+pub explained_are : NoLineIsStarred → ExplainedArePrintings
+explained_are none script text outcome w =
+    let run = traces_are_runs script w.entries outcome w.trace in
+    (events_of w.entries, run, left [] w.entries text w.is ∙ none script (printing (events_of w.entries)) outcome (events_of w.entries, run, refl))

@@ -1,6 +1,6 @@
 -- A strict run: the lines that were not executed, by the entries of a trace.
-use Rattle.std.proofs.Common.{◌≡◌, ℕ, ◌+◌, ◌-◌, inl, inr, List, [], ◌∷◌, ◌++◌, append_assoc, append-nil, arith, get_or, length, length-append, Option, Some, None, Bool, true, false, Result, Ok, Err, MatchResult, refl, sym, ap, ◌∙◌, subst}
-use Rattle.std.specs.Prelude.{◌&&◌, not, is_some}
+use Rattle.std.proofs.Common.{◌≡◌, ℕ, ◌+◌, ◌-◌, inl, inr, List, [], ◌∷◌, ◌++◌, append_assoc, append-nil, arith, get_or, length, length-append, Option, Some, None, Bool, true, false, Result, Ok, Err, IfErr, IfOk, refl, sym, ap, ◌∙◌, subst}
+use Rattle.std.specs.Prelude.{◌&&◌, ◌⊎◌, MatchResult, not, is_some}
 use Rattle.std.specs.List.{list_all}
 use Rattle.std.proofs.Math.Seq.{get_or-append_seam}
 use Rattle.std.proofs.lemmas.Grind.{flat_map-append}
@@ -22,14 +22,15 @@ use Rattle.mvs_job.specs.declared.consumer.End.{End}
 use Rattle.mvs_job.specs.declared.consumer.End.TheVariants as end
 use Rattle.mvs_job.specs.declared.printing.Stop.{Stop}
 use Rattle.mvs_job.specs.declared.printing.Stop.TheVariants as stop
+use Rattle.mvs_job.specs.declared.strict.StrictEnd.{StrictEnd}
 use Rattle.mvs_job.specs.declared.strict.Unserved.{Unserved}
 use Rattle.mvs_job.specs.declared.strict.Unserved.TheVariants as why
 use Rattle.mvs_job.specs.declared.walk.LineTold.{LineTold}
 use Rattle.mvs_job.specs.declared.walk.LineTold.TheVariants as told
-use Rattle.mvs_job.specs.Consuming.{IsEnd, IsEntry, Leaves}
+use Rattle.mvs_job.specs.Consuming.{IsEnd, IsEntry, Known, Leaves, LeavesText, Piece, keeps_nothing}
 use Rattle.mvs_job.specs.Printed.{printed}
 use Rattle.mvs_job.specs.Streams.{PrintedUpTo}
-use Rattle.mvs_job.specs.Strict.{Grows, HearsFront, Observes, PrintsStrictly, Skipped, all_skipped, is_of_served, line_at, skipped_at, skipped_for, skipped_in}
+use Rattle.mvs_job.specs.Strict.{Grows, HearsFront, Observes, PrintsStrictly, RunsObserved, Skipped, all_skipped, is_of_served, line_at, skipped_at, skipped_for, skipped_in}
 use Rattle.mvs_job.specs.Telling.{WalkValue, ended, events_told}
 use Rattle.mvs_job.specs.Trace.{Arrives, Ending, Ends, Entry, Exhausts, IsExecuted, IsTrace, Stops, Traces, events_of}
 use Rattle.mvs_job.proofs.Printed.{exhausted_is_front, exhausted_printing, front_printing, printed_events}
@@ -191,9 +192,23 @@ exhausted_none n old [] entries h = absurd h
 exhausted_none n old (l ∷ lines) entries (e, (said, events, of, takes, is), same) =
     ap skipped_at same ∙ append-nil (all_skipped (λ number. e.bytes) e.events) ∙ ap (all_skipped (λ number. e.bytes)) (ap (λ e. e.events) is) ∙ takes_skipped (λ number. e.bytes) old said events takes
 
-pub strict_stopped : {S : Type 0} (knows : S → List Entry → Type 0) (before after : Option (List ℕ)) (script : List ℕ) (s : S) (why : Stop) → Leaves printed knows before after script s (Err why) → PrintedUpTo why before after script
-strict_stopped knows before after script s stop.Write (text, a, w) = (text, a, front_printing script knows text s w)
-strict_stopped knows before after script s stop.Memory (text, a, w) = (text, a, exhausted_is_front script knows text s w, exhausted_printing script knows text s w)
+-- a run that is printed
+pub strict_ended : (script : List ℕ) (before after : Option (List ℕ)) (heard heard' : Option (List Skipped)) (outcome : Outcome) (all : Bool) → RunsObserved printed before after heard heard' script outcome all → PrintsStrictly before after heard heard' script outcome all
+strict_ended script before after heard heard' outcome all (entries, text, trace, is, a, served, grows) =
+    (events_of entries, subst (Appends before after) (printed_events [] entries text is) a, traces_are_runs script entries outcome trace, served, grows)
+
+pub strict_stopped : (before after : Option (List ℕ)) (script : List ℕ) (why : Stop) → LeavesText printed before after script (Err why) → PrintedUpTo why before after script
+strict_stopped before after script stop.Write (text, a, w) = (text, a, front_printing script (keeps_nothing tt) text tt w)
+strict_stopped before after script stop.Memory (text, a, w) = (text, a, exhausted_is_front script (keeps_nothing tt) text tt w, exhausted_printing script (keeps_nothing tt) text tt w)
+
+pub strict_ok : (before after : Option (List ℕ)) (heard heard' : Option (List Skipped)) (script : List ℕ) (r : Result StrictEnd Stop) → IfOk r (λ end. RunsObserved printed before after heard heard' script end.outcome end.all_served)
+    → IfOk r (λ end. PrintsStrictly before after heard heard' script end.outcome end.all_served)
+strict_ok before after heard heard' script (Ok end) h = strict_ended script before after heard heard' end.outcome end.all_served h
+strict_ok before after heard heard' script (Err why) h = tt
+
+pub strict_err : (before after : Option (List ℕ)) (script : List ℕ) (r : Result StrictEnd Stop) → IfErr r (λ why. LeavesText printed before after script (Err why)) → IfErr r (λ why. PrintedUpTo why before after script)
+strict_err before after script (Ok end) h = tt
+strict_err before after script (Err why) h = strict_stopped before after script why h
 
 module _ (script : List ℕ) (heard heard' : Option (List Skipped)) where
   -- what was heard of some lines that were executed
@@ -208,33 +223,35 @@ module _ (script : List ℕ) (heard heard' : Option (List Skipped)) where
         subst (λ (x : List Skipped). Grows heard heard' x) (sym (trace_skipped (line_at script) (Arrives step) 1 None served entries numbers t)) grows,
       )
 
-  module _ {S : Type 0} (knows : S → List Entry → Type 0) (before after : Option (List ℕ)) (s : S) (all : Bool) (observed : (entries : List Entry) → knows s entries → Observes true all heard heard' entries) where
-    pub strict_ended : (outcome : Outcome) → Leaves printed knows before after script s (Ok outcome) → PrintsStrictly before after heard heard' script outcome all
-    strict_ended outcome (text, a, w) =
-        let o = observed w.entries w.known in (
-          events_of w.entries,
-          subst (Appends before after) (w.is ∙ printed_events [] w.entries) a,
-          traces_are_runs script w.entries outcome w.trace,
-          o.served,
-          subst (λ (x : List Skipped). Grows heard heard' x) (sym (script_skipped script (Ends outcome) w.entries w.trace)) o.skipped,
-        )
+  module _ {S : Type 0} (piece : Piece) (knows : Known S) (before after : Option (List ℕ)) (s : S) (all : Bool) (observed : (entries : List Entry) → knows.has s entries ⊎ knows.had s entries → Observes true all heard heard' entries) where
+    pub run_observed : (outcome : Outcome) → Leaves piece knows before after script s (Ok outcome) → RunsObserved piece before after heard heard' script outcome all
+    run_observed outcome (text, a, w) =
+        let o = observed w.entries (inl w.known) in (w.entries, text, w.trace, w.is, a, o.served, subst (λ (x : List Skipped). Grows heard heard' x) (sym (script_skipped script (Ends outcome) w.entries w.trace)) o.skipped)
 
-    pub strict_heard : (why : Stop) → Leaves printed knows before after script s (Err why) → HearsFront heard heard' script
-    strict_heard stop.Write (text, a, w) =
-        let r = trace_cut w.how 1 None (lines_of script) w.entries w.next w.rest w.trace in
+    pub run_heard : (why : Stop) → Leaves piece knows before after script s (Err why) → HearsFront heard heard' script
+    run_heard stop.Write (text, a, w) =
+        let r = trace_cut w.begun.how 1 None (lines_of script) w.entries w.next w.begun.rest w.begun.trace in
         hears r.served r.left (1 + length r.served) r.step w.entries r.lines_are refl r.trace (observed w.entries w.known).skipped
-    strict_heard stop.Memory (text, a, w) =
+    run_heard stop.Memory (text, a, inr (entries, next, needs, known, begun)) =
+        let r = trace_cut begun.how 1 None (lines_of script) entries next begun.rest begun.trace in
+        hears r.served r.left (1 + length r.served) r.step entries r.lines_are refl r.trace (observed entries (inr known)).skipped
+    run_heard stop.Memory (text, a, inl w) =
         let r = trace_split Exhausts 1 None (lines_of script) w.entries w.trace in
         let same : skipped_at w.entries ≡ skipped_at r.before = ap skipped_at r.entries_are ∙ skipped_more r.before r.last ∙ ap (λ x. skipped_at r.before ++ x) (exhausted_none r.next r.step r.left r.last r.stops) ∙ append-nil (skipped_at r.before) in
-        hears r.served r.left r.next r.step r.before r.lines_are r.counted r.trace (subst (λ (x : List Skipped). Grows heard heard' x) same (observed w.entries w.known).skipped)
+        hears r.served r.left r.next r.step r.before r.lines_are r.counted r.trace (subst (λ (x : List Skipped). Grows heard heard' x) same (observed w.entries (inl w.known)).skipped)
 
--- what an observer was called for that is borrowed: it has a name for as long, and is at the end what the borrow leaves
-pub observed_at : {H X : Type 0} (heard : H → Option (List Skipped)) (b c : ℕ) (start first now last : H) (all all' : Bool) → (b ≡ c → last ≡ now) → first ≡ start → all ≡ true
-    → (entries : List Entry) → (b ≡ c) × X × Observes all all' (heard first) (heard now) entries → Observes true all' (heard start) (heard last) entries
-observed_at heard b c start first now last all all' ends same new entries (kept, x, o) = record {
+observed_so : {H : Type 0} (heard : H → Option (List Skipped)) (b c : ℕ) (start first now last : H) (all all' : Bool) → (b ≡ c → last ≡ now) → first ≡ start → all ≡ true
+    → (entries : List Entry) → b ≡ c → Observes all all' (heard first) (heard now) entries → Observes true all' (heard start) (heard last) entries
+observed_so heard b c start first now last all all' ends same new entries kept o = record {
   served = o.served ∙ ap (λ x. x && list_all is_of_served (events_of entries)) new;
   skipped = subst (λ (h : Option (List Skipped)). Grows (heard start) h (skipped_at entries)) (ap heard (sym (ends kept))) (subst (λ (h : Option (List Skipped)). Grows h (heard now) (skipped_at entries)) (ap heard same) o.skipped);
 }
+
+-- what an observer was called for that is borrowed: it has a name for as long, and is at the end what the borrow leaves
+pub observed_at : {H : Type 0} (X : List Entry → Type 0) (heard : H → Option (List Skipped)) (b c : ℕ) (start first now last : H) (all all' : Bool) → (b ≡ c → last ≡ now) → first ≡ start → all ≡ true
+    → (entries : List Entry) → ((b ≡ c) × X entries × Observes all all' (heard first) (heard now) entries) ⊎ ((b ≡ c) × Observes all all' (heard first) (heard now) entries) → Observes true all' (heard start) (heard last) entries
+observed_at X heard b c start first now last all all' ends same new entries (inl (kept, x, o)) = observed_so heard b c start first now last all all' ends same new entries kept o
+observed_at X heard b c start first now last all all' ends same new entries (inr (kept, o)) = observed_so heard b c start first now last all all' ends same new entries kept o
 
 -- ---- a call
 
@@ -281,7 +298,11 @@ pub none_of : (o : Option Unserved) → ((why : Unserved) → o ≡ Some why →
 none_of None other = refl
 none_of (Some why) other = absurd (other why refl)
 
+-- what no refusal changes
+pub observes_kept : (fa all all' : Bool) (heard heard1 heard2 : Option (List Skipped)) (history : List Entry) → all' ≡ all → heard2 ≡ heard1 → Observes fa all heard heard1 history → Observes fa all' heard heard2 history
+observes_kept fa all all' heard heard1 heard2 history same stays o = record { served = same ∙ o.served; skipped = subst (λ (h : Option (List Skipped)). Grows heard h (skipped_at history)) (sym stays) o.skipped }
+
 -- what is known after a call, by its result
-pub result_maps : {X E : Type 0} (r : Result X E) (P P' Q Q' : Type 0) → (P → P') → (Q → Q') → MatchResult r (λ _. P) (λ _. Q) → MatchResult r (λ _. P') (λ _. Q')
-result_maps (Ok x) P P' Q Q' f g h = f h
-result_maps (Err e) P P' Q Q' f g h = g h
+pub result_maps : {X E : Type 0} (r : Result X E) (P P' : X → Type 0) (Q Q' : E → Type 0) → ((x : X) → P x → P' x) → ((e : E) → Q e → Q' e) → MatchResult r P Q → MatchResult r P' Q'
+result_maps (Ok x) P P' Q Q' f g h = f x h
+result_maps (Err e) P P' Q Q' f g h = g e h

@@ -1,23 +1,32 @@
 -- What a consumer is given of a run, and what it writes.
 use Rattle.std.specs.Prelude.{◌≡◌, ◌⊎◌, ℕ, ◌+◌, List, [], ◌∷◌, ◌++◌, length, Option, None, Result, Ok, Err, MatchResult, Bool, true, false}
-use Rattle.std.specs.Io.KnownBytes.{Appends}
+use Rattle.std.specs.Io.KnownBytes.{Appends, Keeps}
 use Rattle.mvs_model.specs.declared.outcome.Outcome.{Outcome}
 use Rattle.mvs_model.specs.Job.{JobValue}
-use Rattle.job_script.specs.Writing.{AppendsFront, WritesAll}
+use Rattle.mvs_model.specs.declared.watched.Failed.{Failed}
+use Rattle.job_script.specs.Writing.{AppendsFront}
 use Rattle.mvs_job.specs.declared.printing.Stop.{Stop}
 use Rattle.mvs_job.specs.declared.printing.Stop.TheVariants as stop
 use Rattle.mvs_job.specs.declared.walk.LineTold.{LineTold}
 use Rattle.mvs_job.specs.declared.walk.LineTold.TheVariants as told
 use Rattle.mvs_job.specs.Telling.{WalkValue, closing, ended, events_told}
+use Rattle.mvs_job.specs.Observing.{Hearing, ObservesLine}
 use Rattle.mvs_job.specs.declared.consumer.End.{End}
 use Rattle.mvs_job.specs.declared.consumer.End.TheVariants as end
 use Rattle.mvs_job.specs.Trace.{Arrives, Ending, Ends, Entry, Exhausts, IsClosed, IsExecuted, IsExhausted, IsFaulty, IsTrace, Traces}
 
 -- ---- an entry
 
--- What a consumer writes for an entry, by the entries before it.
-abbrev pub Piece : Type 0
-Piece = List Entry → Entry → List ℕ
+-- What a consumer does with an entry: which texts it may write, by the entries before it, and whether it may need memory for it.
+pub record Piece : Type 1 where
+  pub may : List Entry → Entry → List ℕ → Type 0
+  pub needs : Entry → Type 0
+
+-- What is known of a consumer in a state: it was given these entries; and what is still true of it after a call for a further one
+-- failed.
+pub record Known (S : Type 0) : Type 1 where
+  pub has : S → List Entry → Type 0
+  pub had : S → List Entry → Type 0
 
 -- An entry is of a line with this result: it is executed, or has a fault.
 abbrev pub IsOfLine : LineTold → ℕ → List ℕ → Entry → Type 0
@@ -35,65 +44,112 @@ abbrev pub IsEnd : ℕ → End → Entry → Type 0
 IsEnd number (end.Closed ended) e = ((outcome : Outcome) × IsClosed number e.before outcome e) × (e.events ≡ closing number ended)
 IsEnd number (end.Exhausted end) e = ((line : List ℕ) × IsExhausted number e.before line e) × (e.events ≡ ended end)
 
--- What a call does that gives a consumer an entry, between two moments of a writer: it writes its piece, and has one entry more. If a
--- write fails, it has written a front of the piece, and has the entries that it had.
-pub record Accepts {S X E : Type 0} (piece : Piece) (knows : S → List Entry → Type 0) (before after : Option (List ℕ)) (s s' : S) (history : List Entry) (e : Entry) (result : Result X E) : Type 0 where
-  pub text : WritesAll before after result (piece history e)
-  pub known : MatchResult result (λ _. knows s' (history ++ e ∷ [])) (λ _. knows s' history)
+-- A front of a piece for the entry is written between two moments of a writer.
+abbrev pub WritesFront : Piece → Option (List ℕ) → Option (List ℕ) → List Entry → Entry → Type 0
+WritesFront piece before after history e = (text : List ℕ) × piece.may history e text × AppendsFront before after text
+
+-- A whole one is.
+abbrev pub WritesPiece : Piece → Option (List ℕ) → Option (List ℕ) → List Entry → Entry → Type 0
+WritesPiece piece before after history e = (text : List ℕ) × piece.may history e text × Appends before after text
+
+-- What a call has written that stops: a front of a piece, if a write failed; nothing, if the consumer needs memory for the entry and
+-- there is none.
+abbrev pub WritesUntil : Piece → Option (List ℕ) → Option (List ℕ) → List Entry → Entry → Stop → Type 0
+WritesUntil piece before after history e stop.Write = WritesFront piece before after history e
+WritesUntil piece before after history e stop.Memory = piece.needs e × Keeps before after
+
+-- What the call does that gives a consumer the entry of a line: it writes a piece, and has one entry more; or it stops.
+abbrev pub Accepts : {S X : Type 0} → Piece → Known S → Option (List ℕ) → Option (List ℕ) → S → List Entry → Entry → Result X Stop → Type 0
+Accepts piece knows before after s history e result =
+    MatchResult result (λ _. WritesPiece piece before after history e × knows.has s (history ++ e ∷ [])) (λ why. WritesUntil piece before after history e why × knows.had s history)
+
+-- It does so whatever entries it had, for each entry that its arguments describe: it has looked at the line, and then it heard of the
+-- refusal of its request, if there was one.
+abbrev pub AcceptsLine : {S X : Type 0} → Piece → Hearing S → (S → Option JobValue → List ℕ → Type 0) → Known S → Option (List ℕ) → Option (List ℕ) → S → S → ℕ → List ℕ → WalkValue → LineTold → Result X Stop → Type 0
+AcceptsLine {S = S} piece heard sees knows before after s s' number line w t result =
+    (mid : S) (history : List Entry) (e : Entry) → IsEntry number line w t e → sees mid e.before line → ObservesLine heard mid e.before line t w s → knows.has mid history → Accepts piece knows before after s' history e result
+
+-- What the call for the last entry does; it needs no memory.
+abbrev pub AcceptsLast : {S X : Type 0} → Piece → Known S → Option (List ℕ) → Option (List ℕ) → S → List Entry → Entry → Result X Failed → Type 0
+AcceptsLast piece knows before after s history e result =
+    MatchResult result (λ _. WritesPiece piece before after history e × knows.has s (history ++ e ∷ [])) (λ _. WritesFront piece before after history e × knows.had s history)
 
 -- It does so whatever entries it had, for each entry that its arguments describe.
-abbrev pub AcceptsEach : {S X E : Type 0} → Piece → (S → List Entry → Type 0) → Option (List ℕ) → Option (List ℕ) → S → S → (Entry → Type 0) → Result X E → Type 0
-AcceptsEach piece knows before after s s' Is result = (history : List Entry) (e : Entry) → Is e → knows s history → Accepts piece knows before after s s' history e result
+abbrev pub AcceptsEnd : {S X : Type 0} → Piece → Known S → Option (List ℕ) → Option (List ℕ) → S → S → ℕ → End → Result X Failed → Type 0
+AcceptsEnd piece knows before after s s' number end result = (history : List Entry) (e : Entry) → IsEnd number end e → knows.has s history → AcceptsLast piece knows before after s' history e result
 
 -- ---- a run
 
--- what a consumer writes for entries, after others
-abbrev pub written_after : Piece → List Entry → List Entry → List ℕ
-written_after piece history [] = []
-written_after piece history (e ∷ entries) = piece history e ++ written_after piece (history ++ e ∷ []) entries
+-- A consumer may write this text for entries, after others.
+abbrev pub WrittenAfter : Piece → List Entry → List Entry → List ℕ → Type 0
+WrittenAfter piece history [] text = text ≡ []
+WrittenAfter piece history (e ∷ entries) text = (one : List ℕ) × (rest : List ℕ) × piece.may history e one × WrittenAfter piece (history ++ e ∷ []) entries rest × (text ≡ one ++ rest)
 
--- what it writes for a trace
-abbrev pub written : Piece → List Entry → List ℕ
-written piece entries = written_after piece [] entries
+-- It may write it for a trace.
+abbrev pub Written : Piece → List Entry → List ℕ → Type 0
+Written piece entries text = WrittenAfter piece [] entries text
 
 -- The text is what a consumer writes for a trace of the script that stops so, and the consumer has its entries.
-pub record IsWritten {S : Type 0} (piece : Piece) (knows : S → List Entry → Type 0) (script text : List ℕ) (how : Ending) (s : S) : Type 0 where
+pub record IsWritten {S : Type 0} (piece : Piece) (knows : Known S) (script text : List ℕ) (how : Ending) (s : S) : Type 0 where
   pub entries : List Entry
   pub trace : IsTrace script entries how
-  pub known : knows s entries
-  pub is : text ≡ written piece entries
+  pub known : knows.has s entries
+  pub is : Written piece entries text
 
--- The text is what a consumer writes for the first entries of a trace of the script, which it has, and a front of the next piece.
-pub record IsFront {S : Type 0} (piece : Piece) (knows : S → List Entry → Type 0) (script text : List ℕ) (s : S) : Type 0 where
+-- The text is what a consumer writes for these entries, which are the first of a trace of the script, before this one.
+pub record IsBegun (piece : Piece) (script text : List ℕ) (entries : List Entry) (next : Entry) : Type 0 where
   pub how : Ending
-  pub entries : List Entry
-  pub next : Entry
   pub rest : List Entry
   pub trace : IsTrace script (entries ++ next ∷ rest) how
-  pub known : knows s entries
+  pub is : Written piece entries text
+
+-- The text is what a consumer writes for the first entries of a trace of the script, which it has, and a front of a piece for the
+-- next, or nothing.
+pub record IsFront {S : Type 0} (piece : Piece) (knows : Known S) (script text : List ℕ) (s : S) : Type 0 where
+  pub entries : List Entry
+  pub next : Entry
+  pub done : List ℕ
   pub front : List ℕ
-  pub left : List ℕ
-  pub cut : piece entries next ≡ front ++ left
-  pub is : text ≡ written piece entries ++ front
+  pub begun : IsBegun piece script done entries next
+  pub known : knows.has s entries ⊎ knows.had s entries
+  pub cut : (front ≡ []) ⊎ ((left : List ℕ) × piece.may entries next (front ++ left))
+  pub is : text ≡ done ++ front
+
+-- The text is what a consumer writes for the first entries of a trace of the script; for the next one it needs memory that there is not.
+abbrev pub IsShort : {S : Type 0} → Piece → Known S → List ℕ → List ℕ → S → Type 0
+IsShort piece knows script text s = (entries : List Entry) × (next : Entry) × piece.needs next × knows.had s entries × IsBegun piece script text entries next
 
 -- What a run writes: it ends so, memory is exhausted, or a write fails.
-abbrev pub Writes : {S : Type 0} → Piece → (S → List Entry → Type 0) → List ℕ → List ℕ → S → Result Outcome Stop → Type 0
+abbrev pub Writes : {S : Type 0} → Piece → Known S → List ℕ → List ℕ → S → Result Outcome Stop → Type 0
 Writes piece knows script text s (Ok outcome) = IsWritten piece knows script text (Ends outcome) s
-Writes piece knows script text s (Err stop.Memory) = IsWritten piece knows script text Exhausts s
+Writes piece knows script text s (Err stop.Memory) = IsWritten piece knows script text Exhausts s ⊎ IsShort piece knows script text s
 Writes piece knows script text s (Err stop.Write) = IsFront piece knows script text s
 
 -- The text between two moments of a writer is what a run writes.
-abbrev pub Leaves : {S : Type 0} → Piece → (S → List Entry → Type 0) → Option (List ℕ) → Option (List ℕ) → List ℕ → S → Result Outcome Stop → Type 0
+abbrev pub Leaves : {S : Type 0} → Piece → Known S → Option (List ℕ) → Option (List ℕ) → List ℕ → S → Result Outcome Stop → Type 0
 Leaves piece knows before after script s result = (text : List ℕ) × Appends before after text × Writes piece knows script text s result
+
+-- A consumer of which nothing is known may have been given any entries.
+abbrev pub keeps_nothing : {S : Type 0} → S → Known S
+keeps_nothing first = record { has = λ s entries. Unit {0}; had = λ s entries. Unit {0} }
+
+-- The same, whatever the consumer has.
+abbrev pub WritesText : Piece → List ℕ → List ℕ → Result Outcome Stop → Type 0
+WritesText piece script text result = Writes {S = Unit {0}} piece (keeps_nothing tt) script text tt result
+
+abbrev pub LeavesText : Piece → Option (List ℕ) → Option (List ℕ) → List ℕ → Result Outcome Stop → Type 0
+LeavesText piece before after script result = (text : List ℕ) × Appends before after text × WritesText piece script text result
 
 -- After these lines a run is in this state: the text between two moments of a writer is what the consumer writes for their entries,
 -- which it has.
-pub record HasRun {S : Type 0} (piece : Piece) (knows : S → List Entry → Type 0) (before now : Option (List ℕ)) (lines : List (List ℕ)) (w : WalkValue) (s : S) : Type 0 where
+pub record HasRun {S : Type 0} (piece : Piece) (knows : Known S) (before now : Option (List ℕ)) (lines : List (List ℕ)) (w : WalkValue) (s : S) : Type 0 where
   pub entries : List Entry
   pub trace : Traces (Arrives w.step) 1 None lines entries
   pub counted : w.number ≡ 1 + length lines
-  pub text : Appends before now (written piece entries)
-  pub known : knows s entries
+  pub text : List ℕ
+  pub is : Written piece entries text
+  pub appended : Appends before now text
+  pub known : knows.has s entries
 
 -- ---- a line
 
@@ -102,29 +158,30 @@ abbrev pub IsAny : ℕ → Option JobValue → List ℕ → Entry → Type 0
 IsAny number old line e = IsExecuted number old line e ⊎ IsFaulty number old line e ⊎ IsExhausted number old line e
 
 -- What the call for a line does, where the consumer has these entries: the job continues, the line has a fault, memory is exhausted,
--- or a write fails.
-abbrev pub RunsEntry : {S : Type 0} → Piece → (S → List Entry → Type 0) → Option (List ℕ) → Option (List ℕ) → WalkValue → List ℕ → WalkValue → List Entry → S → Result Bool Stop → Type 0
+-- at the answer or in the consumer, or a write fails.
+abbrev pub RunsEntry : {S : Type 0} → Piece → Known S → Option (List ℕ) → Option (List ℕ) → WalkValue → List ℕ → WalkValue → List Entry → S → Result Bool Stop → Type 0
 RunsEntry piece knows before after w line new history s (Ok true) =
-    (e : Entry) × IsExecuted w.number w.step line e × (e.after ≡ new.step) × Appends before after (piece history e) × knows s (history ++ e ∷ [])
+    (e : Entry) × IsExecuted w.number w.step line e × (e.after ≡ new.step) × WritesPiece piece before after history e × knows.has s (history ++ e ∷ [])
 RunsEntry piece knows before after w line new history s (Ok false) =
-    (e : Entry) × IsFaulty w.number w.step line e × Appends before after (piece history e) × knows s (history ++ e ∷ [])
+    (e : Entry) × IsFaulty w.number w.step line e × WritesPiece piece before after history e × knows.has s (history ++ e ∷ [])
 RunsEntry piece knows before after w line new history s (Err stop.Memory) =
-    (e : Entry) × IsExhausted w.number w.step line e × Appends before after (piece history e) × knows s (history ++ e ∷ [])
+    ((e : Entry) × IsExhausted w.number w.step line e × WritesPiece piece before after history e × knows.has s (history ++ e ∷ []))
+    ⊎ ((e : Entry) × IsAny w.number w.step line e × piece.needs e × Keeps before after × knows.had s history)
 RunsEntry piece knows before after w line new history s (Err stop.Write) =
-    (e : Entry) × IsAny w.number w.step line e × AppendsFront before after (piece history e) × knows s history
+    (e : Entry) × IsAny w.number w.step line e × WritesFront piece before after history e × knows.had s history
 
 -- It does so whatever entries the consumer has.
-abbrev pub RunsNext : {S : Type 0} → Piece → (S → List Entry → Type 0) → Option (List ℕ) → Option (List ℕ) → WalkValue → List ℕ → WalkValue → S → S → Result Bool Stop → Type 0
-RunsNext piece knows before after w line new s s' result = (history : List Entry) → knows s history → RunsEntry piece knows before after w line new history s' result
+abbrev pub RunsNext : {S : Type 0} → Piece → Known S → Option (List ℕ) → Option (List ℕ) → WalkValue → List ℕ → WalkValue → S → S → Result Bool Stop → Type 0
+RunsNext piece knows before after w line new s s' result = (history : List Entry) → knows.has s history → RunsEntry piece knows before after w line new history s' result
 
 -- What the call for the end of the script does, where the consumer has these entries: the job ends so, or a write fails.
-abbrev pub RunsEnd : {S : Type 0} → Piece → (S → List Entry → Type 0) → Option (List ℕ) → Option (List ℕ) → WalkValue → List Entry → S → Result Outcome Stop → Type 0
+abbrev pub RunsEnd : {S : Type 0} → Piece → Known S → Option (List ℕ) → Option (List ℕ) → WalkValue → List Entry → S → Result Outcome Stop → Type 0
 RunsEnd piece knows before after w history s (Ok outcome) =
-    (e : Entry) × IsClosed w.number w.step outcome e × Appends before after (piece history e) × knows s (history ++ e ∷ [])
+    (e : Entry) × IsClosed w.number w.step outcome e × WritesPiece piece before after history e × knows.has s (history ++ e ∷ [])
 RunsEnd piece knows before after w history s (Err stop.Memory) = ⊥
 RunsEnd piece knows before after w history s (Err stop.Write) =
-    (outcome : Outcome) × (e : Entry) × IsClosed w.number w.step outcome e × AppendsFront before after (piece history e) × knows s history
+    (outcome : Outcome) × (e : Entry) × IsClosed w.number w.step outcome e × WritesFront piece before after history e × knows.had s history
 
 -- It does so whatever entries the consumer has.
-abbrev pub RunsLast : {S : Type 0} → Piece → (S → List Entry → Type 0) → Option (List ℕ) → Option (List ℕ) → WalkValue → S → S → Result Outcome Stop → Type 0
-RunsLast piece knows before after w s s' result = (history : List Entry) → knows s history → RunsEnd piece knows before after w history s' result
+abbrev pub RunsLast : {S : Type 0} → Piece → Known S → Option (List ℕ) → Option (List ℕ) → WalkValue → S → S → Result Outcome Stop → Type 0
+RunsLast piece knows before after w s s' result = (history : List Entry) → knows.has s history → RunsEnd piece knows before after w history s' result

@@ -1,5 +1,6 @@
 pub mod Apart
-pub mod Asking
+pub mod Looking
+pub mod Explained
 pub mod Exchanging
 pub mod Facts
 pub mod Granting

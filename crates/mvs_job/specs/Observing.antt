@@ -1,5 +1,5 @@
 -- What an observer hears of the request of a line.
-use Rattle.std.specs.Prelude.{◌≡◌, ◌⊎◌, ◌||◌, ℕ, List, Some, Bool, true, false, MatchOption}
+use Rattle.std.specs.Prelude.{◌≡◌, ◌⊎◌, ◌||◌, ℕ, List, Option, Some, Bool, true, false, MatchOption}
 use Rattle.std.specs.Bool.{MatchBool}
 use Rattle.mvs_model.specs.declared.code.Code.{Code}
 use Rattle.mvs_model.specs.declared.name.Name.{Name}
@@ -88,11 +88,11 @@ Observes heard before job t (says.Request a) answer after =
     (after ≡ before)
 Observes heard before job t s answer after = after ≡ before
 
--- The same of a line, with what it says: one that is not a statement of a step makes no request.
-abbrev pub ObservesLine : {O : Type 0} → Hearing O → O → WalkValue → List ℕ → LineTold → WalkValue → O → Type 0
-ObservesLine heard before old bytes told.Nothing new after = LineOf (is_first old.step) bytes line.Nothing × (after ≡ before)
-ObservesLine heard before old bytes (told.Began end card) new after = (t : Name) × (s : Statement) × LineOf (is_first old.step) bytes (line.Statement t s) × (card_said t s ≡ Some card) × (after ≡ before)
-ObservesLine heard before old bytes (told.Answered t a) new after =
-    (s : Statement) × (job : JobValue) × (later : JobValue) × LineOf (is_first old.step) bytes (line.Statement t s) × (old.step ≡ Some job) × (new.step ≡ Some later)
+-- The same of a line in a step, with what it says: one that is not a statement of a step makes no request.
+abbrev pub ObservesLine : {O : Type 0} → Hearing O → O → Option JobValue → List ℕ → LineTold → WalkValue → O → Type 0
+ObservesLine heard before step bytes told.Nothing new after = LineOf (is_first step) bytes line.Nothing × (after ≡ before)
+ObservesLine heard before step bytes (told.Began end card) new after = (t : Name) × (s : Statement) × LineOf (is_first step) bytes (line.Statement t s) × (card_said t s ≡ Some card) × (after ≡ before)
+ObservesLine heard before step bytes (told.Answered t a) new after =
+    (s : Statement) × (job : JobValue) × (later : JobValue) × LineOf (is_first step) bytes (line.Statement t s) × (step ≡ Some job) × (new.step ≡ Some later)
     × Observes heard before job t s (lent later.state (fallen_in new.reply) t a) after
-ObservesLine heard before old bytes (told.Faulted fault) new after = after ≡ before
+ObservesLine heard before step bytes (told.Faulted fault) new after = after ≡ before

@@ -30,8 +30,3 @@ RunsLine before after w line new (Err stop.Memory) = (events : List Event) × Ap
 abbrev pub TellsLine : Option (List ℕ) → Option (List ℕ) → WalkValue → List ℕ → WalkValue → Result LineTold Stop → Type 0
 TellsLine before after w line new (Ok told) = IsTold w line told new × Appends before after (printing (events_told w.number new told))
 TellsLine before after w line new (Err stop) = RunsLine before after w line new (Err stop)
-
--- The effect of the call that executes the line and prints no answer.
-abbrev pub ServesOrStops : Option (List ℕ) → Option (List ℕ) → WalkValue → List ℕ → WalkValue → Result LineTold Stop → Type 0
-ServesOrStops before after w line new (Ok told) = IsTold w line told new
-ServesOrStops before after w line new (Err stop) = RunsLine before after w line new (Err stop)

@@ -13,7 +13,8 @@ use Rattle.mvs_model.specs.Runs.{IsRun}
 use Rattle.mvs_model.specs.Texts.{printing}
 use Rattle.mvs_job.specs.declared.strict.Unserved.{Unserved}
 use Rattle.mvs_job.specs.declared.strict.Unserved.TheVariants as why
-use Rattle.mvs_job.specs.Trace.{Entry, events_of}
+use Rattle.mvs_job.specs.Consuming.{Piece, Written}
+use Rattle.mvs_job.specs.Trace.{Ends, Entry, IsTrace, events_of}
 
 -- whether a line that is answered so was served
 abbrev pub serves : Answer → Bool
@@ -69,6 +70,12 @@ line_at script number = get_or (lines_of script) (number - 1) []
 abbrev pub PrintsStrictly : Option (List ℕ) → Option (List ℕ) → Option (List Skipped) → Option (List Skipped) → List ℕ → Outcome → Bool → Type 0
 PrintsStrictly before after heard heard' script outcome all =
     (events : List Event) × Appends before after (printing events) × IsRun script events outcome × (all ≡ list_all is_of_served events) × Grows heard heard' (all_skipped (line_at script) events)
+
+-- The same of what a consumer writes for a trace of the script.
+abbrev pub RunsObserved : Piece → Option (List ℕ) → Option (List ℕ) → Option (List Skipped) → Option (List Skipped) → List ℕ → Outcome → Bool → Type 0
+RunsObserved piece before after heard heard' script outcome all =
+    (entries : List Entry) × (text : List ℕ) × IsTrace script entries (Ends outcome) × Written piece entries text × Appends before after text
+    × (all ≡ list_all is_of_served (events_of entries)) × Grows heard heard' (all_skipped (line_at script) (events_of entries))
 
 -- Just the lines are heard of that were not served of the first lines of a script, in a run of it.
 abbrev pub HearsFront : Option (List Skipped) → Option (List Skipped) → List ℕ → Type 0

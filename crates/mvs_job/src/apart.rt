@@ -10,7 +10,7 @@ ghost use Rattle.mvs_job.specs.Serving.{RunsLine};
 ghost use Rattle.mvs_job.specs.Telling.{IsLent, IsTold, ended, events_told};
 ghost use Rattle.mvs_job.specs.Why.{OfNext};
 
-use crate::asking::Asking;
+use crate::explained::Explained;
 use crate::printing::Stop;
 use crate::walk::{LineTold, Stopped, Walk};
 use mvs_model::reason::LineReason;
@@ -23,7 +23,7 @@ use std::marker::Model;
 /// line that set it last. It serves the lines of one job, from its first line on.
 #[derive(Drop)]
 pub struct Explainer {
-    asking: Asking,
+    explained: Explained,
 }
 
 impl Model for Explainer {
@@ -36,7 +36,7 @@ impl Model for Explainer {
 
     ghost coded = { map.code name_code coded_ℕ };
 
-    ghost view = { λ e. e.asking.lines };
+    ghost view = { λ e. e.explained.lines };
 }
 
 impl Explainer {
@@ -45,7 +45,7 @@ impl Explainer {
         ensures { result ≡ no_lines }
     {
         Explainer {
-            asking: Asking::new(alloc),
+            explained: Explained::new(alloc),
         }
     }
 
@@ -67,8 +67,8 @@ impl Explainer {
         ensures lent { IfOk result (λ r. IsLent walk.new r.0) }
         ensures number { walk.new.number ≡ walk.old.number + 1 }
     {
-        match self.asking.serve(walk, line) {
-            Ok(told) => Ok((told, self.asking.reason)),
+        match self.explained.serve(walk, line) {
+            Ok(told) => Ok((told, self.explained.reason)),
             Err(stopped) => Err(stopped),
         }
     }
@@ -102,14 +102,14 @@ impl Explainer {
         ensures write { IsErrOf result Stop.Write
             → (writer.new.failed ≡ true) ⊎ (behind.new.failed ≡ true) }
     {
-        let told = match self.asking.tell(walk, line, writer) {
+        let told = match self.explained.tell(walk, line, writer) {
             Ok(told) => told,
             Err(stop) => return Err(stop),
         };
         if let LineTold::Faulted(_) = told {
             return Ok(told);
         }
-        match self.asking.print_behind(walk, &told, behind) {
+        match self.explained.print_behind(walk, &told, behind) {
             Ok(()) => Ok(told),
             Err(_) => Err(Stop::Write),
         }

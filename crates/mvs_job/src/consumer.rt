@@ -1,10 +1,13 @@
 //! Consumers: what is given the entries of a run, and writes of it.
 
-ghost use Rattle.std.specs.Prelude.{◌≡◌, List, ℕ, true, OnOk, OnErr};
+ghost use Rattle.std.specs.Prelude.{◌≡◌, List, Option, ℕ, true, OnOk, OnErr, IsErrOf};
+ghost use Rattle.mvs_model.specs.Job.{JobValue};
 ghost use Rattle.mvs_job.specs.Telling.{IsLent};
-ghost use Rattle.mvs_job.specs.Consuming.{AcceptsEach, IsEnd, IsEntry};
+ghost use Rattle.mvs_job.specs.Consuming.{AcceptsEnd, AcceptsLine, Known, Piece};
 ghost use Rattle.mvs_job.specs.Trace.{Entry};
 
+use crate::observer::Observer;
+use crate::printing::Stop;
 use crate::walk::{LineTold, Walk};
 use mvs_model::watched::{Failed, Watched};
 use std::io::Write;
@@ -18,13 +21,23 @@ pub enum End {
     Exhausted(Option<bool>),
 }
 
-/// Writes of a run, entry by entry.
-pub trait Consumer {
+/// Writes of a run, entry by entry. For each line it is called three times: it looks at the line before that is executed, it hears
+/// of the refusal of the line's request, if there is one, and it accepts the entry.
+pub trait Consumer: Observer {
     // What it writes for an entry, by the entries before it.
-    ghost piece: { List Entry → Entry → List ℕ };
+    ghost piece: { Piece };
 
-    // From the first of two states to the second it was given these entries.
-    ghost knows: { Self → Self → List Entry → Type 0 };
+    // What is known of it since it was in a first state.
+    ghost knows: { Self → Known Self };
+
+    // It has looked at this line, which comes next in this step, or before the first.
+    ghost sees: { Self → Option JobValue → List ℕ → Type 0 };
+
+    /// Looks at the next line, before it is executed.
+    fn look(&mut self, walk: &Walk, line: &[u8])
+        ensures sees { sees self.new walk.now.step line.now }
+        ensures knows { (first : Self) (history : List Entry) → (knows first).has self.old history
+            → (knows first).has self.new history };
 
     /// Accepts the entry of a line, by its number, its bytes and its result, and the state of the job after it.
     fn entry<W: Write>(
@@ -34,12 +47,13 @@ pub trait Consumer {
         line: &[u8],
         walk: &Walk,
         told: &LineTold,
-    ) -> Result<(), Failed>
+    ) -> Result<(), Stop>
         requires { IsLent walk.now told.now }
-        ensures accepted { (first : Self) → AcceptsEach piece (knows first) (W.contents writer.old.inner)
-            (W.contents writer.new.inner) self.old self.new (IsEntry line_number line.now walk.now told.now) result }
+        ensures accepted { (first : Self) → AcceptsLine piece Self.heard sees (knows first)
+            (W.contents writer.old.inner) (W.contents writer.new.inner) self.old self.new line_number
+            line.now walk.now told.now result }
         ensures ok { OnOk result (writer.new.failed ≡ writer.old.failed) }
-        ensures err { OnErr result (writer.new.failed ≡ true) };
+        ensures write { IsErrOf result Stop.Write → writer.new.failed ≡ true };
 
     /// Accepts the last entry of a trace that ends after its lines.
     fn end<W: Write>(
@@ -48,8 +62,9 @@ pub trait Consumer {
         line_number: u32,
         end: End,
     ) -> Result<(), Failed>
-        ensures accepted { (first : Self) → AcceptsEach piece (knows first) (W.contents writer.old.inner)
-            (W.contents writer.new.inner) self.old self.new (IsEnd line_number end) result }
+        ensures accepted { (first : Self) → AcceptsEnd piece (knows first)
+            (W.contents writer.old.inner) (W.contents writer.new.inner) self.old self.new line_number
+            end result }
         ensures ok { OnOk result (writer.new.failed ≡ writer.old.failed) }
         ensures err { OnErr result (writer.new.failed ≡ true) };
 }

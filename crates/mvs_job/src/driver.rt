@@ -5,7 +5,7 @@ ghost use Rattle.mvs_model.specs.Numbers.{most_script_bytes};
 ghost use Rattle.mvs_job.specs.Consuming.{Leaves, RunsLast, RunsNext};
 
 use crate::consumer::{Consumer, End};
-use crate::explaining::line_end;
+use crate::lines::line_end;
 use crate::printing::Stop;
 use crate::walk::{LineTold, Walk};
 use mvs_model::outcome::Outcome;
@@ -17,6 +17,7 @@ use std::io::Write;
 
 /// Executes one line, and gives its entry to a consumer. Returns whether the job continues. Areas and cells are placed at the
 /// hinted addresses if the machine allows that.
+#[inline(always)]
 pub fn run_entry<W: Write, C: Consumer>(
     walk: &mut Walk,
     line: &[u8],
@@ -32,10 +33,11 @@ pub fn run_entry<W: Write, C: Consumer>(
     ensures write { IsErrOf result Stop.Write → writer.new.failed ≡ true }
 {
     let line_number = walk.number();
-    match walk.line(line, hints) {
+    consumer.look(walk, line);
+    match walk.observed_line(line, hints, consumer) {
         Ok(told) => match consumer.entry(writer, line_number, line, walk, &told) {
             Ok(()) => Ok(!matches!(told, LineTold::Faulted(_))),
-            Err(_) => Err(Stop::Write),
+            Err(stop) => Err(stop),
         },
         Err(stopped) => match consumer.end(writer, line_number, End::Exhausted(stopped.ended)) {
             Ok(()) => Err(Stop::Memory),
@@ -71,7 +73,7 @@ pub fn run_lines<W: Write, C: Consumer>(
     consumer: &mut C,
 ) -> Result<Outcome, Stop>
     requires script { length script.now ≤ most_script_bytes }
-    requires new { C.knows consumer.old consumer.old [] }
+    requires new { (C.knows consumer.old).has consumer.old [] }
     // What is written is what the consumer writes for a trace of the script, and the consumer has its entries. If a write failed,
     // it is a front of that.
     ensures written { Leaves C.piece (C.knows consumer.old) (W.contents writer.old.inner)

@@ -1,6 +1,6 @@
 //! A step with the names that it has set. It executes statements, and has the long data of their answers.
 
-ghost use Rattle.std.specs.Prelude.{◌≡◌, ◌≢◌, ◌⊎◌, ◌||◌, ◌<◌, ◌≤◌, ◌↔◌, ℕ, List, [], ◌+◌, true, false, None, Some, IfOk, IfSome, IsSome, MatchOption, MatchResult, length, slice_get};
+ghost use Rattle.std.specs.Prelude.{◌≡◌, ◌≢◌, ◌⊎◌, ◌||◌, ◌<◌, ◌≤◌, ◌↔◌, ℕ, List, [], ◌+◌, true, false, None, Some, IfOk, IfSome, IsSome, OnErr, MatchOption, MatchResult, length, slice_get};
 ghost use Rattle.std.specs.FinMap.{get};
 ghost use Rattle.mvs_model.specs.declared.line.Line.TheVariants as line;
 ghost use Rattle.mvs_model.specs.declared.name.Name.{Name as TaskName};
@@ -370,6 +370,7 @@ impl Job {
             (λ asked. let said = lent self.new.state (fallen_in reply.new) task.now answer in
             Passes observer.old self.old task.now asked said observer.new
             ⊎ Fails O.heard observer.old self.old task.now asked said observer.new)) }
+        ensures unheard { OnErr result (observer.new ≡ observer.old) }
         ensures lent { IfOk result (IsLentBy self.new.state) }
     {
         let Some(()) = resolve(&self.names, written, request) else {
@@ -406,6 +407,7 @@ impl Job {
         ensures observed { IfOk result
             (λ answer. Observes O.heard observer.old self.old task.now statement.now
             (lent self.new.state (fallen_in reply.new) task.now answer) observer.new) }
+        ensures unheard { OnErr result (observer.new ≡ observer.old) }
         ensures lent { IfOk result (IsLentBy self.new.state) }
     {
         if !self.step.is_active(task) {

@@ -1,5 +1,6 @@
 //! Laws of runs with reasons, and of traces: each function does nothing, and its contract is the law.
 
+ghost use Rattle.mvs_job.specs.Explained.{ExplainedArePrintings};
 ghost use Rattle.mvs_job.specs.Explaining.{NoLineIsStarred};
 ghost use Rattle.mvs_job.specs.Trace.{RunsHaveTraces, TracesAreRuns};
 
@@ -10,6 +11,13 @@ pub fn no_line_is_starred()
     ensures { NoLineIsStarred }
 {
     well_formed();
+}
+
+/// Without its lines that begin with an asterisk an explained run is the printing of a run.
+pub fn explained_are_printings()
+    ensures { ExplainedArePrintings }
+{
+    no_line_is_starred();
 }
 
 /// The events of a trace are those of a run.

@@ -2,14 +2,15 @@
 #![tactic(auto)]
 
 mod apart;
-mod asking;
 mod consumer;
 mod driver;
 mod ends;
+mod explained;
 mod explaining;
 mod granting;
 mod job;
 pub mod laws;
+mod lines;
 mod naming;
 mod observer;
 mod printer;
@@ -27,14 +28,16 @@ mod why;
 pub use apart::Explainer;
 pub use consumer::{Consumer, End};
 pub use driver::{run_end, run_entry, run_lines};
-pub use explaining::{explain_script, line_end};
+pub use explained::Explained;
+pub use explaining::explain_from;
 pub use job::Job;
+pub use lines::line_end;
 pub use observer::{Observer, Unobserved};
 pub use printer::Printer;
 pub use printing::{Stop, print_closing, print_line, run_line};
 pub use run::{RunFault, run_from, run_job, run_source};
 pub use session::Session;
 pub use source::Source;
-pub use strict::{Hears, Strict, StrictEnd, Unserved, run_strictly};
+pub use strict::{Hears, Strict, StrictEnd, Unserved, run_observed, run_strictly};
 pub use told::Told;
 pub use walk::{Closing, LineTold, Stopped, Walk};

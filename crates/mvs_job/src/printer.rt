@@ -1,10 +1,17 @@
 //! The printing of a run.
 
-ghost use Rattle.mvs_job.specs.Printed.{keeps_nothing, printed};
+ghost use Rattle.mvs_job.specs.Consuming.{keeps_nothing};
+ghost use Rattle.mvs_job.specs.Printed.{printed};
 
 use crate::consumer::{Consumer, End};
-use crate::printing::{print_closing, print_ended, print_line};
+use crate::job::Job;
+use crate::observer::Observer;
+use crate::printing::{Stop, print_closing, print_ended, print_line};
 use crate::walk::{LineTold, Walk};
+use mvs_model::name::Name;
+use mvs_model::reason::Shortfall;
+use mvs_model::refusal::Refusal;
+use mvs_model::request::Request;
 use mvs_model::watched::{Failed, Watched};
 use std::io::Write;
 
@@ -12,10 +19,27 @@ use std::io::Write;
 #[derive(Clone, Copy, Debug, PartialEq, Eq)]
 pub struct Printer;
 
+impl Observer for Printer {
+    ghost heard = { λ _ _ _ _ _ _ _. Unit {0} };
+
+    fn refused(
+        &mut self,
+        _job: &Job,
+        _task: &Name,
+        _request: &Request,
+        _refusal: Refusal,
+        _left: &Shortfall,
+    ) {}
+}
+
 impl Consumer for Printer {
     ghost piece = { printed };
 
     ghost knows = { keeps_nothing };
+
+    ghost sees = { λ _ _ _. Unit {0} };
+
+    fn look(&mut self, _walk: &Walk, _line: &[u8]) {}
 
     fn entry<W: Write>(
         &mut self,
@@ -24,8 +48,11 @@ impl Consumer for Printer {
         line: &[u8],
         walk: &Walk,
         told: &LineTold,
-    ) -> Result<(), Failed> {
-        print_line(writer, line_number, walk, told)
+    ) -> Result<(), Stop> {
+        match print_line(writer, line_number, walk, told) {
+            Ok(()) => Ok(()),
+            Err(_) => Err(Stop::Write),
+        }
     }
 
     fn end<W: Write>(

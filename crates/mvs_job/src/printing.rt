@@ -1,11 +1,11 @@
 //! Prints the events of lines, and the end of a job.
 
-ghost use Rattle.std.specs.Prelude.{◌≡◌, ◌<◌, ◌+◌, ◌^◌, ◌∷◌, [], List, true, IfOk, OnOk, IsErrOf};
+ghost use Rattle.std.specs.Prelude.{◌≡◌, ◌<◌, ◌+◌, ◌^◌, ◌∷◌, [], List, true, OnOk, IsErrOf};
 ghost use Rattle.mvs_model.specs.declared.name.Name.{Name as TaskName};
 ghost use Rattle.mvs_model.specs.Lent.{lent};
 ghost use Rattle.mvs_model.specs.Texts.{answer_text, printing};
 ghost use Rattle.job_script.specs.Writing.{Prints};
-ghost use Rattle.mvs_job.specs.Serving.{RunsLine, ServesOrStops};
+ghost use Rattle.mvs_job.specs.Serving.{RunsLine};
 ghost use Rattle.mvs_job.specs.Telling.{IsLent, IsLentBy, closing, ended, events_told};
 
 use crate::driver::run_entry;
@@ -108,31 +108,6 @@ pub fn print_line<W: Write>(
             None => unreachable!(),
         },
         LineTold::Faulted(fault) => print_fault(writer, line_number, *fault),
-    }
-}
-
-/// Executes one line. If memory is exhausted it prints the events before the answer.
-#[inline(always)]
-pub(crate) fn serve_line<W: Write>(
-    walk: &mut Walk,
-    line: &[u8],
-    told: &[Addr],
-    writer: &mut Watched<W>,
-) -> Result<LineTold, Stop>
-    requires { walk.old.number + 1 < 2 ^ 32 }
-    ensures ran { ServesOrStops (W.contents writer.old.inner) (W.contents writer.new.inner) walk.old
-        line.now walk.new result }
-    ensures lent { IfOk result (IsLent walk.new) }
-    ensures number { walk.new.number ≡ walk.old.number + 1 }
-    ensures ok { OnOk result (writer.new ≡ writer.old) }
-    ensures write { IsErrOf result Stop.Write → writer.new.failed ≡ true }
-{
-    match walk.line(line, told) {
-        Ok(told) => Ok(told),
-        Err(stopped) => match print_ended(writer, stopped.ended) {
-            Ok(()) => Err(Stop::Memory),
-            Err(_) => Err(Stop::Write),
-        },
     }
 }
 

@@ -66,7 +66,7 @@ pub fn run_source<S: Source, W: Write, C: Consumer>(
 ) -> Result<Outcome, RunFault>
     requires reader { S.failed reader.old ≡ false }
     requires writer { writer.old.failed ≡ false }
-    requires new { C.knows consumer.old consumer.old [] }
+    requires new { (C.knows consumer.old).has consumer.old [] }
     // What is written is what the consumer writes for a trace of the script: of what was consumed and what the reader has left.
     ensures ok { IfOk result
         (HasEnded C.piece (C.knows consumer.old) (S.left reader.old) (S.left reader.new)

@@ -1,19 +1,26 @@
 //! Runs a script, and reports each line that was not executed to an observer.
 
-ghost use Rattle.std.specs.Prelude.{◌≡◌, ◌<◌, ◌≤◌, ◌+◌, ◌^◌, ◌∷◌, [], ℕ, List, Option, length, true, is_some, not, OnOk, IfOk, IfErr, IsErrOf};
+ghost use Rattle.std.specs.Prelude.{◌≡◌, ◌<◌, ◌≤◌, ◌+◌, ◌^◌, ◌∷◌, [], ℕ, List, Option, length, true, is_some, not, Err, OnOk, IfOk, IfErr, IsErrOf};
 ghost use Rattle.std.specs.List.{list_all};
 ghost use Rattle.mvs_model.specs.Numbers.{most_script_bytes};
 ghost use Rattle.mvs_job.specs.Streams.{PrintedUpTo};
-ghost use Rattle.mvs_job.specs.Strict.{Grows, HearsFront, Observes, PrintsStrictly, Skipped, all_skipped, is_of_served, skipped_for, why_unserved};
+ghost use Rattle.mvs_job.specs.Consuming.{LeavesText};
+ghost use Rattle.mvs_job.specs.Strict.{Grows, HearsFront, Observes, PrintsStrictly, RunsObserved, Skipped, all_skipped, is_of_served, skipped_for, why_unserved};
 ghost use Rattle.mvs_job.specs.Telling.{IsLent, events_told};
 
 use crate::consumer::{Consumer, End};
 use crate::driver::run_lines;
+use crate::job::Job;
+use crate::observer::Observer;
 use crate::printer::Printer;
 use crate::printing::Stop;
 use crate::walk::{LineTold, Walk};
 use mvs_model::answer::Answer;
+use mvs_model::name::Name;
 use mvs_model::outcome::Outcome;
+use mvs_model::reason::Shortfall;
+use mvs_model::refusal::Refusal;
+use mvs_model::request::Request;
 use mvs_model::want::Placement;
 use mvs_model::watched::{Failed, Watched};
 use std::alloc::Global;
@@ -75,15 +82,15 @@ fn why_of(walk: &Walk, told: &LineTold) -> Option<Unserved>
 /// A consumer with an observer of the lines that were not executed.
 #[derive(Drop)]
 pub struct Strict<'a, C, H> {
-    consumer: C,
+    consumer: &'a mut C,
     hearer: &'a mut H,
     all_served: bool,
 }
 
 impl<'a, C, H> Strict<'a, C, H> {
     /// Wraps a consumer, before the first line.
-    pub fn new(consumer: C, hearer: &'a mut H) -> Strict<'a, C, H>
-        ensures consumer { result.consumer ≡ consumer }
+    pub fn new(consumer: &'a mut C, hearer: &'a mut H) -> Strict<'a, C, H>
+        ensures consumer { result.consumer ≡ consumer.entry }
         ensures hearer { result.hearer ≡ hearer.entry }
         ensures all_served { result.all_served ≡ true }
     {
@@ -95,14 +102,41 @@ impl<'a, C, H> Strict<'a, C, H> {
     }
 }
 
+impl<'a, C: Consumer, H: Hears> Observer for Strict<'a, C, H> {
+    ghost heard = { λ old job t request refusal left new.
+        C.heard old.consumer.now job t request refusal left new.consumer.now
+        × (new.hearer ≡ old.hearer) × (new.all_served ≡ old.all_served) };
+
+    fn refused(
+        &mut self,
+        job: &Job,
+        task: &Name,
+        request: &Request,
+        refusal: Refusal,
+        left: &Shortfall,
+    ) {
+        self.consumer.refused(job, task, request, refusal, left);
+    }
+}
+
 impl<'a, C: Consumer, H: Hears> Consumer for Strict<'a, C, H> {
     ghost piece = { C.piece };
 
-    ghost knows = { λ first now entries.
-        (now.hearer.ghost_name ≡ first.hearer.ghost_name)
-        × C.knows first.consumer now.consumer entries
-        × Observes first.all_served now.all_served (H.heard first.hearer.now)
-        (H.heard now.hearer.now) entries };
+    ghost knows = { λ first. record {
+      has = λ now entries. (now.hearer.ghost_name ≡ first.hearer.ghost_name)
+          × (C.knows first.consumer.now).has now.consumer.now entries
+          × Observes first.all_served now.all_served (H.heard first.hearer.now)
+          (H.heard now.hearer.now) entries;
+      had = λ now entries. (now.hearer.ghost_name ≡ first.hearer.ghost_name)
+          × Observes first.all_served now.all_served (H.heard first.hearer.now)
+          (H.heard now.hearer.now) entries;
+    } };
+
+    ghost sees = { λ s step line. C.sees s.consumer.now step line };
+
+    fn look(&mut self, walk: &Walk, line: &[u8]) {
+        self.consumer.look(walk, line);
+    }
 
     fn entry<W: Write>(
         &mut self,
@@ -111,7 +145,7 @@ impl<'a, C: Consumer, H: Hears> Consumer for Strict<'a, C, H> {
         line: &[u8],
         walk: &Walk,
         told: &LineTold,
-    ) -> Result<(), Failed> {
+    ) -> Result<(), Stop> {
         self.consumer.entry(writer, line_number, line, walk, told)?;
         if let Some(why) = why_of(walk, told) {
             self.hearer.hear(walk, line_number, line, why);
@@ -128,6 +162,40 @@ impl<'a, C: Consumer, H: Hears> Consumer for Strict<'a, C, H> {
     ) -> Result<(), Failed> {
         self.consumer.end(writer, line_number, end)
     }
+}
+
+/// Runs a script, gives each entry of the run to a consumer, and lets each line be heard of that was not executed. The script has
+/// at most 16,777,215 bytes.
+pub fn run_observed<W: Write, H: Hears, C: Consumer>(
+    alloc: Global,
+    script: &[u8],
+    writer: &mut Watched<W>,
+    placement: Placement,
+    consumer: &mut C,
+    hearer: &mut H,
+) -> Result<StrictEnd, Stop>
+    requires script { length script.now ≤ most_script_bytes }
+    requires new { (C.knows consumer.old).has consumer.old [] }
+    // What is written is what the consumer writes for a trace of the script, in which each line was executed, or not; and what is heard
+    // of is each line that was not, by its number, its text and the cause, in their order, and nothing else.
+    ensures run { IfOk result
+        (λ end. RunsObserved C.piece (W.contents writer.old.inner) (W.contents writer.new.inner)
+        (H.heard hearer.old) (H.heard hearer.new) script.now end.outcome end.all_served) }
+    // Else it is what a run writes that stops so, and what is heard of is each of the lines before that was not executed.
+    ensures stop { IfErr result
+        (λ stop. LeavesText C.piece (W.contents writer.old.inner) (W.contents writer.new.inner)
+        script.now (Err stop)) }
+    ensures heard { IfErr result
+        (λ stop. HearsFront (H.heard hearer.old) (H.heard hearer.new) script.now) }
+    ensures ok { OnOk result (writer.new.failed ≡ writer.old.failed) }
+    ensures write { IsErrOf result Stop.Write → writer.new.failed ≡ true }
+{
+    let mut strict = Strict::new(consumer, hearer);
+    let outcome = run_lines(alloc, script, writer, placement, &mut strict)?;
+    Ok(StrictEnd {
+        outcome,
+        all_served: strict.all_served,
+    })
 }
 
 /// Runs a script, prints what it prints, and lets each line be heard of that was not served. It takes 16,777,215 bytes at most.
@@ -154,10 +222,5 @@ pub fn run_strictly<W: Write, H: Hears>(
     ensures ok { OnOk result (writer.new.failed ≡ writer.old.failed) }
     ensures write { IsErrOf result Stop.Write → writer.new.failed ≡ true }
 {
-    let mut strict = Strict::new(Printer, hearer);
-    let outcome = run_lines(alloc, script, writer, placement, &mut strict)?;
-    Ok(StrictEnd {
-        outcome,
-        all_served: strict.all_served,
-    })
+    run_observed(alloc, script, writer, placement, &mut Printer, hearer)
 }

@@ -1,6 +1,6 @@
 //! The walk over the lines of a script: each line is parsed and executed, and has events.
 
-ghost use Rattle.std.specs.Prelude.{◌≡◌, ◌<◌, ◌+◌, ◌^◌, ◌∷◌, [], Bool, Some, None, IfOk, IfSome, MatchOption, MatchResult, length};
+ghost use Rattle.std.specs.Prelude.{◌≡◌, ◌<◌, ◌+◌, ◌^◌, ◌∷◌, [], Bool, Some, None, IfOk, IfSome, MatchOption, MatchResult, OnErr, length};
 ghost use Rattle.mvs_model.specs.declared.line.Line.TheVariants as line;
 ghost use Rattle.mvs_model.specs.Card.{IsCard};
 ghost use Rattle.mvs_model.specs.Job.{JobValue, job_at};
@@ -245,8 +245,10 @@ impl Walk {
             (ended stopped.ended)) }
         ensures reply { IfOk result (λ answered. KeepsReplyOf self.old line.now answered self.new) }
         ensures observed { IfOk result
-            (λ answered. ObservesLine O.heard observer.old self.old line.now answered self.new
+            (λ answered. ObservesLine O.heard observer.old self.old.step line.now answered self.new
             observer.new) }
+        // Where memory is exhausted, it hears nothing.
+        ensures unheard { OnErr result (observer.new ≡ observer.old) }
         ensures lent { IfOk result (IsLent self.new) }
         ensures number { self.new.number ≡ self.old.number + 1 }
     {

@@ -186,20 +186,26 @@ writes_of left more before after P Q f (told, rest, written, consumed, is, appen
   whole (Some xs) (Some ys) consumed is = consumed ∙ ap (λ t. told ++ t) is
 
 module _ (left unread more before after : Option (List ℕ)) (same : left ≡ unread) where
+  pub written_by : (P : Outcome → List ℕ → List ℕ → Type 0) (r : Result Outcome RunFault) → IfOk r (λ outcome. Exchanges left more before after (λ told script written. (length told ≤ 16777215) × P outcome script written)) → IfOk r (λ outcome. Writes unread before after (P outcome))
+  written_by P (Ok outcome) h = subst (λ l. Writes l before after (P outcome)) same (writes_of left more before after (λ told script written. (length told ≤ 16777215) × P outcome script written) (P outcome) (λ told script written h. h.1) h)
+  written_by P (Err fault) h = tt
+
   pub written_ok : (r : Result Outcome RunFault) → IfOk r (λ outcome. Exchanges left more before after (λ told script written. (length told ≤ 16777215) × IsPrinting script written outcome))
       → IfOk r (λ outcome. Writes unread before after (λ script written. IsPrinting script written outcome))
-  written_ok (Ok outcome) h = subst (λ l. Writes l before after (λ script written. IsPrinting script written outcome)) same (writes_of left more before after (λ told script written. (length told ≤ 16777215) × IsPrinting script written outcome) (λ script written. IsPrinting script written outcome) (λ told script written p. p.1) h)
-  written_ok (Err fault) h = tt
+  written_ok r h = written_by (λ outcome script written. IsPrinting script written outcome) r h
 
   part : (P : List ℕ → List ℕ → List ℕ → Type 0) → Exchanges left more before after P → WritesPart unread before after P
   part P h = (more, subst (λ l. Exchanges l more before after P) same h)
+
+  pub written_part : (P : RunFault → List ℕ → List ℕ → List ℕ → Type 0) (r : Result Outcome RunFault) → IfErr r (λ fault. Exchanges left more before after (P fault)) → IfErr r (λ fault. WritesPart unread before after (P fault))
+  written_part P (Ok outcome) h = tt
+  written_part P (Err fault) h = part (P fault) h
 
   abbrev IsCut : RunFault → List ℕ → List ℕ → List ℕ → Type 0
   IsCut fault consumed script written = (length consumed ≤ 16777216) × IsPrintingFront script written × (fault ≡ ReadTooLong → 16777215 < length consumed)
 
   pub written_front : (r : Result Outcome RunFault) → IfErr r (λ fault. Exchanges left more before after (IsCut fault)) → IfErr r (λ fault. WritesPart unread before after (IsCut fault))
-  written_front (Ok outcome) h = tt
-  written_front (Err fault) h = part (IsCut fault) h
+  written_front r h = written_part IsCut r h
 
   abbrev IsAnsweredIn : List ℕ → List ℕ → List ℕ → Type 0
   IsAnsweredIn consumed script written = IsAnswered (take 16777215 consumed) written

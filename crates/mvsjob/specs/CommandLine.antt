@@ -6,33 +6,42 @@ use Rattle.clap.specs.Walk.{Rule}
 use Rattle.clap.specs.declared.builder.action.ArgAction.TheVariants.{SetTrue}
 use Rattle.clap.specs.declared.builder.value_parser.ValueParser.{ValueParser}
 use Rattle.clap.specs.declared.builder.value_parser.ValueParser.TheVariants.{Names, NonEmptyString, Unsigned}
+use Rattle.annotated.specs.declared.report.Format.{Format}
+use Rattle.annotated.specs.declared.report.Format.TheVariants as form
 use Rattle.mvsjob.specs.declared.choices.Color.{Color}
 use Rattle.mvsjob.specs.declared.choices.Recipe.{Recipe}
 use Rattle.random_script.specs.declared.Profile.{Profile}
-use Rattle.random_script.specs.declared.Profile.TheVariants.{Tasks, Pools, Tidy, Faults, Storage}
+use Rattle.reference.specs.Texts.{names}
+use Rattle.random_script.specs.declared.Profile.TheVariants.{Tasks, Pools, Tidy, Faults, Lists, Boundaries, Whole, All, Storage}
 use Rattle.mvsjob.specs.declared.choices.Color.TheVariants.{Auto, Always, Never}
 use Rattle.std.specs.Str.Parse.{IsNumeral, digits_value, without_leading_plus}
 use Rattle.mvsjob.specs.declared.choices.Mode.{Mode}
-use Rattle.mvsjob.specs.declared.choices.Mode.TheVariants.{Run, Check, Judge, Blank, Ask, Assemble, Random}
+use Rattle.mvsjob.specs.declared.choices.Mode.TheVariants.{Run, Check, Judge, Blank, Ask, Assemble, Random, Code, Rule as RuleOf}
 
 -- A value has to be one of these.
 abbrev pub IsOneOf : List Text → ValueParser → Type 0
 IsOneOf values (Names names) = map (λ name. name.now) names.now ≡ values
 IsOneOf values _ = ⊥
 
--- how the values of `--place`, of `--profile` and of `--color` are read
+-- how the values of `--place`, `--format`, `--profile`, `--color` and `--code` are read
 pub record Parsers : Type 0 where
   pub place : ValueParser
+  pub format : ValueParser
   pub profile : ValueParser
   pub color : ValueParser
+  pub code : ValueParser
 
 -- the values of `--place`
 abbrev pub places : List Text
 places = codes "low" ∷ codes "high" ∷ []
 
+-- the values of `--format`
+abbrev pub formats : List Text
+formats = codes "text" ∷ codes "tap" ∷ codes "junit" ∷ []
+
 -- the values of `--profile`
 abbrev pub profiles : List Text
-profiles = codes "storage" ∷ codes "tasks" ∷ codes "pools" ∷ codes "tidy" ∷ codes "faults" ∷ []
+profiles = codes "storage" ∷ codes "tasks" ∷ codes "pools" ∷ codes "tidy" ∷ codes "faults" ∷ codes "lists" ∷ codes "boundaries" ∷ codes "whole" ∷ codes "all" ∷ []
 
 -- the values of `--color`
 abbrev pub colors : List Text
@@ -40,8 +49,10 @@ colors = codes "auto" ∷ codes "always" ∷ codes "never" ∷ []
 
 pub record AreParsers (ps : Parsers) : Type 0 where
   pub place : IsOneOf places ps.place
+  pub format : IsOneOf formats ps.format
   pub profile : IsOneOf profiles ps.profile
   pub color : IsOneOf colors ps.color
+  pub code : IsOneOf names ps.code
 
 -- an option without a value
 abbrev pub flag_rule : Text → Rule
@@ -55,9 +66,13 @@ value_rule name parser = record (new_rule name) { long = Some name; parser = Som
 abbrev pub versioned : App → App
 versioned a = on_top (λ s. record s { has_version = true }) a
 
--- the command with what is done with a script and the answers that it says
+-- the command with the options that compare answers
+abbrev pub checking_app : App → App
+checking_app a = with_rule (with_rule a (flag_rule (codes "check"))) (flag_rule (codes "hide"))
+
+-- with what else is done with a script and its answers
 abbrev pub answers_app : App → App
-answers_app a = with_rule (with_rule (with_rule a (flag_rule (codes "check"))) (flag_rule (codes "blank"))) (flag_rule (codes "assemble"))
+answers_app a = with_rule (with_rule a (flag_rule (codes "blank"))) (flag_rule (codes "assemble"))
 
 -- with what is asked of the output of another program
 abbrev pub judging_app : App → App
@@ -73,12 +88,16 @@ telling_app a =
     with_rule (with_rule (with_rule (with_rule (with_rule a (flag_rule (codes "explain"))) (flag_rule (codes "json"))) (flag_rule (codes "page")))
     (flag_rule (codes "strict"))) (flag_rule (codes "interactive"))
 
--- the program's command: a word and fifteen options, which may all be left out, and a version
+-- and with the option for the text of a rule
+abbrev pub rule_app : App → App
+rule_app a = with_rule a (value_rule (codes "rule") (Unsigned 1 74))
+
+-- the program's command: a word and nineteen options, which may all be left out, and a version
 abbrev pub command : Parsers → App
 command ps =
-    with_rule (telling_app (with_rule (random_app (judging_app (answers_app
-    (with_rule (with_rule (versioned (new_app (codes "mvsjob"))) (new_rule (codes "FILE"))) (value_rule (codes "place") ps.place)))))
-    (value_rule (codes "profile") ps.profile))) (value_rule (codes "color") ps.color)
+    rule_app (with_rule (with_rule (telling_app (with_rule (random_app (judging_app (answers_app (with_rule (checking_app
+    (with_rule (with_rule (versioned (new_app (codes "mvsjob"))) (new_rule (codes "FILE"))) (value_rule (codes "place") ps.place))) (value_rule (codes "format") ps.format)))))
+    (value_rule (codes "profile") ps.profile))) (value_rule (codes "color") ps.color)) (value_rule (codes "code") ps.code))
 
 -- what of the words clap gives to an argument
 abbrev pub assigned : Parsers → List Text → Text → Option Text
@@ -94,7 +113,11 @@ pub record IsProfile (said : Option Text) (profile : Profile) : Type 0 where
   pub pools : said ≢ Some (codes "tasks") → said ≡ Some (codes "pools") → profile ≡ Pools
   pub tidy : said ≢ Some (codes "tasks") → said ≢ Some (codes "pools") → said ≡ Some (codes "tidy") → profile ≡ Tidy
   pub faults : said ≢ Some (codes "tasks") → said ≢ Some (codes "pools") → said ≢ Some (codes "tidy") → said ≡ Some (codes "faults") → profile ≡ Faults
-  pub storage : said ≢ Some (codes "tasks") → said ≢ Some (codes "pools") → said ≢ Some (codes "tidy") → said ≢ Some (codes "faults") → profile ≡ Storage
+  pub lists : said ≢ Some (codes "tasks") → said ≢ Some (codes "pools") → said ≢ Some (codes "tidy") → said ≢ Some (codes "faults") → said ≡ Some (codes "lists") → profile ≡ Lists
+  pub boundaries : said ≢ Some (codes "tasks") → said ≢ Some (codes "pools") → said ≢ Some (codes "tidy") → said ≢ Some (codes "faults") → said ≢ Some (codes "lists") → said ≡ Some (codes "boundaries") → profile ≡ Boundaries
+  pub whole : said ≢ Some (codes "tasks") → said ≢ Some (codes "pools") → said ≢ Some (codes "tidy") → said ≢ Some (codes "faults") → said ≢ Some (codes "lists") → said ≢ Some (codes "boundaries") → said ≡ Some (codes "whole") → profile ≡ Whole
+  pub all : said ≢ Some (codes "tasks") → said ≢ Some (codes "pools") → said ≢ Some (codes "tidy") → said ≢ Some (codes "faults") → said ≢ Some (codes "lists") → said ≢ Some (codes "boundaries") → said ≢ Some (codes "whole") → said ≡ Some (codes "all") → profile ≡ All
+  pub storage : said ≢ Some (codes "tasks") → said ≢ Some (codes "pools") → said ≢ Some (codes "tidy") → said ≢ Some (codes "faults") → said ≢ Some (codes "lists") → said ≢ Some (codes "boundaries") → said ≢ Some (codes "whole") → said ≢ Some (codes "all") → profile ≡ Storage
 
 -- It has the seed that `--random` has, and the lines that `--lines` has, or 100.
 pub record IsRecipe (random lines profile : Option Text) (recipe : Recipe) : Type 0 where
@@ -106,7 +129,7 @@ pub record IsRecipe (random lines profile : Option Text) (recipe : Recipe) : Typ
 -- A random script is made if `--random` is given; else an output is judged with `--judge`; else answers are compared with
 -- `--check`, removed with `--blank`, WHERE statements added with `--ask`, or a program written with `--assemble`; else the script
 -- is run.
-pub record IsMode (random lines profile judge check blank ask assemble : Option Text) (mode : Mode) : Type 0 where
+pub record IsScriptMode (random lines profile judge check blank ask assemble : Option Text) (mode : Mode) : Type 0 where
   pub makes : (seed : Text) → random ≡ Some seed → (recipe : Recipe) × (mode ≡ Random recipe) × IsRecipe random lines profile recipe
   pub judges : (output : Text) → random ≡ None → judge ≡ Some output → mode ≡ Judge
   pub checks : random ≡ None → judge ≡ None → check ≡ Some (codes "true") → mode ≡ Check
@@ -114,6 +137,12 @@ pub record IsMode (random lines profile judge check blank ask assemble : Option 
   pub asks : random ≡ None → judge ≡ None → check ≢ Some (codes "true") → blank ≢ Some (codes "true") → ask ≡ Some (codes "true") → mode ≡ Ask
   pub assembles : random ≡ None → judge ≡ None → check ≢ Some (codes "true") → blank ≢ Some (codes "true") → ask ≢ Some (codes "true") → assemble ≡ Some (codes "true") → mode ≡ Assemble
   pub runs : random ≡ None → judge ≡ None → check ≢ Some (codes "true") → blank ≢ Some (codes "true") → ask ≢ Some (codes "true") → assemble ≢ Some (codes "true") → mode ≡ Run
+
+-- The text of a code is printed if `--code` is given; else that of the rule that `--rule` names; else a script is served.
+pub record IsMode (code rule random lines profile judge check blank ask assemble : Option Text) (mode : Mode) : Type 0 where
+  pub coded : (name : Text) → code ≡ Some name → mode ≡ Code
+  pub ruled : (text : Text) (n : ℕ) → code ≡ None → rule ≡ Some text → IsNumber text n → n ≤ 74 → mode ≡ RuleOf n
+  pub scripted : code ≡ None → rule ≡ None → IsScriptMode random lines profile judge check blank ask assemble mode
 
 -- Answers are coloured where `--color` says `always`, not where it says `never`, and else as it is found out.
 pub record IsColor (said : Option Text) (color : Color) : Type 0 where
@@ -128,3 +157,9 @@ IsTaken words = (ps : Parsers) → AreParsers ps → takes (command ps) words �
 -- Clap finds this wrong with the words: the kinds of error that it may give, and none where it takes them.
 abbrev pub FindsWrong : List Text → Kinds → Type 0
 FindsWrong words kinds = (ps : Parsers) × AreParsers ps × (fault_of (command ps) words ≡ kinds)
+
+-- A report is in the form that `--format` names, and text where it names none.
+pub record IsFormat (said : Option Text) (format : Format) : Type 0 where
+  pub tap : said ≡ Some (codes "tap") → format ≡ form.Tap
+  pub junit : said ≢ Some (codes "tap") → said ≡ Some (codes "junit") → format ≡ form.Junit
+  pub text : said ≢ Some (codes "tap") → said ≢ Some (codes "junit") → format ≡ form.Text

@@ -19,9 +19,10 @@ use Rattle.mvs_job.specs.Telling.{WalkValue}
 use Rattle.mvs_job.specs.declared.printing.Stop.{Stop}
 use Rattle.mvs_job.specs.declared.run.RunFault.{RunFault}
 use Rattle.mvs_job.specs.declared.run.RunFault.TheVariants as fault
-use Rattle.mvs_job.specs.Explaining.{WritesExplained}
+use Rattle.mvs_job.specs.Explained.{WritesExplained, explained}
 use Rattle.mvs_job.specs.Streams.{PrintedUpTo}
-use Rattle.mvs_job.specs.Strict.{HearsFront, PrintsStrictly, Skipped}
+use Rattle.reference.specs.Texts.{IsAbout}
+use Rattle.mvs_job.specs.Strict.{HearsFront, PrintsStrictly, RunsObserved, Skipped}
 use Rattle.page.specs.Pages.{WritesPage, WritesShown}
 use Rattle.mvsjob.specs.declared.ending.Ending.TheVariants.{Ran, Printed, Judged}
 use Rattle.mvsjob.specs.declared.ending.GiveUp.{GiveUp}
@@ -45,10 +46,6 @@ EndsAs script (Ok outcome) (Ok served) = (served.ending ≡ Ran outcome) × IsFa
 EndsAs script (Err stop) (Err why) = why ≡ gave_up stop
 EndsAs script _ _ = ⊥
 
--- The script is run with reasons between two moments of a writer.
-abbrev pub Explains : Option (List ℕ) → Option (List ℕ) → List ℕ → Result Served GiveUp → Type 0
-Explains before after script result = (ended : Result Outcome Stop) × WritesExplained before after script ended × EndsAs script ended result
-
 -- Its run is written as a page with a fixed part.
 abbrev pub Pages : Option (List ℕ) → Option (List ℕ) → List ℕ → List ℕ → Result Served GiveUp → Type 0
 Pages before after frame script result = (ended : Result Outcome Stop) × WritesPage before after frame script ended × EndsAs script ended result
@@ -59,6 +56,12 @@ abbrev pub RunsStrictly : Option (List ℕ) → Option (List ℕ) → Option (Li
 RunsStrictly before after heard heard' script (Ok served) =
     (outcome : Outcome) × (all : Bool) × PrintsStrictly before after heard heard' script outcome all × (served.ending ≡ strict_ending outcome all) × IsFaultOf script outcome served.faulty
 RunsStrictly before after heard heard' script (Err why) = (stop : Stop) × (why ≡ gave_up stop) × PrintedUpTo stop before after script × HearsFront heard heard' script
+
+-- It is run with explanations, and observed so.
+abbrev pub ExplainsStrictly : Option (List ℕ) → Option (List ℕ) → Option (List Skipped) → Option (List Skipped) → List ℕ → Result Served GiveUp → Type 0
+ExplainsStrictly before after heard heard' script (Ok served) =
+    (outcome : Outcome) × (all : Bool) × RunsObserved explained before after heard heard' script outcome all × (served.ending ≡ strict_ending outcome all) × IsFaultOf script outcome served.faulty
+ExplainsStrictly before after heard heard' script (Err why) = (stop : Stop) × (why ≡ gave_up stop) × WritesExplained before after script (Err stop) × HearsFront heard heard' script
 
 -- ---- texts
 
@@ -83,6 +86,10 @@ EndsAtFault script served =
 abbrev pub WritesText : Option (List ℕ) → Option (List ℕ) → List ℕ → Result Served GiveUp → Type 0
 WritesText before after text (Ok served) = Appends before after text × IsPrinted served
 WritesText before after text (Err why) = AppendsFront before after text × (why ≡ Job fault.Write)
+
+-- A text is written that begins with this name.
+abbrev pub WritesAbout : Option (List ℕ) → Option (List ℕ) → List ℕ → Result Served GiveUp → Type 0
+WritesAbout before after name result = (text : List ℕ) × IsAbout name text × WritesText before after text result
 
 -- The script is written with ? for its answers.
 abbrev pub Blanks : Option (List ℕ) → Option (List ℕ) → List ℕ → Result Served GiveUp → Type 0

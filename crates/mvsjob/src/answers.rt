@@ -1,75 +1,41 @@
 //! Compares the answers of a script with those of its run, leaves them out, or puts questions in.
 
+ghost use Rattle.std.specs.Prelude.{◌≡◌, ◌≤◌, IfOk, length};
+ghost use Rattle.mvs_model.specs.Numbers.{most_script_bytes};
+ghost use Rattle.mvs_model.specs.Runs.{IsPrinting};
+ghost use Rattle.mvsjob.specs.Checking.{Checks, IsReported, checked_ending, line_of};
 ghost use Rattle.mvsjob.specs.Served.{Asks, Blanks, HasNoForeign};
 
 use crate::asking::write_asking;
 use crate::choices::Settings;
 use crate::ending::{Ending, GiveUp};
-use crate::faulty::{Faulty, first_faulty};
+use crate::faulty::Faulty;
 use crate::front::front_of;
-use crate::served::Served;
-use crate::through::Through;
-use annotated::{has_answer, statement_at, write_blank, write_differences, write_statements};
-use diagnosis::PlainName;
-use mvs_job::{RunFault, Told, run_job};
+use crate::served::{Served, fault_of};
+use annotated::{Counts, report_answers, statement_at, statements, write_blank};
+use job_script::write_all;
+use mvs_job::{Printer, RunFault, Stop, run_lines};
 use mvs_model::outcome::Outcome;
+use mvs_model::want::Placement;
 use mvs_model::watched::Watched;
 use std::alloc::Global;
-use std::io::{self, Write};
+use std::io::Write;
 
-// Runs the statements of a script. Returns what the run printed, and how it ended.
-fn printed(
-    alloc: Global,
-    statements: &[u8],
-    settings: &Settings<'_>,
-) -> Result<(String, Outcome), GiveUp> {
-    let mut reader = Watched::new(statements);
+// Runs a script, and keeps what it prints.
+fn printing_of(alloc: Global, place: Placement, script: &[u8]) -> (Result<Outcome, Stop>, Vec<u8>)
+    requires { length script.now ≤ most_script_bytes }
+    ensures { IfOk result.0 (λ outcome. IsPrinting script.now result.1.items outcome) }
+{
     let mut writer = Watched::new(Vec::new(alloc));
-    let told = Told::nothing(alloc);
-    let outcome = match run_job(alloc, &mut reader, &mut writer, settings.placement, told) {
-        Ok(outcome) => outcome,
-        // A vector that accepts no byte has no memory for it.
-        Err(RunFault::Write) => return Err(GiveUp::Job(RunFault::Memory)),
-        Err(fault) => return Err(GiveUp::Job(fault)),
-    };
-    match String::from_utf8(writer.into_inner()) {
-        Ok(printed) => Ok((printed, outcome)),
-        Err(_) => Err(GiveUp::Job(RunFault::Write)),
-    }
-}
-
-// Returns the lines of what was printed.
-fn lines_of(alloc: Global, printed: &str) -> Result<Vec<&str>, GiveUp> {
-    let mut lines = Vec::new(alloc);
-    for line in printed.lines() {
-        lines.push(line).map_err(|_| RunFault::Memory)?;
-    }
-    Ok(lines)
-}
-
-// Writes where the answers of a script differ from what was printed, and returns how the program ends.
-fn compare<W: Write>(
-    writer: &mut W,
-    name: &str,
-    script: &[u8],
-    printed: &[&str],
-    is_fault_answered: bool,
-) -> io::Result<Ending> {
-    let found = write_differences(writer, name, script, printed)?;
-    if !found.has_answers {
-        writeln!(writer, "{}: no answers to compare", PlainName(name))?;
-        return Ok(Ending::Checked { differs: true });
-    }
-    if found.differs || is_fault_answered {
-        return Ok(Ending::Checked {
-            differs: found.differs,
-        });
-    }
-    Ok(Ending::Ran(Outcome::ScriptFault))
+    let ran = run_lines(alloc, script, &mut writer, place, &mut Printer);
+    (ran, writer.into_inner())
 }
 
 // Returns a faulty line of the statements of a script as a line of the script.
-fn in_script<'a>(script: &'a [u8], faulty: &Faulty<'_>) -> Faulty<'a> {
+fn in_script<'a>(script: &'a [u8], faulty: &Faulty<'_>) -> Faulty<'a>
+    ensures number { result.number ≡ faulty.now.number }
+    ensures fault { result.fault ≡ faulty.now.fault }
+{
     Faulty {
         number: faulty.number,
         line: statement_at(script, faulty.number),
@@ -77,31 +43,66 @@ fn in_script<'a>(script: &'a [u8], faulty: &Faulty<'_>) -> Faulty<'a> {
     }
 }
 
-/// Runs a script, and compares its answers with those that it expects. A script that ends with a fault that it does not expect
-/// ends the program as a run does, and one without answers differs.
+// Returns how a check ends, by its counts and the line whose fault ended the run.
+fn ending_of(counts: &Counts, faulty: &Option<Faulty<'_>>) -> Ending
+    ensures { result ≡ checked_ending counts.now (line_of faulty.now) }
+{
+    if !counts.are_right() {
+        return Ending::Checked { differs: true };
+    }
+    match faulty {
+        Some(faulty) if faulty.number > counts.last => Ending::Ran(Outcome::ScriptFault),
+        Some(_) | None => Ending::Checked { differs: false },
+    }
+}
+
+// Returns the line to report. One that has an answer is not reported if what a run prints is hidden.
+fn reported<'a>(
+    script: &'a [u8],
+    is_hidden: bool,
+    counts: &Counts,
+    faulty: &Option<Faulty<'_>>,
+) -> Option<Faulty<'a>>
+    ensures { IsReported is_hidden counts.now faulty.now result }
+{
+    match faulty {
+        Some(faulty) if is_hidden && faulty.number <= counts.last => None,
+        Some(faulty) => Some(in_script(script, faulty)),
+        None => None,
+    }
+}
+
+/// Runs a script, and reports which of the answers that it expects are those of the run. A script that ends with a fault that it does
+/// not expect ends the program as a run does.
 pub fn check_answers<'a, W: Write>(
     alloc: Global,
     settings: &Settings<'_>,
     script: &'a [u8],
     writer: &mut Watched<W>,
-) -> Result<Served<'a>, GiveUp> {
-    let mut statements = Vec::new(alloc);
-    write_statements(&mut statements, script).map_err(|_| RunFault::Memory)?;
-    let (printed, outcome) = printed(alloc, &statements, settings)?;
-    let lines = lines_of(alloc, &printed)?;
-    let faulty = match outcome {
-        Outcome::ScriptFault => Some(in_script(script, &first_faulty(&statements, 1, true))),
-        Outcome::Clean | Outcome::SomeAbend => None,
+) -> Result<Served<'a>, GiveUp>
+    requires { length script.now ≤ most_script_bytes }
+    ensures { Checks (W.contents writer.old.inner) (W.contents writer.new.inner) settings.now.form
+        settings.now.file.now script.now result }
+{
+    let Ok(run) = statements(alloc, script) else {
+        return Err(GiveUp::Job(RunFault::Memory));
     };
-    let is_answered = match &faulty {
-        Some(faulty) => has_answer(script, faulty.number),
-        None => true,
+    let (ran, printed) = printing_of(alloc, settings.placement, &run);
+    let Ok(outcome) = ran else {
+        // A vector that accepts no byte has no memory for it.
+        return Err(GiveUp::Job(RunFault::Memory));
     };
-    let mut writer = Through::new(writer);
-    match compare(&mut writer, settings.file, script, &lines, is_answered) {
-        Ok(ending) => Ok(Served { ending, faulty }),
-        Err(error) => Err(GiveUp::of_write(error.kind())),
-    }
+    let Ok(report) = report_answers(alloc, settings.form, settings.file, script, &printed) else {
+        return Err(GiveUp::Job(RunFault::Memory));
+    };
+    let Ok(()) = write_all(writer, &report.text) else {
+        return Err(GiveUp::Job(RunFault::Write));
+    };
+    let faulty = fault_of(&run, outcome);
+    Ok(Served {
+        ending: ending_of(&report.counts, &faulty),
+        faulty: reported(script, settings.form.is_hidden, &report.counts, &faulty),
+    })
 }
 
 /// Writes a script without its answers. It ends at a byte that no script may have.

@@ -1,5 +1,6 @@
 //! What the words of the command line ask for.
 
+use annotated::Form;
 use mvs_model::want::Placement;
 use random_script::Profile;
 
@@ -46,6 +47,10 @@ pub enum Mode {
     Assemble,
     /// A random script is written.
     Random(Recipe),
+    /// The text of a code is written.
+    Code,
+    /// The text of the rule with a number is written.
+    Rule(u32),
 }
 
 /// The script, the placement, and what to do.
@@ -57,7 +62,11 @@ pub struct Settings<'a> {
     pub placement: Placement,
     /// The name of the file with the output that is judged; empty where none is.
     pub judged: &'a str,
+    /// The code of which the text is written; empty if none is.
+    pub code: &'a str,
     pub mode: Mode,
+    /// How answers that were compared are reported.
+    pub form: Form,
     /// Whether a run says why requests are refused.
     pub explains: bool,
     /// Whether a run prints its events as lines of JSON.
@@ -79,8 +88,13 @@ impl Settings<'_> {
         self.mode == Mode::Run && !self.json && !self.page
     }
 
+    /// Returns whether no script is read.
+    pub fn is_without_script(&self) -> bool {
+        matches!(self.mode, Mode::Random(_) | Mode::Code | Mode::Rule(_))
+    }
+
     /// Returns whether each line of the script runs before the next one is read.
     pub fn is_as_it_comes(&self) -> bool {
-        self.is_answers() && !self.explains && !self.strict
+        self.is_answers() && !self.strict
     }
 }

@@ -5,9 +5,12 @@ ghost use Rattle.std.specs.Option.{unwrap_or};
 ghost use Rattle.clap.specs.Words.{IsAmong, Kinds, Text, app_of, first_value, found_of, kind_of, new_app, new_rule, with_rule};
 ghost use Rattle.clap.specs.declared.error.kind.ErrorKind.TheVariants.{OutOfMemory};
 ghost use Rattle.clap.specs.declared.builder.value_parser.ValueParser.{ValueParser as Parser};
-ghost use Rattle.mvsjob.specs.CommandLine.{AreParsers, FindsWrong, IsColor, IsMode, IsNumber, IsOneOf, IsProfile, IsRecipe, IsTaken, Parsers, answers_app, assigned, colors, command, flag_rule, judging_app, places, profiles, random_app, telling_app, value_rule, versioned};
+ghost use Rattle.mvsjob.specs.CommandLine.{AreParsers, FindsWrong, IsColor, IsFormat, IsMode, IsNumber, IsOneOf, IsProfile, IsRecipe, IsScriptMode, IsTaken, Parsers, answers_app, assigned, checking_app, colors, command, formats, flag_rule, judging_app, places, profiles, random_app, rule_app, telling_app, value_rule, versioned};
+ghost use Rattle.reference.specs.Texts.{names};
 
-use crate::choices::{Apart, Color, Mode, Recipe, Settings};
+use crate::choices::{Color, Mode, Recipe, Settings};
+use crate::exclusions::apart;
+use annotated::{Form, Format};
 use clap::builder::ValueParser;
 use clap::{Arg, ArgAction, ArgMatches, Command};
 use mvs_model::want::Placement;
@@ -30,13 +33,16 @@ const LONG: &str = "Examples:
   mvsjob                             run lines as you type them; Ctrl-D ends
   mvsjob --page a.job > a.html       show storage and tasks after each statement
   mvsjob --check homework.job        compare the answers after => with those of a run
+  mvsjob --check --hide homework.job
+                                     the same, without what would be right
   mvsjob --assemble leak.job         print an HLASM program that makes the same requests
+  mvsjob --code S878                 print what a code means, and what to try
   mvsjob --random 7 --lines 50 | mvsjob --place high
                                      run a random script, its areas at the highest addresses
 
 Exit status:
   0   the script ran to its end, and no task abended
-  1   --check: an answer differs; --judge: no run of the script prints OUTPUT
+  1   --check: an answer is wrong or missing; --judge: no run of the script prints OUTPUT
   2   --judge: not decided
   4   --strict: no task abended, but a line was not executed (NOT RUN or NO NAME)
   8   the script ran to its end, and a task abended
@@ -47,124 +53,47 @@ Exit status:
 mvsjob-script(5) describes the script language.";
 
 /// The options that have a value, where it is a word of its own.
-static VALUED: [&str; 6] = [
+static VALUED: [&str; 9] = [
     "--place",
+    "--format",
     "--judge",
     "--random",
     "--lines",
     "--profile",
     "--color",
+    "--code",
+    "--rule",
 ];
 
 /// The values of the option `--color`.
 static COLORS: [&str; 3] = ["auto", "always", "never"];
 
+/// The values of the option `--format`.
+static FORMATS: [&str; 3] = ["text", "tap", "junit"];
+
 /// The values of the option `--place`.
 static PLACES: [&str; 2] = ["low", "high"];
 
 /// The values of the option `--profile`.
-static PROFILES: [&str; 5] = ["storage", "tasks", "pools", "tidy", "faults"];
-
-/// An option, and the options that have no meaning with it.
-type Excluding = (&'static str, &'static [&'static str]);
-
-/// The options that have no meaning together.
-static EXCLUDING: [Excluding; 10] = [
-    (
-        "random",
-        &[
-            "FILE",
-            "judge",
-            "check",
-            "blank",
-            "ask",
-            "assemble",
-            "explain",
-            "json",
-            "page",
-            "strict",
-            "interactive",
-            "place",
-            "color",
-        ],
-    ),
-    (
-        "judge",
-        &[
-            "check",
-            "blank",
-            "ask",
-            "assemble",
-            "explain",
-            "json",
-            "page",
-            "strict",
-            "interactive",
-            "place",
-            "color",
-        ],
-    ),
-    (
-        "check",
-        &[
-            "blank",
-            "ask",
-            "assemble",
-            "explain",
-            "json",
-            "page",
-            "strict",
-            "interactive",
-            "color",
-        ],
-    ),
-    (
-        "blank",
-        &[
-            "ask",
-            "assemble",
-            "explain",
-            "json",
-            "page",
-            "strict",
-            "interactive",
-            "place",
-            "color",
-        ],
-    ),
-    (
-        "ask",
-        &[
-            "assemble",
-            "explain",
-            "json",
-            "page",
-            "strict",
-            "interactive",
-            "place",
-            "color",
-        ],
-    ),
-    (
-        "assemble",
-        &[
-            "explain",
-            "json",
-            "page",
-            "strict",
-            "interactive",
-            "place",
-            "color",
-        ],
-    ),
-    ("json", &["page", "strict", "interactive", "color"]),
-    ("page", &["strict", "interactive", "color"]),
-    ("strict", &["explain", "interactive"]),
-    ("interactive", &["explain"]),
+static PROFILES: [&str; 9] = [
+    "storage",
+    "tasks",
+    "pools",
+    "tidy",
+    "faults",
+    "lists",
+    "boundaries",
+    "whole",
+    "all",
 ];
 
-/// The options that have a meaning with `--random` only.
-static OF_RANDOM: [&str; 2] = ["lines", "profile"];
+/// The values of the option `--code`: what a run can print that has a text of its own.
+static CODES: [&str; 36] = [
+    "S804", "S80A", "S878", "SB04", "SB05", "SB0A", "SB78", "S905", "S90A", "S978", "SA05", "SA0A",
+    "SA78", "S0C4", "SA03", "U4001", "U4002", "U4003", "U4005", "U4006", "U4007", "U4008", "U4009",
+    "JS01", "JS02", "JS03", "JS04", "JS05", "JS06", "JS07", "JS08", "JS09", "RC 4", "NO CELL",
+    "NOT RUN", "NO NAME",
+];
 
 // The command without its words: its name, its version, and what the help says around them.
 fn titled<'a>(alloc: Global) -> Command<'a>
@@ -238,18 +167,46 @@ fn with_place<'a>(command: Command<'a>, alloc: Global) -> Result<Command<'a>, Al
     )
 }
 
-// The command with what is done with the script and the answers that it says.
-fn with_answers<'a>(command: Command<'a>, alloc: Global) -> Result<Command<'a>, AllocError>
-    ensures { IfOk result (λ c. app_of c ≡ answers_app (app_of command.entry)) }
+// Adds the options that compare the answers of a script with those of a run.
+fn with_checking<'a>(command: Command<'a>, alloc: Global) -> Result<Command<'a>, AllocError>
+    ensures { IfOk result (λ c. app_of c ≡ checking_app (app_of command.entry)) }
 {
     let checking = with_flag(
         command,
         alloc,
         "check",
-        "Compare the answers after => in the script with those of a run, and print each difference",
+        "Compare the answers after => in the script with those of a run, and count those that are right",
     )?;
-    let blanking = with_flag(
+    with_flag(
         checking,
+        alloc,
+        "hide",
+        "With --check, print which answers are wrong, but not what would be right",
+    )
+}
+
+// Adds the option for the form of the report.
+fn with_format<'a>(command: Command<'a>, alloc: Global) -> Result<Command<'a>, AllocError>
+    ensures { IfOk result
+        (λ c. (format : Parser) × IsOneOf formats format
+        × (app_of c ≡ with_rule (app_of command.entry) (value_rule (codes "format") format))) }
+{
+    with_option(
+        command,
+        alloc,
+        "format",
+        "FORMAT",
+        ValueParser::Names(FORMATS.as_slice()),
+        "With --check, print the report as text, as TAP, or as JUnit's XML [default: text]",
+    )
+}
+
+// Adds the other options for what is done with the script.
+fn with_answers<'a>(command: Command<'a>, alloc: Global) -> Result<Command<'a>, AllocError>
+    ensures { IfOk result (λ c. app_of c ≡ answers_app (app_of command.entry)) }
+{
+    let blanking = with_flag(
+        command,
         alloc,
         "blank",
         "Print the script with ? in place of the answers after =>",
@@ -372,18 +329,52 @@ fn with_color<'a>(command: Command<'a>, alloc: Global) -> Result<Command<'a>, Al
     )
 }
 
-// Makes the command: a file and fifteen options, all of which are optional.
+// Adds the option for the text of a code.
+fn with_code<'a>(command: Command<'a>, alloc: Global) -> Result<Command<'a>, AllocError>
+    ensures { IfOk result
+        (λ c. (code : Parser) × IsOneOf names code
+        × (app_of c ≡ with_rule (app_of command.entry) (value_rule (codes "code") code))) }
+{
+    with_option(
+        command,
+        alloc,
+        "code",
+        "CODE",
+        ValueParser::Names(CODES.as_slice()),
+        "Print what CODE means, its usual causes and an example",
+    )
+}
+
+// Adds the option for the text of a rule.
+fn with_rule_text<'a>(command: Command<'a>, alloc: Global) -> Result<Command<'a>, AllocError>
+    ensures { IfOk result (λ c. app_of c ≡ rule_app (app_of command.entry)) }
+{
+    with_option(
+        command,
+        alloc,
+        "rule",
+        "N",
+        ValueParser::Unsigned(1, 74),
+        "Print rule N of the machine, with its source and an example",
+    )
+}
+
+// Makes the command: a file and nineteen options, all of which are optional.
 fn command<'a>(alloc: Global) -> Result<Command<'a>, AllocError>
     ensures { IfOk result (λ c. (ps : Parsers) × AreParsers ps × (app_of c ≡ command ps)) }
 {
     let scripted = with_script(alloc)?;
     let placed = with_place(scripted, alloc)?;
-    let answered = with_answers(placed, alloc)?;
+    let checking = with_checking(placed, alloc)?;
+    let formatted = with_format(checking, alloc)?;
+    let answered = with_answers(formatted, alloc)?;
     let judged = with_judging(answered, alloc)?;
     let random = with_random(judged, alloc)?;
     let profiled = with_profile(random, alloc)?;
     let telling = with_telling(profiled, alloc)?;
-    with_color(telling, alloc)
+    let colored = with_color(telling, alloc)?;
+    let coded = with_code(colored, alloc)?;
+    with_rule_text(coded, alloc)
 }
 
 // The word for the script.
@@ -448,6 +439,19 @@ fn color(matches: &ArgMatches<'_>) -> Color
     }
 }
 
+// Returns the form of the report of a check.
+fn format(matches: &ArgMatches<'_>) -> Format
+    ensures { IsFormat (first_value (found_of matches.now) (codes "format")) result }
+{
+    if says(matches, "format", "tap") {
+        Format::Tap
+    } else if says(matches, "format", "junit") {
+        Format::Junit
+    } else {
+        Format::Text
+    }
+}
+
 // Returns what a random script is made of.
 fn profile(matches: &ArgMatches<'_>) -> Profile
     ensures { IsProfile (first_value (found_of matches.now) (codes "profile")) result }
@@ -460,6 +464,14 @@ fn profile(matches: &ArgMatches<'_>) -> Profile
         Profile::Tidy
     } else if says(matches, "profile", "faults") {
         Profile::Faults
+    } else if says(matches, "profile", "lists") {
+        Profile::Lists
+    } else if says(matches, "profile", "boundaries") {
+        Profile::Boundaries
+    } else if says(matches, "profile", "whole") {
+        Profile::Whole
+    } else if says(matches, "profile", "all") {
+        Profile::All
     } else {
         Profile::Storage
     }
@@ -501,34 +513,24 @@ fn recipe(matches: &ArgMatches<'_>) -> Recipe
     }
 }
 
-// Returns whether an option is there; one without a value is, where it is set.
-fn is_given(matches: &ArgMatches<'_>, name: &str) -> bool {
-    match matches.get_str(name) {
-        Some(value) => value != "false",
-        None => false,
-    }
+// The code of which the text is asked for.
+fn coded<'a>(matches: &ArgMatches<'a>) -> &'a str
+    ensures { result.now ≡ unwrap_or (first_value (found_of matches.now) (codes "code")) [] }
+{
+    matches.get_str("code").unwrap_or("")
 }
 
-// Returns the first two options that have no meaning together, if there are such.
-fn apart(matches: &ArgMatches<'_>) -> Option<Apart> {
-    for (one, others) in EXCLUDING {
-        for other in others {
-            if is_given(matches, one) && is_given(matches, other) {
-                return Some(Apart::Excludes(one, other));
-            }
-        }
-    }
-    for one in OF_RANDOM {
-        if is_given(matches, one) && !is_given(matches, "random") {
-            return Some(Apart::Needs(one, "random"));
-        }
-    }
-    None
+// Returns the number of the rule of which the text is asked for.
+fn rule_number(matches: &ArgMatches<'_>) -> u32
+    ensures { (text : Text) (n : ℕ) → first_value (found_of matches.now) (codes "rule") ≡ Some text
+        → IsNumber text n → n ≤ 74 → result ≡ n }
+{
+    u32::try_from(number_of(matches, "rule", 0)).unwrap_or(0)
 }
 
-// Returns what to do.
-fn mode(matches: &ArgMatches<'_>) -> Mode
-    ensures { IsMode (first_value (found_of matches.now) (codes "random"))
+// Returns what to do with a script.
+fn script_mode(matches: &ArgMatches<'_>) -> Mode
+    ensures { IsScriptMode (first_value (found_of matches.now) (codes "random"))
         (first_value (found_of matches.now) (codes "lines"))
         (first_value (found_of matches.now) (codes "profile"))
         (first_value (found_of matches.now) (codes "judge"))
@@ -545,6 +547,28 @@ fn mode(matches: &ArgMatches<'_>) -> Mode
         None if is_set(matches, "ask") => Mode::Ask,
         None if is_set(matches, "assemble") => Mode::Assemble,
         None => Mode::Run,
+    }
+}
+
+// Returns what to do.
+fn mode(matches: &ArgMatches<'_>) -> Mode
+    ensures { IsMode (first_value (found_of matches.now) (codes "code"))
+        (first_value (found_of matches.now) (codes "rule"))
+        (first_value (found_of matches.now) (codes "random"))
+        (first_value (found_of matches.now) (codes "lines"))
+        (first_value (found_of matches.now) (codes "profile"))
+        (first_value (found_of matches.now) (codes "judge"))
+        (first_value (found_of matches.now) (codes "check"))
+        (first_value (found_of matches.now) (codes "blank"))
+        (first_value (found_of matches.now) (codes "ask"))
+        (first_value (found_of matches.now) (codes "assemble")) result }
+{
+    if matches.get_str("code").is_some() {
+        Mode::Code
+    } else if matches.get_str("rule").is_some() {
+        Mode::Rule(rule_number(matches))
+    } else {
+        script_mode(matches)
     }
 }
 
@@ -574,7 +598,11 @@ pub fn settings<'a>(alloc: Global, words: &'a [String]) -> Result<Settings<'a>, 
         ↔ assigned ps (map string_bytes words.entry.now) (codes "place") ≡ Some (codes "high"))
         × (s.judged.now
         ≡ unwrap_or (assigned ps (map string_bytes words.entry.now) (codes "judge")) [])
-        × IsMode (assigned ps (map string_bytes words.entry.now) (codes "random"))
+        × (s.code.now
+        ≡ unwrap_or (assigned ps (map string_bytes words.entry.now) (codes "code")) [])
+        × IsMode (assigned ps (map string_bytes words.entry.now) (codes "code"))
+        (assigned ps (map string_bytes words.entry.now) (codes "rule"))
+        (assigned ps (map string_bytes words.entry.now) (codes "random"))
         (assigned ps (map string_bytes words.entry.now) (codes "lines"))
         (assigned ps (map string_bytes words.entry.now) (codes "profile"))
         (assigned ps (map string_bytes words.entry.now) (codes "judge"))
@@ -593,7 +621,10 @@ pub fn settings<'a>(alloc: Global, words: &'a [String]) -> Result<Settings<'a>, 
         × (IsTrue s.interactive
         ↔ assigned ps (map string_bytes words.entry.now) (codes "interactive")
         ≡ Some (codes "true"))
-        × IsColor (assigned ps (map string_bytes words.entry.now) (codes "color")) s.color) }
+        × IsColor (assigned ps (map string_bytes words.entry.now) (codes "color")) s.color
+        × IsFormat (assigned ps (map string_bytes words.entry.now) (codes "format")) s.form.format
+        × (IsTrue s.form.is_hidden
+        ↔ assigned ps (map string_bytes words.entry.now) (codes "hide") ≡ Some (codes "true"))) }
     // Clap finds nothing wrong with words that are taken; an error is of a kind that it finds, or want of memory.
     ensures taken { IfOk result (λ _. FindsWrong (map string_bytes words.entry.now) []) }
     ensures kinds { IfErr result
@@ -609,6 +640,7 @@ pub fn settings<'a>(alloc: Global, words: &'a [String]) -> Result<Settings<'a>, 
         file: file(&matches),
         placement: placement(&matches),
         judged: judged(&matches),
+        code: coded(&matches),
         mode: mode(&matches),
         explains: is_set(&matches, "explain"),
         json: is_set(&matches, "json"),
@@ -616,6 +648,10 @@ pub fn settings<'a>(alloc: Global, words: &'a [String]) -> Result<Settings<'a>, 
         strict: is_set(&matches, "strict"),
         interactive: is_set(&matches, "interactive"),
         color: color(&matches),
+        form: Form {
+            format: format(&matches),
+            is_hidden: is_set(&matches, "hide"),
+        },
         apart: apart(&matches),
     })
 }

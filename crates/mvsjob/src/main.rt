@@ -14,6 +14,7 @@ mod coloured;
 mod command_line;
 mod difference;
 mod ending;
+mod exclusions;
 mod faultless;
 mod faulty;
 mod front;
@@ -47,7 +48,7 @@ use std::env;
 use std::fs::File;
 use std::io::{self, BufWriter, ErrorKind, Read, Write};
 use std::process::ExitCode;
-use streamed::run_streamed;
+use streamed::{explain_streamed, run_streamed};
 use strict::Teller;
 use terminal::{is_at_terminal, run_at_terminal};
 
@@ -127,7 +128,11 @@ fn run_lines<R: Read + Drop>(
     let Ok(kept) = Kept::new(rt.alloc(), reader) else {
         return Err(GiveUp::Job(RunFault::Memory));
     };
-    let ran = run_streamed(rt.alloc(), kept, writer, settings.placement);
+    let ran = if settings.explains {
+        explain_streamed(rt.alloc(), kept, writer, settings.placement)
+    } else {
+        run_streamed(rt.alloc(), kept, writer, settings.placement)
+    };
     let kept = ran.reader.into_inner();
     passed_on(
         rt,
@@ -148,7 +153,7 @@ fn serve_reader<R: Read + Drop>(
 ) -> Result<Ending, GiveUp>
     requires { writer.old.failed ≡ false }
 {
-    if settings.is_as_it_comes() && is_at_terminal(rt, settings) {
+    if settings.is_as_it_comes() && !settings.explains && is_at_terminal(rt, settings) {
         return run_at_terminal(rt, Opened::new(reader), settings, writer);
     }
     if settings.is_as_it_comes() {
@@ -186,7 +191,7 @@ fn serve(
 ) -> Result<Ending, GiveUp>
     requires { writer.old.failed ≡ false }
 {
-    if let Mode::Random(_) = settings.mode {
+    if settings.is_without_script() {
         return serve_reader(rt, io::empty(), settings, writer);
     }
     if settings.file == "-" {

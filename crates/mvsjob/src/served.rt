@@ -1,9 +1,11 @@
 //! Serves a script that was read whole: what each mode does with it.
 
-ghost use Rattle.std.specs.Prelude.{◌≡◌, ◌≤◌, ◌⊎◌, IfOk, IsTrue, None, Some, false, length};
+ghost use Rattle.std.specs.Prelude.{◌≡◌, ◌≤◌, ◌⊎◌, ℕ, Contains, IfOk, IfSome, IsTrue, None, Some, false, length};
 ghost use Rattle.mvs_model.specs.Numbers.{most_script_bytes};
 ghost use Rattle.mvsjob.specs.declared.choices.Recipe.{Recipe};
-ghost use Rattle.mvsjob.specs.Served.{Asks, Blanks, EndsAtFault, Explains, HasNoForeign, IsFaultOf, IsPrinted, Judges, Pages, RunsStrictly, Tells};
+ghost use Rattle.mvsjob.specs.Checking.{Checks};
+ghost use Rattle.mvsjob.specs.Served.{Asks, Blanks, EndsAtFault, ExplainsStrictly, HasNoForeign, IsFaultOf, IsPrinted, Judges, Pages, RunsStrictly, Tells, WritesAbout, WritesText};
+ghost use Rattle.reference.specs.Texts.{IsRule, names, rule_name};
 
 use crate::answers::{check_answers, write_blanks, write_questions};
 use crate::assembled::write_assembled;
@@ -13,12 +15,14 @@ use crate::faulty::{Faulty, faulty_in};
 use crate::json::run_json;
 use crate::judging::judge_output;
 use crate::through::Through;
-use mvs_job::{Hears, RunFault, explain_script, run_strictly};
+use job_script::write_all;
+use mvs_job::{Explained, Hears, RunFault, run_observed, run_strictly};
 use mvs_model::outcome::Outcome;
 use mvs_model::want::Placement;
 use mvs_model::watched::Watched;
 use page::{FRAME, write_page};
 use random_script::{RandomFault, write_script};
+use reference::{code, rule};
 use std::alloc::Global;
 use std::io::Write;
 
@@ -74,26 +78,6 @@ pub fn fault_of(script: &[u8], outcome: Outcome) -> Option<Faulty<'_>>
     }
 }
 
-// Explains a run.
-fn explain<'a, W: Write>(
-    alloc: Global,
-    script: &'a [u8],
-    writer: &mut Watched<W>,
-    placement: Placement,
-) -> Result<Served<'a>, GiveUp>
-    requires { length script.now ≤ most_script_bytes }
-    ensures { Explains (W.contents writer.old.inner) (W.contents writer.new.inner) script.now
-        result }
-{
-    match explain_script(alloc, script, writer, placement) {
-        Ok(outcome) => Ok(Served {
-            ending: Ending::Ran(outcome),
-            faulty: fault_of(script, outcome),
-        }),
-        Err(stop) => Err(GiveUp::of(stop)),
-    }
-}
-
 // Writes a run as a page.
 fn page<'a, W: Write>(
     alloc: Global,
@@ -135,6 +119,28 @@ fn run_strict<'a, W: Write, H: Hears>(
     }
 }
 
+// Runs a script with explanations, and reports each line that was not executed to an observer.
+fn explain_strict<'a, W: Write, H: Hears>(
+    alloc: Global,
+    script: &'a [u8],
+    writer: &mut Watched<W>,
+    placement: Placement,
+    hearer: &mut H,
+) -> Result<Served<'a>, GiveUp>
+    requires { length script.now ≤ most_script_bytes }
+    ensures { ExplainsStrictly (W.contents writer.old.inner) (W.contents writer.new.inner)
+        (H.heard hearer.old) (H.heard hearer.new) script.now result }
+{
+    let mut explained = Explained::new(alloc);
+    match run_observed(alloc, script, writer, placement, &mut explained, hearer) {
+        Ok(end) => Ok(Served {
+            ending: Ending::of_strict(end),
+            faulty: fault_of(script, end.outcome),
+        }),
+        Err(stop) => Err(GiveUp::of(stop)),
+    }
+}
+
 // Writes a random script.
 fn write_random<W: Write>(
     alloc: Global,
@@ -156,6 +162,23 @@ fn write_random<W: Write>(
     }
 }
 
+// Writes a text of the reference, if there is one.
+fn write_text<W: Write>(
+    writer: &mut Watched<W>,
+    text: Option<&'static str>,
+) -> Result<Served<'static>, GiveUp>
+    ensures { IfSome text.entry (λ t. WritesText (W.contents writer.old.inner)
+        (W.contents writer.new.inner) t.now result) }
+{
+    match text {
+        Some(text) => match write_all(writer, text.as_bytes()) {
+            Ok(()) => Ok(Served::of(Ending::Printed)),
+            Err(_) => Err(GiveUp::Job(RunFault::Write)),
+        },
+        None => Ok(Served::of(Ending::Printed)),
+    }
+}
+
 // Runs a script as the settings have it.
 fn run<'a, W: Write, H: Hears>(
     alloc: Global,
@@ -172,7 +195,8 @@ fn run<'a, W: Write, H: Hears>(
         result }
     ensures explain { settings.now.json ≡ false → settings.now.page ≡ false
         → IsTrue settings.now.explains
-        → Explains (W.contents writer.old.inner) (W.contents writer.new.inner) script.now result }
+        → ExplainsStrictly (W.contents writer.old.inner) (W.contents writer.new.inner)
+        (H.heard hearer.old) (H.heard hearer.new) script.now result }
     ensures strict { settings.now.json ≡ false → settings.now.page ≡ false
         → settings.now.explains ≡ false
         → RunsStrictly (W.contents writer.old.inner) (W.contents writer.new.inner)
@@ -184,7 +208,7 @@ fn run<'a, W: Write, H: Hears>(
     } else if settings.page {
         page(alloc, script, writer, placement)
     } else if settings.explains {
-        explain(alloc, script, writer, placement)
+        explain_strict(alloc, script, writer, placement, hearer)
     } else {
         run_strict(alloc, script, writer, placement, hearer)
     }
@@ -206,13 +230,16 @@ pub fn serve_script<'a, W: Write, H: Hears>(
         result }
     ensures explain { settings.now.mode ≡ Mode.Run → settings.now.json ≡ false
         → settings.now.page ≡ false → IsTrue settings.now.explains
-        → Explains (W.contents writer.old.inner) (W.contents writer.new.inner) script.now result }
+        → ExplainsStrictly (W.contents writer.old.inner) (W.contents writer.new.inner)
+        (H.heard hearer.old) (H.heard hearer.new) script.now result }
     ensures strict { settings.now.mode ≡ Mode.Run → settings.now.json ≡ false
         → settings.now.page ≡ false → settings.now.explains ≡ false
         → RunsStrictly (W.contents writer.old.inner) (W.contents writer.new.inner)
         (H.heard hearer.old) (H.heard hearer.new) script.now result }
     ensures json { settings.now.mode ≡ Mode.Run → IsTrue settings.now.json → IfOk result
         (Tells (W.contents writer.old.inner) (W.contents writer.new.inner) script.now) }
+    ensures check { settings.now.mode ≡ Mode.Check
+        → Checks (W.contents writer.old.inner) (W.contents writer.new.inner) settings.now.form settings.now.file.now script.now result }
     ensures blank { settings.now.mode ≡ Mode.Blank → HasNoForeign script.now
         → Blanks (W.contents writer.old.inner) (W.contents writer.new.inner) script.now result }
     ensures ask { settings.now.mode ≡ Mode.Ask → HasNoForeign script.now
@@ -221,6 +248,12 @@ pub fn serve_script<'a, W: Write, H: Hears>(
         → IfOk result (λ served. IsPrinted served ⊎ EndsAtFault script.now served) }
     ensures random { (recipe : Recipe) → settings.now.mode ≡ Mode.Random recipe
         → IfOk result IsPrinted }
+    ensures code { settings.now.mode ≡ Mode.Code → Contains names settings.now.code.now
+        → WritesAbout (W.contents writer.old.inner) (W.contents writer.new.inner)
+        settings.now.code.now result }
+    ensures rule { (n : ℕ) → settings.now.mode ≡ Mode.Rule n → IsRule n
+        → WritesAbout (W.contents writer.old.inner) (W.contents writer.new.inner) (rule_name n)
+        result }
     ensures judge { settings.now.mode ≡ Mode.Judge
         → Judges (W.contents writer.old.inner) (W.contents writer.new.inner) script.now output.now
         result }
@@ -233,5 +266,7 @@ pub fn serve_script<'a, W: Write, H: Hears>(
         Mode::Ask => write_questions(script, writer),
         Mode::Assemble => write_assembled(alloc, script, writer),
         Mode::Random(recipe) => write_random(alloc, writer, recipe),
+        Mode::Code => write_text(writer, code(settings.code)),
+        Mode::Rule(number) => write_text(writer, rule(number)),
     }
 }

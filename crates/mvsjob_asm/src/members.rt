@@ -79,7 +79,7 @@ fn find(rt: &HostRuntime, folders: &[&str], name: &str) -> Result<Option<Vec<u8>
     Ok(None)
 }
 
-/// Returns the members that a source copies, and those that these copy, as far as they are in some folders.
+/// Returns the members that a source copies, and those that these copy, if they are in one of some folders.
 pub fn members_of(
     rt: &HostRuntime,
     folders: &[&str],

@@ -205,8 +205,8 @@ fn put_found<W: Write>(
     Ok(ended.is_ok())
 }
 
-/// Writes the script of some requests: a line for each, of which those that begin with `*?` need attention. As JSON it is an object for each,
-/// and one at the end with how many there are.
+/// Writes the script of some requests: a line for each. Lines that begin with `*?` need attention. As JSON, each request is an object,
+/// and the last object has their number.
 pub fn write_script<W: Write>(
     alloc: Global,
     writer: &mut W,

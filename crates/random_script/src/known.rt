@@ -27,24 +27,29 @@ impl fmt::Display for Task {
     }
 }
 
-/// An area: the task that obtained it, the subpool number that it named, and the bytes that it asked for.
+/// An area: the task that obtained it, the subpool number that it named, the bytes that it has or asked for, and its address, or
+/// 0 where that is not known.
 #[derive(Clone, Copy, Debug)]
 pub struct Area {
     pub task: Task,
     pub number: u8,
     pub len: u32,
+    pub addr: u32,
 }
 
-/// A cell: the place of its pool.
+/// A cell: the place of its pool, and its address, or 0 where that is not known.
 #[derive(Clone, Copy, Debug)]
 pub struct Cell {
     pub pool: usize,
+    pub addr: u32,
 }
 
-/// What is known of a step.
+/// What is known of a step: also a subpool number that a task shares, or 0, and how many tasks and pools of new names it has.
 #[derive(Drop)]
 pub struct Known {
     pub active: [bool; TASKS],
+    pub shares: [u8; TASKS],
+    pub more: u32,
     pub areas: [Option<Area>; AREAS],
     pub cells: [Option<Cell>; CELLS],
     pub pools: [bool; POOLS],
@@ -57,6 +62,8 @@ impl Known {
         active[0] = true;
         Known {
             active,
+            shares: [0; TASKS],
+            more: 0,
             areas: [None; AREAS],
             cells: [None; CELLS],
             pools: [false; POOLS],
@@ -91,9 +98,54 @@ impl Known {
         self.areas[place].map(|area| (place, area))
     }
 
+    /// An area whose task is active, if there is one, and its place.
+    pub fn live_area(&self, dice: &mut Dice) -> Option<(usize, Area)> {
+        let first = dice.below(AREAS as u32) as usize;
+        for offset in 0..AREAS {
+            let place = (first + offset) % AREAS;
+            if let Some(area) = self.areas[place] {
+                if self.is_active(area.task) {
+                    return Some((place, area));
+                }
+            }
+        }
+        None
+    }
+
+    // Whether a task is active.
+    fn is_active(&self, task: Task) -> bool {
+        match self.active.get(task.0) {
+            Some(is_active) => *is_active,
+            None => false,
+        }
+    }
+
     /// A cell that was taken, if one comes up, and its place.
     pub fn cell(&self, dice: &mut Dice) -> Option<(usize, Cell)> {
         let place = dice.below(CELLS as u32) as usize;
         self.cells[place].map(|cell| (place, cell))
+    }
+
+    /// A task that shares a subpool number, if one comes up, and the number.
+    pub fn sharing(&self, dice: &mut Dice) -> Option<(Task, u8)> {
+        let place = dice.below(TASKS as u32) as usize;
+        if self.active[place] && self.shares[place] > 0 {
+            Some((Task(place), self.shares[place]))
+        } else {
+            None
+        }
+    }
+
+    /// Forgets the areas of a task's subpool.
+    pub fn forget(&mut self, task: Task, number: u8) {
+        for place in 0..AREAS {
+            let is_of_it = match self.areas[place] {
+                Some(area) => area.task == task && area.number == number,
+                None => false,
+            };
+            if is_of_it {
+                self.areas[place] = None;
+            }
+        }
     }
 }

@@ -2,9 +2,18 @@
 #![tactic(auto)]
 
 mod dice;
+mod faults;
+mod forms;
 mod known;
+mod lists;
 mod maker;
+mod operands;
+mod pools;
+mod refusals;
 mod requests;
+mod statements;
+mod subtasks;
+mod theme;
 
 use maker::Maker;
 use std::alloc::{AllocError, Global};
@@ -22,8 +31,16 @@ pub enum Profile {
     Pools,
     /// No statement prints an address or a length that was obtained.
     Tidy,
-    /// One of some forty lines has a fault, and is the last one.
+    /// One of some forty lines has a fault, and is the last one; if there is no such line, the last one has a fault.
     Faults,
+    /// Lists of areas.
+    Lists,
+    /// Areas with boundaries, of all lengths and in both regions.
+    Boundaries,
+    /// Releases of whole subpools, also with cell pools in them.
+    Whole,
+    /// All statements, operands and replies; one script in two ends with a fault.
+    All,
 }
 
 /// Why a script was not written to its end.
@@ -41,7 +58,8 @@ impl From<AllocError> for RandomFault {
     }
 }
 
-/// Writes a script with a number of lines, or fewer if one has a fault: always the same bytes for a seed and a profile.
+/// Writes a script with a number of lines, or fewer if one has a fault: always the same bytes for a seed, a number of lines and a
+/// profile.
 pub fn write_script<W: Write>(
     alloc: Global,
     writer: &mut W,
@@ -50,8 +68,9 @@ pub fn write_script<W: Write>(
     profile: Profile,
 ) -> Result<(), RandomFault> {
     let mut maker = Maker::new(alloc, seed, profile);
-    for _ in 0..lines {
-        if !maker.makes_line()? {
+    for number in 0..lines {
+        let is_last = lines - number == 1;
+        if !maker.makes_line(is_last)? {
             break;
         }
         let line = maker.line();

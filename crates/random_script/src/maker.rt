@@ -1,21 +1,27 @@
 //! Makes a random script line by line.
 
 use crate::dice::Dice;
-use crate::known::Known;
+use crate::faults::write_fault;
+use crate::known::{Area, Cell, Known};
+use crate::lists::{Members, place_of};
 use crate::requests::{Change, attach, obtain, obtain_some, pool, release, touch};
+use crate::statements::{statement, write_region};
+use crate::theme::Theme;
 use crate::{Profile, RandomFault};
 use mvs_job::{LineTold, Session};
 use mvs_model::answer::Answer;
 use mvs_model::name::Name;
+use mvs_model::place::Place;
 use mvs_model::want::Placement;
 use std::alloc::{AllocError, Global};
 use std::fmt::Write;
 
-/// A script that is being made: the job that answers it, what is known of the step, and the last line.
+/// A script that is being made: the job that answers it, what is known of the step and what it is about, and the last line.
 #[derive(Drop)]
 pub struct Maker {
     dice: Dice,
     profile: Profile,
+    theme: Theme,
     session: Session,
     known: Known,
     begun: bool,
@@ -30,12 +36,23 @@ fn subtask(name: &[u8]) -> Option<usize> {
     }
 }
 
+// Returns the name of an area or a cell: a letter and its place, which has at most two digits.
+fn name_of(letter: u8, place: usize) -> Option<Name> {
+    let (tens, ones) = (b'0' + (place / 10 % 10) as u8, b'0' + (place % 10) as u8);
+    if place < 10 {
+        Name::new(&[letter, ones])
+    } else {
+        Name::new(&[letter, tens, ones])
+    }
+}
+
 impl Maker {
     /// A script without a line.
     pub fn new(alloc: Global, seed: u64, profile: Profile) -> Maker {
         Maker {
             dice: Dice::new(seed),
             profile,
+            theme: Theme::Storage,
             session: Session::new(alloc, Placement::Low),
             known: Known::new(),
             begun: false,
@@ -48,8 +65,8 @@ impl Maker {
         &self.line
     }
 
-    // Writes the next statement, and answers what it changes where it is served.
-    fn choose(&mut self) -> Result<Change, AllocError> {
+    // Writes the next statement of one of the first five profiles, and answers what it changes where it is served.
+    fn choose_usual(&mut self) -> Result<Change, AllocError> {
         let (line, dice, known) = (&mut self.line, &mut self.dice, &self.known);
         let task = known.task(dice);
         let kind = dice.below(10);
@@ -77,6 +94,75 @@ impl Maker {
         }
     }
 
+    // Writes the next statement by the theme of the step, and returns what it changes where it is granted.
+    fn choose_of_theme(&mut self) -> Result<Change, AllocError> {
+        let (line, dice, known) = (&mut self.line, &mut self.dice, &self.known);
+        let theme = if self.profile == Profile::All && dice.is_one_of(8) {
+            Theme::any(dice)
+        } else {
+            self.theme
+        };
+        let kind = theme.kind(dice);
+        let change = statement(line, dice, known, kind)?;
+        if dice.is_one_of(24) {
+            line.push_str("  A REMARK")?;
+        }
+        Ok(change)
+    }
+
+    // Writes the next statement, and returns what it changes where it is granted.
+    fn choose(&mut self) -> Result<Change, AllocError> {
+        match self.profile {
+            Profile::Storage | Profile::Tasks | Profile::Pools | Profile::Tidy | Profile::Faults =>
+                { self.choose_usual() }
+            Profile::Lists | Profile::Boundaries | Profile::Whole | Profile::All => {
+                self.choose_of_theme()
+            }
+        }
+    }
+
+    // Returns the address and the length of an area or a cell.
+    fn found(&self, letter: u8, place: usize) -> Option<Place> {
+        let name = name_of(letter, place)?;
+        self.session.walk().job()?.place_of(&name)
+    }
+
+    // Records that an area was obtained, with the address and the length that it has.
+    fn grant(&mut self, place: usize, area: Area) {
+        let granted = match self.found(b'A', place) {
+            Some(found) => Area {
+                addr: found.addr().get(),
+                len: found.len(),
+                ..area
+            },
+            None => area,
+        };
+        set(&mut self.known.areas, place, Some(granted));
+    }
+
+    // Records that the areas of a list were obtained.
+    fn grant_all(&mut self, members: Members) {
+        for member in 0..members.count {
+            self.grant(place_of(members.first, member), members.area);
+        }
+    }
+
+    // Records that the areas of a list were released.
+    fn release_all(&mut self, members: Members) {
+        for member in 0..members.count {
+            set(&mut self.known.areas, place_of(members.first, member), None);
+        }
+    }
+
+    // Records that a cell was taken.
+    fn take_cell(&mut self, place: usize, cell: Cell) {
+        let addr = match self.found(b'C', place) {
+            Some(found) => found.addr().get(),
+            None => 0,
+        };
+        set(&mut self.known.cells, place, Some(Cell { addr, ..cell }));
+    }
+
     // What the answer to a statement of a task changes.
     fn take(&mut self, change: Change) {
         match change {
@@ -85,9 +171,18 @@ impl Maker {
             Change::Releases(place) => set(&mut self.known.areas, place, None),
             Change::Builds(pool) => set(&mut self.known.pools, pool, true),
             Change::Deletes(pool) => set(&mut self.known.pools, pool, false),
-            Change::Takes(place, cell) => set(&mut self.known.cells, place, Some(cell)),
+            Change::Takes(place, cell) => self.take_cell(place, cell),
             Change::Gives(place) => set(&mut self.known.cells, place, None),
             Change::Attaches(task) => set(&mut self.known.active, task.0, true),
+            Change::Grants(place, area) => self.grant(place, area),
+            Change::GrantsAll(members) => self.grant_all(members),
+            Change::ReleasesAll(members) => self.release_all(members),
+            Change::Empties(task, number) => self.known.forget(task, number),
+            Change::Shares(task, number) => {
+                set(&mut self.known.active, task.0, true);
+                set(&mut self.known.shares, task.0, number);
+            }
+            Change::OneMore => self.known.more = self.known.more.saturating_add(1),
         }
     }
 
@@ -106,36 +201,77 @@ impl Maker {
 
     // Records the changes of a line.
     fn hear(&mut self, told: &LineTold, change: Change) {
-        if let LineTold::Answered { task, answer } = told {
-            match answer {
+        match told {
+            LineTold::Answered { task, answer } => match answer {
                 Answer::NotRun | Answer::NoName | Answer::Rc4 | Answer::NoCell => {}
                 Answer::Ended | Answer::Abended(_) => self.end(task),
-                _ => self.take(change),
-            }
+                Answer::At(_)
+                | Answer::Rc0
+                | Answer::Granted(_)
+                | Answer::Cell
+                | Answer::Attached
+                | Answer::Done
+                | Answer::Data(_)
+                | Answer::Subpools
+                | Answer::Map => self.take(change),
+            },
+            LineTold::Nothing | LineTold::Began { .. } | LineTold::Faulted(_) => {}
         }
     }
 
+    // Writes the statement that begins a step, and chooses what the step is about.
+    fn begin(&mut self) -> Result<(), AllocError> {
+        self.begun = true;
+        self.known = Known::new();
+        let theme = match self.profile {
+            Profile::Storage | Profile::Tasks | Profile::Pools | Profile::Tidy | Profile::Faults =>
+                {
+                    let pages = 2 + self.dice.below(5);
+                    return write!(self.line, "JOB REGION BELOW={pages},ABOVE=2");
+                }
+            Profile::Lists => Theme::Lists,
+            Profile::Boundaries => Theme::Boundaries,
+            Profile::Whole => Theme::Whole,
+            Profile::All => Theme::any(&mut self.dice),
+        };
+        self.theme = theme;
+        write_region(&mut self.line, &mut self.dice)
+    }
+
+    // Returns whether the next line is to have a comma at its end, which is a fault.
+    fn ends_with_comma(&mut self, is_last: bool) -> bool {
+        self.profile == Profile::Faults && (self.dice.is_one_of(40) || is_last)
+    }
+
+    // Returns whether the next line is to be one with a fault: the last one, or the first one, which is no REGION statement.
+    fn is_to_be_faulty(&mut self, is_last: bool) -> bool {
+        self.profile == Profile::All
+            && (is_last && self.dice.is_one_of(2)
+                || self.session.walk().job().is_none() && self.dice.is_one_of(16))
+    }
+
     // Writes the next line, and answers what it changes where it is served.
-    fn write_line(&mut self) -> Result<Change, AllocError> {
+    fn write_line(&mut self, is_last: bool) -> Result<Change, AllocError> {
         self.line.clear();
+        if self.is_to_be_faulty(is_last) {
+            write_fault(&mut self.line, &mut self.dice)?;
+            return Ok(Change::Nothing);
+        }
         let change = if self.begun {
             self.choose()?
         } else {
-            self.begun = true;
-            self.known = Known::new();
-            let pages = 2 + self.dice.below(5);
-            write!(self.line, "JOB REGION BELOW={pages},ABOVE=2")?;
+            self.begin()?;
             Change::Nothing
         };
-        if self.profile == Profile::Faults && self.dice.is_one_of(40) {
+        if self.ends_with_comma(is_last) {
             self.line.push_str(",")?;
         }
         Ok(change)
     }
 
     /// Makes the next line, and returns whether there is one: after a fault there is none.
-    pub fn makes_line(&mut self) -> Result<bool, RandomFault> {
-        let change = self.write_line()?;
+    pub fn makes_line(&mut self, is_last: bool) -> Result<bool, RandomFault> {
+        let change = self.write_line(is_last)?;
         if !self.session.takes_line() {
             return Ok(false);
         }

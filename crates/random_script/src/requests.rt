@@ -2,6 +2,7 @@
 
 use crate::dice::Dice;
 use crate::known::{AREAS, Area, CELLS, Cell, Known, POOLS, Task};
+use crate::lists::Members;
 use std::alloc::AllocError;
 use std::fmt::Write;
 
@@ -16,6 +17,15 @@ pub enum Change {
     Takes(usize, Cell),
     Gives(usize),
     Attaches(Task),
+    /// An area is obtained, whose address and length are looked up.
+    Grants(usize, Area),
+    GrantsAll(Members),
+    ReleasesAll(Members),
+    Empties(Task, u8),
+    /// A task is attached that shares this number, or none if it is 0.
+    Shares(Task, u8),
+    /// A task or a pool of a new name is there.
+    OneMore,
 }
 
 /// The subpool numbers that a script names most.
@@ -39,6 +49,7 @@ pub fn obtain(line: &mut String, dice: &mut Dice, task: Task) -> Result<Change, 
         task,
         number: number(dice),
         len: length(dice),
+        addr: 0,
     };
     let (number, len) = (area.number, area.len);
     match dice.below(6) {
@@ -64,6 +75,7 @@ pub fn obtain_some(line: &mut String, dice: &mut Dice, task: Task) -> Result<Cha
         task,
         number: number(dice),
         len: length(dice),
+        addr: 0,
     };
     let (number, len) = (area.number, area.len);
     write!(
@@ -80,7 +92,15 @@ pub fn release(
     known: &Known,
     found: (usize, Area),
 ) -> Result<Change, AllocError> {
-    let (place, Area { task, number, len }) = found;
+    let (
+        place,
+        Area {
+            task,
+            number,
+            len,
+            ..
+        },
+    ) = found;
     let task = if dice.is_one_of(8) {
         known.task(dice)
     } else {
@@ -145,7 +165,7 @@ pub fn pool(
             let place = dice.below(CELLS as u32) as usize;
             let form = if dice.is_one_of(3) { "C," } else { "" };
             write!(line, "{task} CPOOL GET,{form}CPID=P{pool},CELL=C{place}")?;
-            Ok(Change::Takes(place, Cell { pool }))
+            Ok(Change::Takes(place, Cell { pool, addr: 0 }))
         }
     }
 }

@@ -2,7 +2,8 @@ use Rattle.std.proofs.Common.{◌∙◌, refl}
 use Rattle.std.proofs.lemmas.Result.{err_from_is_err_and}
 use Rattle.std.specs.List.{after_first}
 use Rattle.std.specs.Prelude.{◌==◌}
-use Rattle.annotated.proofs.Blanking.{as_answered, first_line, in_end, in_statement, line_more, next_of, some_left}
+use Rattle.annotated.proofs.Blanking.{as_answered, in_end, in_statement, line_more}
+use Rattle.annotated.proofs.Cutting.{first_line, next_of, some_left}
 use Rattle.annotated.proofs.write_blank.Goals as goal
 
 pub returns-in_err-write_all : goal.returns-in_err-write_all

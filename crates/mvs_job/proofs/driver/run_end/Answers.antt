@@ -5,10 +5,10 @@ pub returns-in-Ok-clause-ran : goal.returns-in-Ok-clause-ran
 returns-in-Ok-clause-ran g c first history known =
     let r = entry_closed c.args.walk.now c.number.result c.close-closing.result.ended c.close-closing.result.outcome c.number.ensures c.close-closing.ensures in
     let q = c.in-Ok.ensures.accepted first history r.0 r.2 known in
-    (r.0, r.1, q.text, q.known)
+    (r.0, r.1, q.0, q.1)
 
 pub returns-in-Err-clause-ran : goal.returns-in-Err-clause-ran
 returns-in-Err-clause-ran g c first history known =
     let r = entry_closed c.args.walk.now c.number.result c.close-closing.result.ended c.close-closing.result.outcome c.number.ensures c.close-closing.ensures in
     let q = c.in-Err.ensures.accepted first history r.0 r.2 known in
-    (c.close-closing.result.outcome, r.0, r.1, q.text, q.known)
+    (c.close-closing.result.outcome, r.0, r.1, q.0, q.1)

@@ -1,6 +1,6 @@
 use Rattle.std.proofs.Common.{refl, ap, arith, ◌≡◌, ◌∙◌, drop}
 use Rattle.std.proofs.lemmas.List.{take_rest}
-use Rattle.mvs_job.proofs.Explained.{none_left}
+use Rattle.mvs_job.proofs.LineEnd.{none_left}
 use Rattle.mvs_job.proofs.Looping.{at_end, at_fault, at_next, at_start, at_stop}
 use Rattle.mvs_job.proofs.driver.run_lines.Goals as goal
 

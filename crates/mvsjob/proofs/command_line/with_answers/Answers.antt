@@ -5,6 +5,4 @@ use Rattle.mvsjob.proofs.Assigning.{if_ok}
 use Rattle.mvsjob.proofs.command_line.with_answers.Goals as goal
 
 pub returns : goal.returns
-returns c =
-    let blanking = c.in_ok-blanking.ensures ∙ ap (λ a. with_rule a (flag_rule (codes "blank"))) c.in_ok-checking.ensures in
-    if_ok c.with_flag-3.result _ (λ new. app_of new ≡ answers_app (app_of c.args.command)) c.with_flag-3.ensures (λ new made. made ∙ ap (λ a. with_rule a (flag_rule (codes "assemble"))) blanking)
+returns c = if_ok c.with_flag-2.result _ (λ new. app_of new ≡ answers_app (app_of c.args.command)) c.with_flag-2.ensures (λ new made. made ∙ ap (λ a. with_rule a (flag_rule (codes "assemble"))) c.in_ok-blanking.ensures)

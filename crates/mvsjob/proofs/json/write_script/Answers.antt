@@ -1,6 +1,6 @@
 use Rattle.std.proofs.Common.{ap, arith, drop, ◌≡◌}
 use Rattle.std.proofs.lemmas.List.{take_rest}
-use Rattle.mvs_job.proofs.Explained.{none_left}
+use Rattle.mvs_job.proofs.LineEnd.{none_left}
 use Rattle.mvsjob.proofs.Telling.{all_told, fault_told, line_told, none_told}
 use Rattle.mvsjob.proofs.json.write_script.Goals as goal
 

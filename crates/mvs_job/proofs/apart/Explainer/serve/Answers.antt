@@ -6,14 +6,14 @@ use Rattle.mvs_job.specs.Serving.{RunsLine}
 use Rattle.mvs_job.specs.Explaining.{behind_said}
 use Rattle.mvs_job.specs.Naming.{KeepsLines}
 use Rattle.mvs_job.specs.Telling.{events_told}
-use Rattle.mvs_job.proofs.Explained.{stands_behind}
+use Rattle.mvs_job.proofs.Behind.{stands_behind}
 use Rattle.mvs_job.proofs.apart.Explainer.serve.Goals.{in-Ok-print_behind, in-Err-print_behind}
 use Rattle.mvs_job.proofs.apart.Explainer.serve.Goals as goal
 
 pub returns : goal.returns
 returns g c = elim c.match-print_behind.branch [
   | in-Ok-print_behind w ↦
-      let set = c.self.inside.asking.lines in
+      let set = c.self.inside.explained.lines in
       let p = w.in-Ok-print_behind.ensures.printed c.args.walk.now.number in
       rw (w.result-is, ← c.self.view_is) (record {
         told = c.in-Ok.ensures.ran.0;

@@ -11,7 +11,7 @@ use Rattle.request_forms.specs.Taking.{Takes}
 use Rattle.mvs_job.specs.Observing.{Fails, Passes}
 use Rattle.mvs_job.specs.Telling.{Replies}
 use Rattle.mvs_job.proofs.Serving.{made, made_by, err_of}
-use Rattle.mvs_job.proofs.Observed.{heard_said}
+use Rattle.mvs_job.proofs.Observed.{heard_said, unheard}
 use Rattle.mvs_job.proofs.Resolved.{areas_fit, answer_same, answer_lent}
 use Rattle.mvs_job.proofs.job.Job.ask.Goals as goal
 
@@ -96,3 +96,8 @@ returns-in_default-set_names-clause-served g c =
       places = lacks.1;
     } in
     sets
+
+pub returns-in_default-set_names-clause-unheard : goal.returns-in_default-set_names-clause-unheard
+returns-in_default-set_names-clause-unheard g c =
+    let lacks = err_of c.set_names.result c.in_default-set_names.not-Ok c.set_names.ensures.err in
+    unheard g.O.Observer.heard c.args.observer.now c.settle_or_do.new.observer c.args.self.now c.args.task.now c.resolve.new.request c.settle_or_do.new.reply c.settle_or_do.new.self.state c.settle_or_do.ensures.observed lacks.1

@@ -1,8 +1,8 @@
-use Rattle.mvs_job.specs.Telling.{events_told}
-use Rattle.mvs_job.specs.Consuming.{IsEntry}
-use Rattle.mvs_job.proofs.Printed.{prints_each}
+use Rattle.mvs_job.proofs.Printed.{prints_front, prints_line}
 use Rattle.mvs_job.proofs.printer.PrinterConsumer.entry.Goals as goal
 
-pub returns-clause-accepted : goal.returns-clause-accepted
-returns-clause-accepted g c first =
-    prints_each _ _ first c.args.self.now c.args.self.now (IsEntry c.args.line_number c.args.line.now c.args.walk.now c.args.told.now) c.print_line.result (events_told c.args.line_number c.args.walk.now c.args.told.now) (λ e is. is.events) c.print_line.ensures.bytes
+pub returns-in-Ok-clause-accepted : goal.returns-in-Ok-clause-accepted
+returns-in-Ok-clause-accepted g c first = prints_line (λ _ _ _ _ _ _ _. Unit {0}) (λ _ _ _. Unit {0}) _ _ first c.args.self.now c.args.self.now c.args.line_number c.args.line.now c.args.walk.now c.args.told.now {X = Unit {0}} tt c.in-Ok.ensures.bytes
+
+pub returns-in-Err-clause-accepted : goal.returns-in-Err-clause-accepted
+returns-in-Err-clause-accepted g c first = prints_front (λ _ _ _ _ _ _ _. Unit {0}) (λ _ _ _. Unit {0}) _ _ first c.args.self.now c.args.self.now c.args.line_number c.args.line.now c.args.walk.now c.args.told.now (Unit {0}) c.in-Err.ensures.bytes

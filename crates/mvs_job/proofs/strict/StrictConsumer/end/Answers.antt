@@ -3,5 +3,5 @@ use Rattle.mvs_job.proofs.strict.StrictConsumer.end.Goals as goal
 
 pub returns-clause-accepted : goal.returns-clause-accepted
 returns-clause-accepted g c first history e is known =
-    let a = c.end.ensures.accepted first.consumer history e is known.1 in
-    record { text = a.text; known = result_maps c.end.result _ _ _ _ (λ k. (known.0, k, observes_end first.all_served c.args.self.now.all_served _ _ history c.args.line_number c.args.end e is known.2)) (λ k. (known.0, k, known.2)) a.known }
+    let a = c.end.ensures.accepted first.consumer.now history e is known.1 in
+    result_maps c.end.result _ _ _ _ (λ _ h. (h.0, (known.0, h.1, observes_end first.all_served c.args.self.now.all_served _ _ history c.args.line_number c.args.end e is known.2))) (λ _ h. (h.0, (known.0, known.2))) a

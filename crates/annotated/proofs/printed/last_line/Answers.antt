@@ -1,0 +1,11 @@
+use Rattle.std.proofs.Common.{◌∙◌, ap, refl, sym}
+use Rattle.annotated.specs.Asked.{last_or}
+use Rattle.annotated.proofs.Cutting.{first_line, next_of, some_left}
+use Rattle.annotated.proofs.printed.last_line.Goals as goal
+
+pub lines-preserved : goal.lines-preserved
+lines-preserved c =
+    let text = c.lines.rest.now in
+    let cut = first_line text (some_left text c.is_empty.result c.is_empty.ensures c.lines-test.true) in
+    let next = next_of text c.parted.result.1 _ c.unwrap_or-rest.result refl c.parted.ensures.after c.unwrap_or-rest.ensures in
+    rw (next, c.parted.ensures.before) (sym (ap (last_or c.lines.last.now) cut) ∙ c.lines.invariant)

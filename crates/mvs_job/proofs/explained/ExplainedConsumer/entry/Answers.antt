@@ -1,0 +1,54 @@
+use Rattle.std.proofs.Common.{subst, sym, ◌∙◌, ap}
+use Rattle.std.proofs.KnownBytes.{Keeps-refl}
+use Rattle.mvs_job.specs.Explained.{set_by_entries}
+use Rattle.mvs_job.specs.Explaining.{told_text}
+use Rattle.mvs_job.specs.Granting.{IsReadIn}
+use Rattle.mvs_job.specs.Looking.{IsLooking}
+use Rattle.mvs_job.specs.Naming.{set_behind}
+use Rattle.mvs_job.specs.Telling.{events_told}
+use Rattle.mvs_job.proofs.Behind.{line_keeps}
+use Rattle.mvs_job.proofs.ExplainedLine.{explained_text, needs_names, set_next}
+use Rattle.mvs_job.proofs.Serving.{err_of}
+use Rattle.mvs_job.proofs.explained.ExplainedConsumer.entry.Goals as goal
+
+pub returns-in_default-clause-accepted : goal.returns-in_default-clause-accepted
+returns-in_default-clause-accepted g c first mid history e is seen observed known =
+    let n = c.args.line_number in
+    let line = c.args.line.now in
+    let w = c.args.walk.now in
+    let t = c.args.told.now in
+    let after = c.args.self.now in
+    let x = c.keep.new.self in
+    let stays = line_keeps e.before w line mid after t observed in
+    let read_in = subst (IsReadIn e.before line) (sym stays.0) seen.read in
+    let lacks = err_of c.keep.result c.in_default.not-Ok c.keep.ensures.err in
+    ((needs_names n line w e after.why.read read_in lacks.0 t lacks.1 is, Keeps-refl _), tt)
+
+pub returns-in-Ok-print-clause-accepted : goal.returns-in-Ok-print-clause-accepted
+returns-in-Ok-print-clause-accepted g c first mid history e is seen observed known =
+    let n = c.args.line_number in
+    let line = c.args.line.now in
+    let w = c.args.walk.now in
+    let t = c.args.told.now in
+    let after = c.args.self.now in
+    let x = c.keep.new.self in
+    let stays = line_keeps e.before w line mid after t observed in
+    let read_in = subst (IsReadIn e.before line) (sym stays.0) seen.read in
+    let look = subst (λ set. IsLooking e.before set line mid) known seen in
+    let may = explained_text n line w e (set_by_entries history) mid after x look c.keep.ensures.why c.keep.ensures.naming t c.keep.ensures.reason is observed in
+    let set = ap (λ s. set_behind n s after.why.read (events_told n w t)) (stays.1 ∙ known) ∙ set_next n line w e history after.why.read read_in t is in
+    ((told_text x n w t, may, c.in-Ok-print.ensures.printed.bytes), c.print.ensures.lines ∙ c.in-Ok.ensures.lines ∙ set)
+
+pub returns-in-Err-clause-accepted : goal.returns-in-Err-clause-accepted
+returns-in-Err-clause-accepted g c first mid history e is seen observed known =
+    let n = c.args.line_number in
+    let line = c.args.line.now in
+    let w = c.args.walk.now in
+    let t = c.args.told.now in
+    let after = c.args.self.now in
+    let x = c.keep.new.self in
+    let stays = line_keeps e.before w line mid after t observed in
+    let read_in = subst (IsReadIn e.before line) (sym stays.0) seen.read in
+    let look = subst (λ set. IsLooking e.before set line mid) known seen in
+    let may = explained_text n line w e (set_by_entries history) mid after x look c.keep.ensures.why c.keep.ensures.naming t c.keep.ensures.reason is observed in
+    ((told_text x n w t, may, c.in-Err.ensures.printed.bytes), tt)

@@ -1,0 +1,264 @@
+//! The printing of a run with explanations.
+
+ghost use Rattle.std.specs.Prelude.{◌≡◌, ◌<◌, ◌+◌, ◌^◌, ◌∷◌, [], ℕ, true, IfOk, IsErrOf, MatchResult, OnErr, OnOk};
+ghost use Rattle.std.specs.Option.{option_and_then};
+ghost use Rattle.job_script.specs.Writing.{Prints};
+ghost use Rattle.mvs_job.specs.Looking.{IsLooking, KeepsExplained, knows_set};
+ghost use Rattle.mvs_model.specs.Memory.{StopsForMemory};
+ghost use Rattle.mvs_job.specs.Explained.{explained};
+ghost use Rattle.mvs_job.specs.Explaining.{IsBehind, behind_said, told_text};
+ghost use Rattle.mvs_job.specs.Granting.{tells_grant};
+ghost use Rattle.mvs_job.specs.Naming.{IsNamingOf, KeepsLines, SetsSome, address_told, no_lines, set_behind};
+ghost use Rattle.mvs_job.specs.Serving.{TellsLine};
+ghost use Rattle.mvs_job.specs.Telling.{IsLent, IsTold, ended, events_told};
+ghost use Rattle.mvs_job.specs.Why.{OfNext, line_reason};
+
+use crate::consumer::{Consumer, End};
+use crate::ends::print_frees;
+use crate::job::Job;
+use crate::naming::{Naming, SetLines, address_told, print_named};
+use crate::observer::Observer;
+use crate::printing::{Stop, print_closing, print_ended, print_line};
+use crate::walk::{LineTold, Stopped, Walk};
+use crate::why::Why;
+use mvs_model::error::OutOfMemory;
+use mvs_model::name::Name;
+use mvs_model::reason::{LineReason, Shortfall};
+use mvs_model::refusal::Refusal;
+use mvs_model::request::Request;
+use mvs_model::watched::{Failed, Watched};
+use std::alloc::Global;
+use std::io::Write;
+
+/// Prints a run with explanations: after the events of a line come lines that begin with `*`. It keeps what it has looked at of a
+/// line, in room that is long, and which lines have set the names of the step.
+#[derive(Drop)]
+pub struct Explained {
+    pub(crate) why: Why,
+    /// Why the line was not executed as it asks.
+    pub(crate) reason: Option<LineReason>,
+    pub(crate) naming: Option<Naming>,
+    pub(crate) lines: SetLines,
+}
+
+impl Observer for Explained {
+    ghost heard = { λ old job t request refusal left new. KeepsExplained old job t request refusal new };
+
+    fn refused(
+        &mut self,
+        job: &Job,
+        task: &Name,
+        request: &Request,
+        refusal: Refusal,
+        left: &Shortfall,
+    ) {
+        self.why.refused(job, task, request, refusal, left);
+        self.naming = self.name(job);
+    }
+}
+
+impl Consumer for Explained {
+    ghost piece = { explained };
+
+    ghost knows = { knows_set };
+
+    ghost sees = { λ s step line. IsLooking step s.lines line s };
+
+    fn look(&mut self, walk: &Walk, line: &[u8]) {
+        self.look_at(walk, line);
+    }
+
+    fn entry<W: Write>(
+        &mut self,
+        writer: &mut Watched<W>,
+        line_number: u32,
+        line: &[u8],
+        walk: &Walk,
+        told: &LineTold,
+    ) -> Result<(), Stop> {
+        let Ok(()) = self.keep(line_number, walk, told) else {
+            return Err(Stop::Memory);
+        };
+        match self.print(writer, line_number, walk, told) {
+            Ok(()) => Ok(()),
+            Err(_) => Err(Stop::Write),
+        }
+    }
+
+    fn end<W: Write>(
+        &mut self,
+        writer: &mut Watched<W>,
+        line_number: u32,
+        end: End,
+    ) -> Result<(), Failed> {
+        match end {
+            End::Closed(ended) => print_closing(writer, line_number, ended),
+            End::Exhausted(ended) => print_ended(writer, ended),
+        }
+    }
+}
+
+impl Explained {
+    /// Makes one that has looked at no line. It allocates no memory.
+    pub fn new(alloc: Global) -> Explained
+        ensures { result.lines ≡ no_lines }
+    {
+        Explained {
+            why: Why::new(),
+            reason: None,
+            naming: None,
+            lines: SetLines::new(alloc),
+        }
+    }
+
+    // Returns the name that has the address in the reason of a request.
+    fn name(&self, job: &Job) -> Option<Naming>
+        ensures { IsNamingOf job.now self.now.lines
+            (option_and_then (address_told self.now.why.request) self.now.why.reason) result }
+    {
+        let Some(reason) = &self.why.reason else {
+            return None;
+        };
+        let Some(addr) = address_told(&self.why.request, reason) else {
+            return None;
+        };
+        self.lines.naming(job, addr)
+    }
+
+    /// Looks at what is reported of the next line after it, before it is executed.
+    pub(crate) fn look_at(&mut self, walk: &Walk, line: &[u8])
+        ensures looking { IsLooking walk.now.step self.old.lines line.now self.new }
+        ensures lines { self.new.lines ≡ self.old.lines }
+    {
+        self.naming = None;
+        self.why.look(walk, line);
+    }
+
+    /// Keeps why a line was not executed as it asks, and the names that it set. It allocates memory if the line is a granted request
+    /// that sets a name.
+    pub(crate) fn keep(
+        &mut self,
+        number: u32,
+        walk: &Walk,
+        told: &LineTold,
+    ) -> Result<(), OutOfMemory>
+        requires { IsLent walk.now told.now }
+        ensures why { self.new.why ≡ self.old.why }
+        ensures naming { self.new.naming ≡ self.old.naming }
+        ensures reason { self.new.reason
+            ≡ line_reason walk.now.step self.old.why.read self.old.why.reason told.now }
+        ensures lines { OnOk result
+            (self.new.lines ≡ set_behind number self.old.lines self.old.why.read
+            (events_told number walk.now told.now)) }
+        ensures err { OnErr result (SetsSome self.old.why.read
+            × (tells_grant (events_told number walk.now told.now) ≡ true)) }
+    {
+        self.reason = self.why.line_reason(walk, told);
+        self.lines.keep(number, &self.why.read, told)
+    }
+
+    /// Looks at a line, executes it, and keeps why it was not executed as it asks.
+    pub(crate) fn serve(&mut self, walk: &mut Walk, line: &[u8]) -> Result<LineTold, Stopped>
+        requires { walk.old.number + 1 < 2 ^ 32 }
+        ensures told { MatchResult result (λ told. IsTold walk.old line.now told walk.new)
+            (λ stopped. StopsForMemory walk.old.number walk.old.step (line.now ∷ [])
+            (ended stopped.ended)) }
+        ensures lines { IfOk result
+            (λ told. KeepsLines walk.old self.old.lines line.now walk.new told self.new.lines) }
+        ensures behind { IfOk result
+            (λ told. let events = events_told walk.old.number walk.new told in
+            IsBehind walk.old.step self.old.lines line.now events walk.new.step
+            (behind_said self.new events walk.new.step)) }
+        ensures reason { IfOk result
+            (λ told. OfNext walk.old.step line.now (events_told walk.old.number walk.new told)
+            self.new.reason) }
+        ensures lent { IfOk result (IsLent walk.new) }
+        ensures number { walk.new.number ≡ walk.old.number + 1 }
+    {
+        let number = walk.number();
+        self.lines.begin(walk);
+        self.look_at(walk, line);
+        let told = match walk.observed_line(line, &[], self) {
+            Ok(told) => told,
+            Err(stopped) => return Err(stopped),
+        };
+        match self.keep(number, walk, &told) {
+            Ok(()) => Ok(told),
+            Err(_) => Err(Stopped { ended: None }),
+        }
+    }
+
+    /// Looks at a line, executes it, and prints its events.
+    pub(crate) fn tell<W: Write>(
+        &mut self,
+        walk: &mut Walk,
+        line: &[u8],
+        writer: &mut Watched<W>,
+    ) -> Result<LineTold, Stop>
+        requires { walk.old.number + 1 < 2 ^ 32 }
+        ensures ran { TellsLine (W.contents writer.old.inner) (W.contents writer.new.inner)
+            walk.old line.now walk.new result }
+        ensures lines { IfOk result
+            (λ told. KeepsLines walk.old self.old.lines line.now walk.new told self.new.lines) }
+        ensures behind { IfOk result
+            (λ told. let events = events_told walk.old.number walk.new told in
+            IsBehind walk.old.step self.old.lines line.now events walk.new.step
+            (behind_said self.new events walk.new.step)) }
+        ensures lent { IfOk result (IsLent walk.new) }
+        ensures number { walk.new.number ≡ walk.old.number + 1 }
+        ensures ok { OnOk result (writer.new.failed ≡ writer.old.failed) }
+        ensures write { IsErrOf result Stop.Write → writer.new.failed ≡ true }
+    {
+        let number = walk.number();
+        match self.serve(walk, line) {
+            Ok(told) => match print_line(writer, number, walk, &told) {
+                Ok(()) => Ok(told),
+                Err(_) => Err(Stop::Write),
+            },
+            Err(stopped) => match print_ended(writer, stopped.ended) {
+                Ok(()) => Err(Stop::Memory),
+                Err(_) => Err(Stop::Write),
+            },
+        }
+    }
+
+    /// Prints why a line with these events was refused, the name that has the address of the reason, the subpools that were freed
+    /// if it ended a task, and what it changed if it was granted.
+    pub(crate) fn print_behind<W: Write>(
+        &mut self,
+        walk: &Walk,
+        told: &LineTold,
+        writer: &mut Watched<W>,
+    ) -> Result<(), Failed>
+        requires { IsLent walk.now told.now }
+        ensures printed { (number : ℕ)
+            → Prints W.contents writer.old writer.new result
+            (behind_said self.old (events_told number walk.now told.now) walk.now.step) }
+        ensures lines { self.new.lines ≡ self.old.lines }
+    {
+        self.why.print(writer, &self.reason)?;
+        print_named(writer, &self.naming)?;
+        print_frees(writer, walk, told, self.why.subpools.as_slice())?;
+        self.why.print_done(writer, walk, told)
+    }
+
+    // Prints the events of a line, and after them its explanations, if it has no fault.
+    fn print<W: Write>(
+        &mut self,
+        writer: &mut Watched<W>,
+        number: u32,
+        walk: &Walk,
+        told: &LineTold,
+    ) -> Result<(), Failed>
+        requires { IsLent walk.now told.now }
+        ensures printed { Prints W.contents writer.old writer.new result
+            (told_text self.old number walk.now told.now) }
+        ensures lines { self.new.lines ≡ self.old.lines }
+    {
+        print_line(writer, number, walk, told)?;
+        if let LineTold::Faulted(_) = told {
+            return Ok(());
+        }
+        self.print_behind(walk, told, writer)
+    }
+}

@@ -1,0 +1,124 @@
+//! Statements of cell pools with all their operands.
+
+use crate::dice::Dice;
+use crate::known::{CELLS, Cell, Known, POOLS, Task};
+use crate::operands::{number, write_location, write_number};
+use crate::requests::Change;
+use std::alloc::AllocError;
+use std::fmt::Write;
+
+static GETS: [&str; 6] = ["", "", "COND,", "C,", "UNCOND,", "U,"];
+
+static SIZES: [u32; 8] = [4, 6, 8, 12, 20, 64, 100, 600];
+
+static COUNTS: [u32; 4] = [1, 2, 3, 5];
+
+// Writes the operands of a new pool.
+fn write_pool(line: &mut String, dice: &mut Dice) -> Result<(), AllocError> {
+    let size = SIZES[dice.below(8) as usize];
+    let cells = COUNTS[dice.below(4) as usize];
+    write!(line, ",CSIZE={size},PCELLCT={cells}")?;
+    if dice.is_one_of(3) {
+        write!(line, ",SCELLCT={}", COUNTS[dice.below(4) as usize])?;
+    }
+    if dice.is_one_of(2) {
+        let number = number(dice);
+        write_number(line, dice, number)?;
+    }
+    write_location(line, dice)
+}
+
+/// Writes a BUILD of a pool.
+pub fn build(
+    line: &mut String,
+    dice: &mut Dice,
+    task: Task,
+    pool: usize,
+) -> Result<Change, AllocError> {
+    write!(line, "{task} CPOOL BUILD,CPID=P{pool}")?;
+    write_pool(line, dice)?;
+    Ok(Change::Builds(pool))
+}
+
+/// Writes a BUILD of a pool of a new name, which is small.
+pub fn build_one_more(line: &mut String, task: Task, count: u32) -> Result<Change, AllocError> {
+    write!(line, "{task} CPOOL BUILD,CPID=Q{count},CSIZE=4,PCELLCT=1")?;
+    Ok(Change::OneMore)
+}
+
+// Writes a FREE of a cell, by its name or by its address.
+fn free(
+    line: &mut String,
+    dice: &mut Dice,
+    task: Task,
+    found: (usize, Cell),
+) -> Result<Change, AllocError> {
+    let (place, cell) = found;
+    write!(line, "{task} CPOOL FREE,CPID=P{},CELL=", cell.pool)?;
+    if cell.addr > 0 && dice.is_one_of(3) {
+        write!(line, "X'{:08X}'", cell.addr)?;
+    } else {
+        write!(line, "C{place}")?;
+    }
+    Ok(Change::Gives(place))
+}
+
+/// Writes a statement of a cell pool: a BUILD where there is no pool of the name, and rarely where there is one.
+pub fn any_pool(
+    line: &mut String,
+    dice: &mut Dice,
+    known: &Known,
+    task: Task,
+) -> Result<Change, AllocError> {
+    let pool = dice.below(POOLS as u32) as usize;
+    if !known.pools[pool] {
+        return build(line, dice, task, pool);
+    }
+    match known.cell(dice) {
+        Some(found) if dice.is_one_of(2) => free(line, dice, task, found),
+        _ if task.0 > 0 && dice.is_one_of(8) => build(line, dice, task, pool),
+        _ if dice.is_one_of(16) => {
+            write!(line, "{task} CPOOL DELETE,CPID=P{pool}")?;
+            Ok(Change::Deletes(pool))
+        }
+        _ => {
+            let place = dice.below(CELLS as u32) as usize;
+            let form = GETS[dice.below(6) as usize];
+            write!(line, "{task} CPOOL GET,{form}CPID=P{pool},CELL=C{place}")?;
+            Ok(Change::Takes(place, Cell { pool, addr: 0 }))
+        }
+    }
+}
+
+/// Writes a statement of a pool that is refused: there is none of the name or there is one, or the cell is none. It may also write a
+/// BUILD that is granted.
+pub fn refused_pool(
+    line: &mut String,
+    dice: &mut Dice,
+    known: &Known,
+    task: Task,
+) -> Result<Change, AllocError> {
+    let other = dice.below(POOLS as u32) as usize;
+    let pool = if known.pools[0] { 0 } else { other };
+    if !known.pools[pool] && dice.is_one_of(2) {
+        return build(line, dice, task, pool);
+    }
+    if !known.pools[pool] {
+        match dice.below(3) {
+            0 => write!(line, "{task} CPOOL GET,CPID=P{pool},CELL=C0")?,
+            1 => write!(line, "{task} CPOOL FREE,CPID=P{pool},CELL=X'6000'")?,
+            _ => write!(line, "{task} CPOOL DELETE,CPID=P{pool}")?,
+        }
+        return Ok(Change::Nothing);
+    }
+    match dice.below(6) {
+        0..=2 => write!(line, "{task} CPOOL BUILD,CPID=P{pool},CSIZE=8,PCELLCT=1")?,
+        3 => write!(
+            line,
+            "{task} CPOOL BUILD,CPID=NEW,CSIZE=65536,PCELLCT=65536"
+        )?,
+        4 => write!(line, "{task} CPOOL BUILD,CPID=NEW,CSIZE=8,PCELLCT=1,SP=133")?,
+        _ => write!(line, "{task} CPOOL FREE,CPID=P{pool},CELL=X'01000004'")?,
+    }
+    Ok(Change::Nothing)
+}
