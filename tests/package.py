@@ -23,7 +23,7 @@ PAGES = {
     "man1/mvsjob-asm.1": ("OPTIONS", "EXIT STATUS", "CONVERSION", "SEE ALSO"),
     "man1/mvsjob-conform.1": ("OPTIONS", "EXIT STATUS", "SEE ALSO"),
     "man5/mvsjob-script.5": ("GETMAIN", "CPOOL", "FAULTS", "LIMITS"),
-    "man7/mvsjob-sheet.7": ("GETMAIN", "CODES", "TEN MISTAKES", "S804, S80A, S878"),
+    "man7/mvsjob-sheet.7": ("STATEMENTS", "REPLIES", "CODES", "TEN MISTAKES"),
 }
 PROGRAMS = ("mvsjob", "mvsjob-asm", "mvsjob-conform")
 COMPLETIONS = {
