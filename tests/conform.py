@@ -145,13 +145,14 @@ class Machines:
         for user in USERS:
             (folder / user).mkdir()
             os.chown(folder / user, int(user), int(user))
-        shutil.copytree(CONFORM.parent, folder / "conformance")
+        for name in ("conformance", "crates/version/src"):
+            shutil.copytree(TOP / name, folder / name)
         shutil.copy(program, folder / "mvsjob")
         for name, text in {"ssh": SSH, "probe": PROBE, "mvsjob-conform": WRAPPED, "my_emulator": EMULATOR}.items():
             (folder / name).write_text(text)
             (folder / name).chmod(0o755)
         # The checkout may be one that other users cannot read.
-        for path in (folder, *folder.glob("conformance/**/*"), folder / "conformance", folder / "mvsjob"):
+        for path in (folder, folder / "mvsjob", *(path for name in ("conformance", "crates") for path in (folder / name, *(folder / name).rglob("*")))):
             path.chmod(path.stat().st_mode | (0o755 if path.is_dir() or path.stat().st_mode & 0o100 else 0o644))
 
     def run(self, *words):

@@ -4,6 +4,8 @@ What it prints for a script of conformance/scripts or a random one, with a WHERE
 its placements, and never refused; so is what it prints for a random script of cell pools, where it takes the cells of each part upwards
 or its parts are where the judge would put them; what a wrong variant prints is refused, on some script; and where a byte
 is changed outside of an address, it is refused, or not decided where that is possible: at a list, or after a line whose places no answer shows.
+What no run prints wherever places are is refused after a CPOOL BUILD too: another end of the step, an answer that is missing or doubled, and one
+that its line cannot have.
 A random script has the same bytes for ever.
 """
 
@@ -84,10 +86,22 @@ def of_seed(program, seed):
     return is_judged(program, random_script(program, seed), PLACEMENTS[seed // 4 % len(PLACEMENTS)], seed)
 
 
+def nonsense(printed):
+    """Printings that no run prints, wherever places are."""
+    lines = printed.splitlines(True)
+    yield "".join(lines[:-1])
+    yield "".join(lines[:-1]) + ("STEP ENDED RC 8\n" if lines[-1] == "STEP ENDED RC 0\n" else "STEP ENDED RC 0\n")
+    for k in [k for k, line in enumerate(lines) if line.endswith(" CELL\n")][:1]:
+        yield "".join(lines[:k] + lines[k + 1 :])
+        yield "".join(lines[: k + 1] + lines[k:])
+        yield "".join(lines[:k] + [lines[k].replace(" CELL", " OK")] + lines[k + 1 :])
+
+
 def of_cells(program, seed):
     """Whether the plain machine's printings of a random script of pools are accepted, with its placements and orders of cells.
 
     A printing is accepted if its answers show where each part begins, or if its parts are where the judge puts them. None is refused.
+    What is changed in it to what no run prints is refused.
     """
     script = asked(program, pool_scripts.pool_script(seed))
     for placement in PLACEMENTS:
@@ -95,7 +109,8 @@ def of_cells(program, seed):
             verdict = judged(program, script, plain_emulator.run(script, placement, None, seed, order))
             if verdict != ACCEPTED and (verdict != UNDECIDED or placement == "low" or order == "first"):
                 return False
-    return True
+    printed = plain_emulator.run(script, "high", None, seed, "first")
+    return all(judged(program, script, other) == REFUSED for other in nonsense(printed))
 
 
 def changed(printed, dice):
@@ -122,10 +137,10 @@ def may_find(script, printed, other):
         if at < begin:
             return (REFUSED,)
         if re.match(r"\w+ +CPOOL +(BUILD|GET)", line):
-            return (UNDECIDED,)
+            return (REFUSED, UNDECIDED)
         if re.match(r"\w+ +GETMAIN +L", line):
             if at < end:
-                return (UNDECIDED,)
+                return (REFUSED, UNDECIDED)
             if " RC 0\n" not in printed[begin:end]:  # other places may serve
                 return (REFUSED, UNDECIDED)
     return (REFUSED,)

@@ -78,8 +78,9 @@ def conform_naming():
 
 def versions():
     """The version that each program has."""
-    yield "mvsjob", subprocess.check_output([TOP / "tools/version"], text=True).split()[1]
-    yield "mvsjob-asm", re.search(r'(?m)^const VERSION: &str = "(\S+)";$', (TOP / "crates/mvsjob_asm/src/command_line.rt").read_text())[1]
+    yield "tools/version", subprocess.check_output([TOP / "tools/version"], text=True).split()[1]
+    yield "mvsjob", subprocess.check_output([TOP / "crates/mvsjob/out/mvsjob", "--version"], text=True).split()[1]
+    yield "mvsjob-asm", subprocess.check_output([TOP / "crates/mvsjob_asm/out/mvsjob_asm", "--version"], text=True).split()[1]
     yield "mvsjob-conform", subprocess.check_output([TOP / "conformance/mvsjob-conform", "--version"], text=True).split()[1]
 
 

@@ -39,6 +39,8 @@ PREPARED = {
     "emulator.py": "import subprocess, sys\nsys.exit(subprocess.run(['mvsjob', '-']).returncode)\n",
     "bin/my_emulator": "#!/bin/sh\nexec mvsjob\n",
 }
+# What EMBEDDING.md has installed beside them.
+TYPED = "libunicorn-dev binutils-s390x-linux-gnu"
 # The files of the package of 1.0.0, beside its documents.
 OLD = ("bin/mvsjob", "share/man/man1/mvsjob.1.gz", "share/man/man5/mvsjob-script.5.gz", "share/bash-completion/completions/mvsjob",
        "share/zsh/site-functions/_mvsjob", "share/fish/vendor_completions.d/mvsjob.fish", "share/doc/mvsjob/docs/SCRIPT.md",
@@ -57,16 +59,12 @@ def version():
 
 
 def commands():
-    """The blocks of commands in documents, by the document: those that a reader types as they are printed.
-
-    tests/lessons.py types those of the sheets of lessons; here the first sheet is enough.
-    """
+    """The blocks of commands in documents, by the document: those that a reader types as they are printed."""
     for path in documents(TOP):
         name = str(path.relative_to(TOP))
-        is_sheet = re.match(r"lessons/\d", name) and not name.startswith("lessons/11")
-        if name.startswith(("README", "docs/", "examples/", "lessons/")) and not is_sheet:
+        if name.startswith(("README", "docs/", "examples/", "lessons/")):
             for number, block in enumerate(re.findall(r"(?ms)^```sh\n(.*?)^```$", path.read_text()), 1):
-                if not block.startswith(("machines=", "rt version", "apt-get install libunicorn-dev")):  # tests/conform.py, package.py and library.py run these
+                if not block.startswith(("machines=", "rt version", "mvsjob --judge lessons/")):  # tests/conform.py, package.py and lessons.py run these
                     yield f"{name} {number}", block
 
 
@@ -142,9 +140,10 @@ class Installation:
     def typed(self, block):
         """Whether the commands of a document do their work in a copy of the documents, beside the packages and the proved program.
 
-        A block that installs begins without the program, and afterwards all packages are installed again.
+        A block that installs the program begins without it, and afterwards all packages are installed again.
         """
-        home, installs = self.machine.root / "tmp/reader", block.startswith("sudo ")
+        home, user = self.machine.root / "tmp/reader", "root" if block.startswith("sudo ") else "nobody"
+        installs = user == "root" and "./mvsjob" in block
         shutil.rmtree(home, ignore_errors=True)
         shutil.copytree(self.machine.root / "usr/share/doc/mvsjob", home)
         shutil.copytree(self.packages, home, dirs_exist_ok=True)
@@ -158,7 +157,7 @@ class Installation:
         (home / "typed").write_text(block)
         if installs and not self.machine.succeeds("dpkg --purge mvsjob-conformance mvsjob"):
             return False
-        well = self.machine.succeeds('PATH="$PWD/bin:$PATH" bash -e typed', user="root" if installs else "nobody", cwd="/tmp/reader")
+        well = self.machine.succeeds('PATH="$PWD/bin:$PATH" bash -e typed', user=user, cwd="/tmp/reader")
         return well and self.machine.succeeds("dpkg --verify mvsjob && mvsjob --version") and (not installs or self.install())
 
     def linked(self, flags, prefix=""):
@@ -185,7 +184,7 @@ class Installation:
         )
 
     def removed(self):
-        gone = self.machine.succeeds(f"dpkg --purge {' '.join(reversed(PACKAGES))}")
+        gone = self.machine.succeeds(f"dpkg --purge {' '.join(reversed(PACKAGES))} && apt-get autoremove --purge --yes {TYPED}")
         left = self.machine.files() - self.before
         if left:
             print(f"left behind: {sorted(left)[:20]}")

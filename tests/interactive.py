@@ -153,8 +153,50 @@ def others(program):
     yield "a pipe for input", subprocess.run([program], input=b"JOB NOPE\n", capture_output=True, timeout=600).stderr.startswith(b"-:1:")
 
 
+def typed_with(program, *words):
+    """With other options too each answer comes before the next line is asked for, and a mistake does not end the session."""
+    terminal = Terminal(program, *words)
+    strict = "--strict" in words
+    steps = [
+        ("JOB REGION BELOW=1\n", "2> ", f"1 {BEGUN}\n"),
+        ("JOB GETMIAN R\n", "2> ", "-:2:5: JS03: unknown operation GETMIAN\n"),
+        ("JOB WHERE X\n", "3> ", "-:2:11: NO NAME: X is not set\n" if strict else "2 JOB NO NAME\n"),
+        ("JOB GETMAIN RC,LV=4097,A=X\n", "4> ", "3 JOB RC 4\n"),
+    ]
+    name, said = " ".join(words), ""
+    try:
+        terminal.read("1> ")
+        for text, prompt, wanted in steps:
+            terminal.type(text)
+            more = terminal.read(prompt)
+            said += more
+            yield f"{name}, {text!r}", more.endswith(prompt) and wanted in more
+        terminal.type("\x04")
+        said += terminal.read("STEP ENDED RC 0\n")
+        yield f"{name}, ends", terminal.run.wait(600) == (4 if strict else 0)
+        yield f"{name}, reasons", ("\n* " in said) == ("--explain" in words)
+    finally:
+        terminal.close()
+
+
+# Options that work together with `--interactive`.
+TOGETHER = ("--explain", "--json", "--json --explain", "--strict", "--strict --explain", "--strict --json")
+
+
+def is_same_with(program, words, seed):
+    """Whether of a random script with faulty lines the same is printed as of the script without them, with the same options."""
+    script = random_scripts.anything(seed, False)
+    text, _ = with_faults(script.text(), seed)
+    alone = subprocess.run([program, *words.split()], input=script.text().encode(), capture_output=True, timeout=600)
+    return called(program, text, *words.split())[:2] == (alone.returncode, alone.stdout.decode())
+
+
 def results(program):
     yield from others(program)
+    for words in TOGETHER:
+        yield from ((f"random, {words}, {seed}", is_same_with(program, words, seed)) for seed in range(5))
+    for words in ("--explain", "--strict", "--strict --explain"):
+        yield from typed_with(program, *words.split())
     yield from typed(program)
     yield from ((f"{name}, --interactive", well) for name, well in typed(program, "--interactive"))
     yield from left(program)

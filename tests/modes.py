@@ -50,12 +50,9 @@ APART = (
     "--assemble --json",
     "--blank --strict",
     "--json --page",
-    "--json --strict",
     "--page --interactive",
-    "--strict --interactive",
-    "--interactive --explain",
 )
-TOGETHER = ("--json --explain", "--page --explain", "--strict --explain", "--strict --place high", "--explain --color never", "--check --place low", "--check --hide --format tap --place low", "--interactive --color never")
+TOGETHER = ("--json --explain", "--page --explain", "--strict --explain", "--json --strict", "--json --explain --strict", "--strict --place high", "--explain --color never", "--check --place low", "--check --hide --format tap --place low", "--interactive --color never", "--interactive --explain", "--interactive --strict", "--interactive --explain --strict --color always", "--interactive --json --explain --strict")
 
 
 class Modes:
@@ -129,6 +126,7 @@ def checks(modes):
     status, out, err = modes.run("--check", named)
     yield "a fault that is named", (status, out) == (0, counts(2, 0, 0)) and "-:2:5: JS03" in err
     yield "a fault that is named, hidden", modes.run("--check --hide", named) == (0, counts(2, 0, 0), "")
+    yield "a fault that is asked for", modes.run("--check", named.replace(b"=> JS03", b"=> ?")) == (1, b"-:2: not answered\n" + counts(1, 0, 1), "")
     yield "a fault that is asked for, hidden", modes.run("--check --hide", named.replace(b"=> JS03", b"=> ?"))[2] == ""
     status, out, err = modes.run("--check --hide", b"JOB REGION BELOW=1 => ?\nJOB FOO\n")
     yield "a fault after the last answer, hidden", (status, out) == (1, b"-:1: not answered\n" + counts(0, 0, 1)) and "-:2:5: JS03" in err

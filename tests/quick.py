@@ -30,14 +30,14 @@ class Checkout:
         self.folder = folder
         self.notes = folder / "notes"
         self.path = f"{folder}/bin:/usr/bin:/bin"
-        for name in ("bin", "crates/mvsjob/src"):
+        for name in ("bin", "crates/version/src"):
             (folder / name).mkdir(parents=True)
         (folder / "bin/rt").write_text(STAND_IN)
         (folder / "bin/rt").chmod(0o755)
         for name in ("run", "x"):
             shutil.copy(TOP / name, folder)
         shutil.copytree(TOP / "tools", folder / "tools")
-        shutil.copy(TOP / "crates/mvsjob/src/command_line.rt", folder / "crates/mvsjob/src")
+        shutil.copy(TOP / "crates/version/src/lib.rt", folder / "crates/version/src")
 
     def shell(self, command, path=None, **how):
         """The status, output and error of a command, and whether the quick build was begun."""

@@ -4,7 +4,6 @@ use Rattle.std.specs.Prelude.{◌==◌, not, is_some}
 use Rattle.std.specs.Option.{option_map}
 use Rattle.std.proofs.lemmas.Bool.Decides.{nat_tests}
 use Rattle.std.specs.FinMap.{FinMap, get}
-use Rattle.std.specs.FinSet as set
 use Rattle.std.proofs.lemmas.Bool.{and_right}
 use Rattle.mvs_model.specs.declared.name.Name.{Name}
 use Rattle.mvs_model.specs.declared.refusal.Refusal.TheVariants.{NoPool, NoTakenCell}

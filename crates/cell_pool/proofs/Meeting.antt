@@ -21,7 +21,7 @@ use Rattle.cell_pool.proofs.Frame.{root_found, pool_from}
 use Rattle.cell_pool.proofs.Named.{named, entry_of}
 use Rattle.cell_pool.proofs.Only.{part_held}
 use Rattle.cell_pool.specs.Agree.{AgreeParts}
-use Rattle.cell_pool.specs.Cells.{HasPart, Touches, TouchesNone}
+use Rattle.cell_pool.specs.Cells.{HasPart, HasPartOf, Touches, TouchesNone}
 use Rattle.std.specs.Prelude.{MatchOption, is_some}
 use Rattle.mvs_model.specs.declared.name.Name.{Name}
 use Rattle.mvs_model.specs.Finite.{has}
@@ -102,3 +102,33 @@ module _ (slots : List (Option Entry)) (roots : FinMap name_cmp Root) (view : ro
   pub met_told : (v : Option Name) → Met v → MatchOption v (TouchesNone st (pools_of roots st) s p) (λ name. (d : ℕ) × Covers p d × HasPart (pools_of roots st) name d)
   met_told None none = touch_test false none
   met_told (Some name) h = met_part name h
+
+-- the same for a place, in any subpool
+module _ (slots : List (Option Entry)) (roots : FinMap name_cmp Root) (view : roots_of slots ≡ roots) (distinct : IsDistinct slots) (st : Storage) (p : PlaceValue) where
+  -- the doubleword of a part that was met
+  met_doubleword : (k : ℕ) (x : Entry) → item_at slots k ≡ Some x → Meets st x.root p → HasPartOf (pools_of roots st) p
+  met_doubleword k x at m =
+      let is : get roots x.name ≡ Some x.root = sym (ap (λ t. get t x.name) view) ∙ named slots k x distinct at in (
+        m.1,
+        m.4,
+        pooled_from (pools_of roots st) m.1 x.name (pool_of (byte_of st) x.root) (pool_from roots st x.name x.root is) (part_from (pool_of (byte_of st) x.root) m.1 (part_of (byte_of st) x.root m.0) (part_contained (byte_of st) x.root m.0 m.2) m.3),
+      )
+
+  -- no pool was met
+  missed : ((k : ℕ) (x : Entry) → item_at slots k ≡ Some x → Unit {0} → Meets st x.root p → ⊥) → HasPartOf (pools_of roots st) p → ⊥
+  missed none h =
+      let d = h.0 in
+      let q = pooled_found (pools_of roots st) d h.2 in
+      let r = root_found roots st q.0 q.1 q.2 in
+      let x = entry_of slots q.0 r.0 (ap (λ t. get t q.0) view ∙ r.1) in
+      let part = part_found q.1 d q.3 in
+      let j = contained_part (byte_of st) r.0 part.0 (subst (λ w. Contains w.parts part.0) (sym r.2) part.1) in
+      let covered : Covers (part_of (byte_of st) r.0 j.0).place d = subst (λ w. Covers w.place d) (sym j.2) part.2 in
+      none x.0 x.1 x.2 tt (subst (λ q. Meets st q p) (sym x.4) (j.0, d, j.1, covered, h.1))
+
+  pub any_test : (v : Option Name)
+      → MatchOption v ((k : ℕ) (x : Entry) → item_at slots k ≡ Some x → Unit {0} → Meets st x.root p → ⊥)
+      (λ name. (k : ℕ) × (x : Entry) × (item_at slots k ≡ Some x) × Unit {0} × Meets st x.root p × (x.name ≡ name))
+      → (b : Bool) → b ≡ is_some v → MatchBool b (HasPartOf (pools_of roots st) p) (HasPartOf (pools_of roots st) p → ⊥)
+  any_test None none b e = subst (λ b. MatchBool b (HasPartOf (pools_of roots st) p) (HasPartOf (pools_of roots st) p → ⊥)) (sym e) (missed none)
+  any_test (Some name) h b e = subst (λ b. MatchBool b (HasPartOf (pools_of roots st) p) (HasPartOf (pools_of roots st) p → ⊥)) (sym e) (met_doubleword h.0 h.1 h.2 h.4)

@@ -9,7 +9,7 @@ use Rattle.mvs_model.specs.Place.{PlaceValue}
 use Rattle.mvs_model.specs.Storage.{Storage, Covers}
 use Rattle.mvs_model.specs.Pools.{Pool, IsFreeCell, cell_at, in_parts}
 use Rattle.mvs_model.specs.State.{pooled}
-use Rattle.mvs_model.specs.View.{holding}
+use Rattle.mvs_model.specs.View.{holding, in_pools}
 use Rattle.cell_pool.specs.declared.pools.Supply.{Supply}
 
 -- The place is that of a taken cell of one of the pools.
@@ -27,6 +27,10 @@ Touches st pools s p = (d : ℕ) × Covers p d × (holding st pools d ≡ Some (
 -- No doubleword of the place is.
 abbrev pub TouchesNone : Storage → FinMap name_cmp Pool → ℕ → PlaceValue → Type 0
 TouchesNone st pools s p = (d : ℕ) → Covers p d → holding st pools d ≢ Some (pooled s)
+
+-- A part of some pool has a doubleword of the place.
+abbrev pub HasPartOf : FinMap name_cmp Pool → PlaceValue → Type 0
+HasPartOf pools p = (d : ℕ) × Covers p d × (in_pools pools d ≡ true)
 
 -- A part of the pool of this name has the doubleword.
 abbrev pub HasPart : FinMap name_cmp Pool → Name → ℕ → Type 0

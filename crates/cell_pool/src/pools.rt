@@ -22,7 +22,7 @@ ghost use Rattle.mvs_model.specs.Owners.{Owners};
 ghost use Rattle.mvs_model.specs.Reports.{bytes_held};
 ghost use Rattle.mvs_model.specs.View.{state_of};
 ghost use Rattle.mvs_model.specs.Storage.{Covers, Storage, has_address, is_one_of};
-ghost use Rattle.cell_pool.specs.Cells.{HasPart, IsSupply, IsTakenCell, Touches, TouchesNone};
+ghost use Rattle.cell_pool.specs.Cells.{HasPart, HasPartOf, IsSupply, IsTakenCell, Touches, TouchesNone};
 ghost use Rattle.mvs_model.specs.Reasons.{IsSpot};
 ghost use Rattle.std.specs.FinSet as set;
 ghost use Rattle.mvs_model.specs.State.{in_cell};
@@ -30,6 +30,7 @@ ghost use Rattle.mvs_model.specs.Steps.{Tries};
 ghost use Rattle.mvs_model.specs.Requests.{new_pool};
 ghost use Rattle.cell_pool.specs.Roots.{extended, pool_of, pools_of, taken_of};
 ghost use Rattle.cell_pool.specs.Agree.{Agree};
+ghost use Rattle.cell_pool.specs.Entries.{IsAmong};
 ghost use Rattle.cell_pool.specs.Extended.{Extended, MayAdd, NoRoom};
 ghost use Rattle.cell_pool.specs.Telling.{CellTakesTold, PartTakesTold};
 ghost use Rattle.mvs_model.specs.Place.{PlaceValue};
@@ -145,26 +146,38 @@ fn cell_of(
     cell_round(store, &entry.root, addr)
 }
 
-// The name of the pool at a key, where it is one of the subpool and a part of it has a doubleword of the place.
+// Whether a pool is one of the subpool, or of any where none is given.
+fn is_among(root: &Root, subpool: &Option<SubpoolId>) -> bool
+    ensures { MatchBool result (IsAmong subpool.now root.now.subpool)
+        (IsAmong subpool.now root.now.subpool → ⊥) }
+{
+    match subpool {
+        Some(subpool) => root.is_of(*subpool),
+        None => true,
+    }
+}
+
+// The name of the pool at a key, where it is one of the subpool, or of any, and a part of it has a doubleword of the place.
 fn entry_meets(
     entries: &Slab<Entry>,
     store: &Store,
     key: usize,
-    subpool: SubpoolId,
+    subpool: &Option<SubpoolId>,
     place: Place,
 ) -> Option<Name>
     requires { (k : ℕ) (x : TheEntry) → slab_get entries.now k ≡ Some x
         → IsChain store.now.storage x.root }
     ensures { MatchOption result
-        ((x : TheEntry) → slab_get entries.now key ≡ Some x → x.root.subpool ≡ subpool
+        ((x : TheEntry) → slab_get entries.now key ≡ Some x → IsAmong subpool.now x.root.subpool
         → Meets store.now.storage x.root place → ⊥)
-        (λ name. (x : TheEntry) × (slab_get entries.now key ≡ Some x) × (x.root.subpool ≡ subpool)
-        × Meets store.now.storage x.root place × (x.name ≡ name)) }
+        (λ name. (x : TheEntry) × (slab_get entries.now key ≡ Some x)
+        × IsAmong subpool.now x.root.subpool × Meets store.now.storage x.root place
+        × (x.name ≡ name)) }
 {
     let Some(entry) = entries.get(key) else {
         return None;
     };
-    if !entry.root.is_of(subpool) {
+    if !is_among(&entry.root, subpool) {
         return None;
     }
     if !meets(store, &entry.root, place) {
@@ -173,15 +186,21 @@ fn entry_meets(
     Some(entry.name)
 }
 
-// Returns the name of a pool of the subpool with a part that has a doubleword of the place.
-fn any_meets(entries: &Slab<Entry>, store: &Store, subpool: SubpoolId, place: Place) -> Option<Name>
+// Returns the name of a pool of the subpool, or of any, with a part that has a doubleword of the place.
+fn any_meets(
+    entries: &Slab<Entry>,
+    store: &Store,
+    subpool: &Option<SubpoolId>,
+    place: Place,
+) -> Option<Name>
     requires { (k : ℕ) (x : TheEntry) → slab_get entries.now k ≡ Some x
         → IsChain store.now.storage x.root }
     ensures { MatchOption result
-        ((k : ℕ) (x : TheEntry) → slab_get entries.now k ≡ Some x → x.root.subpool ≡ subpool
-        → Meets store.now.storage x.root place → ⊥)
+        ((k : ℕ) (x : TheEntry) → slab_get entries.now k ≡ Some x
+        → IsAmong subpool.now x.root.subpool → Meets store.now.storage x.root place → ⊥)
         (λ name. (k : ℕ) × (x : TheEntry) × (slab_get entries.now k ≡ Some x)
-        × (x.root.subpool ≡ subpool) × Meets store.now.storage x.root place × (x.name ≡ name)) }
+        × IsAmong subpool.now x.root.subpool × Meets store.now.storage x.root place
+        × (x.name ≡ name)) }
 {
     if has_none(entries) {
         return None;
@@ -527,15 +546,24 @@ impl Pools {
         self.cell_at(store, addr).is_some()
     }
 
-    /// Whether the subpool holds some doubleword of a place as a part of a pool. Parts in other subpools do not count, so this
-    /// is asked of a place that the subpool holds.
-    pub fn touches(&self, store: &Store, subpool: SubpoolId, place: Place) -> bool
+    /// Returns whether a part of a pool, in any subpool, has a doubleword of a place.
+    pub fn touches(&self, store: &Store, place: Place) -> bool
+        requires { Agree self.now store.now.storage }
+        ensures { MatchBool result (HasPartOf (pools_of self.now store.now.storage) place)
+            (HasPartOf (pools_of self.now store.now.storage) place → ⊥) }
+    {
+        any_meets(&self.entries, store, &None, place).is_some()
+    }
+
+    /// Returns whether the subpool holds some doubleword of a place as a part of a pool. Parts in other subpools do not count, so
+    /// this is asked of a place that the subpool holds.
+    pub fn touches_in(&self, store: &Store, subpool: SubpoolId, place: Place) -> bool
         requires { Agree self.now store.now.storage }
         ensures { MatchBool result
             (Touches store.now.storage (pools_of self.now store.now.storage) subpool place)
             (TouchesNone store.now.storage (pools_of self.now store.now.storage) subpool place) }
     {
-        any_meets(&self.entries, store, subpool, place).is_some()
+        any_meets(&self.entries, store, &Some(subpool), place).is_some()
     }
 
     /// Returns the name of a pool of the subpool with a part that has a doubleword of the place, which the subpool holds.
@@ -546,7 +574,7 @@ impl Pools {
             (λ name. (d : ℕ) × Covers place d
             × HasPart (pools_of self.now store.now.storage) name d) }
     {
-        any_meets(&self.entries, store, subpool, place)
+        any_meets(&self.entries, store, &Some(subpool), place)
     }
 
     /// Whether a pool has the name.

@@ -24,7 +24,7 @@ fn take_answer(rt: &HostRuntime, session: &Session, answer: &Answer) -> io::Resu
     match answer {
         Answer::At(addr) => println!(rt; "register 1 is {:08X}", addr.get()),
         Answer::Data(place) => match session.walk().job() {
-            Some(job) => println!(rt; "the bytes are {:?}", job.bytes(*place)),
+            Some(job) => println!(rt; "the bytes are {:?}", job.step().bytes(*place)),
             None => Ok(()),
         },
         Answer::Abended(Code::System(code)) => {

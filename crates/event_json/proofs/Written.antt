@@ -1,26 +1,74 @@
 -- Lines of JSON, one after another.
-use Rattle.std.proofs.Common.{◌≡◌, ℕ, List, [], ◌∷◌, ◌++◌, append-nil, Bool, Option, Result, Ok, Err, IfOk, refl, sym}
-use Rattle.std.specs.Io.KnownBytes.{Appends}
-use Rattle.std.proofs.KnownBytes.{Appends-trans}
+use Rattle.std.proofs.Common.{◌≡◌, ℕ, List, [], ◌∷◌, ◌++◌, append_assoc, append-nil, Bool, true, false, Option, Some, None, Result, Ok, Err, IfOk, refl, sym, ap, subst, ◌∙◌}
+use Rattle.std.specs.Prelude.{IsErrOf}
+use Rattle.job_script.specs.Writing.{WritesAll}
 use Rattle.mvs_model.specs.declared.name.Name.{Name}
-use Rattle.mvs_model.specs.Answers.{Answer, Told, StepEnded}
-use Rattle.event_json.specs.Lines.{WritesLines, statement_head, step_end}
+use Rattle.mvs_model.specs.declared.watched.Failed.{Failed}
+use Rattle.mvs_model.specs.Answers.{Answer, Event, Told}
+use Rattle.mvs_model.specs.Job.{JobValue}
+use Rattle.mvs_job.specs.declared.consumer.End.{End}
+use Rattle.mvs_job.specs.declared.printing.Stop.{Stop}
+use Rattle.mvs_job.specs.declared.printing.Stop.TheVariants as stop
+use Rattle.mvs_job.specs.declared.walk.LineTold.{LineTold}
+use Rattle.mvs_job.specs.Consuming.{AcceptsEnd, AcceptsLine, IsEnd, WrittenAfter, keeps_nothing}
+use Rattle.mvs_job.specs.Observing.{Hearing}
+use Rattle.mvs_job.specs.Telling.{WalkValue, ended, events_told}
+use Rattle.mvs_job.specs.Trace.{Entry, events_of}
+use Rattle.event_json.specs.Lines.{AreLinesOf, EndsWithAnswer, IsStatement, WritesEvents, WritesLast, event_lines, statement_head, step_end}
 
--- the line of a statement, between two moments of a writer
-abbrev pub WritesStatement : Option (List ℕ) → Option (List ℕ) → ℕ → Name → Type 0
-WritesStatement before after number t = (members : List ℕ) × Appends before after (statement_head number t ++ members ++ 10 ∷ [])
+-- ---- the lines of a line of the script
 
-pub one_line : (before after : Option (List ℕ)) (number : ℕ) (t : Name) (answer : Answer) → WritesStatement before after number t → WritesLines before after (Told number t answer ∷ [])
-one_line before after number t answer (members, a) =
-    let text = statement_head number t ++ members ++ 10 ∷ [] in
-    (text, a, (text, [], sym (append-nil text), (members, refl), refl))
+-- one line
+pub statement_lines : (number : ℕ) (t : Name) (answer : Answer) (text : List ℕ) → IsStatement number t text → AreLinesOf (Told number t answer ∷ []) text
+statement_lines number t answer text is = (text, [], sym (append-nil text), is, refl)
 
-pub two_lines : (before mid after : Option (List ℕ)) (abended : Bool) (number : ℕ) (t : Name) (answer : Answer) → Appends before mid (step_end abended) → WritesStatement mid after number t → WritesLines before after (StepEnded abended ∷ Told number t answer ∷ [])
-two_lines before mid after abended number t answer e (members, a) =
-    let text = statement_head number t ++ members ++ 10 ∷ [] in
-    (step_end abended ++ text, Appends-trans before mid after (step_end abended) text e a, (step_end abended, text, refl, refl, (text, [], sym (append-nil text), (members, refl), refl)))
+-- the line of a statement after that of the end of a step
+pub region_lines : (end : Option Bool) (number : ℕ) (t : Name) (answer : Answer) (text members : List ℕ) → text ≡ (step_end end ++ statement_head number t) ++ members ++ 10 ∷ [] → AreLinesOf (ended end ++ Told number t answer ∷ []) text
+region_lines None number t answer text members is = statement_lines number t answer text (members, is)
+region_lines (Some abended) number t answer text members is =
+    let rest = statement_head number t ++ members ++ 10 ∷ [] in
+    let end = step_end (Some abended) in
+    let head = statement_head number t in
+    (end, rest, is ∙ ap (λ x. x ++ 10 ∷ []) (append_assoc end head members) ∙ append_assoc end (head ++ members) (10 ∷ []), refl, statement_lines number t answer rest (members, refl))
+
+-- a text that was written, or not
+pub text_written : {X : Type 0} (before after : Option (List ℕ)) (events : List Event) (text : List ℕ) → AreLinesOf events text → (r : Result X Stop) → WritesAll before after r text → (IsErrOf r stop.Memory → ⊥) → WritesEvents before after events r
+text_written before after events text are (Ok x) a other = (text, are, a)
+text_written before after events text are (Err stop.Write) f other = (text, are, f)
+text_written before after events text are (Err stop.Memory) f other = absurd (other refl)
+
+-- the end of a step, if one ended
+pub ended_lines : (end : Option Bool) → AreLinesOf (ended end) (step_end end)
+ended_lines None = refl
+ended_lines (Some abended) = (step_end (Some abended), [], sym (append-nil (step_end (Some abended))), refl, refl)
 
 -- what is so of each value, is so
 pub if_ok : {T E : Type 0} (r : Result T E) (P Q : T → Type 0) → IfOk r P → ((x : T) → P x → Q x) → IfOk r Q
 if_ok (Ok x) P Q h f = f x h
 if_ok (Err e) P Q h f = tt
+
+-- ---- an entry
+
+module _ {S : Type 0} (heard : Hearing S) (sees : S → Option JobValue → List ℕ → Type 0) (before after : Option (List ℕ)) (first s s' : S) (n : ℕ) (line : List ℕ) (w : WalkValue) (t : LineTold) where
+  pub accepts_line : {X : Type 0} (r : Result X Stop) → WritesEvents before after (events_told n w t) r → AcceptsLine {S = S} {X = X} event_lines heard sees (keeps_nothing first) before after s s' n line w t r
+  accepts_line (Ok x) (text, are, a) mid history e is seen observed known = ((text, subst (λ v. AreLinesOf v text) (sym is.events) are, a), tt)
+  accepts_line (Err stop.Write) (text, are, f) mid history e is seen observed known = ((text, subst (λ v. AreLinesOf v text) (sym is.events) are, f), tt)
+  accepts_line (Err stop.Memory) (needs, kept) mid history e is seen observed known = ((subst EndsWithAnswer (sym is.events) needs, kept), tt)
+
+pub accepts_end : {S X : Type 0} (before after : Option (List ℕ)) (first s s' : S) (n : ℕ) (how : End) (r : Result X Failed) (events : List Event) → ((e : Entry) → IsEnd n how e → e.events ≡ events) → WritesLast before after events r
+    → AcceptsEnd {S = S} {X = X} event_lines (keeps_nothing first) before after s s' n how r
+accepts_end before after first s s' n how (Ok x) events same (text, are, a) history e is known = ((text, subst (λ v. AreLinesOf v text) (sym (same e is)) are, a), tt)
+accepts_end before after first s s' n how (Err failed) events same (text, are, f) history e is known = ((text, subst (λ v. AreLinesOf v text) (sym (same e is)) are, f), tt)
+
+-- ---- a run
+
+lines_both : (events more : List Event) (text rest : List ℕ) → AreLinesOf events text → AreLinesOf more rest → AreLinesOf (events ++ more) (text ++ rest)
+lines_both [] more text rest is are = subst (AreLinesOf more) (ap (λ t. t ++ rest) (sym is)) are
+lines_both (event ∷ events) more text rest (line, left, whole, is, each) are =
+    (line, left ++ rest, ap (λ t. t ++ rest) whole ∙ append_assoc line left rest, is, lines_both events more left rest each are)
+
+-- what is written for entries are the lines of their events
+pub lines_of_entries : (history entries : List Entry) (text : List ℕ) → WrittenAfter event_lines history entries text → AreLinesOf (events_of entries) text
+lines_of_entries history [] text is = is
+lines_of_entries history (e ∷ entries) text (one, rest, are, more, cut) =
+    subst (AreLinesOf (e.events ++ events_of entries)) (sym cut) (lines_both e.events (events_of entries) one rest are (lines_of_entries (history ++ e ∷ []) entries rest more))

@@ -31,7 +31,7 @@ fn run_behind(job: &Job, run: &MapRun) -> Option<MapRun> {
     if end >= ADDRESSES {
         return None;
     }
-    job.map_run(Addr::new(end))
+    job.step().map_run(Addr::new(end))
 }
 
 // Puts the subpool that some pages are assigned to, if they are, into their object.
@@ -51,7 +51,7 @@ fn put_holder(members: &mut Members, run: &MapRun) -> Result<(), AllocError>
 fn put_subpool(members: &mut Members, job: &Job, addr: Addr) -> Result<(), AllocError>
     ensures { members.new ≡ members.old }
 {
-    let mut next = job.map_run(Addr::new(0));
+    let mut next = job.step().map_run(Addr::new(0));
     for _ in 0..MOST_RUNS {
         match next {
             Some(run) if addr.get() < run.addr.get().saturating_add(run.len) => {
@@ -141,7 +141,7 @@ fn put_data(
     members.text("answer", "data")?;
     members.number("address", place.addr().get())?;
     let bytes = match walk.job() {
-        Some(job) => job.bytes(place).unwrap_or(&[]),
+        Some(job) => job.step().bytes(place).unwrap_or(&[]),
         None => &[],
     };
     let text = hex_text(alloc, bytes)?;
@@ -184,7 +184,7 @@ fn put_subpools(members: &mut Members, job: &Job, task: &Name) -> Result<(), All
 {
     members.begin_list("subpools")?;
     for from in 0..=132u8 {
-        match job.subpool_line(task, from) {
+        match job.step().subpool_line(task, from) {
             Some(line) if line.number.get() == from => put_subpool_line(members, &line)?,
             _ => {}
         }
@@ -197,7 +197,7 @@ fn put_map(members: &mut Members, job: &Job) -> Result<(), AllocError>
     ensures { members.new ≡ members.old }
 {
     members.begin_list("pages")?;
-    let mut next = job.map_run(Addr::new(0));
+    let mut next = job.step().map_run(Addr::new(0));
     for _ in 0..MOST_RUNS {
         let Some(run) = next else {
             break;

@@ -1,36 +1,37 @@
-//! The events of a script as lines of JSON: an object for each event. docs/JSON.md describes the members.
+//! The events of a run as lines of JSON: an object for each event. docs/JSON.md describes the members.
 #![tactic(auto)]
 
-ghost use Rattle.std.specs.Prelude.{◌≡◌, IfOk};
-ghost use Rattle.std.specs.Io.KnownBytes.{Appends};
+ghost use Rattle.std.specs.Prelude.{◌≡◌, ◌++◌, true, IfOk, OnErr, OnOk, IsErrOf};
+ghost use Rattle.job_script.specs.Writing.{Prints};
 ghost use Rattle.mvs_job.specs.Telling.{closing, events_told, new_walk};
-ghost use Rattle.event_json.specs.Lines.{WritesLines, fault_line, statement_head, step_end};
+ghost use Rattle.event_json.specs.Lines.{AreLinesOf, IsStatement, WritesEvents, WritesLast, fault_line, statement_head, step_end};
 
 mod answers;
-mod fault;
+mod event_lines;
+pub mod laws;
 mod members;
 mod reasons;
 
 use crate::answers::put_answer;
 use crate::members::Members;
 use crate::reasons::put_reason;
-pub use fault::JsonFault;
+pub use event_lines::EventLines;
 use job_script::text::Text;
 use job_script::{fault_digit, write_all};
-use mvs_job::{LineTold, Walk};
+use mvs_job::{LineTold, Stop, Walk};
 use mvs_model::answer::Answer;
 use mvs_model::card::Card;
 use mvs_model::line::Fault;
 use mvs_model::name::Name;
 use mvs_model::reason::LineReason;
-use mvs_model::watched::Watched;
+use mvs_model::watched::{Failed, Watched};
 use std::alloc::{AllocError, Global};
 use std::io::Write;
 use std::str;
 
 /// A line of a script, without its end: its number, its bytes, and why it is not executed as it asks, if that is known.
 #[derive(Clone, Copy)]
-pub struct ScriptLine<'a> {
+pub(crate) struct ScriptLine<'a> {
     pub number: u32,
     pub bytes: &'a [u8],
     pub reason: Option<LineReason>,
@@ -58,29 +59,18 @@ fn statement_head(number: u32, task: &Name) -> Text
     text
 }
 
-// The members that each statement has.
-fn of_statement(alloc: Global, line: &ScriptLine<'_>, task: &Name) -> Result<Members, AllocError>
-    ensures { IfOk result (λ members. members ≡ statement_head line.now.number task.now) }
+// Returns the line of the end of a step, if one ended.
+fn step_end(ended: Option<bool>) -> &'static [u8]
+    ensures { result.now ≡ step_end ended }
 {
-    let mut head = Vec::new(alloc);
-    head.extend_from_slice(statement_head(line.number, task).as_slice())?;
-    let mut members = Members::after(head);
-    members.text("statement", statement(line.bytes))?;
-    Ok(members)
-}
-
-// The end of a step.
-fn step_end(abended: bool) -> &'static [u8]
-    ensures { result.now ≡ step_end abended }
-{
-    if abended {
-        b"{\"event\":\"step_ended\",\"return_code\":8}\n"
-    } else {
-        b"{\"event\":\"step_ended\",\"return_code\":0}\n"
+    match ended {
+        Some(true) => b"{\"event\":\"step_ended\",\"return_code\":8}\n",
+        Some(false) => b"{\"event\":\"step_ended\",\"return_code\":0}\n",
+        None => b"",
     }
 }
 
-// A fault of a line.
+// Returns the line of a fault.
 fn fault_line(number: u32, digit: u32) -> Text
     ensures { result ≡ fault_line number digit }
 {
@@ -93,18 +83,58 @@ fn fault_line(number: u32, digit: u32) -> Text
     text
 }
 
-// A step that begins.
-fn region(alloc: Global, line: &ScriptLine<'_>, card: &Card) -> Result<Members, AllocError>
-    ensures { IfOk result (λ members. members ≡ statement_head line.now.number card.now.name) }
+// Returns the members that each statement has, after other lines.
+fn of_statement(
+    alloc: Global,
+    lines: &[u8],
+    line: &ScriptLine<'_>,
+    task: &Name,
+) -> Result<Members, AllocError>
+    ensures { IfOk result
+        (λ members. members ≡ lines.now ++ statement_head line.now.number task.now) }
 {
-    let mut members = of_statement(alloc, line, &card.name())?;
+    let mut head = Vec::new(alloc);
+    head.extend_from_slice(lines)?;
+    head.extend_from_slice(statement_head(line.number, task).as_slice())?;
+    let mut members = Members::after(head);
+    members.text("statement", statement(line.bytes))?;
+    Ok(members)
+}
+
+// Returns the members of a step that begins, after the end of the one before it, if one has ended.
+fn region(
+    alloc: Global,
+    line: &ScriptLine<'_>,
+    ended: Option<bool>,
+    card: &Card,
+) -> Result<Members, AllocError>
+    ensures { IfOk result
+        (λ members. members
+        ≡ step_end ended ++ statement_head line.now.number card.now.name) }
+{
+    let mut members = of_statement(alloc, step_end(ended), line, &card.name())?;
     members.text("answer", "region")?;
     members.number("below", card.below())?;
     members.number("above", card.above())?;
     Ok(members)
 }
 
-// A statement of a task, and what it is answered.
+// Returns the lines of a step that begins: the end of the one before it, if one has ended, and its REGION statement.
+fn region_lines(
+    alloc: Global,
+    line: &ScriptLine<'_>,
+    ended: Option<bool>,
+    card: &Card,
+) -> Result<Vec<u8>, AllocError>
+    ensures { IfOk result
+        (λ lines. AreLinesOf
+        (events_told line.now.number new_walk (LineTold.Began ended card.now)) lines.items) }
+{
+    let members = region(alloc, line, ended, card)?;
+    members.into_line()
+}
+
+// Returns the members of a statement of a task, with the answer.
 fn answered(
     alloc: Global,
     line: &ScriptLine<'_>,
@@ -114,7 +144,7 @@ fn answered(
 ) -> Result<Members, AllocError>
     ensures { IfOk result (λ members. members ≡ statement_head line.now.number task.now) }
 {
-    let mut members = of_statement(alloc, line, task)?;
+    let mut members = of_statement(alloc, b"", line, task)?;
     put_answer(alloc, &mut members, walk, task, answer)?;
     if let Some(reason) = &line.reason {
         put_reason(&mut members, reason)?;
@@ -122,77 +152,85 @@ fn answered(
     Ok(members)
 }
 
-// Writes some bytes.
-fn write_bytes<W: Write>(writer: &mut Watched<W>, bytes: &[u8]) -> Result<(), JsonFault>
-    ensures { IfOk result
-        (λ _. Appends (W.contents writer.old.inner) (W.contents writer.new.inner) bytes.now) }
+// Returns the line of a statement of a task, with the answer.
+fn answer_line(
+    alloc: Global,
+    line: &ScriptLine<'_>,
+    walk: &Walk,
+    task: &Name,
+    answer: &Answer,
+) -> Result<Vec<u8>, AllocError>
+    ensures { IfOk result (λ text. IsStatement line.now.number task.now text.items) }
 {
-    match write_all(writer, bytes) {
-        Ok(()) => Ok(()),
-        Err(_) => Err(JsonFault::Write),
-    }
+    let members = answered(alloc, line, walk, task, answer)?;
+    members.into_line()
 }
 
-// Writes the end of a step that has ended, if one has, and then of the step that begins.
-fn write_region<W: Write>(
-    alloc: Global,
-    writer: &mut Watched<W>,
-    line: &ScriptLine<'_>,
-    ended: Option<bool>,
-    card: &Card,
-) -> Result<(), JsonFault>
-    ensures { IfOk result
-        (λ _. WritesLines (W.contents writer.old.inner) (W.contents writer.new.inner)
-        (events_told line.now.number new_walk (LineTold.Began ended card.now))) }
+// Writes a text.
+fn write_text<W: Write>(writer: &mut Watched<W>, text: &[u8]) -> Result<(), Stop>
+    ensures text { Prints W.contents writer.old writer.new result text.now }
+    ensures memory { ¬ IsErrOf result Stop.Memory }
 {
-    let members = region(alloc, line, card)?;
-    match ended {
-        Some(abended) => {
-            write_bytes(writer, step_end(abended))?;
-            members.write_line(writer)
-        }
-        None => members.write_line(writer),
+    match write_all(writer, text) {
+        Ok(()) => Ok(()),
+        Err(_) => Err(Stop::Write),
     }
 }
 
 /// Writes the events of a line: no line of JSON, one, or two if a step has ended. The walk is the one after the line.
-pub fn write_line<W: Write>(
+pub(crate) fn write_line<W: Write>(
     alloc: Global,
     writer: &mut Watched<W>,
     line: &ScriptLine<'_>,
     walk: &Walk,
     told: &LineTold,
-) -> Result<(), JsonFault>
-    ensures { IfOk result
-        (λ _. WritesLines (W.contents writer.old.inner) (W.contents writer.new.inner)
-        (events_told line.now.number walk.now told.now)) }
+) -> Result<(), Stop>
+    ensures written { WritesEvents (W.contents writer.old.inner) (W.contents writer.new.inner)
+        (events_told line.now.number walk.now told.now) result }
+    ensures ok { OnOk result (writer.new.failed ≡ writer.old.failed) }
+    ensures write { IsErrOf result Stop.Write → writer.new.failed ≡ true }
 {
     match told {
         LineTold::Nothing => Ok(()),
-        LineTold::Began { ended, card } => write_region(alloc, writer, line, *ended, card),
-        LineTold::Answered { task, answer } => {
-            answered(alloc, line, walk, task, answer)?.write_line(writer)
-        }
-        LineTold::Faulted(found) => write_bytes(
+        LineTold::Began { ended, card } => match region_lines(alloc, line, *ended, card) {
+            Ok(lines) => write_text(writer, &lines),
+            Err(_) => Err(Stop::Memory),
+        },
+        LineTold::Answered { task, answer } => match answer_line(alloc, line, walk, task, answer) {
+            Ok(text) => write_text(writer, &text),
+            Err(_) => Err(Stop::Memory),
+        },
+        LineTold::Faulted(fault) => write_text(
             writer,
-            fault_line(line.number, fault_digit(*found)).as_slice(),
+            fault_line(line.number, fault_digit(*fault)).as_slice(),
         ),
     }
 }
 
+/// Writes the end of a step, if one ended.
+pub(crate) fn write_ended<W: Write>(
+    writer: &mut Watched<W>,
+    ended: Option<bool>,
+) -> Result<(), Failed>
+    ensures { Prints W.contents writer.old writer.new result (step_end ended) }
+{
+    write_all(writer, step_end(ended))
+}
+
 /// Writes the end of a job that has no more lines: the end of its last step, or that there is no statement.
-pub fn write_end<W: Write>(
+pub(crate) fn write_end<W: Write>(
     writer: &mut Watched<W>,
     number: u32,
     ended: Option<bool>,
-) -> Result<(), JsonFault>
-    ensures { IfOk result
-        (λ _. WritesLines (W.contents writer.old.inner) (W.contents writer.new.inner)
-        (closing number ended)) }
+) -> Result<(), Failed>
+    ensures written { WritesLast (W.contents writer.old.inner) (W.contents writer.new.inner)
+        (closing number ended) result }
+    ensures ok { OnOk result (writer.new.failed ≡ writer.old.failed) }
+    ensures err { OnErr result (writer.new.failed ≡ true) }
 {
     match ended {
-        Some(abended) => write_bytes(writer, step_end(abended)),
-        None => write_bytes(
+        Some(_) => write_ended(writer, ended),
+        None => write_all(
             writer,
             fault_line(number, fault_digit(Fault::OutOfPlace)).as_slice(),
         ),

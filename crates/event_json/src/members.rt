@@ -1,15 +1,10 @@
 //! An object of JSON, written member by member.
 
 ghost use Rattle.std.specs.Prelude.{◌≡◌, ◌∷◌, ◌++◌, [], ℕ, List, IfOk};
-ghost use Rattle.std.specs.Io.KnownBytes.{Appends};
 
-use crate::fault::JsonFault;
-use job_script::write_all;
 use json::Writer;
 use mvs_model::name::Name;
-use mvs_model::watched::Watched;
 use std::alloc::{AllocError, Global};
-use std::io::Write;
 use std::marker::Model;
 use std::str;
 
@@ -99,21 +94,15 @@ impl Members {
         self.writer.end_array()
     }
 
-    /// Closes the object, and writes it as a line.
-    pub fn write_line<W: Write>(self, out: &mut Watched<W>) -> Result<(), JsonFault>
+    /// Closes the object, and returns the line.
+    pub fn into_line(self) -> Result<Vec<u8>, AllocError>
         ensures { IfOk result
-            (λ _. (members : List ℕ) × Appends (W.contents out.old.inner)
-            (W.contents out.new.inner) (self ++ members ++ 10 ∷ [])) }
+            (λ line. (members : List ℕ) × (line.items ≡ self ++ members ++ 10 ∷ [])) }
     {
         let Members { mut writer } = self;
         writer.end_object()?;
-        let mut bytes = writer.into_inner();
-        if bytes.push(b'\n').is_err() {
-            return Err(JsonFault::Memory);
-        }
-        match write_all(out, &bytes) {
-            Ok(()) => Ok(()),
-            Err(_) => Err(JsonFault::Write),
-        }
+        let mut line = writer.into_inner();
+        line.push(b'\n')?;
+        Ok(line)
     }
 }

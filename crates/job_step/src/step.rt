@@ -3,7 +3,8 @@
 
 ghost use Rattle.std.specs.Prelude.{◌≡◌, ◌<◌, ◌≤◌, ◌+◌, ◌||◌, ◌↔◌, ℕ, Err, true, false, IfOk, IfSome, OnOk, IsSome, MatchBool, MatchOption, length, slice_get, None, Some};
 ghost use Rattle.std.specs.FinMap.{get};
-ghost use Rattle.mvs_model.specs.Numbers.{most_subpools, subpool_numbers};
+ghost use Rattle.mvs_model.specs.Determined.{is_list};
+ghost use Rattle.mvs_model.specs.Numbers.{subpool_numbers};
 ghost use Rattle.mvs_model.specs.Owners.{is_active};
 ghost use Rattle.mvs_model.specs.Start.{start};
 ghost use Rattle.mvs_model.specs.Causes.{IsRefused};
@@ -13,13 +14,9 @@ ghost use Rattle.mvs_model.specs.Requests.{bytes_from};
 ghost use Rattle.mvs_model.specs.Steps.{Attempts, Step as MachineStep, Tries};
 ghost use Rattle.mvs_model.specs.Reasons.{Explains, MemberLacks};
 ghost use Rattle.mvs_model.specs.declared.refusal.Refusal.TheVariants.{Member};
-ghost use Rattle.mvs_model.specs.Newest.{IsNewest};
-ghost use Rattle.mvs_model.specs.Pools.{Pool};
 ghost use Rattle.mvs_model.specs.Replies.{is_abend};
-ghost use Rattle.mvs_model.specs.NextOwned.{IsNextOwned};
-ghost use Rattle.request_forms.specs.Facts.{owned_at};
 ghost use Rattle.job_step.specs.Told.{IsLeft};
-ghost use Rattle.request_forms.specs.Standing.{free_above, free_below, label_had, label_meant};
+ghost use Rattle.request_forms.specs.Machine.{IsTask, task_name};
 ghost use Rattle.request_forms.specs.Taking.{Takes};
 ghost use Rattle.request_forms.specs.Reports.{HasNone, IsMapEnd, IsMapRun, IsSubpoolLine};
 
@@ -33,14 +30,14 @@ use mvs_model::name::Name;
 use mvs_model::place::{Addr, Place};
 use mvs_model::reason::{Reason, Shortfall};
 use mvs_model::refusal::{Consequence, Refusal};
-use mvs_model::report::{MapRun, Newest, SubpoolLine};
+use mvs_model::report::{MapRun, SubpoolLine};
 use mvs_model::request::{Reply, Request};
-use mvs_model::subpool::{SubNo, SubpoolId};
 use mvs_model::table::reply_to;
 use mvs_model::want::Placement;
-use request_forms::{FreePages, Machine, OwnedSubpool, first_told, no_shortfall};
+use request_forms::{Machine, first_told, no_shortfall};
 use std::alloc::Global;
 use std::marker::Model;
+use task_owner::TaskId;
 
 /// The machine of a step, and whether a task has abended.
 #[derive(Drop)]
@@ -56,47 +53,78 @@ impl Model for Step {
 
     ghost coded = { step_code };
 
-    ghost view = { λ s. record { state = s.machine; abended = s.abended } };
+    ghost view = { λ s. record { state = s.machine.state; abended = s.abended } };
+}
+
+// Obtains the areas of a list for an active task, as `act` does. It is a separate function because the compiler clears the space
+// of the places in the function that needs it.
+#[inline(never)]
+fn act_on_list(
+    machine: &mut Machine,
+    t: TaskId,
+    request: &Request,
+    told: &[Addr],
+    reply: &mut Reply,
+    left: &mut Shortfall,
+) -> Result<(), Refusal>
+    requires active { IsTask machine.old t }
+    requires list { is_list request.now ≡ true }
+    ensures answer { Tries (λ _. reply.new) machine.old.state (task_name machine.old t) request.now
+        result machine.new.state }
+    ensures no_abend { OnOk result (is_abend reply.new ≡ false) }
+    ensures told { OnOk result
+        (Takes told.now machine.old.state (task_name machine.old t) request.now reply.new
+        machine.new.state) }
+    ensures left { IsLeft machine.old.state (task_name machine.old t) request.now result left.new }
+{
+    let Request::ObtainList {
+        number,
+        lengths,
+        start,
+        ..
+    } = request
+    else {
+        unreachable!();
+    };
+    tell_areas(
+        machine.obtain_list(t, *number, lengths, *start, told, left),
+        reply,
+    )
 }
 
 // Does an active task's request, and writes what it is answered over another reply; or refuses it, and changes nothing. What a member
 // of a list lacks is written to `left`.
 fn act(
     machine: &mut Machine,
-    name: Name,
+    t: TaskId,
     request: &Request,
     told: &[Addr],
     reply: &mut Reply,
     left: &mut Shortfall,
 ) -> Result<(), Refusal>
-    requires { is_active machine.old.owners name ≡ true }
-    ensures answer { Tries (λ _. reply.new) machine.old name request.now result machine.new }
+    requires { IsTask machine.old t }
+    ensures answer { Tries (λ _. reply.new) machine.old.state (task_name machine.old t) request.now
+        result machine.new.state }
     ensures no_abend { OnOk result (is_abend reply.new ≡ false) }
-    ensures told { OnOk result (Takes told.now machine.old name request.now reply.new machine.new) }
-    ensures left { IsLeft machine.old name request.now result left.new }
+    ensures told { OnOk result
+        (Takes told.now machine.old.state (task_name machine.old t) request.now reply.new
+        machine.new.state) }
+    ensures left { IsLeft machine.old.state (task_name machine.old t) request.now result left.new }
 {
     match request {
         Request::Obtain { form, number, ask } => tell_area(
-            machine.obtain(name, *form, *number, ask, first_told(told)),
+            machine.obtain(t, *form, *number, ask, first_told(told)),
             reply,
         ),
-        Request::ObtainList {
-            number,
-            lengths,
-            start,
-            ..
-        } => tell_areas(
-            machine.obtain_list(name, *number, lengths, *start, told, left),
-            reply,
-        ),
+        Request::ObtainList { .. } => act_on_list(machine, t, request, told, reply, left),
         Request::Release { number, place, .. } => {
-            tell_zero(machine.release(name, *number, *place), reply)
+            tell_zero(machine.release(t, *number, *place), reply)
         }
         Request::ReleaseList { number, places, .. } => {
-            tell_zero(machine.release_list(name, *number, places), reply)
+            tell_zero(machine.release_list(t, *number, places), reply)
         }
         Request::ReleaseWhole { number, .. } => {
-            tell_zero(machine.release_whole(name, *number), reply)
+            tell_zero(machine.release_whole(t, *number), reply)
         }
         Request::Build {
             pool,
@@ -106,9 +134,9 @@ fn act(
             secondary,
             loc,
         } => {
-            let plan = machine.plan(name, *size, *primary, *secondary, *loc);
+            let plan = machine.plan(t, *size, *primary, *secondary, *loc);
             tell_zero(
-                machine.build(name, *number, pool, &plan, first_told(told)),
+                machine.build(t, *number, pool, &plan, first_told(told)),
                 reply,
             )
         }
@@ -121,8 +149,8 @@ fn act(
             name: subtask,
             gifts,
             residence,
-        } => tell_attached(machine.attach(name, subtask, gifts, *residence), reply),
-        Request::Return => tell_ended(machine.finish(name), reply),
+        } => tell_attached(machine.attach(t, subtask, gifts, *residence), reply),
+        Request::Return => tell_ended(machine.finish(t), reply),
         Request::Abend(code) => Err(Refusal::Asked(code.get() as u16)),
         Request::Show { from, len } => tell_done(machine.show(*from, *len), reply),
         Request::Put { to, bytes } => tell_done(machine.put(*to, bytes), reply),
@@ -146,7 +174,7 @@ impl Step {
     pub fn is_active(&self, name: &Name) -> bool
         ensures { result ≡ is_active self.now.state.owners name.now }
     {
-        self.machine.is_active(*name)
+        self.machine.find(name).is_some()
     }
 
     /// Whether a task has abended so far.
@@ -197,51 +225,12 @@ impl Step {
         self.machine.map_run(from)
     }
 
-    /// The first subpool from a number on that a task owns.
-    pub fn next_owned(&self, from: u16) -> Option<SubpoolId>
-        requires { from ≤ most_subpools }
-        ensures { IsNextOwned self.now.state.owners from result }
+    /// Returns the machine of the step, which answers further questions: the subpools that tasks own, the free pages, the newest
+    /// part of a pool.
+    pub fn machine(&self) -> &Machine
+        ensures { result.now.state ≡ self.now.state }
     {
-        self.machine.next_owned(from)
-    }
-
-    /// A subpool, where a task owns it, and whether another task has it.
-    pub fn owned(&self, subpool: SubpoolId, task: &Name) -> Option<OwnedSubpool>
-        ensures { result ≡ owned_at self.now.state task.now subpool }
-    {
-        self.machine.owned(subpool, task)
-    }
-
-    /// How many pages of each region hold nothing.
-    pub fn free_pages(&self) -> FreePages
-        ensures below { result.below ≡ free_below self.now.state }
-        ensures above { result.above ≡ free_above self.now.state }
-    {
-        self.machine.free_pages()
-    }
-
-    /// The subpool that an active task means by a number that a program may name: the number under which its owner has it, and
-    /// the owner.
-    pub fn label_meant(&self, name: &Name, number: u8) -> Option<(SubNo, Name)>
-        ensures { result ≡ label_meant self.now.state.owners name.now number }
-    {
-        self.machine.label_meant(name, number)
-    }
-
-    /// How many parts the pool of this name has, and which was put to it last. None where no pool has the name.
-    pub fn newest(&self, pool: &Name) -> Option<Newest>
-        ensures { MatchOption result (get self.now.state.pools pool.now ≡ None)
-            (λ newest. (kept : Pool) × (get self.now.state.pools pool.now ≡ Some kept)
-            × IsNewest kept newest) }
-    {
-        self.machine.newest(pool)
-    }
-
-    /// Returns the subpool that an active task has for a number: its owner's number for it, and the owner.
-    pub fn label_had(&self, name: &Name, number: SubNo) -> Option<(SubNo, Name)>
-        ensures { result ≡ label_had self.now.state.owners name.now number }
-    {
-        self.machine.label_had(name, number)
+        &self.machine
     }
 
     /// Says what the refusal of a task's request is about, in the state that the refusal has left as it was: an address, a task, a
@@ -264,14 +253,17 @@ impl Step {
     // Ends a task that abends, and writes the reply. It is a separate function because the compiler clears the space of the names
     // in the function that needs it.
     #[inline(never)]
-    fn abend(&mut self, name: Name, code: Code, reply: &mut Reply)
-        requires { is_active self.old.state.owners name ≡ true }
-        ensures abends { Abends self.old.state name code reply.new self.new.state }
+    fn abend(&mut self, name: &Name, code: Code, reply: &mut Reply)
+        requires { is_active self.old.state.owners name.now ≡ true }
+        ensures abends { Abends self.old.state name.now code reply.new self.new.state }
         ensures abended { self.new.abended ≡ true }
         ensures is_abend { is_abend reply.new ≡ true }
     {
+        let Some(t) = self.machine.find(name) else {
+            unreachable!();
+        };
         self.abended = true;
-        *reply = Reply::Abended(code, self.machine.abend(name));
+        *reply = Reply::Abended(code, self.machine.abend(t));
     }
 
     /// Attempts a request of a task: executes it and writes the reply over another one, or refuses it and changes nothing. An area
@@ -295,10 +287,10 @@ impl Step {
         ensures left { (k : ℕ) → result ≡ Err (Member k)
             → MemberLacks self.old.state name.now request.now k left.new }
     {
-        if !self.machine.is_active(*name) {
+        let Some(t) = self.machine.find(name) else {
             return Err(Refusal::NotActive);
-        }
-        act(&mut self.machine, *name, request, told, reply, left)
+        };
+        act(&mut self.machine, t, request, told, reply, left)
     }
 
     /// Settles a request that is refused as the table of consequences says, and writes what it is answered over another reply: an
@@ -313,7 +305,7 @@ impl Step {
             Consequence::NotRun => *reply = Reply::NotRun,
             Consequence::Rc4 => *reply = Reply::Rc4,
             Consequence::NoCell => *reply = Reply::NoCell,
-            Consequence::Abend(code) => self.abend(*name, code, reply),
+            Consequence::Abend(code) => self.abend(name, code, reply),
         }
     }
 

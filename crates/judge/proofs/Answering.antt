@@ -15,15 +15,15 @@ use Rattle.judge.specs.Judging.{AnswersList, BeginsAnswered}
 pub begun : (text printed front : List ℕ) (b : Bool) → printed ≡ front → (b ≡ true → text ≡ printed ++ drop (length printed) text) → ((rest : List ℕ) → text ≡ printed ++ rest → b ≡ true) → BeginsBy text front b
 begun text printed front b e begins other = ((λ t. (drop (length printed) text, begins t ∙ ap (λ x. x ++ drop (length printed) text) e)), (λ more is. other more (is ∙ ap (λ x. x ++ more) (sym e))))
 
-or_true : (a b : Bool) → b ≡ true → (a || b) ≡ true
+pub or_true : (a b : Bool) → b ≡ true → (a || b) ≡ true
 or_true true b e = refl
 or_true false b e = e
 
-or_front : (a b : Bool) → a ≡ true → (a || b) ≡ true
+pub or_front : (a b : Bool) → a ≡ true → (a || b) ≡ true
 or_front true b e = refl
 or_front false b e = absurd (let f : false ≡ true = e in cc)
 
-or_cases : (a b : Bool) → (a || b) ≡ true → (a ≡ true) ⊎ (b ≡ true)
+pub or_cases : (a b : Bool) → (a || b) ≡ true → (a ≡ true) ⊎ (b ≡ true)
 or_cases true b e = inl refl
 or_cases false b e = inr e
 

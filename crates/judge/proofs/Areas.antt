@@ -1,5 +1,5 @@
 -- A request for an area, and a question behind it where the area lies.
-use Rattle.std.proofs.Common.{◌≡◌, ℕ, zero, suc, ◌+◌, ◌/◌, ◌%◌, ◌<◌, ◌⊎◌, inl, inr, Bool, true, false, cond, List, [], ◌∷◌, ◌++◌, length, codes, decimal, length-append, Some, arith, refl, sym, ap, ◌∙◌, subst}
+use Rattle.std.proofs.Common.{◌≡◌, ℕ, ◌<◌, ◌⊎◌, inl, inr, Bool, true, false, cond, List, [], ◌∷◌, ◌++◌, length, codes, Some, arith, refl, sym, ap, ◌∙◌, subst}
 use Rattle.std.specs.Prelude.{not, ◌||◌, ◌^◌}
 use Rattle.std.specs.Bool.{MatchBool}
 use Rattle.std.specs.FinMap.{FinMap, get, insert, get-insert, contains_key}
@@ -13,8 +13,8 @@ use Rattle.mvs_model.specs.declared.request.Request.TheVariants as request
 use Rattle.mvs_model.specs.declared.request.Reply.TheVariants.{Obtained}
 use Rattle.mvs_model.specs.Place.{PlaceValue}
 use Rattle.mvs_model.specs.Want.{AskValue, WantValue, IsAsk, want_of}
-use Rattle.mvs_model.specs.Name.{name_cmp, trimmed}
-use Rattle.mvs_model.specs.Texts.{answer_text, glyph, hex, last_digits, reply_line}
+use Rattle.mvs_model.specs.Name.{name_cmp}
+use Rattle.mvs_model.specs.Texts.{answer_text, hex}
 use Rattle.mvs_model.specs.Owners.{is_active, keeper}
 use Rattle.mvs_model.specs.Storage.{Chosen, InRegion, Regions}
 use Rattle.mvs_model.specs.State.{State, holder}
@@ -40,6 +40,7 @@ use Rattle.mvs_laws.proofs.RegionsKept.{grant_inside}
 use Rattle.judge.specs.Deciding.{no_bytes}
 use Rattle.request_forms.specs.Lists.{first_of}
 use Rattle.request_forms.specs.Taking.{Takes}
+use Rattle.judge.proofs.Opening.{digits_long, front_long, line_long}
 use Rattle.judge.proofs.Settled.{made_same}
 
 -- two places that are chosen have one length
@@ -57,28 +58,12 @@ by_active false x y f g = f x y
 
 -- ---- how long the answers are
 
-front_long : (front x y : List ℕ) → length x ≡ length y → length (front ++ x) ≡ length (front ++ y)
-front_long front x y e = length-append front x ∙ ap (λ n. length front + n) e ∙ sym (length-append front y)
-
-back_long : (x y back : List ℕ) → length x ≡ length y → length (x ++ back) ≡ length (y ++ back)
-back_long x y back e = length-append x back ∙ ap (λ n. n + length back) e ∙ sym (length-append y back)
-
-line_long : (number : ℕ) (t : Name) (x y : List ℕ) → length x ≡ length y → length (reply_line number t x) ≡ length (reply_line number t y)
-line_long number t x y e =
-    let front = decimal number ++ codes " " ++ trimmed t ++ codes " " in
-    back_long (front ++ x) (front ++ y) (codes "\n") (front_long front x y e)
-
-hex_long : (k n : ℕ) → length (hex k n) ≡ k
-unfolding last_digits
-hex_long zero n = refl
-hex_long (suc k) n = length-append (hex k (n / 16)) (glyph (n % 16) ∷ []) ∙ (let e = hex_long k (n / 16) in let f : length (hex k (n / 16)) + 1 ≡ suc k = omega (arith, e) in f)
-
 -- The answer is as long as that to a grant of no bytes.
 abbrev pub IsLong : Bool → Answer → Type 0
 IsLong v answer = (number : ℕ) (t : Name) → length (answer_text number t answer) ≡ length (answer_text number t (no_bytes v))
 
 grant_long : (form : Form) (number : ℕ) (ask : AskValue) (v : Bool) (area : Name) (p : PlaceValue) → IsLong v (grant_answer (written.Obtain form number ask v area) p)
-grant_long form n ask true area p number t = line_long number t (codes "RC 0 LENGTH " ++ hex 8 p.len) (codes "RC 0 LENGTH " ++ hex 8 0) (front_long (codes "RC 0 LENGTH ") (hex 8 p.len) (hex 8 0) (hex_long 8 p.len ∙ sym (hex_long 8 0)))
+grant_long form n ask true area p number t = line_long number t (codes "RC 0 LENGTH " ++ hex 8 p.len) (codes "RC 0 LENGTH " ++ hex 8 0) (front_long (codes "RC 0 LENGTH ") (hex 8 p.len) (hex 8 0) (digits_long 16 8 p.len ∙ sym (digits_long 16 8 0)))
 grant_long form n ask false area p number t = refl
 
 -- ---- the grant

@@ -451,14 +451,17 @@ stands_on script text more left lines behind w w' served cut is_behind (events, 
       λ a b. asked_more reached.served served lines (subst (IsAskedBefore reached.served) cut' a) (subst (IsAskedBefore served) is_behind b),
     )
 
-stands_fault : (script text more rest : List ℕ) (taken : ℕ) (w w' : WalkValue) (served : List (List ℕ)) → lines_of rest ≡ served ++ lines_of (drop taken rest) → Stands script text w rest → IsServed served w more false w' → IsPrinting script (text ++ more) ScriptFault
+pub stands_served : (script text more left later : List ℕ) (w w' : WalkValue) (served : List (List ℕ)) → lines_of left ≡ served ++ lines_of later → Stands script text w left → IsServed served w more true w' → Stands script (text ++ more) w' later
+stands_served script text more left later w w' served cut s is = let x = stands_on script text more left (lines_of later) (lines_of later) w w' served cut refl s is in (x.0, x.1, x.2)
+
+pub stands_fault : (script text more rest : List ℕ) (taken : ℕ) (w w' : WalkValue) (served : List (List ℕ)) → lines_of rest ≡ served ++ lines_of (drop taken rest) → Stands script text w rest → IsServed served w more false w' → IsPrinting script (text ++ more) ScriptFault
 stands_fault script text more rest taken w w' served cut (events, reached, is) (l, first, one, faults, same) = (
   events ++ first,
   reaches_then (lines_of script) ScriptFault events first w.number w.step (l ∷ lines_of (drop taken rest)) (subst (λ lines. Reaches (lines_of script) events w.number w.step lines) (cut ∙ ap (λ served. served ++ lines_of (drop taken rest)) one) reached) (inl (faults, refl)),
   (λ i. is i ++ same i) ∙ sym (printed_both events first),
 )
 
-stands_end : (script text last : List ℕ) (at : ℕ) (w : WalkValue) (outcome : Outcome) → length script ≤ at → Stands script text w (drop at script) → PrintsEnd w last outcome → IsPrinting script (text ++ last) outcome
+pub stands_end : (script text last : List ℕ) (at : ℕ) (w : WalkValue) (outcome : Outcome) → length script ≤ at → Stands script text w (drop at script) → PrintsEnd w last outcome → IsPrinting script (text ++ last) outcome
 stands_end script text last at w outcome all (events, reached, is) (ended, closes, same) = (
   events ++ closing w.number ended,
   reaches_then (lines_of script) outcome events (closing w.number ended) w.number w.step [] (subst (λ lines. Reaches (lines_of script) events w.number w.step lines) (ap lines_of (drop_all at script all)) reached) closes,
@@ -469,7 +472,7 @@ pub follows_first : (script output : List ℕ) (w : WalkValue) → w ≡ new_wal
 follows_first script output w e = subst (λ w. Follows script output 0 0 w) (sym e) ((λ outcome may. may), ([], record { served = []; lines = refl; counted = refl; leads = (refl, refl) }, refl), tt)
 
 -- what is printed so far, and what the output has behind it
-taken_more : (output text left : List ℕ) (done : ℕ) → left ≡ drop done output → left ≡ text ++ drop (length text) left → take (done + length text) output ≡ take done output ++ text
+pub taken_more : (output text left : List ℕ) (done : ℕ) → left ≡ drop done output → left ≡ text ++ drop (length text) left → take (done + length text) output ≡ take done output ++ text
 taken_more output text left done is front =
     let cut : take (length text) (drop done output) ≡ text = ap (take (length text)) (sym is ∙ front) ∙ take-append_seam text (drop (length text) left) in
     take-add done (length text) output ∙ ap (λ x. take done output ++ x) cut

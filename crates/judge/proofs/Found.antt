@@ -15,10 +15,10 @@ use Rattle.judge.specs.Deciding.{HasEnded, HasParted, IsFollowed, Stands, findin
 abbrev pub IsSaid : List ℕ → List ℕ → List ℕ → Outcome → Finding → Type 0
 IsSaid script output text outcome f = IsFound script output text outcome f × IsPrinting script text outcome × ((f ≡ Accepted) ↔ (text ≡ output))
 
-same_found : (script output text : List ℕ) (outcome : Outcome) → IsPrinting script text outcome → text ≡ output → IsSaid script output text outcome Accepted
+pub same_found : (script output text : List ℕ) (outcome : Outcome) → IsPrinting script text outcome → text ≡ output → IsSaid script output text outcome Accepted
 same_found script output text outcome is e = (subst (λ text. IsPrinting script text outcome) e is, is, ((λ _. e), (λ _. refl)))
 
-none_found : (script output text : List ℕ) (outcome : Outcome) → IsPrinting script text outcome → IsNoPrinting script output → IsSaid script output text outcome Refused
+pub none_found : (script output text : List ℕ) (outcome : Outcome) → IsPrinting script text outcome → IsNoPrinting script output → IsSaid script output text outcome Refused
 none_found script output text outcome is none = (none, is, ((λ e. absurd (let f : Refused ≡ Accepted = e in cc)), (λ e. absurd (none outcome (subst (λ text. IsPrinting script text outcome) e is)))))
 
 pub found_ended : (script output text : List ℕ) (outcome : Outcome) (passes : Bool) → HasEnded script output outcome text passes → IsSaid script output text outcome (finding_of (not passes) passes 0)

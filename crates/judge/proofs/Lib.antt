@@ -1,5 +1,12 @@
+mod Effects
+mod Alike
+mod Opening
+mod Opened
+mod Reported
 mod Settled
 mod Areas
+mod SettledBy
+mod Compared
 mod Lists
 mod Decided
 mod ListLines
@@ -7,3 +14,6 @@ mod Asked
 mod Rest
 mod Found
 mod Answering
+mod Begun
+mod Excluding
+mod Ruling

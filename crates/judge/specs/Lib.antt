@@ -1,2 +1,4 @@
 pub mod Judging
 pub mod Deciding
+pub mod Outline
+pub mod Excluding

@@ -64,13 +64,13 @@ struct Listed {
 
 // The events of a line, and the text printed so far.
 #[derive(Drop)]
-struct Printed {
-    told: LineTold,
-    text: Vec<u8>,
+pub(crate) struct Printed {
+    pub(crate) told: LineTold,
+    pub(crate) text: Vec<u8>,
 }
 
 // Executes a line, and appends what it prints.
-fn print_next(
+pub(crate) fn print_next(
     walk: &mut Walk,
     line: &[u8],
     told: &[Addr],
@@ -301,7 +301,7 @@ fn located_len(alloc: Global, line_number: u32, task: &Name) -> Result<usize, Ou
 }
 
 // Returns what follows a number of bytes of a text.
-fn text_behind(text: &[u8], front: usize) -> &[u8]
+pub(crate) fn text_behind(text: &[u8], front: usize) -> &[u8]
     ensures { result.now ≡ drop front text.now }
 {
     if front < text.len() {

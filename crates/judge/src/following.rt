@@ -39,7 +39,7 @@ fn joined(alloc: Global, front: &[u8], back: &[u8]) -> Result<Vec<u8>, OutOfMemo
 }
 
 // Prints the end of a job that has no more lines.
-fn print_end(alloc: Global, walk: &Walk) -> Result<(Outcome, Vec<u8>), OutOfMemory>
+pub(crate) fn print_end(alloc: Global, walk: &Walk) -> Result<(Outcome, Vec<u8>), OutOfMemory>
     ensures { IfOk result (λ end. PrintsEnd walk.now end.1.items end.0) }
 {
     let closing = walk.close();

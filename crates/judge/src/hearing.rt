@@ -67,7 +67,19 @@ impl Hearing {
             Written::Obtain { area, .. } => self.set(*area, Member { line, place: 0 }),
             Written::ObtainList { areas, .. } => self.set_each(areas.as_slice(), line),
             Written::Get { cell, .. } => self.set(*cell, Member { line, place: 0 }),
-            _ => Ok(()),
+            Written::Release { .. }
+            | Written::ReleaseArea { .. }
+            | Written::ReleaseList { .. }
+            | Written::ReleaseWhole { .. }
+            | Written::Build { .. }
+            | Written::Free { .. }
+            | Written::Delete { .. }
+            | Written::Attach { .. }
+            | Written::Return
+            | Written::Abend(_)
+            | Written::Show { .. }
+            | Written::Put { .. }
+            | Written::Move { .. } => Ok(()),
         }
     }
 
@@ -104,7 +116,7 @@ impl Hearing {
                     return self.tell(name, addr);
                 }
             }
-            _ => {}
+            Statement::ReportSubpools | Statement::ReportMap => {}
         }
         Ok(())
     }

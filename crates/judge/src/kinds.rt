@@ -88,12 +88,19 @@ fn kind_of(read: &Line) -> Kind
                 Kind::Closed
             }
         }
-        _ => Kind::Closed,
+        Line::Statement(
+            _,
+            Statement::Region { .. }
+            | Statement::Where(_)
+            | Statement::ReportSubpools
+            | Statement::ReportMap,
+        ) => Kind::Closed,
+        Line::Nothing => Kind::Closed,
     }
 }
 
 // Whether no step has begun.
-fn is_first(walk: &Walk) -> bool
+pub(crate) fn is_first(walk: &Walk) -> bool
     ensures { result ≡ is_first walk.now.step }
 {
     walk.job().is_none()
@@ -121,7 +128,14 @@ fn asks_where(line: &[u8], task: &Name, area: &Name) -> bool
     }
     match &read {
         Line::Statement(asking, Statement::Where(name)) => *asking == *task && *name == *area,
-        _ => false,
+        Line::Statement(
+            _,
+            Statement::Region { .. }
+            | Statement::Request(_)
+            | Statement::ReportSubpools
+            | Statement::ReportMap,
+        ) => false,
+        Line::Nothing => false,
     }
 }
 

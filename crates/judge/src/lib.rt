@@ -6,17 +6,23 @@ ghost use Rattle.mvs_model.specs.Numbers.{most_script_bytes};
 ghost use Rattle.mvs_model.specs.Lines.{lines_of};
 ghost use Rattle.mvs_model.specs.Runs.{IsPrinting};
 ghost use Rattle.judge.specs.Deciding.{finding_of};
+ghost use Rattle.judge.specs.Excluding.{IsRuling, PartsAt};
 ghost use Rattle.judge.specs.Judging.{IsAsked, IsFound, IsListAt};
 
 mod answers;
+mod certain;
 mod deciding;
+mod exclusion;
 mod following;
 mod hearing;
 mod kinds;
+pub mod laws;
 mod list_answers;
+mod openings;
 mod parts;
 mod resting;
 
+use crate::exclusion::{Ruling, rule};
 use crate::following::follow;
 use crate::hearing::hear;
 use crate::resting::run_rest;
@@ -131,9 +137,85 @@ fn judge_run(
     })
 }
 
+// Compares an output with runs that use the addresses in it, and place the parts of pools by their cells or by the placement.
+fn ruling_of(alloc: Global, script: &[u8], output: &[u8]) -> Result<Ruling, OutOfMemory>
+    requires { length script.now ≤ most_script_bytes }
+    ensures { IfOk result (IsRuling script.now output.now) }
+{
+    let told = hear(alloc, 1, script, output, true)?;
+    let ruling = rule(alloc, script, output, &told)?;
+    if ruling != Ruling::Undecided {
+        return Ok(ruling);
+    }
+    let placed = hear(alloc, 1, script, output, false)?;
+    rule(alloc, script, output, &placed)
+}
+
+// Returns a copy of a text.
+fn copied(alloc: Global, text: &[u8]) -> Result<Vec<u8>, OutOfMemory>
+    ensures { IfOk result (λ copy. copy.items ≡ text.now) }
+{
+    let mut copy = Vec::new(alloc);
+    match copy.extend_from_slice(text) {
+        Ok(()) => Ok(copy),
+        Err(_) => Err(OutOfMemory),
+    }
+}
+
+// Settles a judgement that is open: the output is refused, if some line of it is printed by no run, wherever places are.
+fn settle(
+    alloc: Global,
+    script: &[u8],
+    output: &[u8],
+    judgement: Judgement,
+) -> Result<Judgement, RunFault>
+    requires short { length script.now ≤ most_script_bytes }
+    requires found { IsFound script.now output.now judgement.text.items judgement.outcome
+        judgement.finding }
+    requires decided { IsAsked (lines_of script.now)
+        → (n : ℕ) → judgement.finding ≡ Finding.Undecided n
+        → IsListAt (lines_of script.now) n }
+    requires run { IsPrinting script.now judgement.text.items judgement.outcome }
+    requires agrees { judgement.finding ≡ Finding.Accepted ↔ judgement.text.items ≡ output.now }
+    ensures found { IfOk result
+        (λ j. IsFound script.now output.now j.text.items j.outcome j.finding) }
+    ensures decided { IfOk result
+        (λ j. IsAsked (lines_of script.now)
+        → (n : ℕ) → j.finding ≡ Finding.Undecided n → IsListAt (lines_of script.now) n) }
+    ensures run { IfOk result (λ j. IsPrinting script.now j.text.items j.outcome) }
+    ensures agrees { IfOk result
+        (λ j. j.finding ≡ Finding.Accepted ↔ j.text.items ≡ output.now) }
+    ensures parts { IfOk result
+        (λ j. (n : ℕ) → j.finding ≡ Finding.Undecided n → PartsAt script.now output.now) }
+    ensures memory { IfErr result (λ fault. fault ≡ RunFault.Memory) }
+{
+    let Ok(ruling) = ruling_of(alloc, script, output) else {
+        return Err(RunFault::Memory);
+    };
+    match ruling {
+        Ruling::Excluded => Ok(Judgement {
+            outcome: judgement.outcome,
+            text: judgement.text,
+            finding: Finding::Refused,
+        }),
+        Ruling::Printed(outcome) => {
+            let Ok(text) = copied(alloc, output) else {
+                return Err(RunFault::Memory);
+            };
+            Ok(Judgement {
+                outcome,
+                text,
+                finding: Finding::Accepted,
+            })
+        }
+        Ruling::Undecided => Ok(judgement),
+    }
+}
+
 /// Judges an output with one run of the script, which uses the addresses in the output; or with another one, if only that prints
 /// the output. No answer shows where the parts of a pool are: the first run places them by their cells, the other one by the
-/// placement.
+/// placement. An output that differs from both at a line that places do not decide, or has no answer there that the line can have, is
+/// refused.
 pub fn judge(alloc: Global, script: &[u8], output: &[u8]) -> Result<Judgement, RunFault>
     ensures found { IfOk result
         (λ j. IsFound script.now output.now j.text.items j.outcome j.finding) }
@@ -144,6 +226,10 @@ pub fn judge(alloc: Global, script: &[u8], output: &[u8]) -> Result<Judgement, R
     ensures run { IfOk result (λ j. IsPrinting script.now j.text.items j.outcome) }
     ensures agrees { IfOk result
         (λ j. j.finding ≡ Finding.Accepted ↔ j.text.items ≡ output.now) }
+    // It is left open only if a run prints what it begins with, up to a line whose answer places decide, and it has an answer
+    // there that this line can have.
+    ensures parts { IfOk result
+        (λ j. (n : ℕ) → j.finding ≡ Finding.Undecided n → PartsAt script.now output.now) }
     // It stops with an error if the script is too long, and otherwise only if memory is exhausted. Each line needs some.
     ensures too_long { most_script_bytes < length script.now
         → IsErrOf result RunFault.ReadTooLong }
@@ -167,5 +253,5 @@ pub fn judge(alloc: Global, script: &[u8], output: &[u8]) -> Result<Judgement, R
     if other.finding == Finding::Accepted {
         return Ok(other);
     }
-    Ok(judgement)
+    settle(alloc, script, output, judgement)
 }

@@ -35,7 +35,7 @@ fn begins_so(
 }
 
 // Returns whether it is an abend with this code, with any tasks that end with it.
-fn begins_abend(
+pub(crate) fn begins_abend(
     alloc: Global,
     line_number: u32,
     task: &Name,

@@ -228,7 +228,18 @@ impl Parts {
                 self.pools.remove(pool);
                 Ok(())
             }
-            _ => Ok(()),
+            Written::Obtain { .. }
+            | Written::ObtainList { .. }
+            | Written::Release { .. }
+            | Written::ReleaseArea { .. }
+            | Written::ReleaseList { .. }
+            | Written::ReleaseWhole { .. }
+            | Written::Attach { .. }
+            | Written::Return
+            | Written::Abend(_)
+            | Written::Show { .. }
+            | Written::Put { .. }
+            | Written::Move { .. } => Ok(()),
         }
     }
 

@@ -99,7 +99,7 @@ pub fn read(held: &Open, address: u32, out: &mut [u8]) -> u32
     let Some(place) = place_of(address, out.len()) else {
         return NO_ACCESS;
     };
-    match job.bytes(place) {
+    match job.step().bytes(place) {
         Some(bytes) => {
             out.copy_from_slice(bytes);
             OK
@@ -149,10 +149,10 @@ fn find_subpool(held: &Open, name: &[u8; 8], from: u8) -> Result<SubpoolLine, u3
     let Some(task) = name_of(name) else {
         return Err(NO_TASK);
     };
-    if !job.is_active(&task) {
+    if !job.step().is_active(&task) {
         return Err(NO_TASK);
     }
-    match job.subpool_line(&task, from) {
+    match job.step().subpool_line(&task, from) {
         Some(line) => Ok(line),
         None => Err(NO_MORE),
     }
@@ -183,7 +183,7 @@ fn find_run(held: &Open, from: u32) -> Option<MapRun>
 {
     let job = held.job()?;
     let from = addr_of(from)?;
-    job.map_run(from)
+    job.step().map_run(from)
 }
 
 // A run of pages, for C.

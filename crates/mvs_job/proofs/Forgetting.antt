@@ -1,6 +1,5 @@
 -- What a run leaves, whatever its consumer has.
 use Rattle.std.proofs.Common.{ℕ, ◌≤◌, ◌++◌, List, length, inl, inr, Option, Result, Ok, Err}
-use Rattle.std.specs.Io.KnownBytes.{Appends}
 use Rattle.mvs_model.specs.declared.outcome.Outcome.{Outcome}
 use Rattle.mvs_job.specs.declared.printing.Stop.{Stop}
 use Rattle.mvs_job.specs.declared.printing.Stop.TheVariants as stop

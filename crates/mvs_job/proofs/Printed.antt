@@ -1,5 +1,5 @@
 -- The printing of a trace is that of a run.
-use Rattle.std.proofs.Common.{◌≡◌, ◌⊎◌, ℕ, ◌+◌, ◌<◌, ◌≤◌, inl, inr, List, [], ◌∷◌, ◌++◌, length, take, arith, append_assoc, append-nil, Option, None, Bool, true, false, Result, MatchResult, IfOk, IfErr, Ok, Err, refl, sym, ap, ◌∙◌, subst}
+use Rattle.std.proofs.Common.{◌≡◌, ◌⊎◌, ℕ, ◌+◌, ◌<◌, ◌≤◌, inl, inr, List, [], ◌∷◌, ◌++◌, length, take, arith, append_assoc, append-nil, Option, None, Bool, true, false, Result, IfOk, IfErr, Ok, Err, refl, sym, ap, ◌∙◌, subst}
 use Rattle.std.proofs.lemmas.List.{take_all}
 use Rattle.std.specs.Io.KnownBytes.{Appends}
 use Rattle.mvs_model.specs.declared.outcome.Outcome.{Outcome}
@@ -109,7 +109,7 @@ module _ (script : List ℕ) where
     pub front_printing : IsFront printed knows script text s → IsPrintingFront script text
     front_printing w = subst (IsPrintingFront script) (sym w.is) (cut_front w.begun.how w.entries w.begun.rest w.next w.done w.front w.begun.trace (printed_events [] w.entries w.done w.begun.is) w.cut)
 
-  pub answered_printing : (consumed text : List ℕ) (first s : Printer) → HasAnswered printed (keeps_nothing first) consumed text s → IsAnswered consumed text
+  pub answered_printing : {S : Type 0} (consumed text : List ℕ) (first s : S) → HasAnswered printed (keeps_nothing first) consumed text s → IsAnswered consumed text
   answered_printing consumed text first s h =
       record { lines = h.lines; kept = h.kept; cut = h.cut; each = h.each; unended = h.unended; short = h.short; events = events_of h.entries; step = h.step; leads = walk_of (Arrives h.step) 1 None h.lines h.entries h.trace; printed = printed_events [] h.entries text h.is }
 
@@ -120,7 +120,7 @@ lines_printed before after script first s (Err why) h = tt
 
 -- ---- a job that prints
 
-module _ (unread left start now : Option (List ℕ)) (most : ℕ) (first s : Printer) where
+module _ {S : Type 0} (unread left start now : Option (List ℕ)) (most : ℕ) (first s : S) where
   pub printed_ended : (outcome : Outcome) → HasEnded printed (keeps_nothing first) unread left start now most s outcome → Exchanges unread left start now (λ consumed script text. (length consumed ≤ most) × IsPrinting script text outcome)
   printed_ended outcome h = (h.0, h.1, h.2, h.3, h.4, h.5, (h.6.0, ended_printing (h.0 ++ h.1) (keeps_nothing first) h.2 s outcome h.6.1))
 
@@ -129,19 +129,19 @@ module _ (unread left start now : Option (List ℕ)) (most : ℕ) (first s : Pri
   printed_tidy outcome h = (h.0, h.1, h.2, h.3, h.4, h.5, (ended_printing (h.0 ++ h.1) (keeps_nothing first) h.2 s outcome h.6.1, λ tidy full. tidy_text (h.0 ++ h.1) h.2 outcome tidy full))
 
   module _ (consumed script text : List ℕ) where
-    gives_up_front : (fault : RunFault) → GivesUp printed (keeps_nothing first) most consumed script text s fault → (length consumed ≤ most + 1) × IsPrintingFront script text × (fault ≡ ReadTooLong → most < length consumed)
+    pub gives_up_front : (fault : RunFault) → GivesUp printed (keeps_nothing first) most consumed script text s fault → (length consumed ≤ most + 1) × IsPrintingFront script text × (fault ≡ ReadTooLong → most < length consumed)
     gives_up_front Memory h = (omega (arith, h.0), exhausted_is_front script (keeps_nothing first) text s h.1, (λ e. absurd (let f : Memory ≡ ReadTooLong = e in cc)))
     gives_up_front Write h = (omega (arith, h.0), front_printing script (keeps_nothing first) text s h.1, (λ e. absurd (let f : Write ≡ ReadTooLong = e in cc)))
     gives_up_front Read h = (omega (arith, h.0), front_printing script (keeps_nothing first) text s h.1, (λ e. absurd (let f : Read ≡ ReadTooLong = e in cc)))
     gives_up_front ReadTooLong h = (omega (arith, h.0), front_printing script (keeps_nothing first) text s h.1, (λ e. omega (arith, h.0)))
 
-    gives_up_before : (fault : RunFault) → GivesUp printed (keeps_nothing first) most consumed script text s fault → fault ≡ Memory → IsPrintingBefore script text
+    pub gives_up_before : (fault : RunFault) → GivesUp printed (keeps_nothing first) most consumed script text s fault → fault ≡ Memory → IsPrintingBefore script text
     gives_up_before Memory h e = exhausted_printing script (keeps_nothing first) text s h.1
     gives_up_before Write h e = absurd (let f : Write ≡ Memory = e in cc)
     gives_up_before Read h e = absurd (let f : Read ≡ Memory = e in cc)
     gives_up_before ReadTooLong h e = absurd (let f : ReadTooLong ≡ Memory = e in cc)
 
-    gives_up_answered : (fault : RunFault) → GivesUp printed (keeps_nothing first) most consumed script text s fault → (fault ≡ Read) ⊎ (fault ≡ ReadTooLong) → IsAnswered (take most consumed) text
+    pub gives_up_answered : (fault : RunFault) → GivesUp printed (keeps_nothing first) most consumed script text s fault → (fault ≡ Read) ⊎ (fault ≡ ReadTooLong) → IsAnswered (take most consumed) text
     gives_up_answered Memory h (inl e) = absurd (let f : Memory ≡ Read = e in cc)
     gives_up_answered Memory h (inr e) = absurd (let f : Memory ≡ ReadTooLong = e in cc)
     gives_up_answered Write h (inl e) = absurd (let f : Write ≡ Read = e in cc)

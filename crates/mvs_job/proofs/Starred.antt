@@ -1,5 +1,5 @@
 -- What is left of a text without its lines that begin with an asterisk.
-use Rattle.std.proofs.Common.{◌≡◌, ◌≢◌, ℕ, zero, suc, ◌+◌, ◌==◌, List, [], ◌∷◌, ◌++◌, get_or, take, codes, decimal, append_assoc, append-nil, arith, Bool, true, false, not, cond, Option, Some, None, Ok, inl, inr, ◌⊎◌, refl, sym, ap, ◌∙◌, subst}
+use Rattle.std.proofs.Common.{◌≡◌, ◌≢◌, ℕ, zero, suc, ◌+◌, ◌==◌, List, [], ◌∷◌, ◌++◌, get_or, take, codes, decimal, append_assoc, append-nil, arith, Bool, true, false, not, cond, Option, Some, None, inl, inr, ◌⊎◌, refl, sym, ap, ◌∙◌, subst}
 use Rattle.std.specs.Prelude.{slice_index}
 use Rattle.std.specs.List.{flat_map, filter, before_first, position_or_len, AllByRecursion}
 use Rattle.std.proofs.lemmas.List.Elements.{filter-append}

@@ -2,7 +2,8 @@
 use Rattle.std.specs.Prelude.{◌≡◌, ℕ, List, [], ◌∷◌, Option, Some, None, if◌then◌else◌}
 use Rattle.std.specs.List.{flat_map}
 use Rattle.mvs_model.specs.declared.name.Name.{Name}
-use Rattle.mvs_model.specs.Answers.{Answer, Ended, Abended, Event, Told}
+use Rattle.mvs_model.specs.Answers.{Answer, Event, Told}
+use Rattle.mvs_model.specs.Answers as answer
 use Rattle.mvs_model.specs.Job.{JobValue}
 use Rattle.mvs_model.specs.Owners.{goes}
 use Rattle.request_forms.specs.Facts.{owned_subpools}
@@ -11,13 +12,26 @@ use Rattle.job_script.specs.FactTexts.{freed_line, stays_line}
 
 -- the task that an answer ends, and those that fall with it
 abbrev pub end_of : Name → Answer → Option (Name × List Name)
-end_of t (Abended code fallen) = Some (t, fallen)
-end_of t Ended = Some (t, [])
-end_of t _ = None
+end_of t (answer.Abended code fallen) = Some (t, fallen)
+end_of t answer.Ended = Some (t, [])
+end_of t answer.NotRun = None
+end_of t answer.NoName = None
+end_of t (answer.At addr) = None
+end_of t answer.Rc0 = None
+end_of t (answer.Granted n) = None
+end_of t answer.Rc4 = None
+end_of t answer.Cell = None
+end_of t answer.NoCell = None
+end_of t answer.Attached = None
+end_of t answer.Done = None
+end_of t (answer.Data bytes) = None
+end_of t (answer.Subpools lines) = None
+end_of t (answer.Map runs) = None
+end_of t (answer.Region card) = None
 
 -- the task that a line ends, from its events
 abbrev pub ended_by : List Event → Option (Name × List Name)
-ended_by (Told number t answer ∷ []) = end_of t answer
+ended_by (Told number t a ∷ []) = end_of t a
 ended_by _ = None
 
 -- the line for a subpool at an end: it is freed, or it remains and the ending task shared it

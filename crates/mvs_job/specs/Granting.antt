@@ -9,7 +9,7 @@ use Rattle.mvs_model.specs.declared.line.Line.{Line}
 use Rattle.mvs_model.specs.declared.line.Line.TheVariants as line
 use Rattle.mvs_model.specs.declared.line.Statement.TheVariants as says
 use Rattle.mvs_model.specs.declared.line.Written.{Written}
-use Rattle.mvs_model.specs.declared.line.Written.TheVariants.{Obtain, ObtainList, Release, ReleaseArea, ReleaseList, ReleaseWhole, Build, Get, Delete, Attach}
+use Rattle.mvs_model.specs.declared.line.Written.TheVariants.{Obtain, ObtainList, Release, ReleaseArea, ReleaseList, ReleaseWhole, Build, Get, Free, Delete, Attach, Return, Abend, Show, Put, Move}
 use Rattle.mvs_model.specs.declared.name.Name.{Name}
 use Rattle.mvs_model.specs.Answers.{Answer, Event, Told}
 use Rattle.mvs_model.specs.Answers as answer
@@ -53,14 +53,22 @@ before_request job t (Build pool number size primary secondary loc) = Some (look
 before_request job t (Get pool conditional cell) = Some (looked_at job true (parts_at job.state pool))
 before_request job t (Delete pool) = Some (looked_at job true 0)
 before_request job t (Attach name gifts residence) = Some (record { below = 0; above = 0; had = true; parts = 0 })
-before_request job t _ = None
+before_request job t (Free pool location) = None
+before_request job t Return = None
+before_request job t (Abend code) = None
+before_request job t (Show from n) = None
+before_request job t (Put to bytes) = None
+before_request job t (Move to from n) = None
 
 -- the same before a line: nothing before the first step
 abbrev pub before_line : Option JobValue → Line → Option Before
 before_line None l = None
 before_line (Some job) line.Nothing = None
 before_line (Some job) (line.Statement t (says.Request a)) = before_request job t a
-before_line (Some job) (line.Statement t s) = None
+before_line (Some job) (line.Statement t (says.Region below above fill residence)) = None
+before_line (Some job) (line.Statement t (says.Where name)) = None
+before_line (Some job) (line.Statement t says.ReportSubpools) = None
+before_line (Some job) (line.Statement t says.ReportMap) = None
 
 -- ---- what was done
 
@@ -127,7 +135,16 @@ facts_of b t (ReleaseWhole form number) new = listed (emptied_fact new t number)
 facts_of b t (Build pool number size primary secondary loc) new = listed (part_fact b new pool) ++ listed (subpool_fact b new t number) ++ listed (part_pages b new pool)
 facts_of b t (Get pool conditional cell) new = listed (cell_fact new pool cell) ++ listed (part_fact b new pool) ++ listed (part_pages b new pool)
 facts_of b t (Attach name gifts residence) new = each_below task_numbers (λ n. listed (subtask_fact new t name n))
-facts_of b t _ new = listed (freed_fact b new)
+facts_of b t (Release form number location n) new = listed (freed_fact b new)
+facts_of b t (ReleaseArea form number area) new = listed (freed_fact b new)
+facts_of b t (ReleaseList form number locations lengths) new = listed (freed_fact b new)
+facts_of b t (Delete pool) new = listed (freed_fact b new)
+facts_of b t (Free pool location) new = []
+facts_of b t Return new = []
+facts_of b t (Abend code) new = []
+facts_of b t (Show from n) new = []
+facts_of b t (Put to bytes) new = []
+facts_of b t (Move to from n) new = []
 
 -- ---- its text
 
@@ -137,7 +154,18 @@ is_grant answer.Rc0 = true
 is_grant (answer.Granted n) = true
 is_grant answer.Cell = true
 is_grant answer.Attached = true
-is_grant _ = false
+is_grant answer.NotRun = false
+is_grant answer.NoName = false
+is_grant (answer.At addr) = false
+is_grant answer.Rc4 = false
+is_grant answer.NoCell = false
+is_grant answer.Ended = false
+is_grant answer.Done = false
+is_grant (answer.Data bytes) = false
+is_grant (answer.Abended code fallen) = false
+is_grant (answer.Subpools lines) = false
+is_grant (answer.Map runs) = false
+is_grant (answer.Region card) = false
 
 -- whether the events of a line say so
 abbrev pub tells_grant : List Event → Bool
@@ -150,7 +178,10 @@ done_text None l new = []
 done_text (Some b) l None = []
 done_text (Some b) line.Nothing (Some new) = []
 done_text (Some b) (line.Statement t (says.Request a)) (Some new) = flat_map fact_line (facts_of b t a new)
-done_text (Some b) (line.Statement t s) (Some new) = []
+done_text (Some b) (line.Statement t (says.Region below above fill residence)) (Some new) = []
+done_text (Some b) (line.Statement t (says.Where name)) (Some new) = []
+done_text (Some b) (line.Statement t says.ReportSubpools) (Some new) = []
+done_text (Some b) (line.Statement t says.ReportMap) (Some new) = []
 
 -- the same where the events say that a request was granted
 abbrev pub granted_text : Option Before → Line → List Event → Option JobValue → List ℕ

@@ -19,3 +19,4 @@ pub mod Why
 pub mod Trace
 pub mod Consuming
 pub mod Printed
+pub mod Replying

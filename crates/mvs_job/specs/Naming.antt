@@ -7,11 +7,11 @@ use Rattle.mvs_model.specs.declared.line.Line.{Line}
 use Rattle.mvs_model.specs.declared.line.Line.TheVariants as line
 use Rattle.mvs_model.specs.declared.line.Statement.TheVariants as says
 use Rattle.mvs_model.specs.declared.line.Written.{Written}
-use Rattle.mvs_model.specs.declared.line.Written.TheVariants.{ObtainList}
+use Rattle.mvs_model.specs.declared.line.Written.TheVariants as written
 use Rattle.mvs_model.specs.declared.name.Name.{Name}
 use Rattle.mvs_model.specs.declared.reason.Reason.{Reason}
 use Rattle.mvs_model.specs.declared.reason.LineReason.{LineReason}
-use Rattle.mvs_model.specs.declared.reason.LineReason.TheVariants.{Refused}
+use Rattle.mvs_model.specs.declared.reason.LineReason.TheVariants.{NotSet, Refused}
 use Rattle.mvs_model.specs.declared.reason.Reason.TheVariants.{NotActive, InvalidNumber, Shortage, NoMember, NoPart, OffDoubleword, NoSubpool, NotHeld, Overlap, WholeOfZero, PoolInUse, TooManyPools, NoPool, NoFreeCell, NoTakenCell, TaskInUse, TooManyTasks, NotOwned, ActiveSubtask, Asked, NoAccess}
 use Rattle.mvs_model.specs.declared.request.Request.{Request}
 use Rattle.mvs_model.specs.Answers.{Event}
@@ -85,7 +85,13 @@ address_told request Asked = None
 -- the address in the reason of a line
 abbrev pub address_in : JobValue → Line → Option LineReason → Option ℕ
 address_in job (line.Statement t (says.Request a)) (Some (Refused reason)) = address_told (spoken (resolved job.names a)) reason
-address_in job l r = None
+address_in job (line.Statement t (says.Request a)) (Some (NotSet name)) = None
+address_in job (line.Statement t (says.Request a)) None = None
+address_in job (line.Statement t (says.Region below above fill residence)) r = None
+address_in job (line.Statement t (says.Where name)) r = None
+address_in job (line.Statement t says.ReportSubpools) r = None
+address_in job (line.Statement t says.ReportMap) r = None
+address_in job line.Nothing r = None
 
 -- The reason of the next line of a step, which has these events, has this address: none, if it has a fault.
 abbrev pub IsAddress : JobValue → List ℕ → List Event → Option ℕ → Type 0
@@ -135,13 +141,31 @@ KeepsLines w set bytes new t later = IsSetBehind w.number w.step set bytes (even
 
 -- A list has a length.
 abbrev pub HasLengths : Written → Type 0
-HasLengths (ObtainList form number lengths start areas) = lengths ≢ []
-HasLengths _ = Unit {0}
+HasLengths (written.ObtainList form number lengths start areas) = lengths ≢ []
+HasLengths (written.Obtain form number ask variable area) = Unit {0}
+HasLengths (written.Release form number location n) = Unit {0}
+HasLengths (written.ReleaseArea form number area) = Unit {0}
+HasLengths (written.ReleaseList form number locations lengths) = Unit {0}
+HasLengths (written.ReleaseWhole form number) = Unit {0}
+HasLengths (written.Build pool number size primary secondary loc) = Unit {0}
+HasLengths (written.Get pool conditional cell) = Unit {0}
+HasLengths (written.Free pool location) = Unit {0}
+HasLengths (written.Delete pool) = Unit {0}
+HasLengths (written.Attach name gifts residence) = Unit {0}
+HasLengths written.Return = Unit {0}
+HasLengths (written.Abend code) = Unit {0}
+HasLengths (written.Show from n) = Unit {0}
+HasLengths (written.Put to bytes) = Unit {0}
+HasLengths (written.Move to from n) = Unit {0}
 
 -- A line says a request that sets a name.
 abbrev pub SetsSome : Line → Type 0
 SetsSome (line.Statement t (says.Request a)) = (names_set a ≢ []) × HasLengths a
-SetsSome _ = ⊥
+SetsSome (line.Statement t (says.Region below above fill residence)) = ⊥
+SetsSome (line.Statement t (says.Where name)) = ⊥
+SetsSome (line.Statement t says.ReportSubpools) = ⊥
+SetsSome (line.Statement t says.ReportMap) = ⊥
+SetsSome line.Nothing = ⊥
 
 -- what a name says of an address, if it has it in its place
 abbrev pub naming_at : JobValue → ℕ → Name × ℕ → Option Naming

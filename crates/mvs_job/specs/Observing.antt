@@ -13,7 +13,8 @@ use Rattle.mvs_model.specs.declared.refusal.Refusal.TheVariants.{Member}
 use Rattle.mvs_model.specs.declared.request.Reply.{Reply}
 use Rattle.mvs_model.specs.declared.request.Request.{Request}
 use Rattle.mvs_model.specs.declared.request.Request.TheVariants.{Return}
-use Rattle.mvs_model.specs.Answers.{Answer, NotRun, Rc4, NoCell, NoName, Ended, Abended}
+use Rattle.mvs_model.specs.Answers.{Answer}
+use Rattle.mvs_model.specs.Answers as answer
 use Rattle.mvs_model.specs.Causes.{IsPassed, IsRefused}
 use Rattle.mvs_model.specs.Consequences.{Settles, reply_to}
 use Rattle.mvs_model.specs.Job.{JobValue}
@@ -41,22 +42,60 @@ LeftFor job t request refusal left = (k : ℕ) → refusal ≡ Member k → Memb
 
 -- whether an answer says that a request was made and refused
 abbrev pub is_failure : Answer → Bool
-is_failure Rc4 = true
-is_failure NoCell = true
-is_failure (Abended code fallen) = true
-is_failure _ = false
+is_failure answer.Rc4 = true
+is_failure answer.NoCell = true
+is_failure (answer.Abended code fallen) = true
+is_failure answer.NotRun = false
+is_failure answer.NoName = false
+is_failure (answer.At addr) = false
+is_failure answer.Rc0 = false
+is_failure (answer.Granted n) = false
+is_failure answer.Cell = false
+is_failure answer.Attached = false
+is_failure answer.Ended = false
+is_failure answer.Done = false
+is_failure (answer.Data bytes) = false
+is_failure (answer.Subpools lines) = false
+is_failure (answer.Map runs) = false
+is_failure (answer.Region card) = false
 
 -- whether an answer is a refusal: no request was made, or it failed
 abbrev pub is_refusal : Answer → Bool
-is_refusal NotRun = true
-is_refusal NoName = true
-is_refusal answer = is_failure answer
+is_refusal answer.NotRun = true
+is_refusal answer.NoName = true
+is_refusal answer.Rc4 = true
+is_refusal answer.NoCell = true
+is_refusal (answer.Abended code fallen) = true
+is_refusal (answer.At addr) = false
+is_refusal answer.Rc0 = false
+is_refusal (answer.Granted n) = false
+is_refusal answer.Cell = false
+is_refusal answer.Attached = false
+is_refusal answer.Ended = false
+is_refusal answer.Done = false
+is_refusal (answer.Data bytes) = false
+is_refusal (answer.Subpools lines) = false
+is_refusal (answer.Map runs) = false
+is_refusal (answer.Region card) = false
 
 -- whether an answer tells that its task ended
 abbrev pub is_end : Answer → Bool
-is_end Ended = true
-is_end (Abended code fallen) = true
-is_end _ = false
+is_end answer.Ended = true
+is_end (answer.Abended code fallen) = true
+is_end answer.NotRun = false
+is_end answer.NoName = false
+is_end (answer.At addr) = false
+is_end answer.Rc0 = false
+is_end (answer.Granted n) = false
+is_end answer.Rc4 = false
+is_end answer.Cell = false
+is_end answer.NoCell = false
+is_end answer.Attached = false
+is_end answer.Done = false
+is_end (answer.Data bytes) = false
+is_end (answer.Subpools lines) = false
+is_end (answer.Map runs) = false
+is_end (answer.Region card) = false
 
 -- A task's request in a job was answered so by its step: it passes and is done, and nothing is heard; or it is refused and settled,
 -- and this is heard.
@@ -86,7 +125,10 @@ Observes heard before job t (says.Request a) answer after =
     MatchBool (is_active job.state.owners t)
     (MatchOption (resolved job.names a) (after ≡ before) (λ r. Passes before job t r answer after ⊎ Fails heard before job t r answer after))
     (after ≡ before)
-Observes heard before job t s answer after = after ≡ before
+Observes heard before job t (says.Region below above fill residence) answer after = after ≡ before
+Observes heard before job t (says.Where name) answer after = after ≡ before
+Observes heard before job t says.ReportSubpools answer after = after ≡ before
+Observes heard before job t says.ReportMap answer after = after ≡ before
 
 -- The same of a line in a step, with what it says: one that is not a statement of a step makes no request.
 abbrev pub ObservesLine : {O : Type 0} → Hearing O → O → Option JobValue → List ℕ → LineTold → WalkValue → O → Type 0

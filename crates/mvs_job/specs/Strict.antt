@@ -1,11 +1,12 @@
 -- Lines that are easily overlooked: nothing was done, since their task was not active, or a name in them was not set.
-use Rattle.std.specs.Prelude.{◌≡◌, ℕ, ◌-◌, ◌&&◌, List, [], ◌∷◌, ◌++◌, get_or, Option, Some, None, Bool, true, false}
+use Rattle.std.specs.Prelude.{◌≡◌, ℕ, ◌-◌, ◌&&◌, List, [], ◌∷◌, ◌++◌, get_or, Option, Some, None, is_some, Bool, true, not}
 use Rattle.std.specs.List.{list_all}
 use Rattle.std.specs.Io.KnownBytes.{Appends}
 use Rattle.mvs_model.specs.declared.answer.Answer.{Answer as Short}
 use Rattle.mvs_model.specs.declared.answer.Answer.TheVariants as short
 use Rattle.mvs_model.specs.declared.outcome.Outcome.{Outcome}
-use Rattle.mvs_model.specs.Answers.{Answer, NotRun, NoName, Event, Told}
+use Rattle.mvs_model.specs.Answers.{Answer, Event, Told, StepEnded, Faulted}
+use Rattle.mvs_model.specs.Answers as answer
 use Rattle.mvs_laws.specs.Going.{Reaches}
 use Rattle.mvs_model.specs.Job.{JobValue}
 use Rattle.mvs_model.specs.Lines.{lines_of}
@@ -16,16 +17,34 @@ use Rattle.mvs_job.specs.declared.strict.Unserved.TheVariants as why
 use Rattle.mvs_job.specs.Consuming.{Piece, Written}
 use Rattle.mvs_job.specs.Trace.{Ends, Entry, IsTrace, events_of}
 
--- whether a line that is answered so was served
+-- why a line that is answered so was not served, if it was not
+abbrev pub why_skipped : Answer → Option Unserved
+why_skipped answer.NotRun = Some why.NotRun
+why_skipped answer.NoName = Some why.NoName
+why_skipped (answer.At addr) = None
+why_skipped answer.Rc0 = None
+why_skipped (answer.Granted n) = None
+why_skipped answer.Rc4 = None
+why_skipped answer.Cell = None
+why_skipped answer.NoCell = None
+why_skipped answer.Attached = None
+why_skipped answer.Ended = None
+why_skipped answer.Done = None
+why_skipped (answer.Data bytes) = None
+why_skipped (answer.Abended code fallen) = None
+why_skipped (answer.Subpools lines) = None
+why_skipped (answer.Map runs) = None
+why_skipped (answer.Region card) = None
+
+-- whether it was served
 abbrev pub serves : Answer → Bool
-serves NotRun = false
-serves NoName = false
-serves answer = true
+serves a = not (is_some (why_skipped a))
 
 -- whether an event is not that of a line that was not executed
 abbrev pub is_of_served : Event → Bool
-is_of_served (Told number t answer) = serves answer
-is_of_served event = true
+is_of_served (Told number t a) = serves a
+is_of_served (StepEnded abended) = true
+is_of_served (Faulted number fault) = true
 
 -- a line that was not served: its number, its text, and why
 pub record Skipped : Type 0 where
@@ -39,11 +58,23 @@ Grows None new more = Unit {0}
 Grows (Some xs) None more = ⊥
 Grows (Some xs) (Some ys) more = ys ≡ xs ++ more
 
--- why a line was not served, by its short answer
+-- the same by its short answer
 abbrev pub why_unserved : Short → Option Unserved
 why_unserved short.NotRun = Some why.NotRun
 why_unserved short.NoName = Some why.NoName
-why_unserved answer = None
+why_unserved (short.At addr) = None
+why_unserved short.Rc0 = None
+why_unserved (short.Granted n) = None
+why_unserved short.Rc4 = None
+why_unserved short.Cell = None
+why_unserved short.NoCell = None
+why_unserved short.Attached = None
+why_unserved short.Ended = None
+why_unserved short.Done = None
+why_unserved (short.Data p) = None
+why_unserved (short.Abended code) = None
+why_unserved short.Subpools = None
+why_unserved short.Map = None
 
 -- a line of a number, if it was not served
 abbrev pub skipped_for : ℕ → List ℕ → Option Unserved → List Skipped
@@ -52,9 +83,9 @@ skipped_for number line (Some why) = record { number = number; line = line; why 
 
 -- the line that was not executed, for its event, where each number has a line
 abbrev pub skipped_in : (ℕ → List ℕ) → Event → List Skipped
-skipped_in line (Told number t NotRun) = skipped_for number (line number) (Some why.NotRun)
-skipped_in line (Told number t NoName) = skipped_for number (line number) (Some why.NoName)
-skipped_in line event = []
+skipped_in line (Told number t a) = skipped_for number (line number) (why_skipped a)
+skipped_in line (StepEnded abended) = []
+skipped_in line (Faulted number fault) = []
 
 -- all lines that were not executed, in the order of the events
 abbrev pub all_skipped : (ℕ → List ℕ) → List Event → List Skipped

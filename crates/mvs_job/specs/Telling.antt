@@ -53,7 +53,10 @@ new_walk = record { step = None; number = 1; reply = reply.NotRun }
 -- the card of a REGION statement of a task
 abbrev pub card_said : Name → Statement → Option CardValue
 card_said t (says.Region below above fill residence) = Some (card_of t below above fill residence)
-card_said t _ = None
+card_said t (says.Request a) = None
+card_said t (says.Where name) = None
+card_said t says.ReportSubpools = None
+card_said t says.ReportMap = None
 
 -- how the step ends that runs, if one does: whether a task of it has abended
 abbrev pub end_told : Option JobValue → Option Bool
@@ -101,7 +104,10 @@ Replies kept old t r answered new = answered ≡ kept
 abbrev pub KeepsReply : JobValue → Name → Statement → Reply → Answer → Reply → JobValue → Type 0
 KeepsReply old t (says.Request a) before answer reply new =
     MatchBool (is_active old.state.owners t) (MatchOption (resolved old.names a) (reply ≡ before) (λ r. Makes (Replies reply) old t a r answer new)) (reply ≡ before)
-KeepsReply old t s before answer reply new = reply ≡ before
+KeepsReply old t (says.Region below above fill residence) before answer reply new = reply ≡ before
+KeepsReply old t (says.Where name) before answer reply new = reply ≡ before
+KeepsReply old t says.ReportSubpools before answer reply new = reply ≡ before
+KeepsReply old t says.ReportMap before answer reply new = reply ≡ before
 
 -- The reply that is kept after a line: one that is not a statement of a step makes no request.
 abbrev pub KeepsReplyOf : WalkValue → List ℕ → LineTold → WalkValue → Type 0
@@ -113,7 +119,20 @@ KeepsReplyOf old bytes told new = new.reply ≡ old.reply
 -- The bytes of an answer can be read, and are few.
 abbrev pub IsLentBy : State → Short → Type 0
 IsLentBy st (short.Data p) = Granted st p × (p.len ≤ most_shown)
-IsLentBy st _ = Unit {0}
+IsLentBy st short.NotRun = Unit {0}
+IsLentBy st short.NoName = Unit {0}
+IsLentBy st (short.At addr) = Unit {0}
+IsLentBy st short.Rc0 = Unit {0}
+IsLentBy st (short.Granted n) = Unit {0}
+IsLentBy st short.Rc4 = Unit {0}
+IsLentBy st short.Cell = Unit {0}
+IsLentBy st short.NoCell = Unit {0}
+IsLentBy st short.Attached = Unit {0}
+IsLentBy st short.Ended = Unit {0}
+IsLentBy st short.Done = Unit {0}
+IsLentBy st (short.Abended code) = Unit {0}
+IsLentBy st short.Subpools = Unit {0}
+IsLentBy st short.Map = Unit {0}
 
 -- A step has the long data of an answer.
 abbrev pub IsLent : WalkValue → LineTold → Type 0

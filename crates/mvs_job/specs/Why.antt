@@ -54,7 +54,9 @@ OfAsked job t a (Some request) r = (reason : Option Reason) × IsReason job.stat
 abbrev pub OfSaid : JobValue → Name → Statement → Option LineReason → Type 0
 OfSaid job t (says.Request a) r = OfAsked job t a (resolved job.names a) r
 OfSaid job t (says.Where name) r = MatchOption (get job.names name) (r ≡ Some (NotSet name)) (λ _. r ≡ None)
-OfSaid job t _ r = r ≡ None
+OfSaid job t (says.Region below above fill residence) r = r ≡ None
+OfSaid job t says.ReportSubpools r = r ≡ None
+OfSaid job t says.ReportMap r = r ≡ None
 
 -- Why a task's statement is refused: the task is not active, or for what it says.
 abbrev pub OfStatement : JobValue → Name → Statement → Option LineReason → Type 0
@@ -64,7 +66,10 @@ OfStatement job t s r = MatchBool (not (is_active job.state.owners t)) (r ≡ So
 abbrev pub OfLine : JobValue → Line → Option LineReason → Type 0
 OfLine job line.Nothing r = r ≡ None
 OfLine job (line.Statement t (says.Region below above fill residence)) r = r ≡ None
-OfLine job (line.Statement t s) r = OfStatement job t s r
+OfLine job (line.Statement t (says.Request a)) r = OfStatement job t (says.Request a) r
+OfLine job (line.Statement t (says.Where name)) r = OfStatement job t (says.Where name) r
+OfLine job (line.Statement t says.ReportSubpools) r = OfStatement job t says.ReportSubpools r
+OfLine job (line.Statement t says.ReportMap) r = OfStatement job t says.ReportMap r
 
 -- whether the events of a line say that it was refused
 abbrev pub tells_refusal : List Event → Bool
@@ -89,7 +94,11 @@ OfNext (Some job) bytes events r = OfBytes job bytes events r
 -- The request of the line that was read is this one, where its names are set.
 abbrev pub IsRequestOf : JobValue → Line → Request → Type 0
 IsRequestOf job (line.Statement t (says.Request a)) request = (r : Request) → resolved job.names a ≡ Some r → request ≡ r
-IsRequestOf job l request = Unit {0}
+IsRequestOf job (line.Statement t (says.Region below above fill residence)) request = Unit {0}
+IsRequestOf job (line.Statement t (says.Where name)) request = Unit {0}
+IsRequestOf job (line.Statement t says.ReportSubpools) request = Unit {0}
+IsRequestOf job (line.Statement t says.ReportMap) request = Unit {0}
+IsRequestOf job line.Nothing request = Unit {0}
 
 -- What is kept of a refusal that is heard of: the reason, the request, and the subpools, if the task ends.
 pub record KeepsWhy (old : Why) (job : JobValue) (t : Name) (request : Request) (refusal : Refusal) (new : Why) : Type 0 where
@@ -109,7 +118,10 @@ IsSurvey step read subpools = (job : JobValue) → step ≡ Some job → (t : Na
 abbrev pub unset_in : JobValue → Line → Option Name
 unset_in job (line.Statement t (says.Request a)) = first_unset job.names (looked_up a)
 unset_in job (line.Statement t (says.Where name)) = Some name
-unset_in job l = None
+unset_in job (line.Statement t (says.Region below above fill residence)) = None
+unset_in job (line.Statement t says.ReportSubpools) = None
+unset_in job (line.Statement t says.ReportMap) = None
+unset_in job line.Nothing = None
 
 -- the same in a step, if there is one
 abbrev pub unset_of : Option JobValue → Line → Option LineReason
@@ -120,7 +132,19 @@ unset_of (Some job) l = option_map (λ name. NotSet name) (unset_in job l)
 abbrev pub answer_reason : Option JobValue → Line → Option Reason → Short → Option LineReason
 answer_reason step l reason short.NotRun = Some (Refused NotActive)
 answer_reason step l reason short.NoName = unset_of step l
-answer_reason step l reason answer = refused reason
+answer_reason step l reason (short.At addr) = refused reason
+answer_reason step l reason short.Rc0 = refused reason
+answer_reason step l reason (short.Granted n) = refused reason
+answer_reason step l reason short.Rc4 = refused reason
+answer_reason step l reason short.Cell = refused reason
+answer_reason step l reason short.NoCell = refused reason
+answer_reason step l reason short.Attached = refused reason
+answer_reason step l reason short.Ended = refused reason
+answer_reason step l reason short.Done = refused reason
+answer_reason step l reason (short.Data p) = refused reason
+answer_reason step l reason (short.Abended code) = refused reason
+answer_reason step l reason short.Subpools = refused reason
+answer_reason step l reason short.Map = refused reason
 
 -- the same by what the line led to
 abbrev pub line_reason : Option JobValue → Line → Option Reason → LineTold → Option LineReason

@@ -42,10 +42,11 @@ pub(crate) fn no_subpools() -> OwnedSubpools
 pub(crate) fn put_owned(job: &Job, task: &Name, subpools: &mut OwnedSubpools)
     ensures { subpools.new ≡ owned_subpools job.now.state task.now }
 {
+    let machine = job.step().machine();
     subpools.clear();
     let mut from = 0;
-    while let Some(next) = job.next_owned(from) {
-        if let Some(subpool) = job.owned(next, task) {
+    while let Some(next) = machine.next_owned(from) {
+        if let Some(subpool) = machine.owned(next, task) {
             subpools.push(subpool);
         }
         from = next.get() + 1;
@@ -126,7 +127,19 @@ fn print_end<W: Write>(
     match answer {
         Answer::Abended(_) => print_subpools(writer, task, fallen, subpools),
         Answer::Ended => print_subpools(writer, task, &[], subpools),
-        _ => Ok(()),
+        Answer::NotRun
+        | Answer::NoName
+        | Answer::At(_)
+        | Answer::Rc0
+        | Answer::Granted(_)
+        | Answer::Rc4
+        | Answer::Cell
+        | Answer::NoCell
+        | Answer::Attached
+        | Answer::Done
+        | Answer::Data(_)
+        | Answer::Subpools
+        | Answer::Map => Ok(()),
     }
 }
 
@@ -146,6 +159,6 @@ pub(crate) fn print_frees<W: Write>(
         LineTold::Answered { task, answer } => {
             print_end(writer, task, walk.fallen(), answer, subpools)
         }
-        _ => Ok(()),
+        LineTold::Nothing | LineTold::Began { .. } | LineTold::Faulted(_) => Ok(()),
     }
 }

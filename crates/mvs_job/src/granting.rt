@@ -46,7 +46,7 @@ pub(crate) type Facts = ShortList<Fact, 0, MOST_FACTS>;
 fn looked_at(job: &Job, had: bool, parts: u32) -> Before
     ensures { result ≡ looked_at job.now had parts }
 {
-    let free = job.free_pages();
+    let free = job.step().machine().free_pages();
     Before {
         below: free.below,
         above: free.above,
@@ -59,14 +59,14 @@ fn looked_at(job: &Job, had: bool, parts: u32) -> Before
 fn means(job: &Job, task: &Name, number: u8) -> bool
     ensures { result ≡ means job.now task.now number }
 {
-    job.label_meant(task, number).is_some()
+    job.step().machine().label_meant(task, number).is_some()
 }
 
 // How many parts the pool of a name has.
 fn parts_at(job: &Job, pool: &Name) -> u32
     ensures { result ≡ parts_at job.now.state pool.now }
 {
-    match job.newest(pool) {
+    match job.step().machine().newest(pool) {
         Some(newest) => newest.parts,
         None => 0,
     }
@@ -92,7 +92,12 @@ pub(crate) fn before_request(job: &Job, task: &Name, written: &Written) -> Optio
             had: true,
             parts: 0,
         }),
-        _ => None,
+        Written::Free { .. }
+        | Written::Return
+        | Written::Abend(_)
+        | Written::Show { .. }
+        | Written::Put { .. }
+        | Written::Move { .. } => None,
     }
 }
 
@@ -103,7 +108,7 @@ fn area_fact(job: &Job, task: &Name, number: u8, area: &Name, least: u32, most: 
     let Some(place) = job.place_of(area) else {
         return None;
     };
-    let Some((number, owner)) = job.label_meant(task, number) else {
+    let Some((number, owner)) = job.step().machine().label_meant(task, number) else {
         return None;
     };
     Some(Fact::Obtained {
@@ -140,7 +145,7 @@ fn subpool_fact(before: &Before, job: &Job, task: &Name, number: u8) -> Option<F
     if before.had {
         return None;
     }
-    let Some((number, owner)) = job.label_meant(task, number) else {
+    let Some((number, owner)) = job.step().machine().label_meant(task, number) else {
         return None;
     };
     Some(Fact::NewSubpool { number, owner })
@@ -157,7 +162,7 @@ fn sum(below: u16, above: u16) -> u32
 fn free_in(job: &Job) -> u32
     ensures { result ≡ free_in job.now }
 {
-    let free = job.free_pages();
+    let free = job.step().machine().free_pages();
     sum(free.below, free.above)
 }
 
@@ -183,7 +188,7 @@ fn freed_fact(before: &Before, job: &Job) -> Option<Fact>
 fn emptied_fact(job: &Job, task: &Name, number: u8) -> Option<Fact>
     ensures { result ≡ emptied_fact job.now task.now number }
 {
-    let Some((number, owner)) = job.label_meant(task, number) else {
+    let Some((number, owner)) = job.step().machine().label_meant(task, number) else {
         return None;
     };
     Some(Fact::Emptied { number, owner })
@@ -193,7 +198,7 @@ fn emptied_fact(job: &Job, task: &Name, number: u8) -> Option<Fact>
 fn part_fact(before: &Before, job: &Job, pool: &Name) -> Option<Fact>
     ensures { result ≡ part_fact before.now job.now pool.now }
 {
-    let Some(newest) = job.newest(pool) else {
+    let Some(newest) = job.step().machine().newest(pool) else {
         return None;
     };
     if newest.parts == before.parts {
@@ -235,7 +240,7 @@ fn cell_fact(job: &Job, pool: &Name, cell: &Name) -> Option<Fact>
 fn subtask_fact(job: &Job, mother: &Name, subtask: &Name, number: SubNo) -> Option<Fact>
     ensures { result ≡ subtask_fact job.now mother.now subtask.now number }
 {
-    let Some((number, owner)) = job.label_had(subtask, number) else {
+    let Some((number, owner)) = job.step().machine().label_had(subtask, number) else {
         return None;
     };
     if is_same(&owner, subtask) {
@@ -357,7 +362,16 @@ pub(crate) fn put_facts(
             push_some(facts, part_pages(before, job, pool));
         }
         Written::Attach { name, .. } => put_subtask(facts, job, task, name),
-        _ => push_some(facts, freed_fact(before, job)),
+        Written::Release { .. }
+        | Written::ReleaseArea { .. }
+        | Written::ReleaseList { .. }
+        | Written::Delete { .. } => push_some(facts, freed_fact(before, job)),
+        Written::Free { .. }
+        | Written::Return
+        | Written::Abend(_)
+        | Written::Show { .. }
+        | Written::Put { .. }
+        | Written::Move { .. } => {}
     }
 }
 
@@ -376,8 +390,18 @@ pub(crate) fn is_grant(answer: &Answer) -> bool
     ensures { (st : State) (fallen : List TaskName) (t : TaskName)
         → result ≡ is_grant (lent st fallen t answer.now) }
 {
-    matches!(
-        answer,
-        Answer::Rc0 | Answer::Granted(_) | Answer::Cell | Answer::Attached
-    )
+    match answer {
+        Answer::Rc0 | Answer::Granted(_) | Answer::Cell | Answer::Attached => true,
+        Answer::NotRun
+        | Answer::NoName
+        | Answer::At(_)
+        | Answer::Rc4
+        | Answer::NoCell
+        | Answer::Ended
+        | Answer::Done
+        | Answer::Data(_)
+        | Answer::Abended(_)
+        | Answer::Subpools
+        | Answer::Map => false,
+    }
 }

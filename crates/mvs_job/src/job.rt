@@ -5,32 +5,23 @@ ghost use Rattle.std.specs.FinMap.{get};
 ghost use Rattle.mvs_model.specs.declared.line.Line.TheVariants as line;
 ghost use Rattle.mvs_model.specs.declared.name.Name.{Name as TaskName};
 ghost use Rattle.mvs_model.specs.Card.{IsCard};
-ghost use Rattle.mvs_model.specs.Changes.{Granted};
 ghost use Rattle.mvs_model.specs.Job.{JobValue, job_at};
 ghost use Rattle.mvs_model.specs.Lent.{fallen_in, lent};
 ghost use Rattle.mvs_model.specs.Lines.{IsStatement, IsWritten};
 ghost use Rattle.mvs_model.specs.Memory.{SetsName, TakesMemory};
-ghost use Rattle.mvs_model.specs.Numbers.{most_shown, most_subpools, subpool_numbers};
+ghost use Rattle.mvs_model.specs.Numbers.{most_shown};
 ghost use Rattle.mvs_model.specs.Owners.{is_active};
 ghost use Rattle.mvs_model.specs.Place.{PlaceValue};
-ghost use Rattle.mvs_model.specs.Newest.{IsNewest};
-ghost use Rattle.mvs_model.specs.Pools.{Pool};
-ghost use Rattle.request_forms.specs.Standing.{free_above, free_below, label_had, label_meant};
 ghost use Rattle.mvs_model.specs.Replies as replies;
 ghost use Rattle.mvs_model.specs.Resolving.{first_unset, looked_up, resolved};
 ghost use Rattle.mvs_model.specs.Runs.{Asks, Does, Makes};
 ghost use Rattle.mvs_model.specs.State.{State};
 ghost use Rattle.mvs_model.specs.View.{IsBounded};
-ghost use Rattle.mvs_model.specs.NextOwned.{IsNextOwned};
-ghost use Rattle.request_forms.specs.Facts.{owned_at};
 ghost use Rattle.request_forms.specs.Taking.{Takes};
-ghost use Rattle.request_forms.specs.Reports.{HasNone, IsMapEnd, IsMapRun, IsSubpoolLine};
 ghost use Rattle.mvs_job.specs.Telling.{IsLentBy, KeepsReply, Replies, card_said};
 ghost use Rattle.mvs_job.specs.Valued.{BuildsInRange, MayWrite, Requests};
-ghost use Rattle.mvs_model.specs.Causes.{IsRefused};
-ghost use Rattle.mvs_model.specs.Reasons.{Explains};
 ghost use Rattle.mvs_model.specs.Steps.{Step as MachineStep};
-ghost use Rattle.mvs_job.specs.Observing.{Fails, Hears, IsRestKept, LeftFor, Observes, Passes};
+ghost use Rattle.mvs_job.specs.Observing.{Fails, Hears, IsRestKept, Observes, Passes};
 
 use crate::observer::Observer;
 use job_script::{Names, resolve, set_names, unset};
@@ -41,13 +32,10 @@ use mvs_model::error::OutOfMemory;
 use mvs_model::line::{Statement, Written};
 use mvs_model::name::Name;
 use mvs_model::place::{Addr, Place};
-use mvs_model::reason::{Reason, Shortfall};
 use mvs_model::refusal::Refusal;
-use mvs_model::report::{MapRun, Newest, SubpoolLine};
 use mvs_model::request::{Reply, Request};
-use mvs_model::subpool::{SubNo, SubpoolId};
 use mvs_model::want::Placement;
-use request_forms::{FreePages, OwnedSubpool, no_shortfall};
+use request_forms::no_shortfall;
 use std::alloc::Global;
 use std::marker::Model;
 
@@ -96,7 +84,25 @@ fn grant_answer(written: &Written, place: &Place) -> Answer
 {
     match written {
         Written::Obtain { variable: true, .. } => Answer::Granted(place.len()),
-        _ => Answer::Rc0,
+        Written::Obtain {
+            variable: false,
+            ..
+        }
+        | Written::ObtainList { .. }
+        | Written::Release { .. }
+        | Written::ReleaseArea { .. }
+        | Written::ReleaseList { .. }
+        | Written::ReleaseWhole { .. }
+        | Written::Build { .. }
+        | Written::Get { .. }
+        | Written::Free { .. }
+        | Written::Delete { .. }
+        | Written::Attach { .. }
+        | Written::Return
+        | Written::Abend(_)
+        | Written::Show { .. }
+        | Written::Put { .. }
+        | Written::Move { .. } => Answer::Rc0,
     }
 }
 
@@ -167,25 +173,20 @@ impl Job {
         })
     }
 
-    /// Whether a task of the step has abended.
-    pub fn abended(&self) -> bool
-        ensures { result ≡ self.now.abended }
+    /// Returns the machine of the step, which answers questions about its tasks, its storage and its pools.
+    pub fn step(&self) -> &Step
+        ensures state { result.now.state ≡ self.now.state }
+        ensures abended { result.now.abended ≡ self.now.abended }
+        ensures bounded { IsBounded self.now.state.regions }
     {
-        self.step.abended()
+        &self.step
     }
 
     /// Whether a task of this step or of a former one has abended.
     pub fn any_abended(&self) -> bool
         ensures { result ≡ (self.now.abended || self.now.former) }
     {
-        self.abended() || self.former
-    }
-
-    /// Whether a task of this name is active.
-    pub fn is_active(&self, task: &Name) -> bool
-        ensures { result ≡ is_active self.now.state.owners task.now }
-    {
-        self.step.is_active(task)
+        self.step.abended() || self.former
     }
 
     /// The place that a name was last set to, by any task.
@@ -193,81 +194,6 @@ impl Job {
         ensures { result ≡ get self.now.names name.now }
     {
         self.names.get(name)
-    }
-
-    /// The bytes of a place; None where one of them may not be read.
-    pub fn bytes(&self, place: Place) -> Option<&[u8]>
-        ensures granted { IsSome result ↔ Granted self.now.state place }
-        ensures len { IfSome result (λ part. length part.now ≡ place.len) }
-        ensures bytes { IfSome result
-            (λ part. (k : ℕ) → k < place.len
-            → slice_get part.now k ≡ get self.now.state.bytes (place.addr + k)) }
-    {
-        self.step.bytes(place)
-    }
-
-    /// The line of REPORT SP for the first number at or after `from` that the task has; None where it has none.
-    pub fn subpool_line(&self, task: &Name, from: u8) -> Option<SubpoolLine>
-        ensures { MatchOption result (HasNone self.now.state.owners task.now from subpool_numbers)
-            (IsSubpoolLine self.now.state task.now from) }
-    {
-        self.step.subpool_line(task, from)
-    }
-
-    /// The first run of REPORT MAP that begins at or after an address; None where there is none.
-    pub fn map_run(&self, from: Addr) -> Option<MapRun>
-        ensures run { MatchOption result (IsMapEnd self.now.state from)
-            (IsMapRun self.now.state from) }
-        ensures bounded { IsBounded self.now.state.regions }
-    {
-        self.step.map_run(from)
-    }
-
-    /// The first subpool from a number on that a task owns.
-    pub fn next_owned(&self, from: u16) -> Option<SubpoolId>
-        requires { from ≤ most_subpools }
-        ensures { IsNextOwned self.now.state.owners from result }
-    {
-        self.step.next_owned(from)
-    }
-
-    /// A subpool, where a task owns it, and whether another task has it.
-    pub fn owned(&self, subpool: SubpoolId, task: &Name) -> Option<OwnedSubpool>
-        ensures { result ≡ owned_at self.now.state task.now subpool }
-    {
-        self.step.owned(subpool, task)
-    }
-
-    /// How many pages of each region hold nothing.
-    pub fn free_pages(&self) -> FreePages
-        ensures below { result.below ≡ free_below self.now.state }
-        ensures above { result.above ≡ free_above self.now.state }
-    {
-        self.step.free_pages()
-    }
-
-    /// The subpool that an active task means by a number that a program may name: the number under which its owner has it, and
-    /// the owner.
-    pub fn label_meant(&self, task: &Name, number: u8) -> Option<(SubNo, Name)>
-        ensures { result ≡ label_meant self.now.state.owners task.now number }
-    {
-        self.step.label_meant(task, number)
-    }
-
-    /// Returns the subpool that an active task has for a number: its owner's number for it, and the owner.
-    pub fn label_had(&self, task: &Name, number: SubNo) -> Option<(SubNo, Name)>
-        ensures { result ≡ label_had self.now.state.owners task.now number }
-    {
-        self.step.label_had(task, number)
-    }
-
-    /// How many parts the pool of this name has, and which was put to it last. None where no pool has the name.
-    pub fn newest(&self, pool: &Name) -> Option<Newest>
-        ensures { MatchOption result (get self.now.state.pools pool.now ≡ None)
-            (λ newest. (kept : Pool) × (get self.now.state.pools pool.now ≡ Some kept)
-            × IsNewest kept newest) }
-    {
-        self.step.newest(pool)
     }
 
     /// Whether each name that a request looks up is set: then `request` is what is asked for, written over another.
@@ -283,22 +209,6 @@ impl Job {
         ensures { result ≡ first_unset self.now.names (looked_up written.now) }
     {
         unset(&self.names, written)
-    }
-
-    /// Says what the refusal of a task's request is about, in the state that the refusal has left as it was. `left` is what a member
-    /// of a list lacks, where one has no place.
-    pub fn details(
-        &self,
-        task: &Name,
-        request: &Request,
-        refusal: Refusal,
-        left: &Shortfall,
-    ) -> Reason
-        requires refused { IsRefused self.now.state task.now request.now refusal }
-        requires left { LeftFor self.now task.now request.now refusal left.now }
-        ensures { Explains self.now.state task.now request.now refusal result }
-    {
-        self.step.details(task, request, refusal, left)
     }
 
     /// Serves a request that is given by values, and writes the reply to it over another one. It sets no name.

@@ -227,7 +227,11 @@ impl SetLines {
                 has_lengths(written);
                 self.put_all(names_set(written), number)
             }
-            _ => Ok(()),
+            Line::Statement(
+                _,
+                Statement::Where(_) | Statement::ReportSubpools | Statement::ReportMap,
+            )
+            | Line::Nothing => Ok(()),
         }
     }
 

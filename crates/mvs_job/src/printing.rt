@@ -5,6 +5,7 @@ ghost use Rattle.mvs_model.specs.declared.name.Name.{Name as TaskName};
 ghost use Rattle.mvs_model.specs.Lent.{lent};
 ghost use Rattle.mvs_model.specs.Texts.{answer_text, printing};
 ghost use Rattle.job_script.specs.Writing.{Prints};
+ghost use Rattle.mvs_job.specs.Replying.{plain_answer};
 ghost use Rattle.mvs_job.specs.Serving.{RunsLine};
 ghost use Rattle.mvs_job.specs.Telling.{IsLent, IsLentBy, closing, ended, events_told};
 
@@ -19,6 +20,7 @@ use mvs_model::answer::Answer;
 use mvs_model::line::Fault;
 use mvs_model::name::Name;
 use mvs_model::place::{Addr, Place};
+use mvs_model::request::Reply;
 use mvs_model::watched::{Failed, Watched};
 use std::io::Write;
 use thiserror::Error;
@@ -58,7 +60,7 @@ fn print_shown<W: Write>(
         (answer_text line_number task.now
         (lent job.now.state fallen task.now (Answer.Data place))) }
 {
-    match job.bytes(place) {
+    match job.step().bytes(place) {
         Some(bytes) => print_data(writer, line_number, task, bytes),
         None => unreachable!(),
     }
@@ -82,7 +84,45 @@ fn print_answer<W: Write>(
         Answer::Abended(code) => print_abend(writer, line_number, task, *code, fallen),
         Answer::Subpools => print_subpools(writer, line_number, task, job),
         Answer::Map => print_map(writer, line_number, task, job),
-        _ => print_said(writer, line_number, task, answer),
+        Answer::NotRun
+        | Answer::NoName
+        | Answer::At(_)
+        | Answer::Rc0
+        | Answer::Granted(_)
+        | Answer::Rc4
+        | Answer::Cell
+        | Answer::NoCell
+        | Answer::Attached
+        | Answer::Ended
+        | Answer::Done => print_said(writer, line_number, task, answer),
+    }
+}
+
+/// Prints the reply to a request of a task that is neither variable nor SHOW. A reply has neither the length of a variable request
+/// nor the bytes of SHOW: `print_line` prints these.
+pub fn print_reply<W: Write>(
+    writer: &mut Watched<W>,
+    line_number: u32,
+    task: &Name,
+    reply: &Reply,
+) -> Result<(), Failed>
+    ensures { Prints W.contents writer.old writer.new result
+        (answer_text line_number task.now (plain_answer reply.now)) }
+{
+    match reply {
+        Reply::NotRun => print_said(writer, line_number, task, &Answer::NotRun),
+        Reply::Rc0 => print_said(writer, line_number, task, &Answer::Rc0),
+        Reply::Obtained(_) => print_said(writer, line_number, task, &Answer::Rc0),
+        Reply::Listed(_) => print_said(writer, line_number, task, &Answer::Rc0),
+        Reply::Rc4 => print_said(writer, line_number, task, &Answer::Rc4),
+        Reply::Cell(_) => print_said(writer, line_number, task, &Answer::Cell),
+        Reply::NoCell => print_said(writer, line_number, task, &Answer::NoCell),
+        Reply::Attached => print_said(writer, line_number, task, &Answer::Attached),
+        Reply::Ended => print_said(writer, line_number, task, &Answer::Ended),
+        Reply::Done => print_said(writer, line_number, task, &Answer::Done),
+        Reply::Abended(code, fallen) => {
+            print_abend(writer, line_number, task, *code, fallen.names())
+        }
     }
 }
 

@@ -35,7 +35,7 @@ fn print_numbers<W: Write>(
     'lines: while let Some(line) = next {
         print_subpool_line(writer, line_number, task, &line)?;
         from = line.number.get() + 1;
-        next = job.subpool_line(task, from);
+        next = job.step().subpool_line(task, from);
     }
     Ok(())
 }
@@ -50,7 +50,7 @@ pub fn print_subpools<W: Write>(
     ensures { Prints W.contents writer.old writer.new result
         (answer_text line_number task.now (Subpools (subpool_lines_of job.now.state task.now))) }
 {
-    match job.subpool_line(task, 0) {
+    match job.step().subpool_line(task, 0) {
         Some(first) => print_numbers(writer, line_number, task, job, first),
         None => print_no_subpool(writer, line_number, task),
     }
@@ -67,7 +67,7 @@ pub fn print_map<W: Write>(
         (answer_text line_number task.now (Map (page_map job.now.state))) }
 {
     let mut from = Addr::new(BELOW_BEGINS);
-    'runs: while let Some(run) = job.map_run(from) {
+    'runs: while let Some(run) = job.step().map_run(from) {
         print_map_run(writer, line_number, task, &run)?;
         from = Addr::new(run.addr.get() + run.len);
     }

@@ -60,7 +60,19 @@ fn why_unserved(answer: &Answer) -> Option<Unserved>
     match answer {
         Answer::NotRun => Some(Unserved::NotRun),
         Answer::NoName => Some(Unserved::NoName),
-        _ => None,
+        Answer::At(_)
+        | Answer::Rc0
+        | Answer::Granted(_)
+        | Answer::Rc4
+        | Answer::Cell
+        | Answer::NoCell
+        | Answer::Attached
+        | Answer::Ended
+        | Answer::Done
+        | Answer::Data(_)
+        | Answer::Abended(_)
+        | Answer::Subpools
+        | Answer::Map => None,
     }
 }
 
@@ -75,7 +87,7 @@ fn why_of(walk: &Walk, told: &LineTold) -> Option<Unserved>
 {
     match told {
         LineTold::Answered { answer, .. } => why_unserved(answer),
-        _ => None,
+        LineTold::Nothing | LineTold::Began { .. } | LineTold::Faulted(_) => None,
     }
 }
 
@@ -99,6 +111,13 @@ impl<'a, C, H> Strict<'a, C, H> {
             hearer,
             all_served: true,
         }
+    }
+
+    /// Returns whether each line of the entries was executed.
+    pub fn is_all_served(&self) -> bool
+        ensures { result ≡ self.now.all_served }
+    {
+        self.all_served
     }
 }
 

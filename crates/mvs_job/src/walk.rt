@@ -99,7 +99,10 @@ fn card_of(task: &Name, statement: &Statement) -> Option<Card>
             fill,
             residence,
         } => Some(Card::new(*task, *below, *above, *fill, *residence)),
-        _ => None,
+        Statement::Request(_)
+        | Statement::Where(_)
+        | Statement::ReportSubpools
+        | Statement::ReportMap => None,
     }
 }
 
@@ -107,7 +110,7 @@ fn card_of(task: &Name, statement: &Statement) -> Option<Card>
 fn end_of(job: &Option<Job>) -> Option<bool>
     ensures { result ≡ end_told job.now }
 {
-    job.as_ref().map(|job| job.abended())
+    job.as_ref().map(|job| job.step().abended())
 }
 
 // Whether a task has abended so far.

@@ -74,9 +74,10 @@ fn resolve(job: &Job, read: &Line, request: &mut Request)
     }
 }
 
-/// Room for what a line says, for its request, and for what that did, which are long; and what was heard of its refusal.
+/// Finds why a line is not executed as it asks. It looks at the line before that is executed, and observes the refusal of its request.
+/// It has room for what a line says, for its request, and for what that did, which are long.
 #[derive(Drop)]
-pub(crate) struct Why {
+pub struct Why {
     pub(crate) read: Line,
     pub(crate) request: Request,
     pub(crate) facts: Facts,
@@ -99,7 +100,7 @@ impl Observer for Why {
         refusal: Refusal,
         left: &Shortfall,
     ) {
-        self.reason = Some(job.details(task, request, refusal, left));
+        self.reason = Some(job.step().details(task, request, refusal, left));
         resolve(job, &self.read, &mut self.request);
         if let Consequence::Abend(_) = reply_to(request, refusal) {
             put_owned(job, task, &mut self.subpools);
@@ -108,7 +109,8 @@ impl Observer for Why {
 }
 
 impl Why {
-    pub(crate) fn new() -> Why {
+    /// Makes one that has looked at no line.
+    pub fn new() -> Why {
         Why {
             read: Line::Nothing,
             request: Request::Return,
@@ -120,7 +122,7 @@ impl Why {
     }
 
     /// Looks at what is reported of the next line after it, before it is executed.
-    pub(crate) fn look(&mut self, walk: &Walk, line: &[u8])
+    pub fn look(&mut self, walk: &Walk, line: &[u8])
         ensures read { IsReadIn walk.now.step line.now self.new.read }
         ensures before { self.new.before ≡ before_line walk.now.step self.new.read }
         ensures subpools { IsSurvey walk.now.step self.new.read self.new.subpools }
@@ -160,8 +162,8 @@ impl Why {
         }
     }
 
-    /// Why the line was not executed as it asks, by its events.
-    pub(crate) fn line_reason(&self, walk: &Walk, told: &LineTold) -> Option<LineReason>
+    /// Returns why the line was not executed as it asks, by its events.
+    pub fn line_reason(&self, walk: &Walk, told: &LineTold) -> Option<LineReason>
         ensures { result ≡ line_reason walk.now.step self.now.read self.now.reason told.now }
     {
         let LineTold::Answered { answer, .. } = told else {

@@ -177,7 +177,7 @@ room_of (b ∷ buf) f e some = omega arith
 
 -- ---- a run
 
-writes_of : (left more before after : Option (List ℕ)) (P : List ℕ → List ℕ → List ℕ → Type 0) (Q : List ℕ → List ℕ → Type 0) → ((told script written : List ℕ) → P told script written → Q script written)
+pub writes_of : (left more before after : Option (List ℕ)) (P : List ℕ → List ℕ → List ℕ → Type 0) (Q : List ℕ → List ℕ → Type 0) → ((told script written : List ℕ) → P told script written → Q script written)
     → Exchanges left more before after P → Writes left before after Q
 writes_of left more before after P Q f (told, rest, written, consumed, is, appended, p) = (told ++ rest, written, whole left more consumed is, appended, f told (told ++ rest) written p) where
   whole : (left more : Option (List ℕ)) → Consumes left more told → IsRest more rest → IsRest left (told ++ rest)
@@ -218,23 +218,3 @@ module _ (left unread more before after : Option (List ℕ)) (same : left ≡ un
       → IfErr r (λ fault. fault ≡ Memory → Writes unread before after (λ script written. IsPrintingBefore script written))
   written_before (Ok outcome) h = tt
   written_before (Err fault) h = λ e. subst (λ l. Writes l before after (λ script written. IsPrintingBefore script written)) same (writes_of left more before after (λ told script written. IsPrintingBefore script written) (λ script written. IsPrintingBefore script written) (λ told script written p. p) (h e))
-
--- ---- a run that ended at the byte that is too many, as a read that failed
-
-pub ok_same : (r e : Result Outcome RunFault) (P Q : Outcome → Type 0) → e ≡ r → ((outcome : Outcome) → P outcome → Q outcome) → IfOk r P → IfOk e Q
-ok_same (Ok outcome) e P Q same f h = subst (λ e. IfOk e Q) (sym same) (f outcome h)
-ok_same (Err fault) e P Q same f h = subst (λ e. IfOk e Q) (sym same) tt
-
-pub ok_fault : (e : Result Outcome RunFault) (fault : RunFault) (Q : Outcome → Type 0) → e ≡ Err fault → IfOk e Q
-ok_fault e fault Q is = subst (λ e. IfOk e Q) (sym is) tt
-
-pub err_same : (r e : Result Outcome RunFault) (P : RunFault → Type 0) → e ≡ r → IfErr r P → IfErr e P
-err_same r e P same h = subst (λ e. IfErr e P) (sym same) h
-
-pub err_other : (e : Result Outcome RunFault) (W : Type 0) → e ≡ Err ReadTooLong → IfErr e (λ fault. fault ≡ Memory → W)
-err_other e W is = subst (λ e. IfErr e (λ fault. fault ≡ Memory → W)) (sym is) (λ m. absurd (let f : ReadTooLong ≡ Memory = m in cc))
-
-pub err_mended : (r e : Result Outcome RunFault) (W : Type 0) → r ≡ Err Read → e ≡ Err ReadTooLong → IfErr r (λ fault. (fault ≡ Read) ⊎ (fault ≡ ReadTooLong) → W) → IfErr e (λ fault. (fault ≡ Read) ⊎ (fault ≡ ReadTooLong) → W)
-err_mended r e W was is h =
-    let read : (Read ≡ Read) ⊎ (Read ≡ ReadTooLong) → W = subst (λ r. IfErr r (λ fault. (fault ≡ Read) ⊎ (fault ≡ ReadTooLong) → W)) was h in
-    subst (λ e. IfErr e (λ fault. (fault ≡ Read) ⊎ (fault ≡ ReadTooLong) → W)) (sym is) (λ _. read (inl refl))

@@ -1,5 +1,5 @@
 -- The effect of --check: what it writes, how the program ends, and which line to report.
-use Rattle.std.specs.Prelude.{◌≡◌, ◌&&◌, ℕ, nat_le, not, List, [], Option, Some, None, Result, Ok, Err, Bool, true, false, if◌then◌else◌}
+use Rattle.std.specs.Prelude.{◌≡◌, ◌==◌, ◌&&◌, ◌||◌, ℕ, nat_le, not, List, [], Option, Some, None, Result, Ok, Err, Bool, true, false, if◌then◌else◌}
 use Rattle.std.specs.Io.KnownBytes.{Appends}
 use Rattle.annotated.specs.declared.report.Counts.{Counts}
 use Rattle.annotated.specs.declared.report.Form.{Form}
@@ -29,9 +29,10 @@ abbrev pub checked_ending : Counts → Option ℕ → Ending
 checked_ending n None = Checked (not (are_right n))
 checked_ending n (Some line) = if not (are_right n) then Checked true else if nat_le line n.last then Checked false else Ran ScriptFault
 
--- whether the line of a fault is not reported: the report hides what the run printed, and the script has an answer for the fault
+-- whether the line of a fault is not reported: the script has an answer for the fault, and the report hides what the run printed, or
+-- some answer is missing
 abbrev pub hides_fault : Bool → Counts → ℕ → Bool
-hides_fault hides n line = hides && nat_le line n.last
+hides_fault hides n line = (hides || not (n.missing == 0)) && nat_le line n.last
 
 -- A fault is reported, or it is hidden.
 abbrev pub IsShown : Bool → Faulty → Option Faulty → Type 0

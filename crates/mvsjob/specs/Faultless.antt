@@ -1,9 +1,15 @@
 -- A script without its faulty lines.
-use Rattle.std.specs.Prelude.{ℕ, ◌≡◌, ◌==◌, ◌&&◌, Bool, true, if◌then◌else◌, List, [], ◌∷◌, ◌++◌, drop, length, Option, Some, None, is_some, option_map}
+use Rattle.std.specs.Prelude.{ℕ, ◌≡◌, ◌⊎◌, ◌<◌, ◌==◌, ◌&&◌, Bool, true, if◌then◌else◌, List, [], ◌∷◌, ◌++◌, drop, length, Option, Some, None, Result, Ok, Err, is_some, option_map}
 use Rattle.std.specs.Io.KnownBytes.{Appends, Consumes, IsAtEnd}
+use Rattle.mvs_model.specs.declared.outcome.Outcome.{Outcome}
 use Rattle.mvs_model.specs.Lines.{lines_of, ended_text}
+use Rattle.mvs_model.specs.Numbers.{most_script_bytes}
 use Rattle.mvs_model.specs.Reading.{checks, first_of, is_empty, says_nothing}
+use Rattle.mvs_job.specs.declared.run.RunFault.{RunFault}
+use Rattle.mvs_job.specs.declared.run.RunFault.TheVariants.{Memory, Read, ReadTooLong, Write}
+use Rattle.mvs_job.specs.Consuming.{Piece}
 use Rattle.mvs_job.specs.Exchanging.{Exchanges, IsRest}
+use Rattle.mvs_job.specs.Streams.{StopsText}
 
 -- whether a line has a fault, where no statement came before it, or one did
 unfoldable pub is_faulty : Bool → List ℕ → Bool
@@ -26,6 +32,20 @@ Writes left before after P = (script : List ℕ) × (written : List ℕ) × IsRe
 -- written.
 abbrev pub WritesPart : Option (List ℕ) → Option (List ℕ) → Option (List ℕ) → (List ℕ → List ℕ → List ℕ → Type 0) → Type 0
 WritesPart unread before after P = (left : Option (List ℕ)) × Exchanges unread left before after P
+
+-- how a job ends for which no more is read, or is, than a script may have
+abbrev pub limited : Bool → Result Outcome RunFault → Result Outcome RunFault
+limited is_long (Err Read) = Err (if is_long then ReadTooLong else Read)
+limited is_long (Err Write) = Err Write
+limited is_long (Err Memory) = Err Memory
+limited is_long (Err ReadTooLong) = Err ReadTooLong
+limited is_long (Ok outcome) = Ok outcome
+
+-- The text when a job stopped for a fault, for which this many bytes were read: if they are too many, it stopped as for a read that
+-- failed.
+abbrev pub StopsWithin : Piece → ℕ → List ℕ → List ℕ → List ℕ → RunFault → Type 0
+StopsWithin piece count consumed script text fault =
+    StopsText piece consumed script text fault ⊎ ((fault ≡ ReadTooLong) × (most_script_bytes < count) × StopsText piece consumed script text Read)
 
 -- ---- as it comes
 

@@ -2,7 +2,6 @@
 use Rattle.std.specs.Prelude.{◌≡◌, ℕ, List, ◌∷◌, ◌++◌, ◌==◌, ◌&&◌, ◌||◌, nat_lt, not, position, Option, Some, None, Result, Ok, Err, Bool, true, false, codes}
 use Rattle.std.specs.Io.KnownBytes.{Appends}
 use Rattle.annotated.specs.Blank.{blank}
-use Rattle.event_json.specs.Lines.{WritesLines}
 use Rattle.job_script.specs.Writing.{AppendsFront}
 use Rattle.judge.specs.declared.Finding.{Finding}
 use Rattle.judge.specs.declared.Finding.TheVariants as finding
@@ -11,15 +10,11 @@ use Rattle.mvs_model.specs.declared.outcome.Outcome.{Outcome}
 use Rattle.mvs_model.specs.declared.outcome.Outcome.TheVariants.{Clean, SomeAbend, ScriptFault}
 use Rattle.mvs_model.specs.Answers.{Event}
 use Rattle.mvs_model.specs.Lines.{lines_of}
-use Rattle.mvs_model.specs.Runs.{IsRun, machine}
-use Rattle.mvs_model.specs.Walk.{Faults, ServesLine, is_first}
-use Rattle.mvs_job.specs.declared.walk.LineTold.{LineTold}
-use Rattle.mvs_job.specs.declared.walk.LineTold.TheVariants as told
-use Rattle.mvs_job.specs.Telling.{WalkValue}
+use Rattle.mvs_model.specs.Runs.{IsRun}
 use Rattle.mvs_job.specs.declared.printing.Stop.{Stop}
 use Rattle.mvs_job.specs.declared.run.RunFault.{RunFault}
 use Rattle.mvs_job.specs.declared.run.RunFault.TheVariants as fault
-use Rattle.mvs_job.specs.Explained.{WritesExplained, explained}
+use Rattle.mvs_job.specs.Consuming.{LeavesText, Piece}
 use Rattle.mvs_job.specs.Streams.{PrintedUpTo}
 use Rattle.reference.specs.Texts.{IsAbout}
 use Rattle.mvs_job.specs.Strict.{HearsFront, PrintsStrictly, RunsObserved, Skipped}
@@ -57,11 +52,11 @@ RunsStrictly before after heard heard' script (Ok served) =
     (outcome : Outcome) × (all : Bool) × PrintsStrictly before after heard heard' script outcome all × (served.ending ≡ strict_ending outcome all) × IsFaultOf script outcome served.faulty
 RunsStrictly before after heard heard' script (Err why) = (stop : Stop) × (why ≡ gave_up stop) × PrintedUpTo stop before after script × HearsFront heard heard' script
 
--- It is run with explanations, and observed so.
-abbrev pub ExplainsStrictly : Option (List ℕ) → Option (List ℕ) → Option (List Skipped) → Option (List Skipped) → List ℕ → Result Served GiveUp → Type 0
-ExplainsStrictly before after heard heard' script (Ok served) =
-    (outcome : Outcome) × (all : Bool) × RunsObserved explained before after heard heard' script outcome all × (served.ending ≡ strict_ending outcome all) × IsFaultOf script outcome served.faulty
-ExplainsStrictly before after heard heard' script (Err why) = (stop : Stop) × (why ≡ gave_up stop) × WritesExplained before after script (Err stop) × HearsFront heard heard' script
+-- It is run, a consumer writes of it, and it is observed so.
+abbrev pub ConsumesStrictly : Piece → Option (List ℕ) → Option (List ℕ) → Option (List Skipped) → Option (List Skipped) → List ℕ → Result Served GiveUp → Type 0
+ConsumesStrictly piece before after heard heard' script (Ok served) =
+    (outcome : Outcome) × (all : Bool) × RunsObserved piece before after heard heard' script outcome all × (served.ending ≡ strict_ending outcome all) × IsFaultOf script outcome served.faulty
+ConsumesStrictly piece before after heard heard' script (Err why) = (stop : Stop) × (why ≡ gave_up stop) × LeavesText piece before after script (Err stop) × HearsFront heard heard' script
 
 -- ---- texts
 
@@ -99,25 +94,7 @@ Blanks before after script result = WritesText before after (blank script) resul
 abbrev pub Asks : Option (List ℕ) → Option (List ℕ) → List ℕ → Result Served GiveUp → Type 0
 Asks before after script result = WritesText before after (asked true (lines_of script)) result
 
--- ---- events and findings
-
--- The events of a run of the script are written as lines of JSON, each in its place.
-abbrev pub TellsRun : Option (List ℕ) → Option (List ℕ) → List ℕ → Outcome → Type 0
-TellsRun before after script outcome = (events : List Event) × IsRun script events outcome × WritesLines before after events
-
--- The same, and the mode ends as the run.
-abbrev pub Tells : Option (List ℕ) → Option (List ℕ) → List ℕ → Served → Type 0
-Tells before after script served = (outcome : Outcome) × TellsRun before after script outcome × (served.ending ≡ Ran outcome) × IsFaultOf script outcome served.faulty
-
--- whether a job continues after the events of a line
-abbrev pub is_on : LineTold → Bool
-is_on (told.Faulted fault) = false
-is_on told = true
-
--- The line is executed, its events are written, and the job continues; or it has a fault, which is written.
-abbrev pub TellsOn : Option (List ℕ) → Option (List ℕ) → WalkValue → List ℕ → WalkValue → Bool → Type 0
-TellsOn before after w line new true = (events : List Event) × WritesLines before after events × ServesLine machine w.number w.step line events new.step
-TellsOn before after w line new false = (events : List Event) × WritesLines before after events × Faults w.number (is_first w.step) line events
+-- ---- findings
 
 -- the word for a finding
 abbrev pub word_of : Finding → List ℕ

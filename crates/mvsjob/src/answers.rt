@@ -3,7 +3,7 @@
 ghost use Rattle.std.specs.Prelude.{◌≡◌, ◌≤◌, IfOk, length};
 ghost use Rattle.mvs_model.specs.Numbers.{most_script_bytes};
 ghost use Rattle.mvs_model.specs.Runs.{IsPrinting};
-ghost use Rattle.mvsjob.specs.Checking.{Checks, IsReported, checked_ending, line_of};
+ghost use Rattle.mvsjob.specs.Checking.{Checks, IsReported, checked_ending, hides_fault, line_of};
 ghost use Rattle.mvsjob.specs.Served.{Asks, Blanks, HasNoForeign};
 
 use crate::asking::write_asking;
@@ -56,7 +56,15 @@ fn ending_of(counts: &Counts, faulty: &Option<Faulty<'_>>) -> Ending
     }
 }
 
-// Returns the line to report. One that has an answer is not reported if what a run prints is hidden.
+// Returns whether the fault of a line is not reported: the script has an answer for it, and the report hides what the run printed, or
+// some answer is missing.
+fn hides_fault(is_hidden: bool, counts: &Counts, line_number: u32) -> bool
+    ensures { result ≡ hides_fault is_hidden counts.now line_number }
+{
+    (is_hidden || counts.missing != 0) && line_number <= counts.last
+}
+
+// Returns the line to report, if it is to be reported.
 fn reported<'a>(
     script: &'a [u8],
     is_hidden: bool,
@@ -66,7 +74,7 @@ fn reported<'a>(
     ensures { IsReported is_hidden counts.now faulty.now result }
 {
     match faulty {
-        Some(faulty) if is_hidden && faulty.number <= counts.last => None,
+        Some(faulty) if hides_fault(is_hidden, counts, faulty.number) => None,
         Some(faulty) => Some(in_script(script, faulty)),
         None => None,
     }

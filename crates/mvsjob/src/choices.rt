@@ -93,8 +93,9 @@ impl Settings<'_> {
         matches!(self.mode, Mode::Random(_) | Mode::Code | Mode::Rule(_))
     }
 
-    /// Returns whether each line of the script runs before the next one is read.
+    /// Returns whether a run writes of each line before the next one is read, if the lines are not those of a script that is searched
+    /// for hints.
     pub fn is_as_it_comes(&self) -> bool {
-        self.is_answers() && !self.strict
+        self.mode == Mode::Run && !self.page
     }
 }

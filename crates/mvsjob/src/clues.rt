@@ -125,7 +125,7 @@ impl Lacked {
     // Returns whether a job has such a name.
     fn is_there(&self, job: &Job, name: &Name) -> bool {
         match self {
-            Lacked::Task(_) => job.is_active(name),
+            Lacked::Task(_) => job.step().is_active(name),
             Lacked::Name(_) => job.place_of(name).is_some(),
         }
     }

@@ -16,12 +16,10 @@ use clap::{Arg, ArgAction, ArgMatches, Command};
 use mvs_model::want::Placement;
 use random_script::Profile;
 use std::alloc::{AllocError, Global};
+use version::VERSION;
 
 const ABOUT: &str =
     "Simulates the virtual storage services of z/OS: runs a script of requests, and prints the reply to each.";
-
-/// The version of this program, and the kit that it is proved with.
-const VERSION: &str = "1.1.0 (rattle-kit-13f logic dac8208d650f15bf)";
 
 const SHORT: &str = "--help also shows examples and exit statuses.
 mvsjob-script(5) describes the script language.";

@@ -7,7 +7,7 @@ use clap::ArgMatches;
 type Excluding = (&'static str, &'static [&'static str]);
 
 /// The options that have no meaning together.
-static EXCLUDING: [Excluding; 12] = [
+static EXCLUDING: [Excluding; 10] = [
     (
         "code",
         &[
@@ -134,10 +134,8 @@ static EXCLUDING: [Excluding; 12] = [
             "color",
         ],
     ),
-    ("json", &["page", "strict", "interactive", "color"]),
+    ("json", &["page", "color"]),
     ("page", &["strict", "interactive", "color"]),
-    ("strict", &["interactive"]),
-    ("interactive", &["explain"]),
 ];
 
 /// The options that have a meaning with another one only, and that one.

@@ -1,16 +1,17 @@
 //! A reader that leaves out the lines of a script that have a fault.
 
-ghost use Rattle.std.specs.Prelude.{◌≡◌, ◌≢◌, ◌<◌, ◌≤◌, ◌+◌, ◌||◌, ◌⊎◌, ◌∷◌, [], ℕ, List, None, Option, true, false, is_some, length, nat_lt, take, IfErr, IfOk, IsErrOf, IsNone, MatchOption, OnErr, OnOk};
+ghost use Rattle.std.specs.Prelude.{◌≡◌, ◌≢◌, ◌<◌, ◌≤◌, ◌+◌, ◌||◌, ◌⊎◌, ◌∷◌, [], ℕ, List, None, Ok, Option, true, false, is_some, length, nat_lt, take, IfErr, IfOk, IsErrOf, IsNone, MatchOption, OnErr, OnOk};
 ghost use Rattle.mvs_model.specs.Memory.{IsPrintingBefore};
 ghost use Rattle.mvs_model.specs.Numbers.{most_script_bytes};
 ghost use Rattle.mvs_model.specs.Runs.{IsAnswered, IsPrinting, IsPrintingFront};
 ghost use Rattle.std.specs.Option.{option_map};
 ghost use Rattle.std.specs.Io.KnownBytes.{IsAtEnd, Keeps};
-ghost use Rattle.mvsjob.specs.Faultless.{HasRead, Writes, WritesPart, begun, coming, first_behind, known_coming, passed, rest_of, without_faults};
+ghost use Rattle.mvs_job.specs.Consuming.{WritesText};
+ghost use Rattle.mvsjob.specs.Faultless.{HasRead, StopsWithin, Writes, WritesPart, begun, coming, first_behind, known_coming, limited, passed, rest_of, without_faults};
 
 use crate::faulty::says_nothing;
 use job_script::{LineBuffer, read_line};
-use mvs_job::{RunFault, Source, Told, run_from};
+use mvs_job::{Consumer, Printer, RunFault, Source, Told, run_source};
 use mvs_model::line::{Fault, Line};
 use mvs_model::numbers::MOST_SCRIPT_BYTES;
 use mvs_model::outcome::Outcome;
@@ -287,8 +288,60 @@ pub struct End<R> {
     pub count: usize,
 }
 
-/// Runs the script of a reader without the lines that have a fault, each line as soon as it arrives. An observer is called for
-/// them. Skipped lines are not counted in the numbers of the others; but all lines together have at most 16,777,215 bytes.
+// Returns how a job ends with the byte that is too many: it fails to read that, and the script is too long.
+fn limited(is_long: bool, ended: Result<Outcome, RunFault>) -> Result<Outcome, RunFault>
+    ensures { result ≡ limited is_long ended }
+{
+    match ended {
+        Err(RunFault::Read) if is_long => Err(RunFault::ReadTooLong),
+        Err(fault) => Err(fault),
+        Ok(outcome) => Ok(outcome),
+    }
+}
+
+/// Runs the script of a reader without the lines that have a fault, each line as soon as it arrives, and gives each entry of the run
+/// to a consumer. A listener is called for the faulty lines. Skipped lines are not counted in the numbers of the others; but all
+/// lines together have at most 16,777,215 bytes.
+pub fn run_faultless_to<R: Read + Drop, L: Listens + Drop, W: Write, C: Consumer>(
+    alloc: Global,
+    reader: R,
+    listener: L,
+    writer: &mut Watched<W>,
+    placement: Placement,
+    consumer: &mut C,
+) -> End<R>
+    requires writer { writer.old.failed ≡ false }
+    requires new { (C.knows consumer.old).has consumer.old [] }
+    // What is written is what the consumer writes for a trace of the script without its faulty lines.
+    ensures ok { IfOk result.ended
+        (λ outcome. Writes (option_map without_faults (R.remaining reader))
+        (W.contents writer.old.inner) (W.contents writer.new.inner)
+        (λ script written. WritesText C.piece script written (Ok outcome))) }
+    // All was read, or the script has a fault.
+    ensures end { IfOk result.ended
+        (λ outcome. outcome ≢ Outcome.ScriptFault → IsAtEnd (R.remaining result.reader.inner)) }
+    ensures healthy { OnOk result.ended ((result.reader.failed ≡ false) × (writer.new.failed ≡ false)) }
+    // Else it is a front of that; if memory is exhausted, all up to the answer for which there was none.
+    ensures fault { IfErr result.ended
+        (λ fault. WritesPart (option_map without_faults (R.remaining reader))
+        (W.contents writer.old.inner) (W.contents writer.new.inner)
+        (λ consumed script written. StopsWithin C.piece result.count consumed script written fault)) }
+    ensures count { HasRead (R.remaining reader) (R.remaining result.reader.inner) result.count false }
+    ensures read { IsErrOf result.ended RunFault.Read → result.reader.failed ≡ true }
+    ensures write { IsErrOf result.ended RunFault.Write → writer.new.failed ≡ true }
+{
+    let mut faultless = Faultless::new(reader, listener);
+    let hints = Told::nothing(alloc);
+    let ended = run_source(alloc, &mut faultless, writer, placement, hints, consumer);
+    End {
+        ended: limited(faultless.is_long(), ended),
+        number: faultless.lines.number,
+        reader: faultless.inner,
+        count: faultless.count,
+    }
+}
+
+/// Runs the script of a reader without the lines that have a fault, and prints it, as `run_faultless_to` does.
 pub fn run_faultless<R: Read + Drop, L: Listens + Drop, W: Write>(
     alloc: Global,
     reader: R,
@@ -328,22 +381,5 @@ pub fn run_faultless<R: Read + Drop, L: Listens + Drop, W: Write>(
     ensures read { IsErrOf result.ended RunFault.Read → result.reader.failed ≡ true }
     ensures write { IsErrOf result.ended RunFault.Write → writer.new.failed ≡ true }
 {
-    let mut faultless = Faultless::new(reader, listener);
-    let ended = run_from(
-        alloc,
-        &mut faultless,
-        writer,
-        placement,
-        Told::nothing(alloc),
-    );
-    let ended = match ended {
-        Err(RunFault::Read) if faultless.is_long() => Err(RunFault::ReadTooLong),
-        ended => ended,
-    };
-    End {
-        ended,
-        number: faultless.lines.number,
-        reader: faultless.inner,
-        count: faultless.count,
-    }
+    run_faultless_to(alloc, reader, listener, writer, placement, &mut Printer)
 }

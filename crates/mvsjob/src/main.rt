@@ -18,7 +18,6 @@ mod exclusions;
 mod faultless;
 mod faulty;
 mod front;
-mod json;
 mod judging;
 mod kept;
 mod opened;
@@ -35,9 +34,10 @@ use coloured::{Coloured, is_coloured};
 use command_line::{names_files, settings};
 use diagnosis::{PlainName, diagnose};
 use ending::{Cause, Ending, GiveUp};
+use event_json::EventLines;
 use faulty::Faulty;
 use kept::Kept;
-use mvs_job::RunFault;
+use mvs_job::{Explained, RunFault};
 use mvs_model::outcome::Outcome;
 use mvs_model::watched::Watched;
 use opened::Opened;
@@ -48,7 +48,7 @@ use std::env;
 use std::fs::File;
 use std::io::{self, BufWriter, ErrorKind, Read, Write};
 use std::process::ExitCode;
-use streamed::{explain_streamed, run_streamed};
+use streamed::{run_streamed, stream_to};
 use strict::Teller;
 use terminal::{is_at_terminal, run_at_terminal};
 
@@ -128,10 +128,14 @@ fn run_lines<R: Read + Drop>(
     let Ok(kept) = Kept::new(rt.alloc(), reader) else {
         return Err(GiveUp::Job(RunFault::Memory));
     };
-    let ran = if settings.explains {
-        explain_streamed(rt.alloc(), kept, writer, settings.placement)
+    let (alloc, placement) = (rt.alloc(), settings.placement);
+    let ran = if settings.json {
+        let mut lines = EventLines::new(alloc, settings.explains);
+        stream_to(alloc, kept, writer, placement, &mut lines)
+    } else if settings.explains {
+        stream_to(alloc, kept, writer, placement, &mut Explained::new(alloc))
     } else {
-        run_streamed(rt.alloc(), kept, writer, settings.placement)
+        run_streamed(alloc, kept, writer, placement)
     };
     let kept = ran.reader.into_inner();
     passed_on(
@@ -153,10 +157,10 @@ fn serve_reader<R: Read + Drop>(
 ) -> Result<Ending, GiveUp>
     requires { writer.old.failed ≡ false }
 {
-    if settings.is_as_it_comes() && !settings.explains && is_at_terminal(rt, settings) {
+    if settings.is_as_it_comes() && is_at_terminal(rt, settings) {
         return run_at_terminal(rt, Opened::new(reader), settings, writer);
     }
-    if settings.is_as_it_comes() {
+    if settings.is_as_it_comes() && !settings.strict {
         return run_lines(rt, Opened::new(reader), settings, writer);
     }
     let script = read_script(rt.alloc(), reader)?;

@@ -1,10 +1,13 @@
 //! Serves a script that was read whole: what each mode does with it.
 
-ghost use Rattle.std.specs.Prelude.{◌≡◌, ◌≤◌, ◌⊎◌, ℕ, Contains, IfOk, IfSome, IsTrue, None, Some, false, length};
+ghost use Rattle.std.specs.Prelude.{◌≡◌, ◌≤◌, ◌⊎◌, [], ℕ, Contains, IfOk, IfSome, IsTrue, None, Some, false, length};
+ghost use Rattle.event_json.specs.Lines.{event_lines};
 ghost use Rattle.mvs_model.specs.Numbers.{most_script_bytes};
+ghost use Rattle.mvs_job.specs.Explained.{explained};
 ghost use Rattle.mvsjob.specs.declared.choices.Recipe.{Recipe};
 ghost use Rattle.mvsjob.specs.Checking.{Checks};
-ghost use Rattle.mvsjob.specs.Served.{Asks, Blanks, EndsAtFault, ExplainsStrictly, HasNoForeign, IsFaultOf, IsPrinted, Judges, Pages, RunsStrictly, Tells, WritesAbout, WritesText};
+ghost use Rattle.mvsjob.specs.Endings.{strict_ending};
+ghost use Rattle.mvsjob.specs.Served.{Asks, Blanks, ConsumesStrictly, EndsAtFault, HasNoForeign, IsFaultOf, IsPrinted, Judges, Pages, RunsStrictly, WritesAbout, WritesText};
 ghost use Rattle.reference.specs.Texts.{IsRule, names, rule_name};
 
 use crate::answers::{check_answers, write_blanks, write_questions};
@@ -12,11 +15,11 @@ use crate::assembled::write_assembled;
 use crate::choices::{Mode, Recipe, Settings};
 use crate::ending::{Ending, GiveUp};
 use crate::faulty::{Faulty, faulty_in};
-use crate::json::run_json;
 use crate::judging::judge_output;
 use crate::through::Through;
+use event_json::EventLines;
 use job_script::write_all;
-use mvs_job::{Explained, Hears, RunFault, run_observed, run_strictly};
+use mvs_job::{Consumer, Explained, Hears, RunFault, StrictEnd, run_observed, run_strictly};
 use mvs_model::outcome::Outcome;
 use mvs_model::want::Placement;
 use mvs_model::watched::Watched;
@@ -98,6 +101,18 @@ fn page<'a, W: Write>(
     }
 }
 
+// Returns what a run did whose lines were observed.
+fn of_strict(script: &[u8], end: StrictEnd) -> Served<'_>
+    requires { length script.now ≤ most_script_bytes }
+    ensures ending { result.ending ≡ strict_ending end.outcome end.all_served }
+    ensures faulty { IsFaultOf script.now end.outcome result.faulty }
+{
+    Served {
+        ending: Ending::of_strict(end),
+        faulty: fault_of(script, end.outcome),
+    }
+}
+
 // Runs a script, and reports each line that was not executed to an observer.
 fn run_strict<'a, W: Write, H: Hears>(
     alloc: Global,
@@ -111,32 +126,27 @@ fn run_strict<'a, W: Write, H: Hears>(
         (H.heard hearer.old) (H.heard hearer.new) script.now result }
 {
     match run_strictly(alloc, script, writer, placement, hearer) {
-        Ok(end) => Ok(Served {
-            ending: Ending::of_strict(end),
-            faulty: fault_of(script, end.outcome),
-        }),
+        Ok(end) => Ok(of_strict(script, end)),
         Err(stop) => Err(GiveUp::of(stop)),
     }
 }
 
-// Runs a script with explanations, and reports each line that was not executed to an observer.
-fn explain_strict<'a, W: Write, H: Hears>(
+// Runs a script, gives each entry of the run to a consumer, and reports each line that was not executed to an observer.
+fn consume_strict<'a, W: Write, C: Consumer, H: Hears>(
     alloc: Global,
     script: &'a [u8],
     writer: &mut Watched<W>,
     placement: Placement,
+    consumer: &mut C,
     hearer: &mut H,
 ) -> Result<Served<'a>, GiveUp>
-    requires { length script.now ≤ most_script_bytes }
-    ensures { ExplainsStrictly (W.contents writer.old.inner) (W.contents writer.new.inner)
+    requires script { length script.now ≤ most_script_bytes }
+    requires new { (C.knows consumer.old).has consumer.old [] }
+    ensures { ConsumesStrictly C.piece (W.contents writer.old.inner) (W.contents writer.new.inner)
         (H.heard hearer.old) (H.heard hearer.new) script.now result }
 {
-    let mut explained = Explained::new(alloc);
-    match run_observed(alloc, script, writer, placement, &mut explained, hearer) {
-        Ok(end) => Ok(Served {
-            ending: Ending::of_strict(end),
-            faulty: fault_of(script, end.outcome),
-        }),
+    match run_observed(alloc, script, writer, placement, consumer, hearer) {
+        Ok(end) => Ok(of_strict(script, end)),
         Err(stop) => Err(GiveUp::of(stop)),
     }
 }
@@ -188,14 +198,15 @@ fn run<'a, W: Write, H: Hears>(
     hearer: &mut H,
 ) -> Result<Served<'a>, GiveUp>
     requires { length script.now ≤ most_script_bytes }
-    ensures json { IsTrue settings.now.json → IfOk result
-        (Tells (W.contents writer.old.inner) (W.contents writer.new.inner) script.now) }
+    ensures json { IsTrue settings.now.json
+        → ConsumesStrictly event_lines (W.contents writer.old.inner) (W.contents writer.new.inner)
+        (H.heard hearer.old) (H.heard hearer.new) script.now result }
     ensures page { settings.now.json ≡ false → IsTrue settings.now.page
         → Pages (W.contents writer.old.inner) (W.contents writer.new.inner) FRAME.now script.now
         result }
     ensures explain { settings.now.json ≡ false → settings.now.page ≡ false
         → IsTrue settings.now.explains
-        → ExplainsStrictly (W.contents writer.old.inner) (W.contents writer.new.inner)
+        → ConsumesStrictly explained (W.contents writer.old.inner) (W.contents writer.new.inner)
         (H.heard hearer.old) (H.heard hearer.new) script.now result }
     ensures strict { settings.now.json ≡ false → settings.now.page ≡ false
         → settings.now.explains ≡ false
@@ -204,11 +215,13 @@ fn run<'a, W: Write, H: Hears>(
 {
     let placement = settings.placement;
     if settings.json {
-        run_json(alloc, settings, script, writer)
+        let mut lines = EventLines::new(alloc, settings.explains);
+        consume_strict(alloc, script, writer, placement, &mut lines, hearer)
     } else if settings.page {
         page(alloc, script, writer, placement)
     } else if settings.explains {
-        explain_strict(alloc, script, writer, placement, hearer)
+        let mut explained = Explained::new(alloc);
+        consume_strict(alloc, script, writer, placement, &mut explained, hearer)
     } else {
         run_strict(alloc, script, writer, placement, hearer)
     }
@@ -230,14 +243,15 @@ pub fn serve_script<'a, W: Write, H: Hears>(
         result }
     ensures explain { settings.now.mode ≡ Mode.Run → settings.now.json ≡ false
         → settings.now.page ≡ false → IsTrue settings.now.explains
-        → ExplainsStrictly (W.contents writer.old.inner) (W.contents writer.new.inner)
+        → ConsumesStrictly explained (W.contents writer.old.inner) (W.contents writer.new.inner)
         (H.heard hearer.old) (H.heard hearer.new) script.now result }
     ensures strict { settings.now.mode ≡ Mode.Run → settings.now.json ≡ false
         → settings.now.page ≡ false → settings.now.explains ≡ false
         → RunsStrictly (W.contents writer.old.inner) (W.contents writer.new.inner)
         (H.heard hearer.old) (H.heard hearer.new) script.now result }
-    ensures json { settings.now.mode ≡ Mode.Run → IsTrue settings.now.json → IfOk result
-        (Tells (W.contents writer.old.inner) (W.contents writer.new.inner) script.now) }
+    ensures json { settings.now.mode ≡ Mode.Run → IsTrue settings.now.json
+        → ConsumesStrictly event_lines (W.contents writer.old.inner) (W.contents writer.new.inner)
+        (H.heard hearer.old) (H.heard hearer.new) script.now result }
     ensures check { settings.now.mode ≡ Mode.Check
         → Checks (W.contents writer.old.inner) (W.contents writer.new.inner) settings.now.form settings.now.file.now script.now result }
     ensures blank { settings.now.mode ≡ Mode.Blank → HasNoForeign script.now

@@ -1,16 +1,16 @@
 //! Runs a script as it comes.
 
-ghost use Rattle.std.specs.Prelude.{◌≡◌, ◌≢◌, ◌<◌, ◌≤◌, ◌+◌, ◌⊎◌, Ok, true, false, length, take, IfErr, IfOk, IsErrOf, OnOk};
+ghost use Rattle.std.specs.Prelude.{◌≡◌, ◌≢◌, ◌<◌, ◌≤◌, ◌+◌, ◌⊎◌, [], Ok, true, false, length, take, IfErr, IfOk, IsErrOf, OnOk};
 ghost use Rattle.std.specs.Io.KnownBytes.{IsAtEnd};
 ghost use Rattle.mvs_model.specs.Memory.{IsPrintingBefore};
 ghost use Rattle.mvs_model.specs.Numbers.{most_script_bytes};
 ghost use Rattle.mvs_model.specs.Runs.{IsAnswered, IsPrinting, IsPrintingFront};
-ghost use Rattle.mvs_job.specs.Explained.{IsExplained, explained};
+ghost use Rattle.mvs_job.specs.Consuming.{WritesText};
 ghost use Rattle.mvs_job.specs.Streams.{StopsText};
 ghost use Rattle.mvsjob.specs.Faultless.{Writes, WritesPart};
 
 use crate::kept::Kept;
-use mvs_job::{RunFault, Told, explain_from, run_job};
+use mvs_job::{Consumer, RunFault, Told, run_job, run_source};
 use mvs_model::outcome::Outcome;
 use mvs_model::want::Placement;
 use mvs_model::watched::Watched;
@@ -66,32 +66,35 @@ pub fn run_streamed<R: Read + Drop, W: Write>(
     Streamed { ended, reader }
 }
 
-/// Runs the script that a reader has with explanations, each line before the next one is read.
-pub fn explain_streamed<R: Read + Drop, W: Write>(
+/// Runs the script that a reader has, each line before the next one is read, and gives each entry of the run to a consumer.
+pub fn stream_to<R: Read + Drop, W: Write, C: Consumer>(
     alloc: Global,
     reader: Kept<R>,
     writer: &mut Watched<W>,
     placement: Placement,
+    consumer: &mut C,
 ) -> Streamed<R>
-    requires { writer.old.failed ≡ false }
-    // What is written is the text of a run of the script with explanations.
+    requires writer { writer.old.failed ≡ false }
+    requires new { (C.knows consumer.old).has consumer.old [] }
+    // What is written is what the consumer writes for a trace of the script.
     ensures ok { IfOk result.ended
         (λ outcome. Writes (R.remaining reader.inner)
         (W.contents writer.old.inner) (W.contents writer.new.inner)
-        (λ script written. IsExplained script written (Ok outcome))) }
+        (λ script written. WritesText C.piece script written (Ok outcome))) }
     // All was read, or the script has a fault.
     ensures end { IfOk result.ended
         (λ outcome. outcome ≢ Outcome.ScriptFault → IsAtEnd (R.remaining result.reader.inner.inner)) }
     ensures healthy { OnOk result.ended ((result.reader.failed ≡ false) × (writer.new.failed ≡ false)) }
-    // Else it is a front of such a text; for want of memory, all up to the answer for which there was none.
+    // Else it is a front of that; if memory is exhausted, all up to the answer for which there was none.
     ensures fault { IfErr result.ended
         (λ fault. WritesPart (R.remaining reader.inner)
         (W.contents writer.old.inner) (W.contents writer.new.inner)
-        (λ consumed script written. StopsText explained consumed script written fault)) }
+        (λ consumed script written. StopsText C.piece consumed script written fault)) }
     ensures read { IsErrOf result.ended RunFault.Read → result.reader.failed ≡ true }
     ensures write { IsErrOf result.ended RunFault.Write → writer.new.failed ≡ true }
 {
     let mut reader = Watched::new(reader);
-    let ended = explain_from(alloc, &mut reader, writer, placement, Told::nothing(alloc));
+    let hints = Told::nothing(alloc);
+    let ended = run_source(alloc, &mut reader, writer, placement, hints, consumer);
     Streamed { ended, reader }
 }

@@ -1,14 +1,16 @@
 //! A job at a terminal: a faulty line is reported and skipped, and the job continues.
 
-ghost use Rattle.std.specs.Prelude.{◌≡◌, false};
+ghost use Rattle.std.specs.Prelude.{◌≡◌, [], false};
 
 use crate::choices::Settings;
 use crate::ending::{Ending, GiveUp};
-use crate::faultless::{Listens, run_faultless};
+use crate::faultless::{End, Listens, run_faultless, run_faultless_to};
 use crate::faulty::Faulty;
 use crate::opened::Opened;
+use crate::strict::Teller;
 use crate::{Output, passed_on, tell};
-use mvs_job::RunFault;
+use event_json::EventLines;
+use mvs_job::{Consumer, Explained, Printer, RunFault, Strict, StrictEnd};
 use mvs_model::line::Fault;
 use mvs_model::watched::Watched;
 use std::io::{IsTerminal, Read};
@@ -18,6 +20,12 @@ use std::io::{IsTerminal, Read};
 struct Prompter<'a> {
     rt: &'a HostRuntime,
     name: &'a str,
+}
+
+impl<'a> Prompter<'a> {
+    fn new(rt: &'a HostRuntime, name: &'a str) -> Prompter<'a> {
+        Prompter { rt, name }
+    }
 }
 
 impl Listens for Prompter<'_> {
@@ -43,10 +51,13 @@ impl Listens for Prompter<'_> {
     }
 }
 
-/// Returns whether somebody types the script and sees what is printed.
+/// Returns whether lines are prompted for: if the options say so, or if somebody types the script and sees the answers.
 pub fn is_at_terminal(rt: &HostRuntime, settings: &Settings<'_>) -> bool {
     settings.interactive
-        || settings.file == "-" && rt.stdin().is_terminal() && rt.stdout().is_terminal()
+        || settings.is_answers()
+            && settings.file == "-"
+            && rt.stdin().is_terminal()
+            && rt.stdout().is_terminal()
 }
 
 /// Runs the lines that a reader has as they come, but for those that have a fault.
@@ -58,21 +69,66 @@ pub fn run_at_terminal<R: Read + Drop>(
 ) -> Result<Ending, GiveUp>
     requires { writer.old.failed ≡ false }
 {
-    let prompter = Prompter {
-        rt,
-        name: settings.file,
-    };
-    let end = run_faultless(rt.alloc(), reader, prompter, writer, settings.placement);
+    let alloc = rt.alloc();
+    if settings.json {
+        let mut lines = EventLines::new(alloc, settings.explains);
+        return run_typed(rt, reader, settings, writer, &mut lines);
+    }
+    if settings.explains {
+        return run_typed(rt, reader, settings, writer, &mut Explained::new(alloc));
+    }
+    if settings.strict {
+        return run_typed(rt, reader, settings, writer, &mut Printer);
+    }
+    let prompter = Prompter::new(rt, settings.file);
+    let end = run_faultless(alloc, reader, prompter, writer, settings.placement);
+    end_typed(rt, settings, writer, end, true)
+}
+
+// Runs the lines that are typed, and gives each entry of the run to a consumer. If that is asked for, each line is reported that was not
+// executed; without a script there are no hints.
+fn run_typed<R: Read + Drop, C: Consumer>(
+    rt: &HostRuntime,
+    reader: Opened<R>,
+    settings: &Settings<'_>,
+    writer: &mut Watched<Output<'_>>,
+    consumer: &mut C,
+) -> Result<Ending, GiveUp>
+    requires writer { writer.old.failed ≡ false }
+    requires new { (C.knows consumer.old).has consumer.old [] }
+{
+    let (alloc, placement) = (rt.alloc(), settings.placement);
+    let prompter = Prompter::new(rt, settings.file);
+    if !settings.strict {
+        let end = run_faultless_to(alloc, reader, prompter, writer, placement, consumer);
+        return end_typed(rt, settings, writer, end, true);
+    }
+    let mut teller = Teller::new(rt, settings.file, b"");
+    let mut strict = Strict::new(consumer, &mut teller);
+    let end = run_faultless_to(alloc, reader, prompter, writer, placement, &mut strict);
+    let all_served = strict.is_all_served();
+    end_typed(rt, settings, writer, end, all_served)
+}
+
+// Passes on how a job at a terminal ended, in which each line was executed, or not.
+fn end_typed<R: Read + Drop>(
+    rt: &HostRuntime,
+    settings: &Settings<'_>,
+    writer: &mut Watched<Output<'_>>,
+    end: End<Opened<R>>,
+    all_served: bool,
+) -> Result<Ending, GiveUp> {
     if matches!(end.ended, Err(RunFault::Read | RunFault::ReadTooLong)) {
         // So that the message does not follow the prompt.
         let _ = eprintln!(rt);
     }
-    passed_on(
-        rt,
-        settings,
-        writer,
-        end.ended,
-        end.reader.into_inner().failure(),
-        &Faulty::behind(end.number),
-    )
+    let failure = end.reader.into_inner().failure();
+    let faulty = Faulty::behind(end.number);
+    match passed_on(rt, settings, writer, end.ended, failure, &faulty)? {
+        Ending::Ran(outcome) => Ok(Ending::of_strict(StrictEnd {
+            outcome,
+            all_served,
+        })),
+        ending => Ok(ending),
+    }
 }

@@ -7,6 +7,7 @@ use clap::builder::ValueParser;
 use clap::error::ErrorKind;
 use clap::{Arg, ArgAction, ArgMatches, Command};
 use std::alloc::{AllocError, Global};
+use version::VERSION;
 
 const ABOUT: &str =
     "Converts assembler source, or a listing of it, to a script of mvsjob: one statement for each GETMAIN, FREEMAIN, STORAGE, CPOOL and ATTACH.";
@@ -17,8 +18,6 @@ Without --path the statements come in the order of the source, with a *? line at
 
 Exit status: 0 some statement was written, 1 none was, 2 an error.
 mvsjob-asm(1) describes the conversion, and docs/FROM-ASSEMBLER.md goes through an example.";
-
-const VERSION: &str = "1.1.0";
 
 /// Where the statements of a subtask may be.
 const SCHEDULES: &[&str] = &["attach", "end"];

@@ -51,8 +51,8 @@ module _ (start before after : Option (List ℕ)) (frame script left : List ℕ)
     pub so_far_stopped : (new : Option JobValue) (later : SetLines) (why : Stop) → WritesItem before after number step set l new later (Err why) → WritesPage start after frame script (Err why)
     so_far_stopped new later stop.Write (text, a, inl none) = ends (Err stop.Write) text a (here (Err stop.Write) text (inl (inl none)))
     so_far_stopped new later stop.Write (text, a, inr next) = ends (Err stop.Write) text a (here (Err stop.Write) text (inl (inr next)))
-    so_far_stopped new later stop.Memory kept =
-        (frame ++ s.0, Appends-kept start before after (frame ++ s.0) s.1 kept, inl (s.0, refl, subst (Items (Err stop.Memory) 1 None no_lines (lines_of script)) (append-nil s.0) (here (Err stop.Memory) [] (inl refl))))
+    so_far_stopped new later stop.Memory (kept, needs) =
+        (frame ++ s.0, Appends-kept start before after (frame ++ s.0) s.1 kept, inl (s.0, refl, subst (Items (Err stop.Memory) 1 None no_lines (lines_of script)) (append-nil s.0) (here (Err stop.Memory) [] (inl (refl, needs)))))
 
   pub so_far_next : (new : Option JobValue) (later : SetLines) (l more : List ℕ) (next : ℕ) → lines_of left ≡ l ∷ lines_of more → next ≡ number + 1 → WritesItem before after number step set l new later (Ok true) → SoFar start after frame script next new later more
   so_far_next new later l more next cut e x = (
@@ -75,7 +75,7 @@ module _ (start before after : Option (List ℕ)) (frame script left : List ℕ)
 
     pub so_far_no_end : Keeps before after → WritesPage start after frame script (Err stop.Memory)
     so_far_no_end kept =
-        (frame ++ s.0, Appends-kept start before after (frame ++ s.0) s.1 kept, inl (s.0, refl, subst (Items (Err stop.Memory) 1 None no_lines (lines_of script)) (append-nil s.0) (last (Err stop.Memory) [] refl)))
+        (frame ++ s.0, Appends-kept start before after (frame ++ s.0) s.1 kept, inl (s.0, refl, subst (Items (Err stop.Memory) 1 None no_lines (lines_of script)) (append-nil s.0) (last (Err stop.Memory) [] (refl, tt))))
 
 -- a front of the fixed part
 pub in_frame : (start after : Option (List ℕ)) (frame script : List ℕ) → AppendsFront start after frame → WritesPage start after frame script (Err stop.Write)

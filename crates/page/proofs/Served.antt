@@ -3,10 +3,16 @@ use Rattle.std.proofs.Common.{◌≡◌, ℕ, List, [], ◌∷◌, ◌++◌, Opt
 use Rattle.std.specs.Io.KnownBytes.{Appends}
 use Rattle.std.proofs.KnownBytes.{Keeps-refl}
 use Rattle.mvs_model.specs.declared.line.Line.{Line}
+use Rattle.mvs_model.specs.declared.line.Line.TheVariants as line
+use Rattle.mvs_model.specs.Answers.{Event, Region, Told}
+use Rattle.mvs_model.specs.Lent.{fallen_in}
+use Rattle.mvs_model.specs.Memory.{StopsForMemory, TakesMemory}
+use Rattle.mvs_model.specs.Runs.{machine}
+use Rattle.mvs_model.proofs.Reading.{one_reading}
 use Rattle.mvs_model.specs.declared.line.Fault.{Fault}
 use Rattle.mvs_model.specs.Job.{JobValue}
-use Rattle.mvs_model.specs.Reading.{IsReading, LineOf}
-use Rattle.mvs_model.specs.Walk.{is_first}
+use Rattle.mvs_model.specs.Reading.{FaultOf, IsReading, LineOf}
+use Rattle.mvs_model.specs.Walk.{Serves, ServesLine, is_first}
 use Rattle.job_script.specs.Said.{filled}
 use Rattle.job_script.specs.Writing.{AppendsFront}
 use Rattle.mvs_job.specs.declared.printing.Stop.TheVariants as stop
@@ -15,18 +21,14 @@ use Rattle.mvs_job.specs.declared.walk.LineTold.TheVariants as told
 use Rattle.mvs_job.specs.Apart.{StandsBehind}
 use Rattle.mvs_job.specs.Explaining.{IsBehind}
 use Rattle.mvs_job.specs.Naming.{KeepsLines, SetLines}
-use Rattle.mvs_job.specs.Telling.{IsTold, WalkValue, events_told}
+use Rattle.mvs_job.specs.Telling.{IsTold, WalkValue, ended, events_told, lent_in}
+use Rattle.mvs_job.specs.Why.{OfRead}
 use Rattle.mvs_model.specs.Texts.{printing}
 use Rattle.page.specs.Changes.{changes_of}
 use Rattle.page.specs.Lines.{change_lines}
-use Rattle.page.specs.Markup.{class_of, head_of, reply_of, tail_of}
+use Rattle.page.specs.Markup.{class_of, head_of, note_of, reply_of, tail_of}
 use Rattle.page.specs.Pages.{IsFaultItem, IsItem, IsNext, IsReadAs, WritesItem}
 use Rattle.page.specs.Told.{goes_on, item_told}
-
--- what was read
-pub read_so : (step : Option JobValue) (first : Bool) (bytes : List ℕ) (read : Line) (r : Result (Unit {0}) Fault) → first ≡ is_first step → IsReading first bytes (filled read r) → IsReadAs step bytes read
-read_so step first bytes read (Ok u) e h = inl (subst (λ b. LineOf b bytes read) e h)
-read_so step first bytes read (Err fault) e h = inr (fault, subst (λ b. IsReading b bytes (Err fault)) e h)
 
 module _ (w w' : WalkValue) (set later : SetLines) (l : List ℕ) (read : Line) (behind item : List ℕ) (reads : IsReadAs w.step l read) where
   -- the item of a line that tells something else than a fault
@@ -56,6 +58,46 @@ module _ (w w' : WalkValue) (set later : SetLines) (l : List ℕ) (read : Line) 
     pub item_cut : (before after : Option (List ℕ)) → AppendsFront before after item → WritesItem before after w.number w.step set l w'.step later (Err stop.Write)
     item_cut before after f = (f.0, f.3, inr (f.1, subst (IsNext w.number w.step set (l ∷ [])) f.2 (next_is (goes_on t) refl)))
 
+-- ---- a line that is blank or a comment
+
+module _ (w w' : WalkValue) (set later : SetLines) (l : List ℕ) (nothing : LineOf (is_first w.step) l line.Nothing) where
+  -- it has no events
+  no_events : (events : List Event) → ServesLine machine w.number w.step l events w'.step → events ≡ []
+  no_events events (said, of, serves) = (subst (λ x. Serves machine w.number w.step x events w'.step) (one_reading.one_line (is_first w.step) l said line.Nothing of nothing) serves).0
+
+  some_events : (front : List Event) (e : Event) → front ++ e ∷ [] ≡ [] → ⊥
+  some_events [] e is = absurd (let f : e ∷ [] ≡ [] = is in cc)
+  some_events (x ∷ front) e is = absurd (let f : x ∷ (front ++ e ∷ []) ≡ [] = is in cc)
+
+  told_nothing : (t : LineTold) → IsTold w l t w' → t ≡ told.Nothing
+  told_nothing told.Nothing tells = refl
+  told_nothing (told.Faulted fault) tells = absurd (one_reading.not_both (is_first w.step) l line.Nothing fault nothing tells.0)
+  told_nothing (told.Began end card) tells = absurd (some_events (ended end) (Told w.number card.name (Region card)) (no_events _ tells))
+  told_nothing (told.Answered t a) tells = absurd (some_events [] (Told w.number t (lent_in w'.step (fallen_in w'.reply) t a)) (no_events _ tells))
+
+  -- nothing is explained of it
+  unexplained : (step : Option JobValue) → LineOf (is_first step) l line.Nothing → IsBehind step set l [] w'.step []
+  unexplained None of = ([], [], [], [], refl, refl, refl, inr (inl (refl, refl)), refl)
+  unexplained (Some job) of =
+      let read : OfRead job line.Nothing [] None = (refl, refl) in
+      ([], [], [], [], inl (line.Nothing, of, (None, read, refl)), (None, inl (line.Nothing, of, (None, read, refl)), (None, refl, refl)), refl, inl (line.Nothing, of, refl), refl)
+
+  noted : (t : LineTold) → t ≡ told.Nothing → IsTold w l t w' → KeepsLines w set l w' t later → IsItem w.number w.step set l w'.step later (note_of w.number l)
+  noted told.Nothing is tells kept = (line.Nothing, [], [], inl nothing, tells, kept, unexplained w.step nothing, refl)
+  noted (told.Faulted fault) is tells kept = absurd (let f : told.Faulted fault ≡ told.Nothing = is in cc)
+  noted (told.Began end card) is tells kept = absurd (let f : told.Began end card ≡ told.Nothing = is in cc)
+  noted (told.Answered t a) is tells kept = absurd (let f : told.Answered t a ≡ told.Nothing = is in cc)
+
+  module _ (t : LineTold) (tells : IsTold w l t w') (kept : KeepsLines w set l w' t later) where
+    is_noted : IsItem w.number w.step set l w'.step later (note_of w.number l)
+    is_noted = noted t (told_nothing t tells) tells kept
+
+    pub note_written : (before after : Option (List ℕ)) → Appends before after (note_of w.number l) → WritesItem before after w.number w.step set l w'.step later (Ok true)
+    note_written before after a = (note_of w.number l, a, is_noted)
+
+    pub note_cut : (before after : Option (List ℕ)) → AppendsFront before after (note_of w.number l) → WritesItem before after w.number w.step set l w'.step later (Err stop.Write)
+    note_cut before after f = (f.0, f.3, inr (f.1, subst (IsNext w.number w.step set (l ∷ [])) f.2 (inl (w'.step, later, is_noted))))
+
 -- ---- the text of an item
 
 -- the item of a line with a fault
@@ -81,10 +123,6 @@ stated_is number l read w (told.Faulted fault) behind how printed changes below 
 stated_is number l read w (told.Answered t a) behind how printed changes below some other e f g h = ap (λ x. item_by number l x how printed changes) h ∙ by_parts number l behind how _ printed _ changes _ e f g
 stated_is number l read w (told.Began None card) behind how printed changes below some other e f g h = ap (λ x. item_by number l x how printed changes) h ∙ by_parts number l behind how _ printed _ changes _ e f g
 stated_is number l read w (told.Began (Some abended) card) behind how printed changes below some other e f g h = ap (λ x. item_by number l x how printed changes) h ∙ by_parts number l behind how _ printed _ changes _ e f g
-
--- no item was written
-pub no_item : (known : Option (List ℕ)) (number : ℕ) (old new : Option JobValue) (set later : SetLines) (l : List ℕ) → WritesItem known known number old set l new later (Err stop.Memory)
-no_item known number old new set later l = Keeps-refl known
 
 -- what was written to memory that held nothing
 pub all_written : (old new text : List ℕ) → old ≡ [] → new ≡ old ++ text → new ≡ text

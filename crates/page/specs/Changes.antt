@@ -75,7 +75,16 @@ request_changes (Some (request.Free pool cell)) = change.Back pool cell ∷ []
 request_changes (Some (request.Show a n)) = change.Read (place_at a n) ∷ []
 request_changes (Some (request.Put a bytes)) = change.Write (place_at a (length bytes)) ∷ []
 request_changes (Some (request.Move to from n)) = change.Read (place_at from n) ∷ change.Write (place_at to n) ∷ []
-request_changes _ = []
+request_changes (Some (request.Obtain form number ask)) = []
+request_changes (Some (request.ObtainList form number lengths start)) = []
+request_changes (Some (request.ReleaseWhole form number)) = []
+request_changes (Some (request.Build pool number size primary secondary loc)) = []
+request_changes (Some (request.Get pool conditional)) = []
+request_changes (Some (request.Delete pool)) = []
+request_changes (Some (request.Attach name gifts residence)) = []
+request_changes (Some request.Return) = []
+request_changes (Some (request.Abend code)) = []
+request_changes None = []
 
 -- the changes of a granted request of a task; the names that it uses have their places from before
 abbrev pub done_changes : Name → Written → JobValue → List Change
@@ -87,7 +96,15 @@ done_changes t (written.Get pool conditional cell) new = listed (part_change new
 done_changes t (written.Delete pool) new = change.Delete pool ∷ []
 done_changes t (written.Attach name gifts residence) new =
     change.Task name t residence ∷ each_below task_numbers (λ n. listed (held_change new t name n))
-done_changes t a new = request_changes (resolved new.names a)
+done_changes t (written.Release form number location n) new = request_changes (resolved new.names (written.Release form number location n))
+done_changes t (written.ReleaseArea form number area) new = request_changes (resolved new.names (written.ReleaseArea form number area))
+done_changes t (written.ReleaseList form number locations lengths) new = request_changes (resolved new.names (written.ReleaseList form number locations lengths))
+done_changes t (written.Free pool location) new = request_changes (resolved new.names (written.Free pool location))
+done_changes t written.Return new = request_changes (resolved new.names written.Return)
+done_changes t (written.Abend code) new = request_changes (resolved new.names (written.Abend code))
+done_changes t (written.Show from n) new = request_changes (resolved new.names (written.Show from n))
+done_changes t (written.Put to bytes) new = request_changes (resolved new.names (written.Put to bytes))
+done_changes t (written.Move to from n) new = request_changes (resolved new.names (written.Move to from n))
 
 -- the tasks that ended with one that abended
 abbrev pub fall_changes : Name → List Name → List Change
@@ -96,32 +113,51 @@ fall_changes t (other ∷ others) = change.Fall other t ∷ fall_changes t other
 
 -- ---- what a line is answered
 
--- whether an answer is that of an executed request whose task continues
-abbrev pub is_done : Answer → Bool
-is_done answer.Rc0 = true
-is_done (answer.Granted n) = true
-is_done answer.Cell = true
-is_done answer.Attached = true
-is_done answer.Done = true
-is_done (answer.Data bytes) = true
-is_done _ = false
-
 -- the changes of a request with this answer: none if it was refused and its task continues
 abbrev pub answer_changes : Name → Written → Answer → JobValue → List Change
 answer_changes t a answer.Ended new = change.Return t ∷ []
 answer_changes t a (answer.Abended code fallen) new = change.Abend t ∷ fall_changes t fallen
-answer_changes t a said new = if is_done said then done_changes t a new else []
+answer_changes t a answer.Rc0 new = done_changes t a new
+answer_changes t a (answer.Granted n) new = done_changes t a new
+answer_changes t a answer.Cell new = done_changes t a new
+answer_changes t a answer.Attached new = done_changes t a new
+answer_changes t a answer.Done new = done_changes t a new
+answer_changes t a (answer.Data bytes) new = done_changes t a new
+answer_changes t a answer.NotRun new = []
+answer_changes t a answer.NoName new = []
+answer_changes t a (answer.At addr) new = []
+answer_changes t a answer.Rc4 new = []
+answer_changes t a answer.NoCell new = []
+answer_changes t a (answer.Subpools lines) new = []
+answer_changes t a (answer.Map runs) new = []
+answer_changes t a (answer.Region card) new = []
 
 -- the place that WHERE shows
 abbrev pub where_changes : Name → Answer → JobValue → List Change
 where_changes name (answer.At a) new = listed (option_map (λ p. change.Look p) (get new.names name))
-where_changes name said new = []
+where_changes name answer.NotRun new = []
+where_changes name answer.NoName new = []
+where_changes name answer.Rc0 new = []
+where_changes name (answer.Granted n) new = []
+where_changes name answer.Rc4 new = []
+where_changes name answer.Cell new = []
+where_changes name answer.NoCell new = []
+where_changes name answer.Attached new = []
+where_changes name answer.Ended new = []
+where_changes name answer.Done new = []
+where_changes name (answer.Data bytes) new = []
+where_changes name (answer.Abended code fallen) new = []
+where_changes name (answer.Subpools lines) new = []
+where_changes name (answer.Map runs) new = []
+where_changes name (answer.Region card) new = []
 
 -- what a statement did that is answered so
 abbrev pub statement_changes : Name → Statement → Answer → JobValue → List Change
 statement_changes t (says.Request a) said new = answer_changes t a said new
 statement_changes t (says.Where name) said new = where_changes name said new
-statement_changes t s said new = []
+statement_changes t (says.Region below above fill residence) said new = []
+statement_changes t says.ReportSubpools said new = []
+statement_changes t says.ReportMap said new = []
 
 -- a step that begins with a card, and its job step task
 abbrev pub begin_changes : CardValue → List Change

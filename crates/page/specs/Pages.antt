@@ -3,6 +3,7 @@ use Rattle.std.specs.Prelude.{◌≡◌, ◌⊎◌, ℕ, ◌+◌, List, [], ◌�
 use Rattle.std.specs.Io.KnownBytes.{Appends, Keeps}
 use Rattle.mvs_model.specs.declared.line.Fault.{Fault}
 use Rattle.mvs_model.specs.declared.line.Line.{Line}
+use Rattle.mvs_model.specs.declared.line.Line.TheVariants as line
 use Rattle.mvs_model.specs.declared.outcome.Outcome.{Outcome}
 use Rattle.mvs_model.specs.declared.outcome.Outcome.TheVariants.{ScriptFault}
 use Rattle.mvs_model.specs.Answers.{Event}
@@ -43,14 +44,19 @@ abbrev pub IsNext : ℕ → Option JobValue → SetLines → List (List ℕ) →
 IsNext number old set [] item = (outcome : Outcome) × IsClosing number old outcome item
 IsNext number old set (l ∷ lines) item = ((new : Option JobValue) × (later : SetLines) × IsItem number old set l new later item) ⊎ IsFaultItem number old l item
 
+-- Memory may be needed for the next item: the next of these lines is answered, or the job ends. A blank line and a comment need none.
+abbrev pub NeedsMemory : Option JobValue → List (List ℕ) → Type 0
+NeedsMemory old [] = Unit {0}
+NeedsMemory old (l ∷ lines) = LineOf (is_first old) l line.Nothing → ⊥
+
 -- How a page may end, with the number of the next line, in this step or before the first, with these lines left: with the end of
--- the job, or with a line that has a fault; with the beginning of the next item, if a write fails; and before it, if memory is
--- exhausted.
+-- the job, or with a line that has a fault; with the beginning of the next item, if a write fails; and before an item that needs
+-- memory, if that is exhausted.
 abbrev pub EndsSo : Result Outcome Stop → ℕ → Option JobValue → SetLines → List (List ℕ) → List ℕ → Type 0
 EndsSo (Ok outcome) number old set [] text = IsClosing number old outcome text
 EndsSo (Ok outcome) number old set (l ∷ lines) text = IsFaultItem number old l text × (outcome ≡ ScriptFault)
 EndsSo (Err stop.Write) number old set lines text = (text ≡ []) ⊎ ((rest : List ℕ) × IsNext number old set lines (text ++ rest))
-EndsSo (Err stop.Memory) number old set lines text = text ≡ []
+EndsSo (Err stop.Memory) number old set lines text = (text ≡ []) × NeedsMemory old lines
 
 -- From the line with this number on, these are the items: the page ends before the first of the lines, or that line has its item,
 -- and the page continues after it.
@@ -91,7 +97,7 @@ WritesItem before after number old set l new later (Ok true) = (item : List ℕ)
 WritesItem before after number old set l new later (Ok false) = (item : List ℕ) × Appends before after item × IsFaultItem number old l item
 WritesItem before after number old set l new later (Err stop.Write) =
     (text : List ℕ) × Appends before after text × ((text ≡ []) ⊎ ((rest : List ℕ) × IsNext number old set (l ∷ []) (text ++ rest)))
-WritesItem before after number old set l new later (Err stop.Memory) = Keeps before after
+WritesItem before after number old set l new later (Err stop.Memory) = Keeps before after × NeedsMemory old (l ∷ [])
 
 -- The text between two moments of a writer is written after the fixed part for the lines before, in whatever way the page ends
 -- after it.

@@ -10,7 +10,7 @@ ghost use Rattle.mvs_model.specs.Resolving.{resolved};
 ghost use Rattle.mvs_model.specs.State.{State};
 ghost use Rattle.request_forms.specs.Facts.{listed};
 ghost use Rattle.mvs_job.specs.Telling.{IsLent, events_told};
-ghost use Rattle.page.specs.Changes.{answer_changes, area_change, area_changes, begin_changes, cell_change, changes_of, done_changes, empty_change, fall_changes, free_changes, held_change, is_done, part_change, pool_change, request_changes, statement_changes, where_changes};
+ghost use Rattle.page.specs.Changes.{answer_changes, area_change, area_changes, begin_changes, cell_change, changes_of, done_changes, empty_change, fall_changes, free_changes, held_change, part_change, pool_change, request_changes, statement_changes, where_changes};
 
 use crate::change::Change;
 use mvs_job::{Job, LineTold, Walk};
@@ -56,7 +56,7 @@ fn area_change(job: &Job, task: &Name, number: u8, area: &Name) -> Option<Change
     let Some(place) = job.place_of(area) else {
         return None;
     };
-    let Some((number, owner)) = job.label_meant(task, number) else {
+    let Some((number, owner)) = job.step().machine().label_meant(task, number) else {
         return None;
     };
     Some(Change::Take {
@@ -114,7 +114,7 @@ fn push_falls(changes: &mut Changes, task: &Name, fallen: &[Name])
 fn empty_change(job: &Job, task: &Name, number: u8) -> Option<Change>
     ensures { result ≡ empty_change job.now task.now number }
 {
-    let Some((number, owner)) = job.label_meant(task, number) else {
+    let Some((number, owner)) = job.step().machine().label_meant(task, number) else {
         return None;
     };
     Some(Change::Empty { number, owner })
@@ -124,7 +124,7 @@ fn empty_change(job: &Job, task: &Name, number: u8) -> Option<Change>
 fn pool_change(job: &Job, task: &Name, number: u8, pool: &Name, size: u32) -> Option<Change>
     ensures { result ≡ pool_change job.now task.now number pool.now size }
 {
-    let Some((number, owner)) = job.label_meant(task, number) else {
+    let Some((number, owner)) = job.step().machine().label_meant(task, number) else {
         return None;
     };
     Some(Change::Pool {
@@ -139,7 +139,7 @@ fn pool_change(job: &Job, task: &Name, number: u8, pool: &Name, size: u32) -> Op
 fn part_change(job: &Job, pool: &Name) -> Option<Change>
     ensures { result ≡ part_change job.now pool.now }
 {
-    let Some(newest) = job.newest(pool) else {
+    let Some(newest) = job.step().machine().newest(pool) else {
         return None;
     };
     Some(Change::Part {
@@ -174,7 +174,7 @@ fn is_same(one: &Name, other: &Name) -> bool
 fn held_change(job: &Job, mother: &Name, subtask: &Name, held: SubNo) -> Option<Change>
     ensures { result ≡ held_change job.now mother.now subtask.now held }
 {
-    let Some((number, owner)) = job.label_had(subtask, held) else {
+    let Some((number, owner)) = job.step().machine().label_had(subtask, held) else {
         return None;
     };
     if is_same(&owner, subtask) {
@@ -230,7 +230,15 @@ fn request_changes(request: &Request) -> Changes
                 place: Place::new(*to, len.get()),
             });
         }
-        _ => {}
+        Request::Obtain { .. }
+        | Request::ObtainList { .. }
+        | Request::ReleaseWhole { .. }
+        | Request::Build { .. }
+        | Request::Get { .. }
+        | Request::Delete { .. }
+        | Request::Attach { .. }
+        | Request::Return
+        | Request::Abend(_) => {}
     }
     changes
 }
@@ -289,25 +297,17 @@ fn done_changes(task: &Name, written: &Written, job: &Job, request: &mut Request
             });
             push_held(&mut changes, job, task, name);
         }
-        _ => return named_changes(written, job, request),
+        Written::Release { .. }
+        | Written::ReleaseArea { .. }
+        | Written::ReleaseList { .. }
+        | Written::Free { .. }
+        | Written::Return
+        | Written::Abend(_)
+        | Written::Show { .. }
+        | Written::Put { .. }
+        | Written::Move { .. } => return named_changes(written, job, request),
     }
     changes
-}
-
-// Returns whether an answer is that of an executed request whose task continues.
-fn is_done(answer: &Answer) -> bool
-    ensures { (st : State) (fallen : List TaskName) (t : TaskName)
-        → result ≡ is_done (lent st fallen t answer.now) }
-{
-    matches!(
-        answer,
-        Answer::Rc0
-            | Answer::Granted(_)
-            | Answer::Cell
-            | Answer::Attached
-            | Answer::Done
-            | Answer::Data(_)
-    )
 }
 
 // A task that abended, and those that ended with it.
@@ -347,8 +347,19 @@ fn answer_changes(
     match answer {
         Answer::Ended => return_changes(task),
         Answer::Abended(_) => abend_changes(task, fallen),
-        _ if is_done(answer) => done_changes(task, written, job, request),
-        _ => no_changes(),
+        Answer::Rc0
+        | Answer::Granted(_)
+        | Answer::Cell
+        | Answer::Attached
+        | Answer::Done
+        | Answer::Data(_) => done_changes(task, written, job, request),
+        Answer::NotRun
+        | Answer::NoName
+        | Answer::At(_)
+        | Answer::Rc4
+        | Answer::NoCell
+        | Answer::Subpools
+        | Answer::Map => no_changes(),
     }
 }
 
@@ -403,7 +414,7 @@ fn statement_changes(
             answer_changes(task, written, answer, job, fallen, request)
         }
         Statement::Where(name) => where_changes(name, answer, job),
-        _ => no_changes(),
+        Statement::Region { .. } | Statement::ReportSubpools | Statement::ReportMap => no_changes(),
     }
 }
 
@@ -432,6 +443,6 @@ pub fn changes_of(read: &Line, walk: &Walk, told: &LineTold, request: &mut Reque
             }
             _ => no_changes(),
         },
-        _ => no_changes(),
+        LineTold::Nothing | LineTold::Faulted(_) => no_changes(),
     }
 }

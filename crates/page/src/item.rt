@@ -1,6 +1,6 @@
 //! The item of a line.
 
-ghost use Rattle.std.specs.Prelude.{◌≡◌, ◌++◌, List, ℕ, IfOk, OnOk, codes};
+ghost use Rattle.std.specs.Prelude.{◌≡◌, ◌≢◌, ◌++◌, List, ℕ, IfOk, OnOk, codes};
 ghost use Rattle.mvs_model.specs.Lent.{lent};
 ghost use Rattle.mvs_model.specs.State.{State};
 ghost use Rattle.mvs_model.specs.Texts.{printing};
@@ -8,12 +8,12 @@ ghost use Rattle.mvs_model.specs.declared.name.Name.{Name as TaskName};
 ghost use Rattle.mvs_job.specs.Telling.{IsLent, events_told};
 ghost use Rattle.page.specs.Lines.{change_lines};
 ghost use Rattle.page.specs.Changes.{changes_of};
-ghost use Rattle.page.specs.Markup.{class_of, class_said, head_of, note_of, reply_of, tail_of};
+ghost use Rattle.page.specs.Markup.{class_of, class_said, head_of, reply_of, tail_of};
 ghost use Rattle.page.specs.Told.{item_told};
 
 use crate::change::push_lines;
 use crate::changes::changes_of;
-use crate::markup::{push_head, push_note, push_reply, push_tag, push_tail};
+use crate::markup::{push_head, push_reply, push_tag, push_tail};
 use mvs_job::{LineTold, Walk};
 use mvs_model::answer::Answer;
 use mvs_model::line::Line;
@@ -78,16 +78,6 @@ fn lines_of_change(
     Ok(lines)
 }
 
-// The item of a line that says nothing.
-fn noted(alloc: Global, numbered: &Numbered<'_>) -> Result<Vec<u8>, AllocError>
-    ensures { IfOk result
-        (λ item. item.items ≡ note_of numbered.now.number numbered.now.line.now) }
-{
-    let mut item = Vec::new(alloc);
-    push_note(&mut item, numbered.number, numbered.line)?;
-    Ok(item)
-}
-
 // The item of a line with a fault.
 fn faulted(alloc: Global, numbered: &Numbered<'_>, printed: &[u8]) -> Result<Vec<u8>, AllocError>
     ensures { IfOk result
@@ -123,7 +113,8 @@ fn stated(
     Ok(item)
 }
 
-/// The item of a line that says this, and was served so. The request that it asks for is written over `request`.
+/// Makes the item of a line that says this, and was served so: a statement, or a line with a fault. The request that it asks for is
+/// written over `request`.
 pub fn item_of(
     alloc: Global,
     numbered: &Numbered<'_>,
@@ -133,6 +124,7 @@ pub fn item_of(
     request: &mut Request,
 ) -> Result<Vec<u8>, AllocError>
     requires lent { IsLent walk.now served.now.told }
+    requires answered { served.now.told ≢ LineTold.Nothing }
     requires printed { served.now.printed.items
         ≡ printing (events_told numbered.now.number walk.now served.now.told) }
     ensures { IfOk result
@@ -146,7 +138,7 @@ pub fn item_of(
     let printed = served.printed.as_slice();
     let behind = served.behind.as_slice();
     match &served.told {
-        LineTold::Nothing => noted(alloc, numbered),
+        LineTold::Nothing => unreachable!(),
         LineTold::Faulted(_) => faulted(alloc, numbered, printed),
         _ => stated(alloc, numbered, how, printed, behind, lines),
     }

@@ -1,11 +1,15 @@
 //! The text of the items of a page.
 
 ghost use Rattle.std.specs.Prelude.{◌≡◌, ◌≤◌, ◌+◌, ◌++◌, OnOk, decimal, drop, length, take};
+ghost use Rattle.job_script.specs.Writing.{Prints};
 ghost use Rattle.page.specs.Markup.{article_tag, escaped, escaped_byte, head_of, most_of_line, note_of, note_tag, reply_of, shown_line, tail_of, words_of};
 
 use job_script::text::Text;
+use job_script::write_all;
 use mvs_job::line_end;
+use mvs_model::watched::{Failed, Watched};
 use std::alloc::AllocError;
+use std::io::Write;
 use std::slice;
 
 /// Appends a tag.
@@ -134,22 +138,39 @@ pub fn push_tail(item: &mut Vec<u8>, behind: &[u8], changes: &[u8]) -> Result<()
     Ok(())
 }
 
-// Appends the tag that begins the item of a line without a statement.
-fn push_note_tag(item: &mut Vec<u8>, number: u32) -> Result<(), AllocError>
-    ensures { OnOk result (item.new.items ≡ item.old.items ++ note_tag number) }
+// Writes a text, escaped.
+fn print_escaped<W: Write>(writer: &mut Watched<W>, text: &[u8]) -> Result<(), Failed>
+    ensures { Prints W.contents writer.old writer.new result (escaped text.now) }
 {
-    push_tag(item, b"<p id=\"l")?;
-    push_number(item, number)?;
-    push_tag(item, b"\">")?;
+    for byte in text {
+        write_all(writer, escaped_byte(byte))?;
+    }
     Ok(())
 }
 
-/// Appends the item of a line without a statement.
-pub fn push_note(item: &mut Vec<u8>, number: u32, line: &[u8]) -> Result<(), AllocError>
-    ensures { OnOk result (item.new.items ≡ item.old.items ++ note_of number line.now) }
+// Writes a number.
+fn print_number<W: Write>(writer: &mut Watched<W>, number: u32) -> Result<(), Failed>
+    ensures { Prints W.contents writer.old writer.new result (escaped (decimal number)) }
 {
-    push_note_tag(item, number)?;
-    push_escaped(item, front(line))?;
-    push_tag(item, b"</p>\n")?;
-    Ok(())
+    let mut text = Text::new();
+    text.push_decimal(number);
+    print_escaped(writer, text.as_slice())
+}
+
+// Writes the tag that begins the item of a line without a statement.
+fn print_note_tag<W: Write>(writer: &mut Watched<W>, number: u32) -> Result<(), Failed>
+    ensures { Prints W.contents writer.old writer.new result (note_tag number) }
+{
+    write_all(writer, b"<p id=\"l")?;
+    print_number(writer, number)?;
+    write_all(writer, b"\">")
+}
+
+/// Writes the item of a line without a statement. It allocates no memory.
+pub fn print_note<W: Write>(writer: &mut Watched<W>, number: u32, line: &[u8]) -> Result<(), Failed>
+    ensures { Prints W.contents writer.old writer.new result (note_of number line.now) }
+{
+    print_note_tag(writer, number)?;
+    print_escaped(writer, front(line))?;
+    write_all(writer, b"</p>\n")
 }

@@ -1,7 +1,8 @@
 //! Writes the page of a script.
 
-ghost use Rattle.std.specs.Prelude.{◌≡◌, ◌≤◌, ◌<◌, ◌+◌, ◌^◌, [], Some, true, length, IfOk, OnOk, IsErrOf};
+ghost use Rattle.std.specs.Prelude.{◌≡◌, ◌≤◌, ◌<◌, ◌+◌, ◌^◌, [], Some, false, true, length, IfOk, OnOk, IsErrOf};
 ghost use Rattle.mvs_model.specs.Numbers.{most_script_bytes};
+ghost use Rattle.mvs_model.specs.Reading.{LineOf};
 ghost use Rattle.mvs_model.specs.Texts.{printing};
 ghost use Rattle.mvs_job.specs.Apart.{StandsBehind};
 ghost use Rattle.mvs_job.specs.Naming.{KeepsLines, no_lines};
@@ -12,7 +13,7 @@ ghost use Rattle.page.specs.Pages.{IsReadAs, WritesItem, WritesPage, WritesShown
 ghost use Rattle.page.specs.Told.{goes_on};
 
 use crate::item::{Numbered, Served, item_of};
-use crate::markup::push_reply;
+use crate::markup::{print_note, push_reply};
 use job_script::{read_line, write_all};
 use mvs_job::{Explainer, LineTold, Stop, Walk, line_end, print_closing};
 use mvs_model::line::Line;
@@ -48,11 +49,19 @@ fn is_first(walk: &Walk) -> bool
     }
 }
 
-// Parses a line of a job in this state.
-fn read_as(walk: &Walk, line: &[u8], read: &mut Line)
-    ensures { IsReadAs walk.now.step line.now read.new }
+// Parses a line of a job in this state, and returns whether it is blank or a comment.
+fn says_nothing(walk: &Walk, line: &[u8], read: &mut Line) -> bool
+    ensures read { IsReadAs walk.now.step line.now read.new }
+    ensures nothing { result ≡ true → LineOf (is_first walk.now.step) line.now Line.Nothing }
+    ensures something { result ≡ false → LineOf (is_first walk.now.step) line.now Line.Nothing → ⊥ }
 {
-    let _ = read_line(line, is_first(walk), read);
+    match read_line(line, is_first(walk), read) {
+        Ok(()) => match read {
+            Line::Nothing => true,
+            Line::Statement(..) => false,
+        },
+        Err(_) => false,
+    }
 }
 
 // Returns whether a job continues after a line with these events.
@@ -90,10 +99,9 @@ impl Maker {
             (λ served. KeepsLines walk.old self.old.explainer line.now walk.new served.told
             self.new.explainer) }
         ensures lent { IfOk result (λ served. IsLent walk.new served.told) }
-        ensures read { IsReadAs walk.old.step line.now self.new.read }
+        ensures read { self.new.read ≡ self.old.read }
         ensures number { walk.new.number ≡ walk.old.number + 1 }
     {
-        read_as(walk, line, &mut self.read);
         let mut printed = Watched::new(Vec::new(alloc));
         let mut behind = Watched::new(Vec::new(alloc));
         match self.explainer.serve(walk, line, &mut printed, &mut behind) {
@@ -106,15 +114,44 @@ impl Maker {
         }
     }
 
-    // Executes a line, and writes its item. Returns whether the job continues.
-    fn write_item<W: Write>(
+    // Executes a line that is blank or a comment, and writes its item. It needs no memory.
+    fn write_note<W: Write>(
+        &mut self,
+        walk: &mut Walk,
+        line: &[u8],
+        writer: &mut Watched<W>,
+    ) -> Result<bool, Stop>
+        requires number { walk.old.number + 1 < 2 ^ 32 }
+        requires nothing { LineOf (is_first walk.old.step) line.now Line.Nothing }
+        ensures ran { WritesItem (W.contents writer.old.inner) (W.contents writer.new.inner)
+            walk.old.number walk.old.step self.old.explainer line.now walk.new.step
+            self.new.explainer result }
+        ensures number { walk.new.number ≡ walk.old.number + 1 }
+        ensures ok { OnOk result (writer.new.failed ≡ writer.old.failed) }
+        ensures write { IsErrOf result Stop.Write → writer.new.failed ≡ true }
+    {
+        let number = walk.number();
+        match self.explainer.line(walk, line) {
+            Ok(_) => {}
+            Err(_) => unreachable!(),
+        }
+        match print_note(writer, number, line) {
+            Ok(()) => Ok(true),
+            Err(_) => Err(Stop::Write),
+        }
+    }
+
+    // Executes a line that was read, and is a statement or has a fault, and writes its item. Returns whether the job continues.
+    fn write_answered<W: Write>(
         &mut self,
         alloc: Global,
         walk: &mut Walk,
         line: &[u8],
         writer: &mut Watched<W>,
     ) -> Result<bool, Stop>
-        requires { walk.old.number + 1 < 2 ^ 32 }
+        requires number { walk.old.number + 1 < 2 ^ 32 }
+        requires read { IsReadAs walk.old.step line.now self.old.read }
+        requires something { LineOf (is_first walk.old.step) line.now Line.Nothing → ⊥ }
         ensures ran { WritesItem (W.contents writer.old.inner) (W.contents writer.new.inner)
             walk.old.number walk.old.step self.old.explainer line.now walk.new.step
             self.new.explainer result }
@@ -144,6 +181,28 @@ impl Maker {
             Err(_) => Err(Stop::Write),
         }
     }
+
+    // Executes a line, and writes its item. Returns whether the job continues.
+    fn write_item<W: Write>(
+        &mut self,
+        alloc: Global,
+        walk: &mut Walk,
+        line: &[u8],
+        writer: &mut Watched<W>,
+    ) -> Result<bool, Stop>
+        requires { walk.old.number + 1 < 2 ^ 32 }
+        ensures ran { WritesItem (W.contents writer.old.inner) (W.contents writer.new.inner)
+            walk.old.number walk.old.step self.old.explainer line.now walk.new.step
+            self.new.explainer result }
+        ensures number { walk.new.number ≡ walk.old.number + 1 }
+        ensures ok { OnOk result (writer.new.failed ≡ writer.old.failed) }
+        ensures write { IsErrOf result Stop.Write → writer.new.failed ≡ true }
+    {
+        if says_nothing(walk, line, &mut self.read) {
+            return self.write_note(walk, line, writer);
+        }
+        self.write_answered(alloc, walk, line, writer)
+    }
 }
 
 // The item at the end of a job that has no more lines.
@@ -168,7 +227,8 @@ pub fn write_page<W: Write>(
     placement: Placement,
 ) -> Result<Outcome, Stop>
     requires { length script.now ≤ most_script_bytes }
-    // What is written is the page of a run of the script, or the beginning of one if the job stops.
+    // What is written is the page of a run of the script, or the beginning of one if the job stops. Memory is exhausted only at a line
+    // that is answered, and at the end of the job.
     ensures page { WritesPage (W.contents writer.old.inner) (W.contents writer.new.inner)
         frame.now script.now result }
     // The texts of its `<pre>` without a class are the printing of a run.

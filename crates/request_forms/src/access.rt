@@ -21,6 +21,7 @@ use crate::machine::Machine;
 use crate::release::is_outside_pools;
 use cell_pool::Pools;
 use mvs_model::bounded::{MoveLength, ShowLength};
+use mvs_model::numbers::LAST_ADDRESS;
 use mvs_model::place::{Addr, Place};
 use mvs_model::refusal::Refusal;
 use mvs_model::request::Bytes;
@@ -60,7 +61,7 @@ fn is_plain(store: &Store, pools: &Pools, place: Place) -> bool
     };
     let first = place.addr().get() / 8 * 8;
     let end = place.addr().get() + place.len();
-    if end > 0x8000_0000 {
+    if end > LAST_ADDRESS + 1 {
         return false;
     }
     let whole = Place::new(Addr::new(first), (end - first).div_ceil(8) * 8);
@@ -83,7 +84,7 @@ pub(crate) fn may_access(store: &Store, pools: &Pools, place: Place) -> bool
     let end = place.addr().get() + place.len();
     let mut at = place.addr().get();
     'walk: while at < end {
-        if at >= 0x8000_0000 {
+        if at > LAST_ADDRESS {
             return false;
         }
         match readable_end(store, pools, Addr::new(at)) {
@@ -196,11 +197,11 @@ impl Machine {
     /// Returns the bytes of a place, or None if one of them cannot be read: its doubleword is not held, or it is in a part of a
     /// cell pool and in no taken cell (this project's choice).
     pub fn bytes(&self, place: Place) -> Option<&[u8]>
-        ensures granted { IsSome result ↔ Granted self.now place }
+        ensures granted { IsSome result ↔ Granted self.now.state place }
         ensures len { IfSome result (λ part. length part.now ≡ place.len) }
         ensures bytes { IfSome result
             (λ part. (k : ℕ) → k < place.len
-            → slice_get part.now k ≡ get self.now.bytes (place.addr + k)) }
+            → slice_get part.now k ≡ get self.now.state.bytes (place.addr + k)) }
     {
         if !may_access(&self.store, &self.pools, place) {
             return None;
@@ -211,7 +212,7 @@ impl Machine {
     /// SHOW: it only looks whether the bytes may be read.
     pub fn show(&self, from: Addr, len: ShowLength) -> Result<(), Refusal>
         ensures { (t : Name)
-            → Tries (λ _. Done) self.now t (request.Show from len) result self.now }
+            → Tries (λ _. Done) self.now.state t (request.Show from len) result self.now.state }
     {
         if !may_access(&self.store, &self.pools, Place::new(from, len.get())) {
             return Err(Refusal::NoAccess);
@@ -223,8 +224,8 @@ impl Machine {
     pub fn write(&mut self, place: Place, bytes: &[u8]) -> bool
         requires { length bytes.now ≡ place.len }
         ensures { MatchBool result
-            (Granted self.old place × Writes self.old place (bytes_from place.addr bytes.now) self.new)
-            ((Granted self.old place → ⊥) × (self.new ≡ self.old)) }
+            (Granted self.old.state place × Writes self.old.state place (bytes_from place.addr bytes.now) self.new.state)
+            ((Granted self.old.state place → ⊥) × (self.new.state ≡ self.old.state)) }
     {
         write_where_granted(&mut self.store, &self.pools, place, bytes)
     }
@@ -232,7 +233,7 @@ impl Machine {
     /// PUT: stores the bytes from the address on.
     pub fn put(&mut self, to: Addr, bytes: &Bytes) -> Result<(), Refusal>
         ensures { (t : Name)
-            → Tries (λ _. Done) self.old t (request.Put to bytes.now) result self.new }
+            → Tries (λ _. Done) self.old.state t (request.Put to bytes.now) result self.new.state }
     {
         let place = Place::new(to, bytes.len() as u32);
         let bytes = bytes.as_slice();
@@ -246,7 +247,7 @@ impl Machine {
     // Whether all bytes that a MOVE reads and writes may be.
     fn may_move(&self, to: Addr, from: Addr, len: MoveLength) -> bool
         ensures { IsTrue result
-            ↔ (Granted self.now (place_at to len) × Granted self.now (place_at from len)) }
+            ↔ (Granted self.now.state (place_at to len) × Granted self.now.state (place_at from len)) }
     {
         let len = len.get();
         if !may_access(&self.store, &self.pools, Place::new(to, len)) {
@@ -258,7 +259,7 @@ impl Machine {
     /// MOVE: copies the bytes from one address to the other.
     pub fn move_bytes(&mut self, to: Addr, from: Addr, len: MoveLength) -> Result<(), Refusal>
         ensures { (t : Name)
-            → Tries (λ _. Done) self.old t (request.Move to from len) result self.new }
+            → Tries (λ _. Done) self.old.state t (request.Move to from len) result self.new.state }
     {
         if !self.may_move(to, from, len) {
             return Err(Refusal::NoAccess);

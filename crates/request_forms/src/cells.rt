@@ -5,7 +5,7 @@ ghost use Rattle.std.specs.FinMap.{get};
 ghost use Rattle.mvs_model.specs.declared.name.Name.{Name as TheName};
 ghost use Rattle.mvs_model.specs.declared.request.Reply.TheVariants.{Cell, Rc0};
 ghost use Rattle.mvs_model.specs.declared.request.Request.TheVariants as request;
-ghost use Rattle.mvs_model.specs.Owners.{is_active};
+ghost use Rattle.request_forms.specs.Machine.{IsTask, task_name};
 ghost use Rattle.mvs_model.specs.Subpool.{IsSubpoolNumber};
 ghost use Rattle.mvs_model.specs.Steps.{Tries, TriesPlan};
 ghost use Rattle.mvs_model.specs.Requests.{residence_of};
@@ -22,6 +22,7 @@ use mvs_model::place::{Addr, Place};
 use mvs_model::refusal::Refusal;
 use mvs_model::subpool::SubNo;
 use mvs_model::want::Loc;
+use task_owner::TaskId;
 
 // Returns the hint for the first cell of a further part.
 fn further_told(told: &[Addr]) -> Option<Addr>
@@ -39,21 +40,21 @@ impl Machine {
     /// further part.
     pub fn plan(
         &self,
-        name: Name,
+        t: TaskId,
         size: CellSize,
         primary: CellCount,
         secondary: CellCount,
         loc: Loc,
     ) -> Plan
-        requires { is_active self.now.owners name ≡ true }
-        ensures { let side = side_of loc (residence_of self.now.owners name) in result
+        requires { IsTask self.now t }
+        ensures { let side = side_of loc (residence_of self.now.state.owners (task_name self.now t)) in result
             ≡ record { cell_size = size; primary = primary; secondary = secondary; side = side } }
     {
         Plan {
             cell_size: size,
             primary,
             secondary,
-            side: side(loc, self.tasks.residence(self.tasks.task_of(name))),
+            side: side(loc, self.tasks.residence(t)),
         }
     }
 
@@ -61,19 +62,18 @@ impl Machine {
     // pool is made.
     fn build_pool(
         &mut self,
-        name: Name,
+        t: TaskId,
         number: SubNo,
         pool: &Name,
         plan: &Plan,
         told: Option<Addr>,
     ) -> Result<(), Refusal>
-        requires active { is_active self.old.owners name ≡ true }
+        requires active { IsTask self.old t }
         requires valid { IsSubpoolNumber number }
-        ensures answer { TriesPlan self.old name pool.now number plan.now result self.new }
+        ensures answer { TriesPlan self.old.state (task_name self.old t) pool.now number plan.now result self.new.state }
         ensures told { OnOk result
-            (TakesPool self.old name number pool.now plan.now told self.new) }
+            (TakesPool self.old.state (task_name self.old t) number pool.now plan.now told self.new.state) }
     {
-        let t = self.tasks.task_of(name);
         match self.tasks.subpool(t, number) {
             Some(subpool) => self.pools.build(&mut self.store, pool, subpool, plan, told),
             None => {
@@ -90,21 +90,21 @@ impl Machine {
     /// CPOOL BUILD: creates a pool with its first part, and the first cell at the hinted address if the machine allows that.
     pub fn build(
         &mut self,
-        name: Name,
+        t: TaskId,
         number: u8,
         pool: &Name,
         plan: &Plan,
         told: Option<Addr>,
     ) -> Result<(), Refusal>
-        requires { is_active self.old.owners name ≡ true }
-        ensures answer { TriesPlan self.old name pool.now number plan.now result self.new }
+        requires { IsTask self.old t }
+        ensures answer { TriesPlan self.old.state (task_name self.old t) pool.now number plan.now result self.new.state }
         ensures told { OnOk result
-            (TakesPool self.old name number pool.now plan.now told self.new) }
+            (TakesPool self.old.state (task_name self.old t) number pool.now plan.now told self.new.state) }
     {
         let Some(number) = SubNo::new(number) else {
             return Err(Refusal::InvalidNumber);
         };
-        self.build_pool(name, number, pool, plan, told)
+        self.build_pool(t, number, pool, plan, told)
     }
 
     /// CPOOL GET: allocates a free cell of the pool. If none is free, a conditional request is refused, and another one gets a cell
@@ -112,8 +112,8 @@ impl Machine {
     /// second one or, if there is only one, at that.
     pub fn get(&mut self, pool: &Name, conditional: bool, told: &[Addr]) -> Result<Place, Refusal>
         ensures answer { (t : TheName)
-            → Tries Cell self.old t (request.Get pool.now conditional) result self.new }
-        ensures told { IfOk result (TakesCell self.old pool.now told.now) }
+            → Tries Cell self.old.state t (request.Get pool.now conditional) result self.new.state }
+        ensures told { IfOk result (TakesCell self.old.state pool.now told.now) }
     {
         let cell = first_told(told);
         let first = further_told(told);
@@ -124,7 +124,7 @@ impl Machine {
     /// CPOOL FREE: a taken cell of the pool is given back.
     pub fn free(&mut self, pool: &Name, cell: Addr) -> Result<(), Refusal>
         ensures { (t : TheName)
-            → Tries (λ _. Rc0) self.old t (request.Free pool.now cell) result self.new }
+            → Tries (λ _. Rc0) self.old.state t (request.Free pool.now cell) result self.new.state }
     {
         self.pools.free(&mut self.store, pool, cell)
     }
@@ -132,7 +132,7 @@ impl Machine {
     /// CPOOL DELETE: the pool is given up with all its parts.
     pub fn delete(&mut self, pool: &Name) -> Result<(), Refusal>
         ensures { (t : TheName)
-            → Tries (λ _. Rc0) self.old t (request.Delete pool.now) result self.new }
+            → Tries (λ _. Rc0) self.old.state t (request.Delete pool.now) result self.new.state }
     {
         self.pools.delete(&mut self.store, pool)
     }

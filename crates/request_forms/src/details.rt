@@ -96,8 +96,8 @@ fn overlap_details(request: &Request) -> Reason
 impl Machine {
     // Of an area that has no place.
     fn area_details(&self, name: Name, request: &Request) -> Reason
-        requires { Concerns self.now name request.now Shortage }
-        ensures { Explains self.now name request.now Shortage result }
+        requires { Concerns self.now.state name request.now Shortage }
+        ensures { Explains self.now.state name request.now Shortage result }
     {
         let Request::Obtain { form, number, ask } = request else {
             unreachable!();
@@ -115,8 +115,8 @@ impl Machine {
 
     // Of a part of a pool that has no place.
     fn part_details(&self, name: Name, request: &Request) -> Reason
-        requires { Concerns self.now name request.now NoPart }
-        ensures { Explains self.now name request.now NoPart result }
+        requires { Concerns self.now.state name request.now NoPart }
+        ensures { Explains self.now.state name request.now NoPart result }
     {
         let Request::Build {
             number,
@@ -140,9 +140,9 @@ impl Machine {
 
     // Of a further part of a pool.
     fn further_details(&self, name: Name, request: &Request) -> Reason
-        requires short { Concerns self.now name request.now NoPart }
+        requires short { Concerns self.now.state name request.now NoPart }
         requires further { IsFurther request.now }
-        ensures { Explains self.now name request.now NoPart result }
+        ensures { Explains self.now.state name request.now NoPart result }
     {
         let Request::Get { pool, .. } = request else {
             unreachable!();
@@ -159,8 +159,8 @@ impl Machine {
 
     // Of a number under which no subpool is meant.
     fn subpool_details(&self, name: Name, request: &Request) -> Reason
-        requires { Concerns self.now name request.now NoSubpool }
-        ensures { Explains self.now name request.now NoSubpool result }
+        requires { Concerns self.now.state name request.now NoSubpool }
+        ensures { Explains self.now.state name request.now NoSubpool result }
     {
         let Some(number) = SubNo::new(number_of(request)) else {
             unreachable!();
@@ -170,8 +170,8 @@ impl Machine {
 
     // Of places that the subpool does not hold.
     fn unheld_details(&self, name: Name, request: &Request) -> Reason
-        requires { Concerns self.now name request.now NotHeld }
-        ensures { Explains self.now name request.now NotHeld result }
+        requires { Concerns self.now.state name request.now NotHeld }
+        ensures { Explains self.now.state name request.now NotHeld result }
     {
         let Some(number) = SubNo::new(number_of(request)) else {
             unreachable!();
@@ -187,8 +187,8 @@ impl Machine {
 
     // Of an address at which no taken cell begins.
     fn cell_details(&self, name: Name, request: &Request) -> Reason
-        requires { Concerns self.now name request.now NoTakenCell }
-        ensures { Explains self.now name request.now NoTakenCell result }
+        requires { Concerns self.now.state name request.now NoTakenCell }
+        ensures { Explains self.now.state name request.now NoTakenCell result }
     {
         let Request::Free { pool, cell } = request else {
             unreachable!();
@@ -198,8 +198,8 @@ impl Machine {
 
     // Of a number that is given whose subpool another task owns.
     fn gift_details(&self, name: Name, request: &Request) -> Reason
-        requires { Concerns self.now name request.now NotOwned }
-        ensures { Explains self.now name request.now NotOwned result }
+        requires { Concerns self.now.state name request.now NotOwned }
+        ensures { Explains self.now.state name request.now NotOwned result }
     {
         let Request::Attach { gifts, .. } = request else {
             unreachable!();
@@ -219,8 +219,8 @@ impl Machine {
 
     // Of a subtask that is active.
     fn subtask_details(&self, name: Name, request: &Request) -> Reason
-        requires { Concerns self.now name request.now ActiveSubtask }
-        ensures { Explains self.now name request.now ActiveSubtask result }
+        requires { Concerns self.now.state name request.now ActiveSubtask }
+        ensures { Explains self.now.state name request.now ActiveSubtask result }
     {
         match self.tasks.subtask(self.tasks.task_of(name)) {
             Some(subtask) => Reason::ActiveSubtask(subtask),
@@ -230,8 +230,8 @@ impl Machine {
 
     // The address of the first byte that a request may not read or write, in the order in which its places are looked at.
     fn denied(&self, request: &Request) -> Option<Addr>
-        ensures { MatchOption result (list_all (all_granted self.now) (accessed request.now) ≡ true)
-            (FirstDenied self.now (accessed request.now)) }
+        ensures { MatchOption result (list_all (all_granted self.now.state) (accessed request.now) ≡ true)
+            (FirstDenied self.now.state (accessed request.now)) }
     {
         match request {
             Request::Show { from, len } => self.denied_in(Place::new(*from, len.get())),
@@ -260,15 +260,15 @@ impl Machine {
 
     // The address of the first byte of a place that may not be read and written.
     fn denied_in(&self, place: Place) -> Option<Addr>
-        ensures { MatchOption result (Granted self.now place) (IsDeniedIn self.now place) }
+        ensures { MatchOption result (Granted self.now.state place) (IsDeniedIn self.now.state place) }
     {
         first_denied(&self.store, &self.pools, place)
     }
 
     // Of a byte that may not be read and written.
     fn access_details(&self, name: Name, request: &Request) -> Reason
-        requires { Concerns self.now name request.now NoAccess }
-        ensures { Explains self.now name request.now NoAccess result }
+        requires { Concerns self.now.state name request.now NoAccess }
+        ensures { Explains self.now.state name request.now NoAccess result }
     {
         match self.denied(request) {
             Some(at) => Reason::NoAccess(at, self.holder(at)),
@@ -285,10 +285,10 @@ impl Machine {
         refusal: Refusal,
         left: &Shortfall,
     ) -> Reason
-        requires refused { IsRefused self.now name request.now refusal }
+        requires refused { IsRefused self.now.state name request.now refusal }
         requires left { (k : ℕ) → refusal ≡ Member k
-            → MemberLacks self.now name request.now k left.now }
-        ensures { Explains self.now name request.now refusal result }
+            → MemberLacks self.now.state name request.now k left.now }
+        ensures { Explains self.now.state name request.now refusal result }
     {
         match refusal {
             Refusal::NotActive => Reason::NotActive,

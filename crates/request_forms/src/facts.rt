@@ -86,14 +86,14 @@ impl Machine {
     /// The first subpool from a number on that a task owns.
     pub fn next_owned(&self, from: u16) -> Option<SubpoolId>
         requires { from ≤ most_subpools }
-        ensures { IsNextOwned self.now.owners from result }
+        ensures { IsNextOwned self.now.state.owners from result }
     {
         self.tasks.next_owned(from)
     }
 
     // Whether an active task has a subpool under some number.
     fn has_subpool(&self, task: &Name, subpool: SubpoolId) -> bool
-        ensures { result ≡ has_subpool self.now.owners task.now subpool }
+        ensures { result ≡ has_subpool self.now.state.owners task.now subpool }
     {
         match self.tasks.find(task) {
             Some(t) => has_entry(self.tasks.entries(t), subpool),
@@ -103,7 +103,7 @@ impl Machine {
 
     /// A subpool, where a task owns it, and whether another task has it.
     pub fn owned(&self, subpool: SubpoolId, task: &Name) -> Option<OwnedSubpool>
-        ensures { result ≡ owned_at self.now task.now subpool }
+        ensures { result ≡ owned_at self.now.state task.now subpool }
     {
         let Some((number, owner)) = self.tasks.label(subpool) else {
             return None;

@@ -73,7 +73,7 @@ pub(crate) fn first_denied(store: &Store, pools: &Pools, place: Place) -> Option
 impl Machine {
     /// What holds the doubleword of an address.
     pub fn holder(&self, addr: Addr) -> Holder
-        ensures { Holds self.now (addr / 8) result }
+        ensures { Holds self.now.state (addr / 8) result }
     {
         let Some(subpool) = self.store.held(addr) else {
             return Holder::Nobody;

@@ -1,8 +1,10 @@
 //! The parts of the machine, and its state as one value.
 
-ghost use Rattle.std.specs.Prelude.{◌≡◌, IfOk};
+ghost use Rattle.std.specs.Prelude.{◌≡◌, Some, is_some, IfOk, IfSome};
 ghost use Rattle.mvs_model.specs.Owners.{is_active};
 ghost use Rattle.mvs_model.specs.Start.{start};
+ghost use Rattle.task_owner.specs.Tasks.{name_at};
+ghost use Rattle.request_forms.specs.Machine.{tasks_in};
 
 use cell_pool::Pools;
 use mvs_model::card::Card;
@@ -12,7 +14,7 @@ use mvs_model::want::Placement;
 use std::alloc::Global;
 use std::marker::Model;
 use subpool_store::Store;
-use task_owner::Tasks;
+use task_owner::{TaskId, Tasks};
 
 /// The storage, the tasks and the cell pools of a step.
 #[derive(Drop)]
@@ -23,15 +25,17 @@ pub struct Machine {
 }
 
 impl Model for Machine {
-    ghost use Rattle.mvs_model.specs.State.{State, state_code};
     ghost use Rattle.cell_pool.specs.Agree.{Agree};
-    ghost use Rattle.request_forms.specs.Machine.{machine_state};
+    ghost use Rattle.request_forms.specs.Machine.{MachineValue, machine_code, machine_state};
 
-    ghost Value = { State };
+    ghost Value = { MachineValue };
 
-    ghost coded = { state_code };
+    ghost coded = { machine_code };
 
-    ghost view = { λ m. machine_state m.pools m.store.storage m.tasks.owners };
+    ghost view = { λ m. record {
+      state = machine_state m.pools m.store.storage m.tasks.owners;
+      names = m.tasks.names;
+    } };
 
     ghost invariant = { λ m. Agree m.pools m.store.storage };
 }
@@ -39,7 +43,7 @@ impl Model for Machine {
 impl Machine {
     /// Makes the machine at the start of a step: only the job step task is active, nothing is held, and there are no pools.
     pub fn new(alloc: Global, card: &Card, placement: Placement) -> Result<Machine, OutOfMemory>
-        ensures { IfOk result (λ m. m ≡ start card.now) }
+        ensures { IfOk result (λ m. m.state ≡ start card.now) }
     {
         let store = Store::new(alloc, card.below(), card.above(), card.fill(), placement)?;
         let tasks = Tasks::new(alloc, card.name(), card.residence())?;
@@ -51,10 +55,11 @@ impl Machine {
         })
     }
 
-    /// Whether the task is active.
-    pub fn is_active(&self, name: Name) -> bool
-        ensures { result ≡ is_active self.now.owners name }
+    /// Returns the active task of a name. It refers to the same task until that task ends.
+    pub fn find(&self, name: &Name) -> Option<TaskId>
+        ensures active { is_some result ≡ is_active self.now.state.owners name.now }
+        ensures named { IfSome result (λ t. name_at (tasks_in self.now) t ≡ Some name.now) }
     {
-        self.tasks.find(&name).is_some()
+        self.tasks.find(name)
     }
 }

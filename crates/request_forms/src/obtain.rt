@@ -1,46 +1,46 @@
 //! Requests that obtain.
 
-ghost use Rattle.std.specs.Prelude.{◌≡◌, ◌≤◌, true, IfOk, IfSome, MatchOption};
+ghost use Rattle.std.specs.Prelude.{◌≡◌, ◌≤◌, IfOk, IfSome, MatchOption};
 ghost use Rattle.mvs_model.specs.Want.{want_of};
 ghost use Rattle.mvs_model.specs.Changes.{GrantTo, ShortOf};
 ghost use Rattle.mvs_model.specs.Steps.{Tries};
 ghost use Rattle.mvs_model.specs.declared.request.Reply.TheVariants.{Obtained};
 ghost use Rattle.mvs_model.specs.declared.request.Request.TheVariants as request;
 ghost use Rattle.mvs_model.specs.Requests.{side_for};
-ghost use Rattle.mvs_model.specs.Owners.{is_active, keeper};
+ghost use Rattle.mvs_model.specs.Owners.{keeper};
+ghost use Rattle.request_forms.specs.Machine.{IsTask, task_name};
 ghost use Rattle.request_forms.specs.Taking.{TakesArea};
 
 use crate::machine::Machine;
 use boundary_loc::side;
 use mvs_model::code::Form;
 use mvs_model::codes::form_side;
-use mvs_model::name::Name;
 use mvs_model::place::{Addr, Place};
 use mvs_model::refusal::Refusal;
 use mvs_model::subpool::SubNo;
 use mvs_model::want::Ask;
+use task_owner::TaskId;
 
 impl Machine {
     // Obtains an area of the subpool that the task means by a number, which is made where there was none, and only where the
     // area is granted.
     fn obtain_area(
         &mut self,
-        name: Name,
+        t: TaskId,
         form: Form,
         number: SubNo,
         ask: &Ask,
         told: Option<Addr>,
     ) -> Option<Place>
-        requires { is_active self.old.owners name ≡ true }
-        ensures granted { let want = want_of ask.now (side_for self.old name form ask.now.loc) in
-            let t = keeper self.old.owners name number in
+        requires { IsTask self.old t }
+        ensures granted { let want = want_of ask.now (side_for self.old.state (task_name self.old t) form ask.now.loc) in
+            let k = keeper self.old.state.owners (task_name self.old t) number in
             MatchOption result
-            (ShortOf self.old t number want × (self.new ≡ self.old))
-            (λ p. GrantTo self.old t number want p self.new) }
-        ensures told { IfSome result (TakesArea self.old name form number ask.now told) }
+            (ShortOf self.old.state k number want × (self.new.state ≡ self.old.state))
+            (λ p. GrantTo self.old.state k number want p self.new.state) }
+        ensures told { IfSome result (TakesArea self.old.state (task_name self.old t) form number ask.now told) }
         ensures some { 1 ≤ ask.now.least }
     {
-        let t = self.tasks.task_of(name);
         let want = ask.want(form_side(form, side(ask.loc(), self.tasks.residence(t))));
         match self.tasks.subpool(t, number) {
             Some(subpool) => self.store.obtain(subpool, &want, told),
@@ -59,21 +59,21 @@ impl Machine {
     /// machine allows that. The subpool number is checked first (this project's choice).
     pub fn obtain(
         &mut self,
-        name: Name,
+        t: TaskId,
         form: Form,
         number: u8,
         ask: &Ask,
         told: Option<Addr>,
     ) -> Result<Place, Refusal>
-        requires { is_active self.old.owners name ≡ true }
-        ensures answer { Tries Obtained self.old name (request.Obtain form number ask.now) result
-            self.new }
-        ensures told { IfOk result (TakesArea self.old name form number ask.now told) }
+        requires { IsTask self.old t }
+        ensures answer { Tries Obtained self.old.state (task_name self.old t) (request.Obtain form number ask.now) result
+            self.new.state }
+        ensures told { IfOk result (TakesArea self.old.state (task_name self.old t) form number ask.now told) }
     {
         let Some(number) = SubNo::new(number) else {
             return Err(Refusal::InvalidNumber);
         };
-        match self.obtain_area(name, form, number, ask, told) {
+        match self.obtain_area(t, form, number, ask, told) {
             Some(place) => Ok(place),
             None => Err(Refusal::Shortage),
         }

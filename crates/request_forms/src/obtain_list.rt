@@ -2,7 +2,8 @@
 
 ghost use Rattle.std.specs.Prelude.{◌≡◌, true, ◌+◌, ◌≤◌, ◌<◌, Err, IfErr, IfOk, MatchResult, None, List, ℕ, [], ◌∷◌, ◌++◌, length};
 ghost use Rattle.mvs_model.specs.Changes.{ListGrant};
-ghost use Rattle.mvs_model.specs.Owners.{is_active, keeper};
+ghost use Rattle.mvs_model.specs.Owners.{keeper};
+ghost use Rattle.request_forms.specs.Machine.{IsTask, task_name};
 ghost use Rattle.mvs_model.specs.Place.{PlaceValue};
 ghost use Rattle.mvs_model.specs.Steps.{Tries};
 ghost use Rattle.mvs_model.specs.declared.code.Form.{Form as TheForm};
@@ -18,7 +19,6 @@ use crate::machine::Machine;
 use crate::release::take_back;
 use crate::shortage::room_in;
 use mvs_model::bounded::{Exponent, Length};
-use mvs_model::name::Name;
 use mvs_model::place::{Addr, Place};
 use mvs_model::reason::{Room, Shortfall};
 use mvs_model::refusal::Refusal;
@@ -26,6 +26,7 @@ use mvs_model::request::{Lengths, Places};
 use mvs_model::subpool::{SubNo, SubpoolId};
 use mvs_model::want::{Side, Want};
 use subpool_store::Store;
+use task_owner::TaskId;
 
 // Appends a place to those that are granted so far.
 fn with_place(granted: Option<Places>, place: Place) -> Places
@@ -154,23 +155,22 @@ impl Machine {
     // areas are granted. The error has the member that has no place.
     fn obtain_areas(
         &mut self,
-        name: Name,
+        t: TaskId,
         number: SubNo,
         lengths: &Lengths,
         start: Exponent,
         told: &[Addr],
     ) -> Result<Places, Lack>
-        requires { is_active self.old.owners name ≡ true }
+        requires { IsTask self.old t }
         ensures granted { MatchResult result
-            (λ ps. ListGrant self.old (keeper self.old.owners name number) number
-            (list_wants lengths.now start) ps self.new)
-            (λ lack. IsMemberShort self.old (keeper self.old.owners name number) number
+            (λ ps. ListGrant self.old.state (keeper self.old.state.owners (task_name self.old t) number) number
+            (list_wants lengths.now start) ps self.new.state)
+            (λ lack. IsMemberShort self.old.state (keeper self.old.state.owners (task_name self.old t) number) number
             (list_wants lengths.now start) lack.member lack.short
-            × (self.new ≡ self.old)) }
+            × (self.new.state ≡ self.old.state)) }
         ensures told { IfOk result
-            (λ ps. TakesAreas self.old name number lengths.now start told.now ps self.new) }
+            (λ ps. TakesAreas self.old.state (task_name self.old t) number lengths.now start told.now ps self.new.state) }
     {
-        let t = self.tasks.task_of(name);
         match self.tasks.subpool(t, number) {
             Some(subpool) => grant_each(
                 &mut self.store,
@@ -204,27 +204,27 @@ impl Machine {
     /// if the machine allows that. Where a member has no place, what it lacks is written to `left`.
     pub fn obtain_list(
         &mut self,
-        name: Name,
+        t: TaskId,
         number: u8,
         lengths: &Lengths,
         start: Exponent,
         told: &[Addr],
         left: &mut Shortfall,
     ) -> Result<Places, Refusal>
-        requires { is_active self.old.owners name ≡ true }
+        requires { IsTask self.old t }
         ensures answer { (form : TheForm)
-            → Tries Listed self.old name (request.ObtainList form number lengths.now start) result
-            self.new }
+            → Tries Listed self.old.state (task_name self.old t) (request.ObtainList form number lengths.now start) result
+            self.new.state }
         ensures told { IfOk result
-            (λ ps. TakesAreas self.old name number lengths.now start told.now ps self.new) }
+            (λ ps. TakesAreas self.old.state (task_name self.old t) number lengths.now start told.now ps self.new.state) }
         ensures left { (form : TheForm) (k : ℕ) → result ≡ Err (Member k)
-            → MemberLacks self.old name (request.ObtainList form number lengths.now start) k
+            → MemberLacks self.old.state (task_name self.old t) (request.ObtainList form number lengths.now start) k
             left.new }
     {
         let Some(number) = SubNo::new(number) else {
             return Err(Refusal::InvalidNumber);
         };
-        match self.obtain_areas(name, number, lengths, start, told) {
+        match self.obtain_areas(t, number, lengths, start, told) {
             Ok(places) => Ok(places),
             Err(lack) => {
                 *left = lack.short;

@@ -4,7 +4,7 @@ ghost use Rattle.std.specs.Prelude.{◌≡◌, Ok, Err, ◌↔◌, ◌+◌, ◌/
 ghost use Rattle.std.specs.List.{AllByRecursion, list_all};
 ghost use Rattle.mvs_model.specs.Changes.{Disjoint, HeldPlain, Misses};
 ghost use Rattle.mvs_model.specs.declared.request.Reply.TheVariants.{Rc0};
-ghost use Rattle.mvs_model.specs.Owners.{Owners, is_active};
+ghost use Rattle.mvs_model.specs.Owners.{Owners};
 ghost use Rattle.mvs_model.specs.Place.{round8};
 ghost use Rattle.mvs_model.specs.Requests as step;
 ghost use Rattle.mvs_model.specs.Steps.{Tries};
@@ -16,17 +16,17 @@ ghost use Rattle.cell_pool.specs.Agree.{Agree};
 ghost use Rattle.cell_pool.specs.Cells.{Touches, TouchesNone};
 ghost use Rattle.cell_pool.specs.Roots.{pools_of};
 ghost use Rattle.request_forms.specs.Lists.{HoldsApart, ReleasesEach};
-ghost use Rattle.request_forms.specs.Machine.{machine_state};
+ghost use Rattle.request_forms.specs.Machine.{IsTask, machine_state, task_name};
 
 use crate::machine::Machine;
 use cell_pool::Pools;
-use mvs_model::name::Name;
 use mvs_model::place::Place;
 use mvs_model::refusal::Refusal;
 use mvs_model::request::Places;
 use mvs_model::subpool::{SubNo, SubpoolId};
 use std::ops::Range;
 use subpool_store::Store;
+use task_owner::TaskId;
 
 // The place with its length rounded up to doublewords.
 pub(crate) fn whole(place: Place) -> Place
@@ -73,7 +73,7 @@ pub(crate) fn is_outside_pools(
         (TouchesNone store.now.storage (pools_of pools.now store.now.storage) subpool place)
         (Touches store.now.storage (pools_of pools.now store.now.storage) subpool place) }
 {
-    !pools.touches(store, subpool, place)
+    !pools.touches_in(store, subpool, place)
 }
 
 // Whether the subpool holds a place outside of cell pools.
@@ -173,7 +173,7 @@ impl Machine {
     // Releases a place of the subpool that a task has under a number, or refuses it.
     fn release_area(&mut self, subpool: Option<SubpoolId>, place: Place) -> Result<(), Refusal>
         requires { IsWhole place }
-        ensures { TriesPlaces self.old subpool (place ∷ []) result self.new }
+        ensures { TriesPlaces self.old.state subpool (place ∷ []) result self.new.state }
     {
         let Some(subpool) = subpool else {
             return Err(Refusal::NoSubpool);
@@ -190,7 +190,7 @@ impl Machine {
     // Releases places of the subpool that a task has under a number: all of them, or none.
     fn release_areas(&mut self, subpool: Option<SubpoolId>, places: &[Place]) -> Result<(), Refusal>
         requires { list_all step.on_doubleword places.now ≡ true }
-        ensures { TriesPlaces self.old subpool (map step.whole places.now) result self.new }
+        ensures { TriesPlaces self.old.state subpool (map step.whole places.now) result self.new.state }
     {
         let Some(subpool) = subpool else {
             return Err(Refusal::NoSubpool);
@@ -207,11 +207,11 @@ impl Machine {
 
     /// FREEMAIN for a list of places, all of which are released or none; the length of each is rounded up to doublewords (Assembler
     /// Services Reference, FREEMAIN). All or none, and the order of the refusals, are this project's choice.
-    pub fn release_list(&mut self, name: Name, number: u8, places: &Places) -> Result<(), Refusal>
-        requires { is_active self.old.owners name ≡ true }
+    pub fn release_list(&mut self, t: TaskId, number: u8, places: &Places) -> Result<(), Refusal>
+        requires { IsTask self.old t }
         ensures { (form : TheForm)
-            → Tries (λ _. Rc0) self.old name (request.ReleaseList form number places.now) result
-            self.new }
+            → Tries (λ _. Rc0) self.old.state (task_name self.old t) (request.ReleaseList form number places.now) result
+            self.new.state }
     {
         let Some(number) = SubNo::new(number) else {
             return Err(Refusal::InvalidNumber);
@@ -220,16 +220,16 @@ impl Machine {
         if !are_on_doublewords(places) {
             return Err(Refusal::OffDoubleword);
         }
-        let subpool = self.tasks.subpool(self.tasks.task_of(name), number);
+        let subpool = self.tasks.subpool(t, number);
         self.release_areas(subpool, places)
     }
 
     /// FREEMAIN and STORAGE RELEASE of one place, whose length is rounded up to doublewords (Assembler Services
     /// Reference).
-    pub fn release(&mut self, name: Name, number: u8, place: Place) -> Result<(), Refusal>
-        requires { is_active self.old.owners name ≡ true }
+    pub fn release(&mut self, t: TaskId, number: u8, place: Place) -> Result<(), Refusal>
+        requires { IsTask self.old t }
         ensures { (form : TheForm)
-            → Tries (λ _. Rc0) self.old name (request.Release form number place) result self.new }
+            → Tries (λ _. Rc0) self.old.state (task_name self.old t) (request.Release form number place) result self.new.state }
     {
         let Some(number) = SubNo::new(number) else {
             return Err(Refusal::InvalidNumber);
@@ -237,17 +237,17 @@ impl Machine {
         if !is_on_doubleword(place) {
             return Err(Refusal::OffDoubleword);
         }
-        let subpool = self.tasks.subpool(self.tasks.task_of(name), number);
+        let subpool = self.tasks.subpool(t, number);
         self.release_area(subpool, whole(place))
     }
 
     /// FREEMAIN and STORAGE RELEASE of all that a subpool holds, its cell pools included (Assembler Services Reference,
     /// subpool release). A number that the task does not have releases nothing; subpool 0 is not released as a whole (both
     /// are this project's choice).
-    pub fn release_whole(&mut self, name: Name, number: u8) -> Result<(), Refusal>
-        requires { is_active self.old.owners name ≡ true }
+    pub fn release_whole(&mut self, t: TaskId, number: u8) -> Result<(), Refusal>
+        requires { IsTask self.old t }
         ensures { (form : TheForm)
-            → Tries (λ _. Rc0) self.old name (request.ReleaseWhole form number) result self.new }
+            → Tries (λ _. Rc0) self.old.state (task_name self.old t) (request.ReleaseWhole form number) result self.new.state }
     {
         let Some(number) = SubNo::new(number) else {
             return Err(Refusal::InvalidNumber);
@@ -255,7 +255,7 @@ impl Machine {
         if number.get() == 0 {
             return Err(Refusal::WholeOfZero);
         }
-        if let Some(subpool) = self.tasks.subpool(self.tasks.task_of(name), number) {
+        if let Some(subpool) = self.tasks.subpool(t, number) {
             self.pools.drop_subpool(subpool);
             self.store.release_all(subpool);
         }

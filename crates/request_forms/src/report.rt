@@ -154,8 +154,8 @@ impl Machine {
     /// it is not active.
     pub fn subpool_line(&self, name: &Name, from: u8) -> Option<SubpoolLine>
         ensures { MatchOption result
-            (HasNone self.now.owners name.now from subpool_numbers)
-            (IsSubpoolLine self.now name.now from) }
+            (HasNone self.now.state.owners name.now from subpool_numbers)
+            (IsSubpoolLine self.now.state name.now from) }
     {
         let Some(t) = self.tasks.find(name) else {
             return None;
@@ -174,7 +174,7 @@ impl Machine {
 
     /// The first run of REPORT MAP that begins at or after an address. None where there is none.
     pub fn map_run(&self, from: Addr) -> Option<MapRun>
-        ensures { MatchOption result (IsMapEnd self.now from) (IsMapRun self.now from) }
+        ensures { MatchOption result (IsMapEnd self.now.state from) (IsMapRun self.now.state from) }
     {
         let page = (from.get() + (PAGE_BYTES - 1)) / PAGE_BYTES;
         if let Some(pages) = first_run(

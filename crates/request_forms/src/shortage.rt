@@ -51,10 +51,10 @@ impl Machine {
     // Returns the storage that a subpool of the machine can obtain.
     pub(crate) fn room(&self, subpool: SubpoolId, want: &Want) -> Option<Room>
         ensures room { MatchOption result
-            ((p : PlaceValue) × Chosen self.now.regions (state.holder self.now) subpool want.now p)
-            (λ room. NoPlace self.now.regions (state.holder self.now) subpool want.now
-            × IsRoom self.now subpool want.now room) }
-        ensures bounded { IsBounded self.now.regions }
+            ((p : PlaceValue) × Chosen self.now.state.regions (state.holder self.now.state) subpool want.now p)
+            (λ room. NoPlace self.now.state.regions (state.holder self.now.state) subpool want.now
+            × IsRoom self.now.state subpool want.now room) }
+        ensures bounded { IsBounded self.now.state.regions }
     {
         room_in(&self.store, subpool, want)
     }
@@ -69,18 +69,18 @@ impl Machine {
     ) -> Option<Room>
         ensures { MatchOption result
             ((p : PlaceValue)
-            × Chosen self.now.regions (state.holder self.now) subpool (part_want size cells side) p)
-            (λ room. NoPlace self.now.regions (state.holder self.now) subpool
+            × Chosen self.now.state.regions (state.holder self.now.state) subpool (part_want size cells side) p)
+            (λ room. NoPlace self.now.state.regions (state.holder self.now.state) subpool
             (part_want size cells side)
-            × IsRoom self.now subpool (part_want size cells side) room) }
+            × IsRoom self.now.state subpool (part_want size cells side) room) }
     {
         self.room(subpool, &part_want(size, cells, side))
     }
 
     /// The subpool that a task means by a number, or the one that it would get.
     pub(crate) fn subpool_for(&self, name: Name, number: SubNo) -> SubpoolId
-        requires { is_active self.now.owners name ≡ true }
-        ensures { SubpoolOf self.now.owners (keeper self.now.owners name number) number result }
+        requires { is_active self.now.state.owners name ≡ true }
+        ensures { SubpoolOf self.now.state.owners (keeper self.now.state.owners name number) number result }
     {
         let t = self.tasks.task_of(name);
         match self.tasks.subpool(t, number) {

@@ -21,8 +21,8 @@ pub struct FreePages {
 impl Machine {
     /// How many pages of each region hold nothing.
     pub fn free_pages(&self) -> FreePages
-        ensures below { result.below ≡ free_below self.now }
-        ensures above { result.above ≡ free_above self.now }
+        ensures below { result.below ≡ free_below self.now.state }
+        ensures above { result.above ≡ free_above self.now.state }
     {
         FreePages {
             below: self.store.free_below() as u16,
@@ -33,7 +33,7 @@ impl Machine {
     /// The subpool that an active task means by a number that a program may name: the number under which its owner has it, and
     /// the owner.
     pub fn label_meant(&self, name: &Name, number: u8) -> Option<(SubNo, Name)>
-        ensures { result ≡ label_meant self.now.owners name.now number }
+        ensures { result ≡ label_meant self.now.state.owners name.now number }
     {
         let Some(number) = SubNo::new(number) else {
             return None;
@@ -49,8 +49,8 @@ impl Machine {
 
     /// How many parts the pool of this name has, and which was put to it last. None where no pool has the name.
     pub fn newest(&self, pool: &Name) -> Option<Newest>
-        ensures { MatchOption result (get self.now.pools pool.now ≡ None)
-            (λ newest. (kept : Pool) × (get self.now.pools pool.now ≡ Some kept)
+        ensures { MatchOption result (get self.now.state.pools pool.now ≡ None)
+            (λ newest. (kept : Pool) × (get self.now.state.pools pool.now ≡ Some kept)
             × IsNewest kept newest) }
     {
         self.pools.newest(&self.store, pool)
@@ -58,7 +58,7 @@ impl Machine {
 
     /// Returns the subpool that an active task has for a number: its owner's number for it, and the owner.
     pub fn label_had(&self, name: &Name, number: SubNo) -> Option<(SubNo, Name)>
-        ensures { result ≡ label_had self.now.owners name.now number }
+        ensures { result ≡ label_had self.now.state.owners name.now number }
     {
         let Some(t) = self.tasks.find(name) else {
             return None;

@@ -6,7 +6,7 @@ ghost use Rattle.mvs_model.specs.Finite.{Keeps};
 ghost use Rattle.mvs_model.specs.Storage.{ReleaseEach, is_one_of};
 ghost use Rattle.cell_pool.specs.Agree.{Agree};
 ghost use Rattle.cell_pool.specs.Roots.{pools_of};
-ghost use Rattle.mvs_model.specs.Owners.{is_active};
+ghost use Rattle.request_forms.specs.Machine.{IsTask, task_name};
 ghost use Rattle.mvs_model.specs.Changes.{End};
 ghost use Rattle.mvs_model.specs.Steps.{Tries};
 ghost use Rattle.mvs_model.specs.declared.request.Request.TheVariants as request;
@@ -21,6 +21,7 @@ use mvs_model::request::Fallen;
 use mvs_model::subpool_set::SubpoolSet;
 use mvs_model::want::Residence;
 use subpool_store::Store;
+use task_owner::TaskId;
 
 // Releases everything that some subpools hold, and deletes their cell pools.
 fn release_each(store: &mut Store, pools: &mut Pools, subpools: &SubpoolSet)
@@ -40,22 +41,20 @@ fn release_each(store: &mut Store, pools: &mut Pools, subpools: &SubpoolSet)
 
 impl Machine {
     /// Ends a task that abends, with its descendants and what they own. The result is the descendants.
-    pub fn abend(&mut self, name: Name) -> Fallen
-        requires { is_active self.old.owners name ≡ true }
-        ensures { (e : End self.old name self.new) × (result ≡ e.fallen) }
+    pub fn abend(&mut self, t: TaskId) -> Fallen
+        requires { IsTask self.old t }
+        ensures { (e : End self.old.state (task_name self.old t) self.new.state) × (result ≡ e.fallen) }
     {
-        let t = self.tasks.task_of(name);
         let gone = self.tasks.end(t);
         release_each(&mut self.store, &mut self.pools, &gone.freed);
         gone.fallen
     }
 
     /// A return ends the task; with an active subtask it is refused (System Codes, A03).
-    pub fn finish(&mut self, name: Name) -> Result<(), Refusal>
-        requires { is_active self.old.owners name ≡ true }
-        ensures { Tries (λ _. Ended) self.old name request.Return result self.new }
+    pub fn finish(&mut self, t: TaskId) -> Result<(), Refusal>
+        requires { IsTask self.old t }
+        ensures { Tries (λ _. Ended) self.old.state (task_name self.old t) request.Return result self.new.state }
     {
-        let t = self.tasks.task_of(name);
         if self.tasks.has_active_subtasks(t) {
             return Err(Refusal::ActiveSubtask);
         }
@@ -67,19 +66,16 @@ impl Machine {
     /// ATTACH (Assembler Services Reference).
     pub fn attach(
         &mut self,
-        mother: Name,
+        t: TaskId,
         name: &Name,
         gifts: &Gifts,
         residence: Residence,
     ) -> Result<(), Refusal>
-        requires { is_active self.old.owners mother ≡ true }
-        ensures { Tries (λ _. Attached) self.old mother
-            (request.Attach name.now gifts.now residence) result self.new }
+        requires { IsTask self.old t }
+        ensures { Tries (λ _. Attached) self.old.state (task_name self.old t)
+            (request.Attach name.now gifts.now residence) result self.new.state }
     {
-        let t = self.tasks.task_of(mother);
-        match self.tasks.attach(t, name, gifts, residence) {
-            Ok(_) => Ok(()),
-            Err(refusal) => Err(refusal),
-        }
+        self.tasks.attach(t, name, gifts, residence)?;
+        Ok(())
     }
 }

@@ -1,11 +1,23 @@
-use Rattle.std.proofs.Common.{IfOk}
+use Rattle.std.proofs.Common.{[], ◌∷◌, refl}
+use Rattle.std.proofs.KnownBytes.{Keeps-refl}
+use Rattle.mvs_model.specs.Answers.{Region, Told}
 use Rattle.mvs_model.specs.Lent.{fallen_in}
-use Rattle.mvs_job.specs.Telling.{lent_in}
-use Rattle.event_json.proofs.Written.{if_ok, one_line}
+use Rattle.mvs_job.specs.Telling.{ended, lent_in}
+use Rattle.event_json.proofs.Written.{statement_lines, text_written}
 use Rattle.event_json.proofs.write_line.Goals as goal
 
-pub returns-in_ok-answered-in-Answered : goal.returns-in_ok-answered-in-Answered
-returns-in_ok-answered-in-Answered g c =
-    rw (c.in-Answered.is) (if_ok c.write_line.result _ _ c.write_line.ensures (λ done written.
-    one_line (g.W.Write.contents c.args.writer.now.inner) (g.W.Write.contents c.write_line.new.out.inner) c.args.line.now.number c.in-Answered.task (lent_in c.args.walk.now.step (fallen_in c.args.walk.now.reply) c.in-Answered.task c.in-Answered.answer)
-    (rw (c.in_ok-answered-in-Answered.ensures) at written)))
+pub returns-in-Err-clause-written : goal.returns-in-Err-clause-written
+returns-in-Err-clause-written g c = rw (c.in-Began.is) ((ended c.in-Began.ended, c.args.line.now.number, c.in-Began.card.name, Region c.in-Began.card, refl), Keeps-refl _)
+
+pub returns-in-Ok-answer_line-clause-written : goal.returns-in-Ok-answer_line-clause-written
+returns-in-Ok-answer_line-clause-written g c =
+    let n = c.args.line.now.number in
+    let t = c.in-Answered.task in
+    let a = lent_in c.args.walk.now.step (fallen_in c.args.walk.now.reply) t c.in-Answered.answer in
+    let text = c.in-Ok-answer_line.text.items in
+    rw (c.in-Answered.is)
+    (text_written _ _ (Told n t a ∷ []) text (statement_lines n t a text c.in-Ok-answer_line.ensures) c.write_text-in-Ok-answer_line.result (rw (c.deref-in-Ok-answer_line.ensures.value) at c.write_text-in-Ok-answer_line.ensures.text.bytes) c.write_text-in-Ok-answer_line.ensures.memory)
+
+pub returns-in-Err-answer_line-clause-written : goal.returns-in-Err-answer_line-clause-written
+returns-in-Err-answer_line-clause-written g c =
+    rw (c.in-Answered.is) (([], c.args.line.now.number, c.in-Answered.task, lent_in c.args.walk.now.step (fallen_in c.args.walk.now.reply) c.in-Answered.task c.in-Answered.answer, refl), Keeps-refl _)

@@ -19,14 +19,18 @@ loop-next-preserved c =
     let t = c.args.task.now in
     let next = c.in-Some.next in
     let is : c.get-from.result ≡ next = c.get-from.ensures.value in
-    let below = c.in-Some.ensures.0 in
+    let whole = c.machine-machine.ensures ∙ c.step.ensures.state in
+    let found = rw (whole) at c.in-Some.ensures in
+    let below = found.0 in
     let few : length c.loop-next.subpools ≤ next = omega (arith, c.loop-next.invariant.few, below) in
-    let each = passed st t c.loop-next.from next c.loop-next.subpools below c.in-Some.ensures.2 c.loop-next.invariant.each in
+    let each = passed st t c.loop-next.from next c.loop-next.subpools below found.2 c.loop-next.invariant.each in
     let row = λ (k : ℕ). each_below (k + 1) (λ s. listed (owned_at st t s)) in
     elim c.match-owned.branch [
-      | in-Some-owned w ↦ (let m = one_more st t next c.loop-next.subpools few each _ _ (sym c.owned.ensures ∙ w.in-Some-owned.is) (w.subpools-is ∙ w.push.ensures) in record { low = omega (arith, c.get-from.ensures.low); few = omega (arith, m.0, is); each = m.1 ∙ ap row (sym is) })
-      | in_default-owned w ↦ (let m = none_more st t next c.loop-next.subpools few each _ (sym c.owned.ensures ∙ w.in_default-owned.is) w.subpools-is in record { low = omega (arith, c.get-from.ensures.low); few = omega (arith, m.0, is); each = m.1 ∙ ap row (sym is) })
+      | in-Some-owned w ↦ (let m = one_more st t next c.loop-next.subpools few each _ _ (sym (rw (whole) at c.owned.ensures) ∙ w.in-Some-owned.is) (w.subpools-is ∙ w.push.ensures) in record { low = omega (arith, c.get-from.ensures.low); few = omega (arith, m.0, is); each = m.1 ∙ ap row (sym is) })
+      | in_default-owned w ↦ (let m = none_more st t next c.loop-next.subpools few each _ (sym (rw (whole) at c.owned.ensures) ∙ w.in_default-owned.is) w.subpools-is in record { low = omega (arith, c.get-from.ensures.low); few = omega (arith, m.0, is); each = m.1 ∙ ap row (sym is) })
     ]
 
 pub returns : goal.returns
-returns c = passed c.args.job.now.state c.args.task.now c.loop-next.from 4098 c.loop-next.subpools c.loop-next.invariant.low (λ n low high. c.in_default.ensures n low) c.loop-next.invariant.each
+returns c =
+    let none = rw (c.machine-machine.ensures ∙ c.step.ensures.state) at c.in_default.ensures in
+    passed c.args.job.now.state c.args.task.now c.loop-next.from 4098 c.loop-next.subpools c.loop-next.invariant.low (λ n low high. none n low) c.loop-next.invariant.each

@@ -7,4 +7,4 @@ use Rattle.mvs_job.proofs.printing.print_shown.Goals as goal
 pub returns : goal.returns
 returns g c = λ fallen.
     subst (λ (bytes : List ℕ). Prints g.W.Write.contents c.args.writer.now c.print_data.new.writer c.print_data.result (data_lines c.args.line_number c.args.task.now ((length bytes + 31) / 32) 0 bytes))
-    (place_read c.args.job.now.state c.args.place c.in-Some.bytes.now c.in-Some.ensures.len c.in-Some.ensures.bytes) c.print_data.ensures
+    (place_read c.args.job.now.state c.args.place c.in-Some.bytes.now c.in-Some.ensures.len (rw (c.step.ensures.state) at c.in-Some.ensures.bytes)) c.print_data.ensures

@@ -25,7 +25,7 @@ lines-preserved g c =
     record {
       so_far = rw (c.get-from.ensures.value) (numbers_more c.args.line_number st c.args.task.now _ _ _ c.lines.from c.in-Some.line found c.lines.invariant.so_far c.in_ok-print_subpool_line.ensures.bytes);
       low = omega (arith, c.get-from.ensures.value, found.low);
-      found = c.subpool_line-next.ensures;
+      found = rw (c.step.ensures.state) at c.subpool_line-next.ensures;
       same = c.in_ok-print_subpool_line.ensures.ok ∙ c.lines.invariant.same;
     }
 

@@ -2,9 +2,6 @@ use Rattle.std.proofs.Common.{◌≡◌, List, ℕ, IfOk, subst, ◌∙◌}
 use Rattle.page.proofs.Served.{faulted_is, stated_is}
 use Rattle.page.proofs.item.item_of.Goals as goal
 
-pub returns-in-Nothing : goal.returns-in-Nothing
-returns-in-Nothing c = rw (c.in-Nothing.is) c.noted.ensures
-
 pub returns-in-Faulted : goal.returns-in-Faulted
 returns-in-Faulted c =
     subst (λ (t : List ℕ). IfOk c.faulted.result (λ item. item.items ≡ t))

@@ -6,15 +6,15 @@ use Rattle.request_forms.proofs.Copying.{address_held}
 use Rattle.request_forms.proofs.Pooling.{step_storage}
 use Rattle.request_forms.proofs.access.may_access.Goals as goal
 
-pub returns-then-at-ge2147483648-clause-granted : goal.returns-then-at-ge2147483648-clause-granted
-returns-then-at-ge2147483648-clause-granted c = λ o.
+pub returns-then-at-gt-LAST_ADDRESS-clause-granted : goal.returns-then-at-gt-LAST_ADDRESS-clause-granted
+returns-then-at-gt-LAST_ADDRESS-clause-granted c = λ o.
     let p = c.args.place in
     let at : c.get.result ≡ p.addr = c.get.ensures.value ∙ c.addr.ensures in
     let len : c.len.result ≡ p.len = c.len.ensures.len in (
       λ no. absurd (let f : false ≡ true = no in cc),
       λ h. absurd (
           let l : p.addr + (c.walk.at - p.addr) < 2147483648 = address_held c.args.store.now.storage p.addr p.len (c.walk.at - p.addr) (step_storage c.args.pools.now c.args.store.now.storage c.requires) (held_place c.args.pools.now c.args.store.now.storage c.requires o p (omega (arith, c.len.ensures.some, len)) h) (omega (arith, c.walk-test.true, c.walk.invariant.behind, at, len)) in
-          omega (arith, l, c.walk.invariant.behind, c.if-at-ge2147483648.true)),
+          omega (arith, l, c.walk.invariant.behind, c.if-at-gt-LAST_ADDRESS.true)),
     )
 
 pub walk-smaller : goal.walk-smaller

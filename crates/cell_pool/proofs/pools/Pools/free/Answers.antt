@@ -3,7 +3,6 @@ use Rattle.mvs_model.specs.declared.request.Reply.TheVariants.{Rc0}
 use Rattle.mvs_model.specs.View.{state_of}
 use Rattle.mvs_model.specs.Steps.{Tries}
 use Rattle.mvs_model.specs.declared.request.Request.TheVariants as request
-use Rattle.std.specs.FinMap.{get}
 use Rattle.cell_pool.specs.Layout.{byte_of}
 use Rattle.cell_pool.specs.Roots.{is_taken, pools_of}
 use Rattle.cell_pool.specs.Walk.{IsTakenAt}

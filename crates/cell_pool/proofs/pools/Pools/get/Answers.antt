@@ -1,5 +1,4 @@
 use Rattle.std.proofs.Common.{Ok, ◌≡◌, ◌+◌, ◌*◌, ◌∙◌, Some, sym, ap, subst, true, arith}
-use Rattle.std.specs.FinMap.{get}
 use Rattle.mvs_model.specs.declared.request.Reply.TheVariants.{Cell}
 use Rattle.mvs_model.specs.Storage.{Storage}
 use Rattle.mvs_model.specs.Place.{PlaceValue, place_at}

@@ -1,6 +1,6 @@
-use Rattle.std.proofs.Common.{List, ℕ, subst, sym, ◌∙◌}
+use Rattle.std.proofs.Common.{List, ℕ, subst, sym}
 use Rattle.std.proofs.lemmas.Result.{err_from_is_err_and}
-use Rattle.job_script.specs.Writing.{AppendsFront, Prints}
+use Rattle.job_script.specs.Writing.{AppendsFront}
 use Rattle.job_script.proofs.Appending.{front_longer}
 use Rattle.mvs_job.proofs.ExplainedLine.{told_behind, told_faulted, told_more}
 use Rattle.mvs_job.proofs.Serving.{both_written}

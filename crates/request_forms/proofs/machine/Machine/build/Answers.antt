@@ -1,6 +1,7 @@
 use Rattle.std.proofs.Common.{inl, refl, subst}
 use Rattle.std.specs.Prelude.{OnOk}
 use Rattle.request_forms.specs.Taking.{TakesPool}
+use Rattle.request_forms.specs.Machine.{task_name}
 use Rattle.request_forms.proofs.Cases.{not_valid}
 use Rattle.request_forms.proofs.machine.Machine.build.Goals as goal
 
@@ -11,4 +12,4 @@ pub returns-clause-answer : goal.returns-clause-answer
 returns-clause-answer c = rw (← c.in-Some.ensures.1) c.build_pool.ensures.answer
 
 pub returns-clause-told : goal.returns-clause-told
-returns-clause-told c = subst (λ n. OnOk c.build_pool.result (TakesPool c.args.self.now c.args.name n c.args.pool.now c.args.plan.now c.args.told c.build_pool.new.self)) c.in-Some.ensures.1 c.build_pool.ensures.told
+returns-clause-told c = subst (λ n. OnOk c.build_pool.result (TakesPool c.args.self.now.state (task_name c.args.self.now c.args.t) n c.args.pool.now c.args.plan.now c.args.told c.build_pool.new.self.state)) c.in-Some.ensures.1 c.build_pool.ensures.told

@@ -6,6 +6,7 @@ use Rattle.mvs_model.specs.Requests.{side_for}
 use Rattle.mvs_model.proofs.StepCases.{no_grant}
 use Rattle.mvs_model.proofs.StorageLaws.{round8_some}
 use Rattle.request_forms.specs.Taking.{TakesArea}
+use Rattle.request_forms.specs.Machine.{task_name}
 use Rattle.request_forms.proofs.Cases.{is_valid, not_valid}
 use Rattle.request_forms.proofs.machine.Machine.obtain.Goals as goal
 
@@ -14,17 +15,17 @@ returns-in_default-clause-answer c = (inl (not_valid c.args.number c.in_default.
 
 pub returns-in-None-clause-answer : goal.returns-in-None-clause-answer
 returns-in-None-clause-answer c =
-    let old = c.args.self.now in
-    let t = c.args.name in
+    let old = c.args.self.now.state in
+    let t = task_name c.args.self.now c.args.t in
     let want = want_of c.args.ask.now (side_for old t c.args.form c.args.ask.now.loc) in
     let short = subst (λ n. ShortOf old (keeper old.owners t n) n want) c.in-Some.ensures.1 c.in-None.ensures.granted.0 in
     (inr (is_valid c.args.number c.in-Some.ensures.0, inl (short, refl)), c.in-None.ensures.granted.1)
 
 pub returns-in-Some-obtain_area-clause-answer : goal.returns-in-Some-obtain_area-clause-answer
 returns-in-Some-obtain_area-clause-answer c =
-    let old = c.args.self.now in
-    let t = c.args.name in
-    let new = c.obtain_area.new.self in
+    let old = c.args.self.now.state in
+    let t = task_name c.args.self.now c.args.t in
+    let new = c.obtain_area.new.self.state in
     let want = want_of c.args.ask.now (side_for old t c.args.form c.args.ask.now.loc) in
     let p = c.in-Some-obtain_area.place in
     let grant = subst (λ n. GrantTo old (keeper old.owners t n) n want p new) c.in-Some.ensures.1 c.in-Some-obtain_area.ensures.granted in
@@ -32,4 +33,4 @@ returns-in-Some-obtain_area-clause-answer c =
     ((is_valid c.args.number c.in-Some.ensures.0, (enough, tt)), (p, refl, grant))
 
 pub returns-in-Some-obtain_area-clause-told : goal.returns-in-Some-obtain_area-clause-told
-returns-in-Some-obtain_area-clause-told c = subst (λ n. TakesArea c.args.self.now c.args.name c.args.form n c.args.ask.now c.args.told c.in-Some-obtain_area.place) c.in-Some.ensures.1 c.in-Some-obtain_area.ensures.told
+returns-in-Some-obtain_area-clause-told c = subst (λ n. TakesArea c.args.self.now.state (task_name c.args.self.now c.args.t) c.args.form n c.args.ask.now c.args.told c.in-Some-obtain_area.place) c.in-Some.ensures.1 c.in-Some-obtain_area.ensures.told

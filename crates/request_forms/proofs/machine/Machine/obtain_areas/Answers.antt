@@ -1,27 +1,27 @@
-use Rattle.std.proofs.Common.{sym, ◌∙◌, ap}
-use Rattle.mvs_model.specs.Owners.{keeper, subpool_meant}
+use Rattle.std.proofs.Common.{sym, ◌∙◌, ap, refl}
+use Rattle.mvs_model.specs.Owners.{keeper}
 use Rattle.request_forms.specs.Machine.{machine_state}
-use Rattle.request_forms.proofs.Ending.{found_name}
+use Rattle.task_owner.specs.Tasks.{name_of}
 use Rattle.request_forms.proofs.Obtaining.{bound_keeper}
 use Rattle.request_forms.proofs.Listing.{areas_of, areas_agree, areas_take, new_areas, new_areas_take, new_short}
 use Rattle.request_forms.proofs.machine.Machine.obtain_areas.Goals as goal
 
 pub returns-in-Err-clause-granted : goal.returns-in-Err-clause-granted
 returns-in-Err-clause-granted c = rw (← c.self.view_is) (
-  new_short c.self.inside.pools c.self.inside.store.storage c.self.inside.tasks.owners (keeper c.self.inside.tasks.owners c.args.name c.args.number) c.args.number c.spare-subpool.result c.args.start c.as_slice-in-None.result.now c.args.lengths.now c.in-Err.lack.member c.in-Err.lack.short
-      c.self.invariant c.as_slice-in-None.ensures.items (ap (λ n. subpool_meant c.self.inside.tasks.owners n c.args.number) (sym (found_name c.self.inside.tasks c.task_of-t.result c.args.name c.task_of-t.ensures)) ∙ sym c.subpool.ensures ∙ c.in-None.is) c.spare-subpool.ensures c.in-Err.ensures.places.0,
+  new_short c.self.inside.pools c.self.inside.store.storage c.self.inside.tasks.owners (keeper c.self.inside.tasks.owners (name_of c.self.inside.tasks c.args.t) c.args.number) c.args.number c.spare-subpool.result c.args.start c.as_slice-in-None.result.now c.args.lengths.now c.in-Err.lack.member c.in-Err.lack.short
+      c.self.invariant c.as_slice-in-None.ensures.items (sym c.subpool.ensures ∙ c.in-None.is) c.spare-subpool.ensures c.in-Err.ensures.places.0,
   ap (λ st. machine_state c.self.inside.pools st c.self.inside.tasks.owners) c.in-Err.ensures.places.1,
 )
 
 pub returns-in-Some-clause-granted : goal.returns-in-Some-clause-granted
 returns-in-Some-clause-granted c = rw (← c.self.view_is)
-    (areas_of c.self.inside.pools c.self.inside.store.storage c.grant_each.new.store.storage c.self.inside.tasks.owners (keeper c.self.inside.tasks.owners c.args.name c.args.number) c.args.number c.in-Some.subpool c.args.start c.as_slice.result.now c.args.lengths.now c.args.told.now c.grant_each.result
-    c.self.invariant c.as_slice.ensures.items (ap (λ n. subpool_meant c.self.inside.tasks.owners n c.args.number) (sym (found_name c.self.inside.tasks c.task_of-t.result c.args.name c.task_of-t.ensures)) ∙ sym c.subpool.ensures ∙ c.in-Some.is) c.grant_each.ensures.places)
+    (areas_of c.self.inside.pools c.self.inside.store.storage c.grant_each.new.store.storage c.self.inside.tasks.owners (keeper c.self.inside.tasks.owners (name_of c.self.inside.tasks c.args.t) c.args.number) c.args.number c.in-Some.subpool c.args.start c.as_slice.result.now c.args.lengths.now c.args.told.now c.grant_each.result
+    c.self.invariant c.as_slice.ensures.items (sym c.subpool.ensures ∙ c.in-Some.is) c.grant_each.ensures.places)
 
 pub returns-in-Ok-clause-granted : goal.returns-in-Ok-clause-granted
 returns-in-Ok-clause-granted c = rw (← c.self.view_is)
-    (new_areas c.self.inside.pools c.self.inside.store.storage c.grant_each-in-None.new.store.storage c.self.inside.tasks.owners c.bind.new.self.owners (keeper c.self.inside.tasks.owners c.args.name c.args.number) c.args.number c.spare-subpool.result c.args.start c.as_slice-in-None.result.now c.args.lengths.now c.args.told.now c.in-Ok.places
-    c.self.invariant c.as_slice-in-None.ensures.items c.as_slice-in-None.ensures.least (ap (λ n. subpool_meant c.self.inside.tasks.owners n c.args.number) (sym (found_name c.self.inside.tasks c.task_of-t.result c.args.name c.task_of-t.ensures)) ∙ sym c.subpool.ensures ∙ c.in-None.is) c.spare-subpool.ensures (bound_keeper c.self.inside.tasks.owners c.args.name _ c.args.number c.spare-subpool.result c.bind.new.self.owners (found_name c.self.inside.tasks c.task_of-t.result c.args.name c.task_of-t.ensures) c.bind.ensures.binds) c.in-Ok.ensures.places)
+    (new_areas c.self.inside.pools c.self.inside.store.storage c.grant_each-in-None.new.store.storage c.self.inside.tasks.owners c.bind.new.self.owners (keeper c.self.inside.tasks.owners (name_of c.self.inside.tasks c.args.t) c.args.number) c.args.number c.spare-subpool.result c.args.start c.as_slice-in-None.result.now c.args.lengths.now c.args.told.now c.in-Ok.places
+    c.self.invariant c.as_slice-in-None.ensures.items c.as_slice-in-None.ensures.least (sym c.subpool.ensures ∙ c.in-None.is) c.spare-subpool.ensures (bound_keeper c.self.inside.tasks.owners (name_of c.self.inside.tasks c.args.t) _ c.args.number c.spare-subpool.result c.bind.new.self.owners refl c.bind.ensures.binds) c.in-Ok.ensures.places)
 
 pub invariant_of-self : goal.invariant_of-self
 invariant_of-self c = areas_agree c.self.inside.pools c.self.inside.store.storage c.grant_each.new.store.storage c.in-Some.subpool c.args.start c.as_slice.result.now c.args.told.now c.grant_each.result c.self.invariant c.grant_each.ensures.places
@@ -31,10 +31,10 @@ invariant_of-self-in-None c = areas_agree c.self.inside.pools c.self.inside.stor
 
 pub returns-in-Some-clause-told : goal.returns-in-Some-clause-told
 returns-in-Some-clause-told c = rw (← c.self.view_is)
-    (areas_take c.self.inside.pools c.self.inside.store.storage c.grant_each.new.store.storage c.self.inside.tasks.owners (keeper c.self.inside.tasks.owners c.args.name c.args.number) c.args.number c.in-Some.subpool c.args.start c.as_slice.result.now c.args.lengths.now c.args.told.now c.grant_each.result
-    c.self.invariant c.as_slice.ensures.items (ap (λ n. subpool_meant c.self.inside.tasks.owners n c.args.number) (sym (found_name c.self.inside.tasks c.task_of-t.result c.args.name c.task_of-t.ensures)) ∙ sym c.subpool.ensures ∙ c.in-Some.is) c.grant_each.ensures.places)
+    (areas_take c.self.inside.pools c.self.inside.store.storage c.grant_each.new.store.storage c.self.inside.tasks.owners (keeper c.self.inside.tasks.owners (name_of c.self.inside.tasks c.args.t) c.args.number) c.args.number c.in-Some.subpool c.args.start c.as_slice.result.now c.args.lengths.now c.args.told.now c.grant_each.result
+    c.self.invariant c.as_slice.ensures.items (sym c.subpool.ensures ∙ c.in-Some.is) c.grant_each.ensures.places)
 
 pub returns-in-Ok-clause-told : goal.returns-in-Ok-clause-told
 returns-in-Ok-clause-told c = rw (← c.self.view_is)
-    (new_areas_take c.self.inside.pools c.self.inside.store.storage c.grant_each-in-None.new.store.storage c.self.inside.tasks.owners c.bind.new.self.owners (keeper c.self.inside.tasks.owners c.args.name c.args.number) c.args.number c.spare-subpool.result c.args.start c.as_slice-in-None.result.now c.args.lengths.now c.args.told.now c.in-Ok.places
-    c.self.invariant c.as_slice-in-None.ensures.items c.as_slice-in-None.ensures.least (ap (λ n. subpool_meant c.self.inside.tasks.owners n c.args.number) (sym (found_name c.self.inside.tasks c.task_of-t.result c.args.name c.task_of-t.ensures)) ∙ sym c.subpool.ensures ∙ c.in-None.is) c.spare-subpool.ensures (bound_keeper c.self.inside.tasks.owners c.args.name _ c.args.number c.spare-subpool.result c.bind.new.self.owners (found_name c.self.inside.tasks c.task_of-t.result c.args.name c.task_of-t.ensures) c.bind.ensures.binds) c.in-Ok.ensures.places)
+    (new_areas_take c.self.inside.pools c.self.inside.store.storage c.grant_each-in-None.new.store.storage c.self.inside.tasks.owners c.bind.new.self.owners (keeper c.self.inside.tasks.owners (name_of c.self.inside.tasks c.args.t) c.args.number) c.args.number c.spare-subpool.result c.args.start c.as_slice-in-None.result.now c.args.lengths.now c.args.told.now c.in-Ok.places
+    c.self.invariant c.as_slice-in-None.ensures.items c.as_slice-in-None.ensures.least (sym c.subpool.ensures ∙ c.in-None.is) c.spare-subpool.ensures (bound_keeper c.self.inside.tasks.owners (name_of c.self.inside.tasks c.args.t) _ c.args.number c.spare-subpool.result c.bind.new.self.owners refl c.bind.ensures.binds) c.in-Ok.ensures.places)

@@ -4,6 +4,7 @@ use Rattle.mvs_model.specs.Owners.{keeper}
 use Rattle.mvs_model.specs.declared.refusal.Refusal.TheVariants.{Member}
 use Rattle.request_forms.specs.Lists.{IsMemberShort, list_wants}
 use Rattle.request_forms.specs.Taking.{TakesAreas}
+use Rattle.request_forms.specs.Machine.{task_name}
 use Rattle.request_forms.proofs.Cases.{is_valid, not_valid}
 use Rattle.request_forms.proofs.Listing.{lacks_short, member_is}
 use Rattle.request_forms.proofs.machine.Machine.obtain_list.Goals as goal
@@ -13,8 +14,8 @@ returns-in_default-clause-answer c = λ form. (inl (not_valid c.args.number c.in
 
 pub returns-in-Err-clause-answer : goal.returns-in-Err-clause-answer
 returns-in-Err-clause-answer c = λ form.
-    let old = c.args.self.now in
-    let t = c.args.name in
+    let old = c.args.self.now.state in
+    let t = task_name c.args.self.now c.args.t in
     let lack = c.in-Err.lack in
     let short = subst (λ n. IsMemberShort old (keeper old.owners t n) n (list_wants c.args.lengths.now c.args.start) lack.member lack.short) c.in-Some.ensures.1 c.in-Err.ensures.granted.0 in
     let k = keeper old.owners t c.args.number in
@@ -22,18 +23,18 @@ returns-in-Err-clause-answer c = λ form.
 
 pub returns-in-Err-clause-left : goal.returns-in-Err-clause-left
 returns-in-Err-clause-left c = λ form k e.
-    let old = c.args.self.now in
-    let t = c.args.name in
+    let old = c.args.self.now.state in
+    let t = task_name c.args.self.now c.args.t in
     let lack = c.in-Err.lack in
     subst (λ m. IsMemberShort old (keeper old.owners t c.args.number) c.args.number (list_wants c.args.lengths.now c.args.start) m lack.short) (member_is lack.member k e)
     (subst (λ n. IsMemberShort old (keeper old.owners t n) n (list_wants c.args.lengths.now c.args.start) lack.member lack.short) c.in-Some.ensures.1 c.in-Err.ensures.granted.0)
 
 pub returns-in-Ok-clause-answer : goal.returns-in-Ok-clause-answer
 returns-in-Ok-clause-answer c = λ form.
-    let old = c.args.self.now in
-    let t = c.args.name in
-    let grant = subst (λ n. ListGrant old (keeper old.owners t n) n (list_wants c.args.lengths.now c.args.start) c.in-Ok.places c.obtain_areas.new.self) c.in-Some.ensures.1 c.in-Ok.ensures.granted in
+    let old = c.args.self.now.state in
+    let t = task_name c.args.self.now c.args.t in
+    let grant = subst (λ n. ListGrant old (keeper old.owners t n) n (list_wants c.args.lengths.now c.args.start) c.in-Ok.places c.obtain_areas.new.self.state) c.in-Some.ensures.1 c.in-Ok.ensures.granted in
     ((is_valid c.args.number c.in-Some.ensures.0, (tt, tt)), (c.in-Ok.places, refl, grant))
 
 pub returns-in-Ok-clause-told : goal.returns-in-Ok-clause-told
-returns-in-Ok-clause-told c = subst (λ n. TakesAreas c.args.self.now c.args.name n c.args.lengths.now c.args.start c.args.told.now c.in-Ok.places c.obtain_areas.new.self) c.in-Some.ensures.1 c.in-Ok.ensures.told
+returns-in-Ok-clause-told c = subst (λ n. TakesAreas c.args.self.now.state (task_name c.args.self.now c.args.t) n c.args.lengths.now c.args.start c.args.told.now c.in-Ok.places c.obtain_areas.new.self.state) c.in-Some.ensures.1 c.in-Ok.ensures.told

@@ -1,7 +1,0 @@
-use Rattle.mvsjob.proofs.served.explain_strict.Goals as goal
-
-pub returns-in-Ok : goal.returns-in-Ok
-returns-in-Ok g c = (c.in-Ok.end.outcome, c.in-Ok.end.all_served, c.in-Ok.ensures.run, c.of_strict.ensures, c.fault_of.ensures)
-
-pub returns : goal.returns
-returns g c = (c.in-Err.stop, c.of.ensures, c.in-Err.ensures.stop, c.in-Err.ensures.heard)
