@@ -30,7 +30,7 @@ class Checkout:
         self.folder = folder
         self.notes = folder / "notes"
         self.path = f"{folder}/bin:/usr/bin:/bin"
-        for name in ("bin", "crates/version/src"):
+        for name in ("bin", "crates/mvsjob", "crates/version/src"):
             (folder / name).mkdir(parents=True)
         (folder / "bin/rt").write_text(STAND_IN)
         (folder / "bin/rt").chmod(0o755)
